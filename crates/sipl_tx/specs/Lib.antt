@@ -1,0 +1,6 @@
+pub mod Faults
+pub mod Timers
+pub mod Table
+pub mod Transaction
+pub mod Machine
+pub mod Runs

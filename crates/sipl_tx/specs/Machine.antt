@@ -1,0 +1,109 @@
+-- What each event does to a client transaction (RFC 3261, section 17.1).
+use Rattle.std.specs.Prelude.{ℕ, ◌+◌, Bool, true, false, ◌&&◌, ◌||◌, nat_le, nat_lt, Option, Some, None, if◌then◌else◌}
+use Rattle.sipl_tx.specs.declared.parts.Kind.{Kind}
+use Rattle.sipl_tx.specs.declared.parts.Kind.TheVariants.{Invite, Other}
+use Rattle.sipl_tx.specs.declared.parts.State.{State}
+use Rattle.sipl_tx.specs.declared.parts.State.TheVariants.{Calling, Trying, Proceeding, Completed, Terminated}
+use Rattle.sipl_tx.specs.declared.parts.Acts.{Acts}
+use Rattle.sipl_tx.specs.declared.fault.TxFault.{TxFault}
+use Rattle.sipl_tx.specs.declared.fault.TxFault.TheVariants.{ClockBack, BadCode, Ended}
+use Rattle.sipl_tx.specs.Timers.{ending_timer, retransmits, next_interval}
+use Rattle.sipl_tx.specs.Table.{Signal, Row, row_of}
+use Rattle.sipl_tx.specs.Table.Signal.{Provisional, Success, Failure, TransportFails, Resend, Expire, Silence}
+use Rattle.sipl_tx.specs.Transaction.{Transaction, Event}
+use Rattle.sipl_tx.specs.Transaction.Event.{Response, TransportError, Tick}
+
+-- the transaction is over
+abbrev pub is_terminated : State → Bool
+is_terminated Terminated = true
+is_terminated _ = false
+
+-- Completed begins
+abbrev pub enters_completed : State → State → Bool
+enters_completed Completed _ = false
+enters_completed _ Completed = true
+enters_completed _ _ = false
+
+-- no final response came yet
+abbrev pub awaits_final : Kind → State → Bool
+awaits_final Invite Calling = true
+awaits_final Invite Proceeding = true
+awaits_final Other Trying = true
+awaits_final Other Proceeding = true
+awaits_final _ _ = false
+
+-- a call that names no fault of its own is refused once the transaction is over
+abbrev pub refusal_at_end : Transaction → Option TxFault
+refusal_at_end t = if is_terminated t.state then Some Ended else None
+
+-- why the event is refused, the first cause first
+abbrev pub refusal_of : Transaction → Event → Option TxFault
+refusal_of t (Response code) =
+    if nat_lt code 100 || nat_lt 699 code then Some BadCode else refusal_at_end t
+refusal_of t TransportError = refusal_at_end t
+refusal_of t (Tick moment) = if nat_lt moment t.moment then Some ClockBack else refusal_at_end t
+
+-- a response by its class: 1xx, 2xx, 300 to 699
+abbrev pub signal_of : ℕ → Signal
+signal_of code =
+    if nat_lt code 200 then Provisional code else (if nat_lt code 300 then Success code else Failure code)
+
+-- the timer of this length is over
+abbrev pub is_over_after : Option ℕ → Transaction → Bool
+is_over_after None t = false
+is_over_after (Some length) t = nat_le (t.since + length) t.moment
+
+-- the timer that ends the transaction is over
+abbrev pub is_over : Transaction → Bool
+is_over t = is_over_after (ending_timer t.kind t.state) t
+
+-- the timer that sends the request again is over
+abbrev pub is_due : Transaction → Bool
+is_due t = retransmits t.kind t.reliable t.state && nat_le (t.sent + t.interval) t.moment
+
+-- which timer fires at the transaction's moment: the one that ends it comes first
+abbrev pub timer_of : Transaction → Signal
+timer_of t = if is_over t then Expire else (if is_due t then Resend else Silence)
+
+-- what a call did
+pub record Outcome : Type 0 where
+  pub transaction : Transaction
+  pub acts : Acts
+
+-- the transaction does as the row says. Timers D and K count from its moment, and so does timer A or E where it has fired
+abbrev pub follow : Transaction → Row → Outcome
+follow t row =
+    record {
+      transaction =
+          record {
+            kind = t.kind;
+            reliable = t.reliable;
+            state = row.next;
+            moment = t.moment;
+            since = if enters_completed t.state row.next then t.moment else t.since;
+            sent = if row.acts.send then t.moment else t.sent;
+            interval = if row.acts.send then next_interval t.kind t.state t.interval else t.interval;
+          };
+      acts =
+          record {
+            send = row.acts.send;
+            ack = row.acts.ack;
+            deliver = row.acts.deliver;
+            report = row.acts.report;
+            ended = is_terminated row.next;
+          };
+    }
+
+-- the transaction at a later moment
+abbrev pub at_moment : Transaction → ℕ → Transaction
+at_moment t moment = record t { moment = moment }
+
+-- the transaction receives a signal
+abbrev pub signalled : Transaction → Signal → Outcome
+signalled t signal = follow t (row_of t.kind t.reliable t.state signal)
+
+-- what an event that is not refused does
+abbrev pub after : Transaction → Event → Outcome
+after t (Response code) = signalled t (signal_of code)
+after t TransportError = signalled t TransportFails
+after t (Tick moment) = signalled (at_moment t moment) (timer_of (at_moment t moment))

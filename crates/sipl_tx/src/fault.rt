@@ -1,0 +1,41 @@
+ghost use Rattle.std.specs.Prelude.{◌≡◌};
+ghost use Rattle.sipl_tx.specs.Faults.{code_of};
+
+use std::error::Error;
+use std::fmt;
+
+/// Why a call was refused. A refused call leaves the transaction as it was.
+#[derive(Clone, Copy, Debug, PartialEq, Eq, Hash)]
+pub enum TxFault {
+    /// X1: the moment is before the last one.
+    ClockBack,
+    /// X2: the status code is not within 100 to 699.
+    BadCode,
+    /// X3: the transaction is over.
+    Ended,
+}
+
+impl TxFault {
+    /// The fault's code, as the programs print it.
+    pub fn code(self) -> &'static str
+        ensures { result.now ≡ code_of self }
+    {
+        match self {
+            TxFault::ClockBack => "X1",
+            TxFault::BadCode => "X2",
+            TxFault::Ended => "X3",
+        }
+    }
+}
+
+impl fmt::Display for TxFault {
+    fn fmt<W: fmt::Write>(&self, f: &mut fmt::Formatter<W>) -> fmt::Result {
+        f.write_str(match self {
+            TxFault::ClockBack => "the moment is before the last one",
+            TxFault::BadCode => "the status code is not within 100 to 699",
+            TxFault::Ended => "the transaction is over",
+        })
+    }
+}
+
+impl Error for TxFault {}
