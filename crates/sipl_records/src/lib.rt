@@ -1,1 +1,26 @@
+//! Resource records: owners, data, kinds, and the sets that they form; and the readers of addresses,
+//! numbers and fields that the text formats share.
 #![tactic(auto)]
+
+mod address;
+mod address4;
+mod cut;
+mod data;
+mod fault;
+mod field;
+mod kind;
+mod number;
+mod record;
+mod sequence;
+#[cfg(test)]
+mod tests;
+
+pub use address::{Address, printing_addresses_reads_back};
+pub use cut::cut_at;
+pub use data::Data;
+pub use fault::AddressFault;
+pub use field::{next_field, trim_gaps};
+pub use kind::Kind;
+pub use number::read_number;
+pub use record::{Key, MAX_SET_LEN, Record};
+pub use sequence::Sequence;

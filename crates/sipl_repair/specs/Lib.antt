@@ -1,0 +1,5 @@
+pub mod Calls
+pub mod IdSet
+pub mod Ids
+pub mod Queue
+pub mod Waiting

@@ -1,0 +1,147 @@
+ghost use Rattle.std.specs.Prelude.{◌≡◌, None, IfOk};
+ghost use Rattle.std.specs.Result.{result_err};
+ghost use Rattle.sipl_choice.specs.Abilities.{abilities_fault, repeats_transport as repeats, supports as is_supported};
+
+use crate::families::Families;
+use crate::fault::AbilitiesFault;
+use crate::transport::Transport;
+use std::alloc::{AllocError, Global};
+use std::marker::Model;
+
+/// What a client can do (RFC 3263, 4.1 and 4.2): the transports that it has, in the order in which
+/// it prefers them, and the families of addresses that it uses. It has at least one transport, and
+/// none twice.
+#[derive(Debug, Drop)]
+pub struct Abilities {
+    preference: Vec<Transport>,
+    families: Families,
+}
+
+impl Model for Abilities {
+    ghost use Rattle.std.specs.Prelude.{◌≡◌, None};
+    ghost use Rattle.sipl_choice.specs.Abilities.{Client, abilities_fault};
+
+    ghost Value = { Client };
+
+    ghost view = { λ client. record { preference = client.preference.items; families = client.families } };
+
+    ghost invariant = { λ client. abilities_fault client.preference.items ≡ None };
+}
+
+impl Abilities {
+    /// The abilities of a client with these transports, in the order in which it prefers them. C1
+    /// where there is none, C2 where one of them stands there twice. It takes no memory.
+    pub fn new(preference: Vec<Transport>, families: Families) -> Result<Self, AbilitiesFault>
+        ensures made { IfOk result (λ abilities. (abilities.preference ≡ preference.items) × (abilities.families ≡ families)) }
+        ensures refused { abilities_fault preference.items ≡ result_err result }
+    {
+        if preference.is_empty() {
+            return Err(AbilitiesFault::EmptyAbilities);
+        }
+        if repeats_transport(&preference) {
+            return Err(AbilitiesFault::RepeatedTransport);
+        }
+        Ok(Abilities {
+            preference,
+            families,
+        })
+    }
+
+    /// The transports that the client has, in the order in which it prefers them.
+    pub fn preference(&self) -> &[Transport]
+        ensures value { result.now ≡ self.now.preference }
+        ensures valid { abilities_fault self.now.preference ≡ None }
+    {
+        &self.preference
+    }
+
+    /// The families of addresses that the client uses.
+    pub fn families(&self) -> Families
+        ensures { result ≡ self.now.families }
+    {
+        self.families
+    }
+
+    /// Whether the client has this transport.
+    pub fn supports(&self, transport: Transport) -> bool
+        ensures { result ≡ is_supported self.now.preference transport }
+    {
+        is_among(&self.preference, transport)
+    }
+
+    /// A copy. Only a refused growth of memory is an error.
+    pub fn dup(&self, alloc: Global) -> Result<Self, AllocError>
+        ensures { IfOk result (λ copy. copy ≡ self.now) }
+    {
+        let preference = Vec::from_slice(alloc, &self.preference)?;
+        Ok(Abilities {
+            preference,
+            families: self.families,
+        })
+    }
+}
+
+fn is_among(transports: &[Transport], transport: Transport) -> bool
+    ensures { result ≡ is_supported transports.now transport }
+{
+    transports.contains(&transport)
+}
+
+// Whether one of the transports stands there twice.
+fn repeats_transport(transports: &[Transport]) -> bool
+    ensures { result ≡ repeats transports.now }
+{
+    let mut rest = transports;
+    while let [transport, others @ ..] = rest {
+        if is_among(others, *transport) {
+            return true;
+        }
+        rest = others;
+    }
+    false
+}
+
+#[cfg(test)]
+mod tests {
+    use super::*;
+    use crate::transport::Transport::{Sctp, Tcp, Tls, Udp};
+    use std::test::Fail;
+
+    #[test]
+    fn refuses_an_empty_list(rt: HostRuntime) {
+        let client = Abilities::new(Vec::new(rt.alloc()), Families::V4);
+        assert_eq!(rt; client.err(), Some(AbilitiesFault::EmptyAbilities));
+    }
+
+    #[test]
+    fn refuses_a_transport_that_stands_there_twice(rt: HostRuntime) -> Result<(), Fail> {
+        for transports in [[Udp, Udp, Tcp], [Udp, Tcp, Udp], [Sctp, Tls, Tls]] {
+            let client = Abilities::new(Vec::from_slice(rt.alloc(), &transports)?, Families::V4);
+            assert_eq!(rt; client.err(), Some(AbilitiesFault::RepeatedTransport));
+        }
+        Ok(())
+    }
+
+    #[test]
+    fn keeps_the_order_of_preference(rt: HostRuntime) -> Result<(), Fail> {
+        let client = Abilities::new(Vec::from_slice(rt.alloc(), &[Udp, Tcp])?, Families::V4)?;
+        assert_eq!(rt; client.preference(), [Udp, Tcp].as_slice());
+        assert_eq!(rt; client.families(), Families::V4);
+        assert!(rt; client.supports(Tcp));
+        assert!(rt; !client.supports(Tls));
+        let copy = client.dup(rt.alloc())?;
+        assert_eq!(rt; copy.preference(), [Udp, Tcp].as_slice());
+        assert_eq!(rt; copy.families(), Families::V4);
+        Ok(())
+    }
+
+    #[test]
+    fn takes_each_transport_once(rt: HostRuntime) -> Result<(), Fail> {
+        let client = Abilities::new(
+            Vec::from_slice(rt.alloc(), &[Sctp, Tls, Tcp, Udp])?,
+            Families::V4,
+        )?;
+        assert_eq!(rt; client.preference(), [Sctp, Tls, Tcp, Udp].as_slice());
+        Ok(())
+    }
+}

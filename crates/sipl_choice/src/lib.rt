@@ -1,0 +1,14 @@
+//! What a client chooses from: transports, endpoints, families of addresses and abilities.
+#![tactic(auto)]
+
+mod abilities;
+mod endpoint;
+mod families;
+mod fault;
+mod transport;
+
+pub use abilities::Abilities;
+pub use endpoint::Endpoint;
+pub use families::Families;
+pub use fault::AbilitiesFault;
+pub use transport::{SIP_PORT, SIPS_PORT, Transport, default_port};

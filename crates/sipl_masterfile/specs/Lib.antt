@@ -1,0 +1,4 @@
+pub mod FaultCode
+pub mod Zones
+pub mod RecordText
+pub use Rattle.sipl_records.specs.Sets

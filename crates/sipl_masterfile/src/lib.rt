@@ -1,0 +1,13 @@
+//! Master files (RFC 1035, 5.1): zones and single records in text.
+#![tactic(auto)]
+
+mod fault;
+mod form;
+mod record;
+#[cfg(test)]
+mod tests;
+mod zone;
+
+pub use fault::{ZoneCause, ZoneFault};
+pub use record::read_record;
+pub use zone::{ZoneText, read_zone};

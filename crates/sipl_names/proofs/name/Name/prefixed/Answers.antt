@@ -1,0 +1,29 @@
+use Rattle.std.proofs.Common.{◌≡◌, ◌++◌, Ok, map, ap, ◌∙◌, arith}
+use Rattle.std.specs.Str.{str_to_ascii_lowercase}
+use Rattle.sipl_names.specs.Labels.{wire_of, prefixed_of}
+use Rattle.sipl_names.specs.LabelSlices.{octets_of}
+use Rattle.sipl_names.specs.Wire.{IsNameWire, labels_of_wire}
+use Rattle.sipl_names.proofs.Prefixes.{prefix_long, prefix_made}
+use Rattle.sipl_names.proofs.name.Name.prefixed.Goals as goal
+use Rattle.sipl_names.proofs.name.Name.prefixed.Goals.{In_ok-extend_from_slice}
+
+pub returns-then-len-ge-MAX_NAME_LEN-clause-refused :
+    goal.returns-then-len-ge-MAX_NAME_LEN-clause-refused
+returns-then-len-ge-MAX_NAME_LEN-clause-refused c =
+    λ _. prefix_long (octets_of c.args.labels.now) c.args.self.now c.self.inside.wire.items c.saturating_add-len.result c.in_ok-checked_len.ensures.faultless c.self.invariant c.self.view_is (omega (arith, c.self.inside.wire.ok.0, c.in_ok-checked_len.ensures.len)) c.if-len-ge-MAX_NAME_LEN.true
+
+made : (c : In_ok-extend_from_slice) → IsNameWire c.extend_from_slice.new.self.items × (prefixed_of (octets_of c.args.labels.now) c.args.self.now ≡ Ok (labels_of_wire c.extend_from_slice.new.self.items))
+made c =
+    prefix_made (octets_of c.args.labels.now) c.args.self.now c.self.inside.wire.items c.extend_from_slice.new.self.items c.saturating_add-len.result c.in_ok-checked_len.ensures.faultless c.in_ok-push_labels.ensures.labels c.self.invariant c.self.view_is (omega (arith, c.self.inside.wire.ok.0, c.in_ok-checked_len.ensures.len)) c.if-len-ge-MAX_NAME_LEN.false
+    (let front = c.in_ok-push_labels.ensures.ok ∙ ap (λ w. w ++ wire_of (map str_to_ascii_lowercase (octets_of c.args.labels.now))) c.in_ok-wire.ensures.items in
+    let own = c.deref.ensures.value in
+    c.in_ok-extend_from_slice.ensures.items ∙ (λ i. front i ++ own i))
+
+pub invariant_of-result : goal.invariant_of-result
+invariant_of-result c = (made c).0
+
+pub returns-clause-made : goal.returns-clause-made
+returns-clause-made c = (made (goal.at.returns-clause-made c).In_ok-extend_from_slice).1
+
+pub returns-clause-limits : goal.returns-clause-limits
+returns-clause-limits c = (made (goal.at.returns-clause-limits c).In_ok-extend_from_slice).0.name

@@ -1,0 +1,7 @@
+use Rattle.std.proofs.Common.{◌≡◌, ◌∷◌, ◌++◌, length, take}
+use Rattle.std.specs.Str.{str_to_ascii_lowercase}
+use Rattle.sipl_names.proofs.wire.push_label.Given as goal
+
+abbrev pub invariant-loop-octet : goal.invariant-loop-octet
+invariant-loop-octet l =
+    l.wire.items ≡ l.fn.wire.items ++ length l.label ∷ str_to_ascii_lowercase (take l.octet-index l.label)

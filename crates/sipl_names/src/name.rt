@@ -1,0 +1,207 @@
+ghost use Rattle.std.specs.Prelude.{◌≡◌, ◌≢◌, ◌↔◌, ◌++◌, [], List, ℕ, IsTrue, IfOk, IfErr, IfSome, OnOk, OnErr};
+ghost use Rattle.std.specs.Option.{option_copied};
+ghost use Rattle.std.specs.Cmp as laws_of;
+ghost use Rattle.std.specs.Cmp.Lexicographic.{lists_equiv, nat_list_eq_equiv};
+ghost use Rattle.std.specs.Hash as fed;
+ghost use Rattle.sipl_names.specs.Labels.{IsName, wire_length, wire_of, same_name, is_within, parent_of, prefixed_of, top_label_of};
+ghost use Rattle.sipl_names.specs.LabelSlices.{octets_of};
+ghost use Rattle.sipl_names.specs.NamePrint.{text_of};
+ghost use Rattle.sipl_names.specs.NameText.{name_of};
+ghost use Rattle.sipl_names.specs.SameName.{same_wires};
+
+use crate::MAX_NAME_LEN;
+use crate::fault::NameFault;
+use crate::print::append_text;
+use crate::text::{Labels, read_labels};
+use crate::wire::{checked_len, push_labels, split_label};
+use std::alloc::{AllocError, Global};
+use std::hash::{Hash, Hasher};
+use std::marker::Model;
+
+/// A domain name: the list of its labels, the one next to the root last. A label has 1 to 63
+/// octets, the wire form at most 255 (RFC 1035, 2.3.4). Letters A to Z are kept in lower case, and
+/// so names are compared without case (RFC 4343, 3).
+#[derive(Debug, Drop)]
+pub struct Name {
+    // The wire form, without the octet of the root: so the root takes no memory.
+    wire: Vec<u8>,
+}
+
+impl Model for Name {
+    ghost use Rattle.std.specs.Prelude.{List, ℕ};
+    ghost use Rattle.sipl_names.specs.Wire.{labels_of_wire, IsNameWire};
+
+    ghost Value = { List (List ℕ) };
+
+    ghost view = { λ name. labels_of_wire name.wire.items };
+
+    ghost invariant = { λ name. IsNameWire name.wire.items };
+}
+
+impl Name {
+    /// The root, the name without labels. It takes no memory.
+    pub fn root(alloc: Global) -> Self
+        ensures { result ≡ [] }
+    {
+        Name {
+            wire: Vec::new(alloc),
+        }
+    }
+
+    /// Reads a name's text in a master file (RFC 1035, 5.1). `@` alone is the origin, `.` alone
+    /// the root. A backslash and three digits up to 255 are that octet, a backslash and an octet
+    /// that is no digit are that octet; a dot ends a label. A text that no dot ends is followed by
+    /// the origin.
+    ///
+    /// The fault is the first in the text, an empty label (N1), a label of more than 63 octets
+    /// (N2), each found where the label ends, or a backslash that begins no escape (N4); then a
+    /// wire form of more than 255 octets (N3).
+    pub fn from_text(alloc: Global, text: &[u8], origin: &Name) -> Result<Self, NameFault>
+        ensures read { IfOk result (λ name. name_of text.now origin.now ≡ Ok name) }
+        ensures refused { IfErr result
+            (λ fault. fault ≢ NameFault.Memory → name_of text.now origin.now ≡ Err fault) }
+        ensures limits { IfOk result IsName }
+    {
+        if text == b"@".as_slice() {
+            return Ok(origin.dup(alloc)?);
+        }
+        if text == b".".as_slice() {
+            return Ok(Name::root(alloc));
+        }
+        let Labels { mut wire, is_whole } = read_labels(alloc, text)?;
+        if !is_whole {
+            wire.extend_from_slice(&origin.wire)?;
+        }
+        if wire.len() >= MAX_NAME_LEN {
+            return Err(NameFault::NameTooLong);
+        }
+        Ok(Name { wire })
+    }
+
+    /// The name with these labels in front, in lower case. The fault of the first that is no label
+    /// (N1, N2) comes before that of the whole, a wire form of more than 255 octets (N3).
+    pub fn prefixed(&self, alloc: Global, labels: &[&[u8]]) -> Result<Self, NameFault>
+        ensures made { IfOk result
+            (λ name. prefixed_of (octets_of labels.now) self.now ≡ Ok name) }
+        ensures refused { IfErr result
+            (λ fault. fault ≢ NameFault.Memory
+            → prefixed_of (octets_of labels.now) self.now ≡ Err fault) }
+        ensures limits { IfOk result IsName }
+    {
+        let len = checked_len(labels)?.saturating_add(self.wire.len());
+        if len >= MAX_NAME_LEN {
+            return Err(NameFault::NameTooLong);
+        }
+        let mut wire = Vec::with_capacity(alloc, len)?;
+        push_labels(&mut wire, labels)?;
+        wire.extend_from_slice(&self.wire)?;
+        Ok(Name { wire })
+    }
+
+    /// Appends the name's text (RFC 1035, 5.1): each label with a dot behind it, the root as a
+    /// dot. Octets of 0x21 to 0x7E stand for themselves, `. \ " ; ( ) @ $` with a backslash before
+    /// them, all others as a backslash and three digits. An `Err` leaves `out` as it was.
+    pub fn write(&self, out: &mut Vec<u8>) -> Result<(), AllocError>
+        ensures ok { OnOk result (out.new.items ≡ out.old.items ++ text_of self.now) }
+        ensures err { OnErr result (out.new.items ≡ out.old.items) }
+    {
+        let len = out.len();
+        let outcome = append_text(&self.wire, out);
+        if outcome.is_err() {
+            out.truncate(len);
+        }
+        outcome
+    }
+
+    /// A copy of the name.
+    pub fn dup(&self, alloc: Global) -> Result<Self, AllocError>
+        ensures value { IfOk result (λ copy. copy ≡ self.now) }
+        ensures limits { IfOk result IsName }
+    {
+        Ok(Name {
+            wire: Vec::from_slice(alloc, &self.wire)?,
+        })
+    }
+
+    /// Octets of the wire form, with that of the root (RFC 1035, 3.1).
+    pub fn wire_len(&self) -> usize
+        ensures value { result ≡ wire_length self.now }
+        ensures limits { IsName self.now }
+    {
+        self.wire.len() + 1
+    }
+
+    /// Whether the name is the root.
+    pub fn is_root(&self) -> bool
+        ensures { IsTrue result ↔ (self.now ≡ []) }
+    {
+        self.wire.is_empty()
+    }
+
+    /// Whether the name is the apex or below it, label by label (RFC 1034, 3.1). It costs the
+    /// octets of the name, and takes no memory.
+    pub fn is_within(&self, apex: &Name) -> bool
+        ensures value { result ≡ is_within self.now apex.now }
+        ensures suffix { IsTrue result
+            ↔ ((front : List (List ℕ)) × (self.now ≡ front ++ apex.now)) }
+    {
+        let suffix = apex.wire.as_slice();
+        let mut rest = self.wire.as_slice();
+        while let Some((_, behind)) = split_label(rest) {
+            if rest.len() <= suffix.len() {
+                break;
+            }
+            rest = behind;
+        }
+        rest == suffix
+    }
+
+    /// The name above, without the first label; None for the root.
+    pub fn parent(&self, alloc: Global) -> Result<Option<Name>, AllocError>
+        ensures value { IfOk result (λ above. above ≡ parent_of self.now) }
+        ensures limits { IfOk result (λ above. IfSome above IsName) }
+    {
+        let Some((_, above)) = split_label(&self.wire) else {
+            return Ok(None);
+        };
+        let wire = Vec::from_slice(alloc, above)?;
+        Ok(Some(Name { wire }))
+    }
+
+    /// The label next to the root, as `com`; None for the root.
+    pub fn top_label(&self) -> Option<&[u8]>
+        ensures { option_copied result ≡ top_label_of self.now }
+    {
+        let mut top = None;
+        let mut rest = self.wire.as_slice();
+        while let Some((label, behind)) = split_label(rest) {
+            top = Some(label);
+            rest = behind;
+        }
+        top
+    }
+}
+
+impl PartialEq for Name {
+    ghost eq = { same_name };
+
+    ghost laws = { laws_of.partial_equiv_from_equiv (lists_equiv nat_list_eq_equiv) };
+
+    fn eq(&self, other: &Name) -> bool {
+        self.wire == other.wire
+    }
+}
+
+impl Eq for Name {
+    ghost laws = { lists_equiv nat_list_eq_equiv };
+}
+
+impl Hash for Name {
+    ghost hash_input = { λ labels. fed.slice fed.u8 (wire_of labels) };
+
+    ghost respects_eq = { λ x y same. same_wires (fed.slice fed.u8) x y same };
+
+    fn hash<H: Hasher>(&self, state: &mut H) {
+        self.wire.hash(state);
+    }
+}

@@ -1,0 +1,84 @@
+// Wire forms of labels, without the octet of the root (RFC 1035, 3.1).
+ghost use Rattle.std.specs.Prelude.{◌≡◌, ◌-◌, ◌^◌, [], ◌∷◌, ◌++◌, length, map, min, None, Some, IfNone, IfSome, IfOk, IfErr, OnOk, MatchResult};
+ghost use Rattle.std.specs.List.{AllByRecursion};
+ghost use Rattle.std.specs.Str.{str_to_ascii_lowercase};
+ghost use Rattle.sipl_names.specs.Labels.{counted, wire_of, IsLabel, label_fault, first_label_fault};
+ghost use Rattle.sipl_names.specs.LabelSlices.{octets_of};
+ghost use Rattle.sipl_names.specs.Wire.{IsWire, labels_of_wire};
+
+use crate::MAX_LABEL_LEN;
+use crate::fault::NameFault;
+use std::alloc::AllocError;
+
+/// The first label, and the wire form of those behind it; None where there is no label.
+pub(crate) fn split_label(wire: &[u8]) -> Option<(&[u8], &[u8])>
+    requires { IsWire wire.now }
+    ensures none { IfNone result (wire.now ≡ []) }
+    ensures first { IfSome result (λ parts. wire.now ≡ counted parts.0.now ++ parts.1.now) }
+    ensures rest { IfSome result (λ parts. IsWire parts.1.now) }
+    ensures labels { IfSome result
+        (λ parts. labels_of_wire wire.now ≡ parts.0.now ∷ labels_of_wire parts.1.now) }
+{
+    let (count, rest) = wire.split_first()?;
+    Some(rest.split_at(*count as usize))
+}
+
+/// Whether the octets can be a label.
+pub(crate) fn check_label(label: &[u8]) -> Result<(), NameFault>
+    ensures { MatchResult result
+        (λ _. label_fault label.now ≡ None)
+        (λ fault. label_fault label.now ≡ Some fault) }
+{
+    if label.is_empty() {
+        return Err(NameFault::EmptyLabel);
+    }
+    if label.len() > MAX_LABEL_LEN {
+        return Err(NameFault::LabelTooLong);
+    }
+    Ok(())
+}
+
+/// The octets of the wire form of these labels, or 2^64 - 1 where they are more; else the fault of
+/// the first that is no label.
+pub(crate) fn checked_len(labels: &[&[u8]]) -> Result<usize, NameFault>
+    ensures faultless { IfOk result (λ _. first_label_fault (octets_of labels.now) ≡ None) }
+    ensures len { IfOk result
+        (λ len. len ≡ min (length (wire_of (octets_of labels.now))) (2 ^ 64 - 1)) }
+    ensures fault { IfErr result
+        (λ fault. first_label_fault (octets_of labels.now) ≡ Some fault) }
+{
+    let mut len = 0usize;
+    for label in labels {
+        check_label(label)?;
+        len = len.saturating_add(label.len() + 1);
+    }
+    Ok(len)
+}
+
+/// Appends the wire form of these labels, in lower case.
+pub(crate) fn push_labels(wire: &mut Vec<u8>, labels: &[&[u8]]) -> Result<(), AllocError>
+    requires { first_label_fault (octets_of labels.now) ≡ None }
+    ensures ok { OnOk result
+        (wire.new.items
+        ≡ wire.old.items ++ wire_of (map str_to_ascii_lowercase (octets_of labels.now))) }
+    ensures labels { OnOk result
+        (AllByRecursion IsLabel (map str_to_ascii_lowercase (octets_of labels.now))) }
+{
+    for label in labels {
+        push_label(wire, label)?;
+    }
+    Ok(())
+}
+
+fn push_label(wire: &mut Vec<u8>, label: &[u8]) -> Result<(), AllocError>
+    requires { label_fault label.now ≡ None }
+    ensures ok { OnOk result
+        (wire.new.items ≡ wire.old.items ++ counted (str_to_ascii_lowercase label.now)) }
+    ensures label { IsLabel (str_to_ascii_lowercase label.now) }
+{
+    wire.push(label.len() as u8)?;
+    for octet in label {
+        wire.push(octet.to_ascii_lowercase())?;
+    }
+    Ok(())
+}

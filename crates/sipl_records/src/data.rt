@@ -1,0 +1,48 @@
+ghost use Rattle.std.specs.Prelude.{◌≡◌, IfOk};
+ghost use Rattle.sipl_records.specs.Sets.{is_of_kind, kind_of, same_kind};
+
+use crate::kind::Kind;
+use std::alloc::{AllocError, Global};
+
+/// What a record says of its owner.
+#[derive(Debug, PartialEq, Eq, Drop)]
+pub enum Data {
+    /// An IPv4 address (RFC 1035, 3.4.1), its first octet the highest of the number.
+    Address4(u32),
+}
+
+impl Data {
+    /// The kind of set that the data stand in; `None` for data that stand in none.
+    pub fn kind(&self) -> Option<Kind>
+        ensures { result ≡ kind_of self.now }
+    {
+        match self {
+            Data::Address4(_) => Some(Kind::Address4),
+        }
+    }
+
+    /// Whether the data are of this kind.
+    pub fn is_of(&self, kind: Kind) -> bool
+        ensures { result ≡ is_of_kind kind self.now }
+    {
+        self.kind() == Some(kind)
+    }
+
+    /// Whether the two are of one kind.
+    pub fn is_like(&self, other: &Data) -> bool
+        ensures { result ≡ same_kind self.now other.now }
+    {
+        match (self, other) {
+            (Data::Address4(_), Data::Address4(_)) => true,
+        }
+    }
+
+    /// A copy of the data.
+    pub fn dup(&self, alloc: Global) -> Result<Self, AllocError>
+        ensures { IfOk result (λ copy. copy ≡ self.now) }
+    {
+        match self {
+            Data::Address4(address) => Ok(Data::Address4(*address)),
+        }
+    }
+}

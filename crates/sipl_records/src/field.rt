@@ -1,0 +1,87 @@
+ghost use Rattle.std.specs.Prelude.{◌≡◌, ◌<◌, ◌∷◌, ◌++◌, [], length, MatchOption, IfSome};
+ghost use Rattle.sipl_records.specs.Fields.{fields_of, from_field, behind_field, before_gap, from_gap, is_gap as gap};
+
+/// Takes the first field off a line whose fields are parted by spaces and tabs: the field, and
+/// the line behind it. `None` where the line has no field.
+pub fn next_field(line: &[u8]) -> Option<(&[u8], &[u8])>
+    ensures fields { MatchOption result (fields_of line.now ≡ []) (λ next. fields_of line.now ≡ next.0.now ∷ fields_of next.1.now) }
+    ensures behind { IfSome result (λ next. next.1.now ≡ behind_field line.now) }
+    ensures parts { IfSome result (λ next. from_field line.now ≡ next.0.now ++ next.1.now) }
+    ensures shorter { IfSome result (λ next. length next.1.now < length line.now) }
+{
+    let line = trim_gaps(line);
+    if line.is_empty() {
+        return None;
+    }
+    Some(split_at_gap(line))
+}
+
+/// The line from its first octet that is neither a space nor a tab.
+pub fn trim_gaps(line: &[u8]) -> &[u8]
+    ensures { result.now ≡ from_field line.now }
+{
+    let mut rest = line;
+    while let [octet, others @ ..] = rest {
+        if !is_gap(*octet) {
+            break;
+        }
+        rest = others;
+    }
+    rest
+}
+
+// The octets before the first gap, and the line from it on.
+fn split_at_gap(line: &[u8]) -> (&[u8], &[u8])
+    ensures front { result.0.now ≡ before_gap line.now }
+    ensures back { result.1.now ≡ from_gap line.now }
+{
+    let end = line
+        .iter()
+        .position(|octet| is_gap(*octet))
+        .unwrap_or(line.len());
+    line.split_at(end)
+}
+
+fn is_gap(octet: u8) -> bool
+    ensures { result ≡ gap octet }
+{
+    octet == b' ' || octet == b'\t'
+}
+
+#[cfg(test)]
+mod tests {
+    use super::*;
+
+    #[test]
+    fn takes_fields_in_order(rt: HostRuntime) {
+        let mut line: &[u8] = b" a\tbc  d ";
+        for (want, left) in [("a", "\tbc  d "), ("bc", "  d "), ("d", " ")] {
+            let Some((field, rest)) = next_field(line) else {
+                panic!(rt; "no field before {left}");
+            };
+            assert_eq!(rt; field, want.as_bytes());
+            assert_eq!(rt; rest, left.as_bytes());
+            line = rest;
+        }
+        assert!(rt; next_field(line).is_none());
+    }
+
+    #[test]
+    fn finds_no_field_among_gaps(rt: HostRuntime) {
+        assert!(rt; next_field(b"").is_none());
+        assert!(rt; next_field(b" \t ").is_none());
+    }
+
+    #[test]
+    fn trims_the_gaps_in_front(rt: HostRuntime) {
+        for (line, want) in [
+            ("", ""),
+            ("a b ", "a b "),
+            ("\t  a b ", "a b "),
+            (" \t", ""),
+            ("\r a", "\r a"),
+        ] {
+            assert_eq!(rt; trim_gaps(line.as_bytes()), want.as_bytes());
+        }
+    }
+}

@@ -1,0 +1,34 @@
+use std::fmt;
+
+/// The kinds of record sets that a lookup reads.
+#[derive(Clone, Copy, Debug, PartialEq, Eq, Hash)]
+pub enum Kind {
+    /// IPv4 addresses, `A` (RFC 1035, 3.4.1).
+    Address4,
+    /// IPv6 addresses, `AAAA` (RFC 3596, 2.1).
+    Address6,
+    /// The canonical name of an alias, `CNAME` (RFC 1035, 3.3.1).
+    Alias,
+    /// The servers of a service, `SRV` (RFC 2782).
+    Service,
+    /// Pointers to a domain's services, `NAPTR` (RFC 3403).
+    Pointer,
+}
+
+/// Prints the kind's mnemonic in master files, such as `AAAA` (RFC 1035, 5.1).
+impl fmt::Display for Kind {
+    ghost use Rattle.std.specs.Prelude.{Some};
+    ghost use Rattle.sipl_records.specs.Kinds.{kind_text};
+
+    ghost output = { λ kind. Some (kind_text kind) };
+
+    fn fmt<W: fmt::Write>(&self, f: &mut fmt::Formatter<W>) -> fmt::Result {
+        match self {
+            Kind::Address4 => write!(f, "A"),
+            Kind::Address6 => write!(f, "AAAA"),
+            Kind::Alias => write!(f, "CNAME"),
+            Kind::Service => write!(f, "SRV"),
+            Kind::Pointer => write!(f, "NAPTR"),
+        }
+    }
+}

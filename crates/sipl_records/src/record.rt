@@ -1,0 +1,72 @@
+ghost use Rattle.std.specs.Prelude.{◌≡◌, IfOk};
+ghost use Rattle.sipl_records.specs.Sets.{is_of_key, key_of, shares_set};
+
+use crate::data::Data;
+use crate::kind::Kind;
+use sipl_names::Name;
+use std::alloc::{AllocError, Global};
+
+/// The most records of a set.
+pub const MAX_SET_LEN: usize = 32;
+
+/// A resource record (RFC 1035, 3.2.1), without its class and TTL.
+#[derive(Debug, PartialEq, Eq, Drop)]
+pub struct Record {
+    pub owner: Name,
+    pub value: Data,
+}
+
+impl Record {
+    /// Whether the record belongs to the set that the key finds (RFC 2181, 5).
+    pub fn is_of(&self, key: &Key) -> bool
+        ensures { result ≡ is_of_key key.now self.now }
+    {
+        self.owner == key.name && self.value.is_of(key.kind)
+    }
+
+    /// Whether the two records stand in one set: equal owners, and data of one kind.
+    pub fn shares_set(&self, other: &Record) -> bool
+        ensures { result ≡ shares_set self.now other.now }
+    {
+        self.owner == other.owner && self.value.is_like(&other.value)
+    }
+
+    /// The key of the set that the record stands in; `None` where it stands in none.
+    pub fn key(&self, alloc: Global) -> Result<Option<Key>, AllocError>
+        ensures { IfOk result (λ key. key ≡ key_of self.now) }
+    {
+        let Some(kind) = self.value.kind() else {
+            return Ok(None);
+        };
+        let name = self.owner.dup(alloc)?;
+        Ok(Some(Key { name, kind }))
+    }
+
+    /// A copy of the record.
+    pub fn dup(&self, alloc: Global) -> Result<Self, AllocError>
+        ensures { IfOk result (λ copy. copy ≡ self.now) }
+    {
+        let owner = self.owner.dup(alloc)?;
+        let value = self.value.dup(alloc)?;
+        Ok(Record { owner, value })
+    }
+}
+
+/// What a record set is found by: an owner and a kind.
+#[derive(Debug, PartialEq, Eq, Hash, Drop)]
+pub struct Key {
+    pub name: Name,
+    pub kind: Kind,
+}
+
+impl Key {
+    /// A copy of the key.
+    pub fn dup(&self, alloc: Global) -> Result<Self, AllocError>
+        ensures { IfOk result (λ copy. copy ≡ self.now) }
+    {
+        Ok(Key {
+            name: self.name.dup(alloc)?,
+            kind: self.kind,
+        })
+    }
+}

@@ -1,0 +1,249 @@
+ghost use Rattle.std.specs.Prelude.{◌≡◌, ◌↔◌, IsTrue, Contains};
+
+use crate::address::Address;
+use crate::data::Data;
+use crate::fault::AddressFault;
+use crate::kind::Kind;
+use crate::record::{Key, Record};
+use sipl_names::Name;
+use std::alloc::Global;
+use std::test::Fail;
+
+/// Compares two records. Its contract is that `==` tells equal records from others.
+#[tactic(auto, using(crate::specs::Same::same_name_decides))]
+fn same_record(a: &Record, b: &Record) -> bool
+    ensures { IsTrue result ↔ (a.now ≡ b.now) }
+{
+    a == b
+}
+
+/// Compares two keys. Its contract is that `==` tells equal keys from others.
+#[tactic(auto, using(crate::specs::Same::same_name_decides))]
+fn same_key(a: &Key, b: &Key) -> bool
+    ensures { IsTrue result ↔ (a.now ≡ b.now) }
+{
+    a == b
+}
+
+/// Whether a record is among others. Its contract is that `contains` finds equal records.
+#[tactic(auto, using(crate::specs::Same::same_record_decides))]
+fn is_among(records: &[Record], wanted: &Record) -> bool
+    ensures { IsTrue result ↔ Contains records.now wanted.now }
+{
+    records.contains(wanted)
+}
+
+/// Whether a key is among others. Its contract is that `contains` finds equal keys.
+#[tactic(auto, using(crate::specs::Same::same_key_decides))]
+fn is_key_among(keys: &[Key], key: &Key) -> bool
+    ensures { IsTrue result ↔ Contains keys.now key.now }
+{
+    keys.contains(key)
+}
+
+/// Compares two data. Its contract is that `==` tells equal data from others.
+fn same_data(a: &Data, b: &Data) -> bool
+    ensures { IsTrue result ↔ (a.now ≡ b.now) }
+{
+    a == b
+}
+
+/// Compares two addresses. Its contract is that `==` tells equal addresses from others.
+fn same_address(a: &Address, b: &Address) -> bool
+    ensures { IsTrue result ↔ (a.now ≡ b.now) }
+{
+    a == b
+}
+
+/// The record of an address at this owner.
+fn record(alloc: Global, owner: &[u8], address: u32) -> Result<Record, Fail> {
+    let root = Name::root(alloc);
+    Ok(Record {
+        owner: Name::from_text(alloc, owner, &root)?,
+        value: Data::Address4(address),
+    })
+}
+
+/// The key of the records of this owner and kind.
+fn key(alloc: Global, name: &[u8], kind: Kind) -> Result<Key, Fail> {
+    let root = Name::root(alloc);
+    Ok(Key {
+        name: Name::from_text(alloc, name, &root)?,
+        kind,
+    })
+}
+
+#[test]
+fn reads_and_writes_addresses(rt: HostRuntime) -> Result<(), Fail> {
+    let rows: [(&[u8], u32); 4] = [
+        (b"0.0.0.0", 0),
+        (b"255.255.255.255", 0xFFFF_FFFF),
+        (b"192.0.2.1", 0xC000_0201),
+        (b"1.20.100.9", 0x0114_6409),
+    ];
+    for (text, number) in rows {
+        let address = Address::V4(number);
+        assert_eq!(rt; Address::from_text(text), Ok(address), "reading {number}");
+        let mut out = Vec::from_slice(rt.alloc(), b"at ")?;
+        address.write(&mut out)?;
+        assert_eq!(rt; out.len(), text.len() + 3, "writing {number}");
+        assert_eq!(rt; &out[..3], b"at ".as_slice(), "writing {number}");
+        assert_eq!(rt; &out[3..], text, "writing {number}");
+    }
+    Ok(())
+}
+
+#[test]
+fn reads_leading_zeros(rt: HostRuntime) {
+    let address = Address::from_text(b"192.0.02.001");
+    assert_eq!(rt; address, Ok(Address::V4(0xC000_0201)));
+}
+
+#[test]
+fn refuses_other_texts(rt: HostRuntime) {
+    let texts: [&[u8]; 14] = [
+        b"256.1.1.1",
+        b"1.2.3.256",
+        b"1.2.3",
+        b"1.2.3.4.5",
+        b"",
+        b"1..2.3",
+        b"0001.2.3.4",
+        b"1.2.3.0004",
+        b" 1.2.3.4",
+        b"1.2.3.4 ",
+        b"1.2.3.4.",
+        b".1.2.3.4",
+        b"...",
+        b"99999999999999999999.2.3.4",
+    ];
+    for (row, text) in texts.into_iter().enumerate() {
+        assert_eq!(rt;
+            Address::from_text(text),
+            Err(AddressFault::BadAddress),
+            "row {row}"
+        );
+    }
+}
+
+/// What `1.2.3.4` says with this octet at this place: the digits stand at the even places, the dots at the odd ones.
+fn address_with(place: usize, octet: u8) -> Result<Address, AddressFault> {
+    let is_dot_place = place % 2 == 1;
+    let is_read = if is_dot_place {
+        octet == b'.'
+    } else {
+        octet.is_ascii_digit()
+    };
+    if !is_read {
+        return Err(AddressFault::BadAddress);
+    }
+    let digit = if is_dot_place {
+        0
+    } else {
+        u32::from(octet.wrapping_sub(b'0'))
+    };
+    Ok(Address::V4(match place {
+        0 => digit << 24 | 0x0002_0304,
+        2 => digit << 16 | 0x0100_0304,
+        4 => digit << 8 | 0x0102_0004,
+        6 => digit | 0x0102_0300,
+        _ => 0x0102_0304,
+    }))
+}
+
+#[test]
+fn reads_each_octet_at_each_place(rt: HostRuntime) {
+    for place in 0..7usize {
+        for octet in 0..=255u8 {
+            let mut text = *b"1.2.3.4";
+            text[place] = octet;
+            assert_eq!(rt;
+                Address::from_text(&text),
+                address_with(place, octet),
+                "{octet} at {place}"
+            );
+        }
+    }
+}
+
+#[test]
+fn names_its_fault(rt: HostRuntime) -> Result<(), Fail> {
+    let fault = AddressFault::BadAddress;
+    assert_eq!(rt; fault.code(), "A1");
+    let text = fault.to_string(rt.alloc())?;
+    assert_eq!(rt; text.as_str(), "not an IP address");
+    Ok(())
+}
+
+#[test]
+fn prints_kinds(rt: HostRuntime) -> Result<(), Fail> {
+    let rows = [
+        (Kind::Address4, "A"),
+        (Kind::Address6, "AAAA"),
+        (Kind::Alias, "CNAME"),
+        (Kind::Service, "SRV"),
+        (Kind::Pointer, "NAPTR"),
+    ];
+    for (kind, text) in rows {
+        let printed = kind.to_string(rt.alloc())?;
+        assert_eq!(rt; printed.as_str(), text);
+    }
+    Ok(())
+}
+
+#[test]
+fn tells_the_records_of_a_key(rt: HostRuntime) -> Result<(), Fail> {
+    let alloc = rt.alloc();
+    let mut records = Vec::new(alloc);
+    records.push(record(alloc, b"www.example.com.", 0xC000_0201)?)?;
+    records.push(record(alloc, b"example.com.", 0xC000_0202)?)?;
+    records.push(record(alloc, b"WWW.Example.com.", 0xC000_0203)?)?;
+    let rows: [(&[u8], Kind, [bool; 3]); 4] = [
+        (b"www.example.com.", Kind::Address4, [true, false, true]),
+        (b"EXAMPLE.com.", Kind::Address4, [false, true, false]),
+        (b"com.", Kind::Address4, [false, false, false]),
+        (b"www.example.com.", Kind::Address6, [false, false, false]),
+    ];
+    for (row, (name, kind, members)) in rows.into_iter().enumerate() {
+        let key = key(alloc, name, kind)?;
+        for (record, is_member) in records.iter().zip(members.iter()) {
+            assert_eq!(rt; record.is_of(&key), *is_member, "row {row}");
+        }
+    }
+    Ok(())
+}
+
+#[test]
+fn tells_the_kind_of_data(rt: HostRuntime) {
+    let data = Data::Address4(0xC000_0201);
+    assert!(rt; data.is_of(Kind::Address4));
+    for kind in [Kind::Address6, Kind::Alias, Kind::Service, Kind::Pointer] {
+        assert!(rt; !data.is_of(kind), "{kind}");
+    }
+}
+
+#[test]
+fn copies_and_compares(rt: HostRuntime) -> Result<(), Fail> {
+    let alloc = rt.alloc();
+    let www = record(alloc, b"www.example.com.", 0xC000_0201)?;
+    assert!(rt; same_record(&www.dup(alloc)?, &www));
+    assert!(rt; !same_record(&record(alloc, b"example.com.", 0xC000_0201)?, &www));
+    assert!(rt; !same_record(&record(alloc, b"www.example.com.", 0xC000_0202)?, &www));
+    assert!(rt; same_data(&www.value.dup(alloc)?, &Data::Address4(0xC000_0201)));
+    let addresses = key(alloc, b"www.example.com.", Kind::Address4)?;
+    assert!(rt; same_key(&addresses.dup(alloc)?, &addresses));
+    assert!(rt;
+        !same_key(
+            &key(alloc, b"www.example.com.", Kind::Address6)?,
+            &addresses
+        )
+    );
+    assert!(rt; !same_key(&key(alloc, b"example.com.", Kind::Address4)?, &addresses));
+    assert!(rt; !same_address(&Address::V4(1), &Address::V4(2)));
+    let copy = www.dup(alloc)?;
+    let records = vec![in alloc; record(alloc, b"example.com.", 0xC000_0202)?, www]?;
+    assert!(rt; is_among(&records, &copy));
+    let keys = vec![in alloc; addresses]?;
+    assert!(rt; !is_key_among(&keys, &key(alloc, b"www.example.com.", Kind::Alias)?));
+    Ok(())
+}

@@ -1,0 +1,191 @@
+-- Each change of what waits keeps it consistent: no id twice, none both queued and leased, and room for all.
+use Rattle.std.proofs.Common.{◌≡◌, ℕ, ◌+◌, ◌-◌, ◌<◌, ◌≤◌, Bool, true, false, cond, not, ◌&&◌, ◌||◌, eqb, ltb, List, [], ◌∷◌, ◌++◌, length, refl, sym, ap, subst, ◌∙◌, arith, inl, inr, ◌⊎◌, true≢false, filter}
+use Rattle.std.specs.List.{list_any, AllByRecursion, IsDistinct}
+use Rattle.std.specs.Ordering.{nat_cmp}
+use Rattle.std.specs.Cmp.{nat_cmp_total, nat_eq_equiv}
+use Rattle.std.specs.FinSet as set
+use Rattle.std.specs.VecDeque.{deque_capacity}
+use Rattle.std.proofs.lemmas.Bool.{or_cases, or_left, or_right, or_from, or_parts, and_parts, cases_Bool, eq-eqb, cond-false, cond-true, cond_both, lt-ltb, ltb-true}
+use Rattle.std.proofs.lemmas.List.{length_push}
+use Rattle.std.proofs.lemmas.List.Folds.{list_any-append}
+use Rattle.std.proofs.lemmas.List.Filters.{length-filter_both}
+use Rattle.std.proofs.lemmas.Map.Keys.{IsDistinct-cons, IsDistinct-tail, IsDistinct-push}
+use Rattle.std.proofs.lemmas.Map.Views.{any-filter_same, exact_unsigned_eq}
+use Rattle.sipl_repair.specs.Ids.{Ids}
+use Rattle.sipl_repair.specs.Queue.{waiting_of, IsSound}
+use Rattle.sipl_repair.specs.Waiting.{Waiting, IsConsistent, is_queued, is_leased, held_count, has_room_for, after_mark, nothing_waits}
+use Rattle.sipl_repair.specs.declared.queue.Queue.TheInside.{Inside}
+use Rattle.sipl_repair.proofs.Members.{NatSet, contains-from_list, contains-insert, contains-remove, len-from_list, len-insert_le, len-remove_le, len-remove_lt, head_is_new, passes_second}
+
+-- these ids queued, these leased, and this room
+abbrev pub waits : List ℕ → NatSet → ℕ → Waiting
+waits ks s r = record { queued = ks; leased = s; room = r }
+
+-- an id that is not in a list differs from each in it
+pub differs_from_each : (k : ℕ) (xs : List ℕ) → list_any (eqb k) xs ≡ false → AllByRecursion (λ y. eqb k y ≡ false) xs
+differs_from_each k [] h = tt
+differs_from_each k (x ∷ xs) h = let parts = or_parts _ _ h in (parts.0, differs_from_each k xs parts.1)
+
+-- a leased id is no new one, so it is not among the queued with the new one
+apart_from_new : (s : NatSet) (k id : ℕ) → set.contains s k ≡ false → set.contains s id ≡ true → eqb id k ≡ false
+apart_from_new s k id idle leased =
+    elim (eqb id k) as (λ b. eqb id k ≡ b → b ≡ false) [
+      | true ↦ λ e. absurd (true≢false (sym leased ∙ ap (set.contains s) (exact_unsigned_eq id k e) ∙ idle))
+      | false ↦ λ _. refl
+    ] refl
+
+-- an id that is leased after a removal was leased before
+still_leased : (s : NatSet) (k id : ℕ) → set.contains (set.remove s k) id ≡ true → set.contains s id ≡ true
+still_leased s k id leased = (and_parts _ _ (sym (contains-remove s k id) ∙ leased)).1
+
+-- what is nowhere in a list is nowhere in a filter of it
+list_any-filter_none : (t p : ℕ → Bool) (xs : List ℕ) → list_any t xs ≡ false → list_any t (filter p xs) ≡ false
+list_any-filter_none t p [] h = refl
+list_any-filter_none t p (x ∷ xs) h =
+    let parts = or_parts _ _ h in
+    elim (p x) as (λ b. list_any t (cond b (x ∷ filter p xs) (filter p xs)) ≡ false) [
+      | true ↦ or_from _ _ parts.0 (list_any-filter_none t p xs parts.1)
+      | false ↦ list_any-filter_none t p xs parts.1
+    ]
+
+IsDistinct-filter : (p : ℕ → Bool) (xs : List ℕ) → IsDistinct eqb xs → IsDistinct eqb (filter p xs)
+IsDistinct-filter p [] h = h
+IsDistinct-filter p (x ∷ xs) h =
+    let rest = IsDistinct-filter p xs (IsDistinct-tail eqb x xs h) in
+    elim (p x) as (λ b. IsDistinct eqb (cond b (x ∷ filter p xs) (filter p xs))) [
+      | true ↦ IsDistinct-cons eqb x (filter p xs) (differs_from_each x _ (list_any-filter_none (eqb x) p xs (head_is_new x xs h))) rest
+      | false ↦ rest
+    ]
+
+length-filter_le : (p : ℕ → Bool) (xs : List ℕ) → length (filter p xs) ≤ length xs
+length-filter_le p xs = omega (arith, length-filter_both p (λ x. not (p x)) (λ _. refl) xs)
+
+module _ (ks : List ℕ) (s : NatSet) (r k : ℕ) where
+  -- an idle id that goes to the end
+  pub IsConsistent-push : IsConsistent (waits ks s r) → list_any (eqb k) ks ≡ false → set.contains s k ≡ false → length ks + set.len s < r → IsConsistent (waits (ks ++ k ∷ []) s r)
+  IsConsistent-push h new idle fits =
+      record {
+        distinct = IsDistinct-push nat_eq_equiv ks k h.distinct new;
+        apart = λ id leased. list_any-append (eqb id) ks (k ∷ []) ∙ or_from _ _ (h.apart id leased) (or_from _ _ (apart_from_new s k id idle leased) refl);
+        within = omega (arith, length_push ks k);
+      }
+
+  -- an idle id that goes to the front
+  pub IsConsistent-cons : IsConsistent (waits ks s r) → list_any (eqb k) ks ≡ false → set.contains s k ≡ false → length ks + set.len s < r → IsConsistent (waits (k ∷ ks) s r)
+  IsConsistent-cons h new idle fits =
+      record {
+        distinct = IsDistinct-cons eqb k ks (differs_from_each k ks new) h.distinct;
+        apart = λ id leased. or_from _ _ (apart_from_new s k id idle leased) (h.apart id leased);
+        within = omega arith;
+      }
+
+  -- the first queued id, once it is leased
+  pub IsConsistent-lease : IsConsistent (waits (k ∷ ks) s r) → IsConsistent (waits ks (set.insert s k) r)
+  IsConsistent-lease h =
+      record {
+        distinct = IsDistinct-tail eqb k ks h.distinct;
+        apart = λ id leased. by id (or_cases _ _ (sym (contains-insert s k id) ∙ leased));
+        within = omega (arith, len-insert_le s k);
+      }
+    where
+      by : (id : ℕ) → (eqb id k ≡ true) ⊎ (set.contains s id ≡ true) → list_any (eqb id) ks ≡ false
+      by id (inl e) = ap (λ x. list_any (eqb x) ks) (exact_unsigned_eq id k e) ∙ head_is_new k ks h.distinct
+      by id (inr leased) = (or_parts _ _ (h.apart id leased)).1
+
+  -- an id that is leased no longer
+  pub IsConsistent-remove : IsConsistent (waits ks s r) → IsConsistent (waits ks (set.remove s k) r)
+  IsConsistent-remove h =
+      record {
+        distinct = h.distinct;
+        apart = λ id leased. h.apart id (still_leased s k id leased);
+        within = omega (arith, len-remove_le s k);
+      }
+
+  -- an id that is neither queued nor leased any longer
+  pub IsConsistent-without : IsConsistent (waits ks s r) → IsConsistent (waits (filter (λ q. not (eqb q k)) ks) (set.remove s k) r)
+  IsConsistent-without h =
+      record {
+        distinct = IsDistinct-filter (λ q. not (eqb q k)) ks h.distinct;
+        apart = λ id leased. list_any-filter_none (eqb id) (λ q. not (eqb q k)) ks (h.apart id (still_leased s k id leased));
+        within = omega (arith, len-remove_le s k, length-filter_le (λ q. not (eqb q k)) ks);
+      }
+
+-- a removed id is no member
+not_removed : (s : NatSet) (k : ℕ) → set.contains (set.remove s k) k ≡ false
+not_removed s k = contains-remove s k k ∙ ap (λ b. not b && set.contains s k) (eq-eqb k k refl)
+
+module _ (ks : List ℕ) (s : NatSet) (r k : ℕ) (h : IsConsistent (waits ks s r)) (leased : set.contains s k ≡ true) where
+  -- a leased id that is queued again, at the end or at the front
+  pub IsConsistent-requeue : IsConsistent (waits (ks ++ k ∷ []) (set.remove s k) r)
+  IsConsistent-requeue =
+      IsConsistent-push ks (set.remove s k) r k (IsConsistent-remove ks s r k h) (h.apart k leased) (not_removed s k)
+      (omega (arith, h.within, len-remove_lt s k leased))
+
+  pub IsConsistent-give_back : IsConsistent (waits (k ∷ ks) (set.remove s k) r)
+  IsConsistent-give_back =
+      IsConsistent-cons ks (set.remove s k) r k (IsConsistent-remove ks s r k h) (h.apart k leased) (not_removed s k)
+      (omega (arith, h.within, len-remove_lt s k leased))
+
+IsDistinct-nil : IsDistinct eqb []
+unfolding IsDistinct
+IsDistinct-nil = tt
+
+-- to filter out what is nowhere in a list leaves the list
+pub filter-absent : (ks : List ℕ) (k : ℕ) → list_any (eqb k) ks ≡ false → filter (λ q. not (eqb q k)) ks ≡ ks
+filter-absent [] k absent = refl
+filter-absent (x ∷ ks) k absent =
+    let parts = or_parts _ _ absent in
+    cond-true _ _ _ (ap not (nat_eq_equiv.symm x k ∙ parts.0)) ∙ ap (λ xs. x ∷ xs) (filter-absent ks k parts.1)
+
+-- nothing is consistent
+pub IsConsistent-nothing : IsConsistent nothing_waits
+IsConsistent-nothing = record { distinct = IsDistinct-nil; apart = λ id leased. refl; within = omega (arith, set.len-empty nat_cmp) }
+
+-- the fields of a queue that shows these ids, with room in each part
+pub sound : (q : Inside) (ks : List ℕ) (s : NatSet) → q.order.items ≡ ks → q.leased.members ≡ s → IsConsistent (waits ks s q.room) → q.queued.members ≡ set.from_list ks
+    → q.room ≤ deque_capacity q.order → q.room ≤ q.queued.room → q.room ≤ q.leased.room → IsSound q
+sound q ks s in_order leased h same_ids order_room queued_room leased_room =
+    record {
+      consistent = subst (λ xs. IsConsistent (waits xs q.leased.members q.room)) (sym in_order) (subst (λ t. IsConsistent (waits ks t q.room)) (sym leased) h);
+      same_ids = same_ids ∙ ap set.from_list (sym in_order);
+      order_room = order_room;
+      queued_room = queued_room;
+      leased_room = leased_room;
+    }
+
+-- what the set of queued ids has, and how many
+pub contains-queued : (q : Inside) → IsSound q → (id : ℕ) → set.contains q.queued.members id ≡ list_any (eqb id) q.order.items
+contains-queued q h id = ap (λ s. set.contains s id) h.same_ids ∙ contains-from_list _ id
+
+pub len-queued : (q : Inside) → IsSound q → set.len q.queued.members ≡ length q.order.items
+len-queued q h = ap set.len h.same_ids ∙ len-from_list _ h.consistent.distinct
+
+-- where the queued ids leave room, the set of queued ids takes one more
+pub may_queue : (q : Inside) → IsSound q → (id : ℕ) → length q.order.items < q.room → (set.contains q.queued.members id || ltb (set.len q.queued.members) q.queued.room) ≡ true
+may_queue q h id less =
+    let below : set.len q.queued.members < q.queued.room = omega (arith, len-queued q h, h.queued_room) in
+    or_right _ _ (lt-ltb _ _ below)
+
+module _ (q : Inside) (w : Waiting) (id : ℕ) (h : IsSound q) (shown : waiting_of q ≡ w) (may : has_room_for w id ≡ true) (idle : set.contains q.leased.members id ≡ false) where
+  -- a mark of an idle id finds room for one more
+  pub mark_fits : list_any (eqb id) q.order.items ≡ false → length q.order.items + set.len q.leased.members < q.room
+  mark_fits absent = ltb-true _ _ (passes_second _ _ (or_from _ _ absent idle) (ap (λ v. has_room_for v id) shown ∙ may))
+
+  -- and so does the set of queued ids, if it does not have the id
+  pub may_mark : (set.contains q.queued.members id || ltb (set.len q.queued.members) q.queued.room) ≡ true
+  may_mark =
+      elim (cases_Bool (list_any (eqb id) q.order.items)) [
+        | inl there ↦ or_left _ _ (contains-queued q h id ∙ there)
+        | inr absent ↦ let fits = mark_fits absent in may_queue q h id (omega arith)
+      ]
+
+-- a mark of an id that is neither queued nor leased, and of one that is queued
+pub after_mark-idle : (w : Waiting) (id : ℕ) → is_queued w id ≡ false → is_leased w id ≡ false → after_mark w id ≡ record w { queued = w.queued ++ id ∷ [] }
+after_mark-idle w id absent idle = cond-false _ _ _ (or_from _ _ absent idle)
+
+pub after_mark-queued : (w : Waiting) (id : ℕ) → is_queued w id ≡ true → after_mark w id ≡ w
+after_mark-queued w id there = cond-true _ _ _ (or_left _ _ there)
+
+-- a leased id that is queued again finds room, since it had it
+pub returned_fits : (q : Inside) → IsSound q → (id : ℕ) → set.contains q.leased.members id ≡ true → length q.order.items < q.room
+returned_fits q h id leased = omega (arith, h.consistent.within, len-remove_lt q.leased.members id leased)

@@ -1,0 +1,5 @@
+pub mod Consistency
+pub mod Holding
+pub mod Members
+pub mod Places
+pub mod Runs

@@ -1,0 +1,11 @@
+use Rattle.std.proofs.Common.{◌≡◌, ◌≤◌, refl, ap, ◌∙◌, arith}
+use Rattle.sipl_repair.proofs.Consistency.{sound, IsConsistent-remove}
+use Rattle.sipl_repair.proofs.queue.Queue.settle.Goals as goal
+
+pub invariant_of-self : goal.invariant_of-self
+invariant_of-self c =
+    let q = c.self.inside in
+    let h = c.self.invariant in
+    sound _ _ _ refl (ap (λ s. s.members) c.remove.ensures.after)
+    (IsConsistent-remove q.order.items q.leased.members q.room _ h.consistent)
+    h.same_ids h.order_room h.queued_room (omega (arith, ap (λ s. s.room) c.remove.ensures.after))

@@ -1,0 +1,184 @@
+use crate::{Lease, Queue, QueueFault};
+use std::process::Abort;
+use std::test::Fail;
+
+const MANY: u64 = 65_536;
+
+fn mark(rt: &impl Abort, queue: &mut Queue, id: u64) {
+    assert!(rt; queue.has_room_for(id), "no room for {id}");
+    queue.mark(id);
+}
+
+fn next(rt: &impl Abort, queue: &mut Queue) -> Lease {
+    queue.lease().expect(rt, "no id is queued")
+}
+
+// The refusal of a lease, or none where an id is queued, which stays so.
+fn refusal(queue: &mut Queue) -> Option<QueueFault> {
+    match queue.lease() {
+        Ok(lease) => {
+            queue.give_back(lease);
+            None
+        }
+        Err(fault) => Some(fault),
+    }
+}
+
+// Whether an id is queued, and whether it is leased.
+fn states(queue: &Queue, id: u64) -> (bool, bool) {
+    (queue.is_queued(id), queue.is_leased(id))
+}
+
+fn settle(queue: &mut Queue, lease: Lease) {
+    queue.settle(lease);
+}
+
+#[test]
+fn leases_each_marked_id_once_and_in_order(rt: HostRuntime) -> Result<(), Fail> {
+    let mut queue = Queue::new(rt.alloc());
+    queue.reserve(2)?;
+    for id in [1, 2, 1] {
+        mark(&rt, &mut queue, id);
+    }
+    for id in [1, 2] {
+        let lease = next(&rt, &mut queue);
+        assert_eq!(rt; lease.id(), id);
+        settle(&mut queue, lease);
+    }
+    assert_eq!(rt; refusal(&mut queue), Some(QueueFault::Empty));
+    Ok(())
+}
+
+#[test]
+fn tells_where_an_id_stands(rt: HostRuntime) -> Result<(), Fail> {
+    let mut queue = Queue::new(rt.alloc());
+    queue.reserve(1)?;
+    mark(&rt, &mut queue, 1);
+    let queued = states(&queue, 1);
+    let lease = next(&rt, &mut queue);
+    let leased = states(&queue, 1);
+    settle(&mut queue, lease);
+    let idle = states(&queue, 1);
+    assert_eq!(rt;
+        [queued, leased, idle],
+        [(true, false), (false, true), (false, false)]
+    );
+    Ok(())
+}
+
+#[test]
+fn tells_its_room(rt: HostRuntime) -> Result<(), Fail> {
+    let mut queue = Queue::new(rt.alloc());
+    let before = queue.room();
+    queue.reserve(1)?;
+    assert_eq!(rt; [before, queue.room()], [0, 1]);
+    mark(&rt, &mut queue, 1);
+    assert_eq!(rt;
+        [queue.has_room_for(1), queue.has_room_for(2)],
+        [true, false]
+    );
+    Ok(())
+}
+
+#[test]
+fn tells_its_fault_by_code_and_text(rt: HostRuntime) -> Result<(), Fail> {
+    let text = format!(in rt.alloc(); "{} {}", QueueFault::Empty.code(), QueueFault::Empty)?;
+    assert_eq!(rt; text.as_str(), "Q1 no id is queued");
+    Ok(())
+}
+
+#[test]
+fn puts_a_lease_back_first_or_last(rt: HostRuntime) -> Result<(), Fail> {
+    let mut queue = Queue::new(rt.alloc());
+    queue.reserve(3)?;
+    for id in [5, 6, 7] {
+        mark(&rt, &mut queue, id);
+    }
+    let lease = next(&rt, &mut queue);
+    queue.give_back(lease);
+    let lease = next(&rt, &mut queue);
+    assert_eq!(rt; lease.id(), 5);
+    queue.requeue(lease);
+    for id in [6, 7, 5] {
+        let lease = next(&rt, &mut queue);
+        assert_eq!(rt; lease.id(), id);
+        queue.settle(lease);
+    }
+    assert_eq!(rt; queue.is_empty(), true);
+    Ok(())
+}
+
+#[test]
+fn forgets_queued_and_leased_ids(rt: HostRuntime) -> Result<(), Fail> {
+    let mut queue = Queue::new(rt.alloc());
+    queue.reserve(4)?;
+    for id in [1, 2, 3, 4] {
+        mark(&rt, &mut queue, id);
+    }
+    queue.forget(2);
+    assert_eq!(rt; queue.len(), 3);
+    let settled = next(&rt, &mut queue);
+    let requeued = next(&rt, &mut queue);
+    let given_back = next(&rt, &mut queue);
+    for id in [1, 3, 4] {
+        queue.forget(id);
+    }
+    settle(&mut queue, settled);
+    queue.requeue(requeued);
+    queue.give_back(given_back);
+    assert_eq!(rt; queue.len(), 0);
+    for id in [1, 2, 3, 4] {
+        assert_eq!(rt; states(&queue, id), (false, false), "{id}");
+    }
+    Ok(())
+}
+
+#[test]
+fn leaves_ids_alone_that_a_foreign_lease_names(rt: HostRuntime) -> Result<(), Fail> {
+    let mut other = Queue::new(rt.alloc());
+    other.reserve(3)?;
+    for id in [2, 8, 9] {
+        mark(&rt, &mut other, id);
+    }
+    let mut queue = Queue::new(rt.alloc());
+    queue.reserve(2)?;
+    mark(&rt, &mut queue, 1);
+    mark(&rt, &mut queue, 2);
+    let here = next(&rt, &mut queue);
+    settle(&mut queue, next(&rt, &mut other));
+    queue.requeue(next(&rt, &mut other));
+    queue.give_back(next(&rt, &mut other));
+    let want = [
+        (1, (false, true)),
+        (2, (true, false)),
+        (8, (false, false)),
+        (9, (false, false)),
+    ];
+    for (id, state) in want {
+        assert_eq!(rt; states(&queue, id), state, "{id}");
+    }
+    settle(&mut queue, here);
+    Ok(())
+}
+
+// Each round marks other ids, so that places of settled ids are used again.
+#[test]
+fn goes_round_with_all_the_room_in_use(rt: HostRuntime) -> Result<(), Fail> {
+    let mut queue = Queue::new(rt.alloc());
+    queue.reserve(65_536)?;
+    for round in 0..4 {
+        for id in 0..MANY {
+            mark(&rt, &mut queue, round * MANY + id);
+        }
+        assert_eq!(rt; queue.len(), 65_536);
+        assert!(rt; !queue.has_room_for(10 * MANY));
+        for id in 0..MANY {
+            let lease = next(&rt, &mut queue);
+            assert_eq!(rt; lease.id(), round * MANY + id);
+            queue.settle(lease);
+        }
+        assert_eq!(rt; refusal(&mut queue), Some(QueueFault::Empty));
+    }
+    assert_eq!(rt; queue.room(), 65_536);
+    Ok(())
+}

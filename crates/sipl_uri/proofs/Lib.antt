@@ -1,0 +1,4 @@
+pub mod Agreement
+pub mod LowerCase
+pub mod HostLemmas
+pub mod CaseLemmas

@@ -1,0 +1,16 @@
+//! SIP URIs (RFC 3261, 19.1.1) and the questions that they ask.
+#![tactic(auto)]
+
+mod fault;
+mod host;
+mod laws;
+mod octet;
+mod question;
+#[cfg(test)]
+mod tests;
+mod uri;
+
+pub use fault::UriFault;
+pub use laws::{reads_hosts, reads_in_either_case};
+pub use question::{Question, Target};
+pub use uri::Uri;
