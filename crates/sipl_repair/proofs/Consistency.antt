@@ -1,19 +1,18 @@
 -- Each change of what waits keeps it consistent: no id twice, none both queued and leased, and room for all.
-use Rattle.std.proofs.Common.{◌≡◌, ℕ, ◌+◌, ◌-◌, ◌<◌, ◌≤◌, Bool, true, false, cond, not, ◌&&◌, ◌||◌, eqb, ltb, List, [], ◌∷◌, ◌++◌, length, refl, sym, ap, subst, ◌∙◌, arith, inl, inr, ◌⊎◌, true≢false, filter}
+use Rattle.std.proofs.Common.{◌≡◌, ℕ, ◌+◌, ◌<◌, ◌≤◌, Bool, true, false, cond, not, ◌&&◌, ◌||◌, eqb, ltb, List, [], ◌∷◌, ◌++◌, length, refl, sym, ap, subst, ◌∙◌, arith, inl, inr, ◌⊎◌, true≢false, filter}
 use Rattle.std.specs.List.{list_any, AllByRecursion, IsDistinct}
 use Rattle.std.specs.Ordering.{nat_cmp}
-use Rattle.std.specs.Cmp.{nat_cmp_total, nat_eq_equiv}
+use Rattle.std.specs.Cmp.{nat_eq_equiv}
 use Rattle.std.specs.FinSet as set
 use Rattle.std.specs.VecDeque.{deque_capacity}
-use Rattle.std.proofs.lemmas.Bool.{or_cases, or_left, or_right, or_from, or_parts, and_parts, cases_Bool, eq-eqb, cond-false, cond-true, cond_both, lt-ltb, ltb-true}
+use Rattle.std.proofs.lemmas.Bool.{or_cases, or_left, or_right, or_from, or_parts, and_parts, cases_Bool, eq-eqb, cond-false, cond-true, lt-ltb, ltb-true}
 use Rattle.std.proofs.lemmas.List.{length_push}
 use Rattle.std.proofs.lemmas.List.Folds.{list_any-append}
 use Rattle.std.proofs.lemmas.List.Filters.{length-filter_both}
 use Rattle.std.proofs.lemmas.Map.Keys.{IsDistinct-cons, IsDistinct-tail, IsDistinct-push}
-use Rattle.std.proofs.lemmas.Map.Views.{any-filter_same, exact_unsigned_eq}
-use Rattle.sipl_repair.specs.Ids.{Ids}
+use Rattle.std.proofs.lemmas.Map.Views.{exact_unsigned_eq}
 use Rattle.sipl_repair.specs.Queue.{waiting_of, IsSound}
-use Rattle.sipl_repair.specs.Waiting.{Waiting, IsConsistent, is_queued, is_leased, held_count, has_room_for, after_mark, nothing_waits}
+use Rattle.sipl_repair.specs.Waiting.{Waiting, IsConsistent, is_queued, is_leased, has_room_for, after_mark, nothing_waits}
 use Rattle.sipl_repair.specs.declared.queue.Queue.TheInside.{Inside}
 use Rattle.sipl_repair.proofs.Members.{NatSet, contains-from_list, contains-insert, contains-remove, len-from_list, len-insert_le, len-remove_le, len-remove_lt, head_is_new, passes_second}
 

@@ -2,7 +2,7 @@
 use Rattle.std.proofs.Common.{◌≡◌, ℕ, ◌+◌, ◌-◌, Bool, true, false, cond, not, ◌&&◌, ◌||◌, eqb, List, [], ◌∷◌, ◌++◌, ◌<◌, ◌≤◌, ltb, take, length, refl, sym, ap, ◌∙◌, arith, add-one, true≢false}
 use Rattle.std.specs.List.{list_any, AllByRecursion, IsDistinct, filter}
 use Rattle.std.specs.List.Sorted.{IsPermutation}
-use Rattle.std.specs.Ordering.{nat_cmp, eq_by_cmp}
+use Rattle.std.specs.Ordering.{nat_cmp}
 use Rattle.std.specs.Cmp.{nat_cmp_total, unsigned_tied, nat_eq_equiv}
 use Rattle.std.specs.FinSet as set
 use Rattle.std.specs.FinSet.{nat_cmp-IsAntisymmetric}

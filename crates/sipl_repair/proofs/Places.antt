@@ -1,9 +1,8 @@
 -- A list of distinct numbers whose first places are taken: what stands among them, and what an exchange does.
-use Rattle.std.proofs.Common.{◌≡◌, ◌≢◌, ℕ, ◌+◌, ◌-◌, ◌<◌, ◌≤◌, Bool, true, false, not, ◌&&◌, ◌||◌, eqb, ltb, List, [], ◌∷◌, ◌++◌, length, get_or, set, take, drop, slice_get, Option, None, Some, refl, sym, ap, subst, ◌∙◌, arith, position, inl, inr}
-use Rattle.std.specs.List.{list_any, swap, swap_remove, All}
+use Rattle.std.proofs.Common.{◌≡◌, ℕ, ◌+◌, ◌-◌, ◌<◌, ◌≤◌, Bool, false, eqb, ltb, List, [], ◌∷◌, ◌++◌, length, get_or, set, take, drop, slice_get, Some, sym, ap, subst, ◌∙◌, arith, position, inl, inr}
+use Rattle.std.specs.List.{list_any, swap, swap_remove}
 use Rattle.std.specs.List.Sorted.{IsPermutation}
 use Rattle.std.proofs.lemmas.Bool.{cases_lt, lt-ltb, le-ltb, or_parts}
-use Rattle.std.proofs.lemmas.Bool.Decides.{nat_tests}
 use Rattle.std.proofs.lemmas.List.{length-take-le, get_or-take, take-set-le, take_more_set, length-set, take-set, take-take, take-append-drop, length_push, get_or_push}
 use Rattle.std.proofs.Math.Seq.{take-set-lt}
 use Rattle.std.proofs.lemmas.List.Edits.{swap_is}

@@ -1,14 +1,11 @@
 -- The laws of runs: what waits stays consistent.
-use Rattle.std.proofs.Common.{◌≡◌, ℕ, ◌+◌, ◌<◌, ◌≤◌, Bool, true, false, cond, not, ◌&&◌, ◌||◌, eqb, max, List, [], ◌∷◌, ◌++◌, length, refl, sym, ap, subst, ◌∙◌, arith, inl, inr, ◌⊎◌, filter}
+use Rattle.std.proofs.Common.{◌≡◌, ℕ, true, List, [], ◌∷◌, ◌++◌, refl, subst, arith}
 use Rattle.std.specs.FinSet as set
-use Rattle.std.specs.List.{list_any}
-use Rattle.std.proofs.lemmas.Bool.{cases_Bool, or_parts, or_left, or_right, cond_both, ltb-true}
-use Rattle.std.proofs.lemmas.List.Folds.{list_any-append}
-use Rattle.std.proofs.lemmas.Map.Views.{any-filter_same, exact_unsigned_eq}
+use Rattle.std.proofs.lemmas.Bool.{or_parts, cond_both, ltb-true}
 use Rattle.sipl_repair.specs.Calls.{Call, after_call, after_calls, IsAllowed, AreAllowed}
 use Rattle.sipl_repair.specs.Calls.Call.{Reserve, Mark, Lease, Settle, Requeue, GiveBack, Forget}
-use Rattle.sipl_repair.specs.Waiting.{Waiting, is_held, is_queued, is_leased, has_room_for, IsConsistent, nothing_waits, after_reserve, after_mark, after_lease, with_first_leased, after_settle, after_requeue, after_give_back, after_forget}
-use Rattle.sipl_repair.proofs.Members.{contains-insert, contains-remove, passes_second}
+use Rattle.sipl_repair.specs.Waiting.{Waiting, is_held, is_leased, has_room_for, IsConsistent, nothing_waits, after_reserve, after_mark, after_lease, with_first_leased, after_settle, after_requeue, after_give_back, after_forget}
+use Rattle.sipl_repair.proofs.Members.{passes_second}
 use Rattle.sipl_repair.proofs.Consistency.{waits, IsConsistent-nothing, IsConsistent-push, IsConsistent-lease, IsConsistent-remove, IsConsistent-requeue, IsConsistent-give_back, IsConsistent-without}
 
 -- each call keeps what waits consistent

@@ -1,5 +1,5 @@
 -- How the fields of an `IdSet` make a set of ids.
-use Rattle.std.specs.Prelude.{ℕ, ◌+◌, ◌-◌, ◌*◌, ◌^◌, ◌≤◌, min, take, nat_eq}
+use Rattle.std.specs.Prelude.{◌+◌, ◌-◌, ◌*◌, ◌^◌, ◌≤◌, min, take, nat_eq}
 use Rattle.std.specs.FinSet as set
 use Rattle.indexmap.specs.IndexSet.{index_set_len, spare, IsUnique}
 use Rattle.sipl_repair.specs.Ids.{Ids}

@@ -1,5 +1,4 @@
-use Rattle.std.proofs.Common.{◌≡◌, false, sym, ap, ◌∙◌, eqb, slice_get, arith}
-use Rattle.std.specs.List.{list_any}
+use Rattle.std.proofs.Common.{sym, ap, ◌∙◌, slice_get, arith}
 use Rattle.std.proofs.lemmas.Bool.{le-ltb}
 use Rattle.sipl_repair.proofs.Places.{list_any-take_at, list_any-take_absent, slice_get-position, slice_get-push}
 use Rattle.sipl_repair.proofs.id_set.place_of.Goals as goal

@@ -1,7 +1,6 @@
-use Rattle.std.proofs.Common.{◌≡◌, ◌<◌, ◌≤◌, ◌+◌, true, not, ◌∷◌, [], ◌++◌, take, sym, ap, ◌∙◌, arith}
+use Rattle.std.proofs.Common.{◌+◌, not, ◌∷◌, [], ◌++◌, take, sym, ap, ◌∙◌, arith}
 use Rattle.std.specs.FinSet as set
 use Rattle.std.proofs.lemmas.Bool.{lt-ltb, le-ltb}
-use Rattle.std.proofs.lemmas.List.Edits.{length-swap}
 use Rattle.sipl_repair.specs.Ids.{with_id}
 use Rattle.sipl_repair.proofs.Members.{contains-ids, insert_present, from_list-push, room_below}
 use Rattle.sipl_repair.proofs.Places.{take-swap_in}

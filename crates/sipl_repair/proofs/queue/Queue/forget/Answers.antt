@@ -1,4 +1,4 @@
-use Rattle.std.proofs.Common.{◌≡◌, ◌≤◌, not, eqb, filter, refl, sym, ap, ◌∙◌, arith, rules}
+use Rattle.std.proofs.Common.{not, eqb, filter, refl, sym, ap, ◌∙◌, arith, rules}
 use Rattle.std.specs.FinSet as set
 use Rattle.std.proofs.lemmas.Fn.{filter_same}
 use Rattle.sipl_repair.specs.Waiting.{after_forget}

@@ -1,4 +1,4 @@
-use Rattle.std.proofs.Common.{◌≡◌, ◌≤◌, ◌∷◌, eqb, refl, ap, sym, subst, ◌∙◌, arith}
+use Rattle.std.proofs.Common.{◌∷◌, refl, ap, subst, ◌∙◌, arith}
 use Rattle.std.specs.FinSet as set
 use Rattle.sipl_repair.specs.Waiting.{IsConsistent}
 use Rattle.sipl_repair.proofs.Members.{remove-insert, contains-from_list, head_is_new}

@@ -1,5 +1,4 @@
-use Rattle.std.proofs.Common.{◌≡◌, ◌≤◌, refl, ap, ◌∙◌, arith}
-use Rattle.std.specs.Ordering.{nat_cmp}
+use Rattle.std.proofs.Common.{ap, arith}
 use Rattle.sipl_repair.proofs.Consistency.{sound, IsConsistent-nothing}
 use Rattle.sipl_repair.proofs.queue.Queue.new.Goals as goal
 

@@ -1,4 +1,4 @@
-use Rattle.std.proofs.Common.{◌≡◌, ◌≤◌, refl, ap, ◌∙◌, arith}
+use Rattle.std.proofs.Common.{refl, ap, arith}
 use Rattle.sipl_repair.proofs.Consistency.{sound, IsConsistent-remove}
 use Rattle.sipl_repair.proofs.queue.Queue.settle.Goals as goal
 

@@ -1,0 +1,9 @@
+-- How the reasons for no targets are printed.
+use Rattle.std.specs.Prelude.{ℕ, List, codes}
+use Rattle.sipl_plans.specs.declared.answer.Reason.{Reason}
+use Rattle.sipl_plans.specs.declared.answer.Reason.TheVariants.{NoAddress, NoTransport}
+
+-- the name of a reason
+abbrev pub reason_text : Reason → List ℕ
+reason_text NoAddress = codes "NoAddress"
+reason_text NoTransport = codes "NoTransport"

@@ -1,0 +1,71 @@
+-- Where a request goes: the transport, and the servers with their addresses (RFC 3263, 4.1 and 4.2).
+use Rattle.std.specs.Prelude.{ℕ, Bool, true, false, List, [], ◌∷◌, Option, None, Some, if◌then◌else◌}
+use Rattle.sipl_records.specs.declared.address.Address.{Address}
+use Rattle.sipl_records.specs.declared.address.Address.TheVariants.{V4 as v4}
+use Rattle.sipl_records.specs.declared.data.Data.{Data}
+use Rattle.sipl_records.specs.declared.data.Data.TheVariants.{Address4 as data_address4}
+use Rattle.sipl_records.specs.declared.kind.Kind.{Kind}
+use Rattle.sipl_records.specs.declared.kind.Kind.TheVariants.{Address4}
+use Rattle.sipl_records.specs.declared.record.Key.{Key}
+use Rattle.sipl_choice.specs.Abilities.{Client, supports}
+use Rattle.sipl_choice.specs.Transports.{default_port}
+use Rattle.sipl_choice.specs.declared.families.Families.{Families}
+use Rattle.sipl_choice.specs.declared.families.Families.TheVariants.{V4}
+use Rattle.sipl_choice.specs.declared.transport.Transport.{Transport}
+use Rattle.sipl_choice.specs.declared.transport.Transport.TheVariants.{Udp, Tls}
+use Rattle.sipl_uri.specs.declared.question.Question.{Question}
+use Rattle.sipl_uri.specs.declared.question.Target.{Target}
+use Rattle.sipl_uri.specs.declared.question.Target.TheVariants.{Numeric, Domain}
+use Rattle.sipl_plans.specs.declared.answer.Reason.TheVariants.{NoTransport}
+use Rattle.sipl_plans.specs.declared.layout.Layout.{Layout}
+use Rattle.sipl_plans.specs.declared.layout.Layout.TheVariants.{Refused, Servers}
+use Rattle.sipl_plans.specs.declared.layout.Source.{Source}
+
+-- what is known of the records: the data of each key
+abbrev pub Look : Type 0
+Look = Key → List Data
+
+-- RFC 1034, 3.6.2: the data of a name and kind (aliases are not followed so far)
+abbrev pub answer : Look → List (List ℕ) → Kind → List Data
+answer look name kind = look (record { name = name; kind = kind })
+
+-- the addresses among the data, in their order
+abbrev pub addresses_in : List Data → List Address
+addresses_in [] = []
+addresses_in (data_address4 n ∷ set) = v4 n ∷ addresses_in set
+
+-- RFC 3263, 4.2: a name's addresses, in the order of the families
+abbrev pub addresses : Look → List (List ℕ) → Families → List Address
+addresses look name V4 = addresses_in (answer look name Address4)
+
+-- RFC 3263, 4.1: the transport that the URI gives, else UDP for `sip` and TLS for `sips`
+abbrev pub transport_of : Question → Transport
+transport_of question = elim question.transport [ Some transport ↦ transport | None ↦ (if question.secure then Tls else Udp) ]
+
+-- RFC 3263, 4.2: the port that the URI gives, else that of the transport
+abbrev pub port_of : Question → Transport → ℕ
+port_of question transport = elim question.port [ Some port ↦ port | None ↦ default_port transport ]
+
+-- one server, which no other comes before
+abbrev pub sole_source : ℕ → List Address → List Source
+sole_source port found = record { priority = 0; weight = 0; port = port; addresses = found } ∷ []
+
+-- RFC 3263, 4.2: the addresses of the target itself: a numeric one is its own address
+abbrev pub target_addresses : Look → Target → Families → List Address
+target_addresses look (Numeric address) families = address ∷ []
+target_addresses look (Domain name) families = addresses look name families
+
+-- RFC 3263, 4.1 and 4.2: whether the target's own addresses are used: where it is numeric, or a port is given
+abbrev pub is_direct : Question → Bool
+is_direct question = elim question.target [ Numeric address ↦ true | Domain name ↦ elim question.port [ Some port ↦ true | None ↦ false ] ]
+
+-- the target's own addresses over one transport
+abbrev pub direct_route : Look → Question → Client → Transport → Layout
+direct_route look question client transport =
+    if supports client.preference transport
+    then Servers transport (sole_source (port_of question transport) (target_addresses look question.target client.families))
+    else Refused NoTransport
+
+-- RFC 3263, 4.1 and 4.2: the route of a question whose target's own addresses are used; others have none so far
+abbrev pub route : Look → Question → Client → Layout
+route look question client = direct_route look question client (transport_of question)

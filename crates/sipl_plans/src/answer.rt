@@ -1,0 +1,46 @@
+ghost use Rattle.std.specs.Prelude.{◌≡◌};
+ghost use Rattle.sipl_plans.specs.Reasons.{reason_text};
+
+use sipl_choice::Endpoint;
+use sipl_records::Sequence;
+use std::fmt;
+
+/// Why there are no targets.
+#[derive(Clone, Copy, Debug, PartialEq, Eq, Hash)]
+pub enum Reason {
+    /// No server has an address.
+    NoAddress,
+    /// The transport is none that the client has.
+    NoTransport,
+}
+
+/// What is answered to a question.
+#[derive(Debug, Drop)]
+pub enum Answer {
+    /// Where to send the request, the endpoint to try first at the front, each once.
+    Targets(Sequence<Endpoint>),
+    /// There is nowhere to send it.
+    None(Reason),
+}
+
+impl Reason {
+    /// The reason's name in replies, as `NoAddress`.
+    pub fn name(self) -> &'static str
+        ensures { result.now ≡ reason_text self }
+    {
+        match self {
+            Reason::NoAddress => "NoAddress",
+            Reason::NoTransport => "NoTransport",
+        }
+    }
+}
+
+impl fmt::Display for Reason {
+    ghost use Rattle.std.specs.Prelude.{Some};
+
+    ghost output = { λ reason. Some (reason_text reason) };
+
+    fn fmt<W: fmt::Write>(&self, f: &mut fmt::Formatter<W>) -> fmt::Result {
+        f.write_str(self.name())
+    }
+}

@@ -1,0 +1,43 @@
+-- Filters one after another.
+use Rattle.std.proofs.Common.{◌≡◌, Bool, true, false, not, ◌&&◌, List, [], ◌∷◌, refl, ap, sym, ◌∙◌, inl, inr}
+use Rattle.std.specs.List.{filter, list_all}
+use Rattle.std.proofs.lemmas.Bool.{cases_Bool}
+use Rattle.std.proofs.lemmas.List.Elements.{filter_agree}
+
+pub filter-filter : {X : Type 0} (p q : X → Bool) (xs : List X) → filter p (filter q xs) ≡ filter (λ x. q x && p x) xs
+filter-filter p q [] = refl
+filter-filter p q (x ∷ xs) = elim (cases_Bool (q x)) [
+  | inl holds ↦ rw holds (elim (cases_Bool (p x)) [ inl both ↦ rw both (ap (λ ys. x ∷ ys) (filter-filter p q xs)) | inr one ↦ rw one (filter-filter p q xs) ])
+  | inr fails ↦ rw fails (filter-filter p q xs)
+]
+
+and_swapped : (a b : Bool) → (a && b) ≡ (b && a)
+and_swapped true true = refl
+and_swapped true false = refl
+and_swapped false true = refl
+and_swapped false false = refl
+
+pub filter-swap : {X : Type 0} (p q : X → Bool) (xs : List X) → filter p (filter q xs) ≡ filter q (filter p xs)
+filter-swap p q xs =
+    filter-filter p q xs ∙ filter_agree (λ x. q x && p x) (λ x. p x && q x) (λ x. and_swapped (q x) (p x)) xs ∙ sym (filter-filter q p xs)
+
+-- what passes the first test passes the second
+pub filter-weaker : {X : Type 0} (p q : X → Bool) → ((x : X) → q x ≡ false → p x ≡ false) → (xs : List X) → filter p (filter q xs) ≡ filter p xs
+filter-weaker p q weaker xs =
+    filter-filter p q xs ∙ filter_agree (λ x. q x && p x) p (λ x. elim (cases_Bool (q x)) [ inl holds ↦ rw holds refl | inr fails ↦ rw fails (sym (weaker x fails)) ]) xs
+
+pub filter-none : {X : Type 0} (p : X → Bool) → ((x : X) → p x ≡ false) → (xs : List X) → filter p xs ≡ []
+filter-none p none [] = refl
+filter-none p none (x ∷ xs) = rw (none x) (filter-none p none xs)
+
+-- nothing passes a test and its opposite
+pub filter-other : {X : Type 0} (p : X → Bool) (xs : List X) → filter p (filter (λ x. not (p x)) xs) ≡ []
+filter-other p xs =
+    filter-filter p (λ x. not (p x)) xs ∙ filter-none (λ x. not (p x) && p x) (λ x. elim (cases_Bool (p x)) [ inl holds ↦ rw holds refl | inr fails ↦ rw fails refl ]) xs
+
+pub filter-all : {X : Type 0} (p : X → Bool) (xs : List X) → list_all p xs ≡ true → filter p xs ≡ xs
+filter-all p [] all = refl
+filter-all p (x ∷ xs) all = elim (cases_Bool (p x)) [
+  | inl holds ↦ rw holds (ap (λ ys. x ∷ ys) (filter-all p xs (rw holds at all)))
+  | inr fails ↦ let none : false ≡ true = rw fails at all in cc
+]

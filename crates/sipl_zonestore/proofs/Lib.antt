@@ -1,0 +1,6 @@
+pub mod Filters
+pub mod Keys
+pub mod Sets
+pub mod Notes
+pub mod ChangedKeys
+pub mod Limits

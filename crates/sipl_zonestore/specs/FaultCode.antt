@@ -1,0 +1,13 @@
+-- The codes of refusals.
+use Rattle.std.specs.Prelude.{ℕ, List, codes}
+use Rattle.sipl_zonestore.specs.declared.fault.StoreFault.{StoreFault}
+use Rattle.sipl_zonestore.specs.declared.fault.StoreFault.TheVariants.{Overlap, NoZone, Duplicate, SetFull, StoreFull, Memory}
+
+-- how a refusal is written in replies
+abbrev pub code_of : StoreFault → List ℕ
+code_of Overlap = codes "S1"
+code_of NoZone = codes "S2"
+code_of Duplicate = codes "S3"
+code_of SetFull = codes "S6"
+code_of StoreFull = codes "S7"
+code_of Memory = codes "Memory"

@@ -1,0 +1,5 @@
+pub mod FaultCode
+pub mod Store
+pub mod Changes
+pub mod Noted
+pub use Rattle.sipl_masterfile.specs.Zones

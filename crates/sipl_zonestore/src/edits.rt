@@ -1,0 +1,51 @@
+//! What loading a zone makes of apexes and records.
+ghost use Rattle.std.specs.Prelude.{◌≡◌, ◌+◌, ◌≤◌, ◌++◌, IfOk, option_to_list, vec_len, vec_capacity};
+ghost use Rattle.std.specs.List.{list_any};
+ghost use Rattle.sipl_names.specs.Labels.{same_name};
+ghost use Rattle.sipl_zonestore.specs.Store.{outside_of, apexes_after_load};
+
+use sipl_names::Name;
+use sipl_records::Record;
+use std::alloc::{AllocError, Global};
+
+// Copies of the records.
+pub(crate) fn copy_records(alloc: Global, records: &[Record]) -> Result<Vec<Record>, AllocError>
+    ensures { IfOk result (λ copies. copies.items ≡ records.now) }
+{
+    let mut copies = Vec::with_capacity(alloc, records.len())?;
+    for record in records {
+        copies.push(record.dup(alloc)?)?;
+    }
+    Ok(copies)
+}
+
+// A copy of the apex, where it is not among the apexes.
+pub(crate) fn new_apex(
+    alloc: Global,
+    apex: &Name,
+    apexes: &[Name],
+) -> Result<Option<Name>, AllocError>
+    ensures { IfOk result (λ added. apexes.now ++ option_to_list added ≡ apexes_after_load apex.now apexes.now) }
+{
+    if has_apex(apexes, apex) {
+        return Ok(None);
+    }
+    let copy = apex.dup(alloc)?;
+    Ok(Some(copy))
+}
+
+// Whether the apex is among these.
+fn has_apex(apexes: &[Name], apex: &Name) -> bool
+    ensures { result ≡ list_any (same_name apex.now) apexes.now }
+{
+    apexes.iter().any(|other| *apex == *other)
+}
+
+// Those within the apex give way to the records of the text. It takes no memory.
+pub(crate) fn replace_records(records: &mut Vec<Record>, apex: &Name, mut text: Vec<Record>)
+    requires { vec_len records.old + vec_len text ≤ vec_capacity records.old }
+    ensures { records.new.items ≡ outside_of apex.now records.old.items ++ text.items }
+{
+    records.retain(|record| !record.owner.is_within(apex));
+    records.append(&mut text).unwrap();
+}

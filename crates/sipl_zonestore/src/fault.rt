@@ -1,0 +1,76 @@
+ghost use Rattle.std.specs.Prelude.{◌≡◌};
+ghost use Rattle.sipl_zonestore.specs.FaultCode.{code_of};
+
+use std::alloc::{AllocError, AllocFailed};
+use std::error::Error;
+use std::fmt;
+
+/// Why an edit of the store is refused.
+#[derive(Clone, Copy, Debug, PartialEq, Eq, Hash)]
+pub enum StoreFault {
+    /// S1: a loaded zone is strictly above the apex or strictly below it.
+    Overlap,
+    /// S2: the owner is in no loaded zone.
+    NoZone,
+    /// S3: the record stands there already.
+    Duplicate,
+    /// S6: the record's set has 32 records.
+    SetFull,
+    /// S7: more records would stand than the store takes.
+    StoreFull,
+    /// A growth of memory was refused.
+    Memory,
+}
+
+impl StoreFault {
+    /// The refusal's code, such as `S1`, or `Memory`.
+    pub fn code(self) -> &'static str
+        ensures { result.now ≡ code_of self }
+    {
+        match self {
+            StoreFault::Overlap => "S1",
+            StoreFault::NoZone => "S2",
+            StoreFault::Duplicate => "S3",
+            StoreFault::SetFull => "S6",
+            StoreFault::StoreFull => "S7",
+            StoreFault::Memory => "Memory",
+        }
+    }
+}
+
+impl fmt::Display for StoreFault {
+    fn fmt<W: fmt::Write>(&self, f: &mut fmt::Formatter<W>) -> fmt::Result {
+        match self {
+            StoreFault::Overlap => write!(f, "a loaded zone is above or below the apex"),
+            StoreFault::NoZone => write!(f, "the owner is in no loaded zone"),
+            StoreFault::Duplicate => write!(f, "the record stands there already"),
+            StoreFault::SetFull => write!(f, "the record's set is full"),
+            StoreFault::StoreFull => write!(f, "the store is full"),
+            StoreFault::Memory => write!(f, "out of memory"),
+        }
+    }
+}
+
+impl Error for StoreFault {}
+
+impl From<AllocError> for StoreFault {
+    ghost use Rattle.std.specs.Prelude.{◌≡◌};
+    ghost use Rattle.sipl_zonestore.specs.declared.fault.StoreFault.TheVariants.{Memory};
+
+    ghost from_gives = { λ _ fault. fault ≡ Memory };
+
+    fn from(_: AllocError) -> StoreFault {
+        StoreFault::Memory
+    }
+}
+
+impl<T: Drop> From<AllocFailed<T>> for StoreFault {
+    ghost use Rattle.std.specs.Prelude.{◌≡◌};
+    ghost use Rattle.sipl_zonestore.specs.declared.fault.StoreFault.TheVariants.{Memory};
+
+    ghost from_gives = { λ _ fault. fault ≡ Memory };
+
+    fn from(_: AllocFailed<T>) -> StoreFault {
+        StoreFault::Memory
+    }
+}

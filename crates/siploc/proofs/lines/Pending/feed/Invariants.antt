@@ -1,0 +1,9 @@
+use Rattle.std.proofs.Common.{length}
+use Rattle.siploc.proofs.Replies.{FedTo}
+use Rattle.siploc.proofs.lines.Pending.feed.Given as goal
+
+abbrev pub invariant-loop-piece : goal.invariant-loop-piece
+invariant-loop-piece l = FedTo l.fn.session l.fn.self l.chunk l.fn.out.items l.session l.self l.rest l.out.items
+
+abbrev pub decreases-loop-piece : goal.decreases-loop-piece
+decreases-loop-piece l = length l.rest

@@ -1,0 +1,11 @@
+pub mod Lines
+pub mod Requests
+pub mod CommandMeaning
+pub mod ReplyText
+pub mod Session
+pub mod Serving
+pub mod Tapped
+pub mod Machine
+pub mod Streams
+pub mod Faults
+pub mod Turns

@@ -1,0 +1,101 @@
+// What a line of a session asks for.
+ghost use Rattle.std.specs.Prelude.{◌≡◌};
+ghost use Rattle.sipl_records.specs.Fields.{fields_of, from_field};
+ghost use Rattle.siploc.specs.Requests.{add_request, find_request, quit_request, request_of, zone_request};
+ghost use Rattle.siploc.specs.CommandMeaning.{meaning_of};
+
+use sipl_records::{next_field, read_number, trim_gaps};
+
+/// A command, with its fields as they stand in the line.
+#[derive(Clone, Copy)]
+pub enum Command<'a> {
+    /// A line without fields, or a comment.
+    Nothing,
+    /// No command, or one whose fields do not fit: K1.
+    Unknown,
+    /// `zone APEX 0`: loads a zone without records.
+    Zone(&'a [u8]),
+    /// `add RECORD`: adds a record.
+    Add(&'a [u8]),
+    /// `find URI`: asks for the targets of a URI.
+    Find(&'a [u8]),
+    /// `quit`: ends the session.
+    Quit,
+}
+
+/// Reads the command of a line, which has no line end. Command words are in lower case.
+pub fn read_command(line: &[u8]) -> Command<'_>
+    ensures { meaning_of result ≡ request_of line.now }
+{
+    if line.first() == Some(&b'#') {
+        return Command::Nothing;
+    }
+    let Some((word, rest)) = next_field(line) else {
+        return Command::Nothing;
+    };
+    if word == b"zone".as_slice() {
+        zone_command(rest)
+    } else if word == b"add".as_slice() {
+        add_command(trim_gaps(rest))
+    } else if word == b"find".as_slice() {
+        find_command(rest)
+    } else if word == b"quit".as_slice() {
+        quit_command(rest)
+    } else {
+        Command::Unknown
+    }
+}
+
+// `zone APEX 0`.
+fn zone_command(rest: &[u8]) -> Command<'_>
+    ensures { meaning_of result ≡ zone_request (fields_of rest.now) }
+{
+    let Some((apex, rest)) = next_field(rest) else {
+        return Command::Unknown;
+    };
+    let Some((count, rest)) = next_field(rest) else {
+        return Command::Unknown;
+    };
+    if next_field(rest).is_some() {
+        return Command::Unknown;
+    }
+    match read_number(count, 0) {
+        Some(_) => Command::Zone(apex),
+        None => Command::Unknown,
+    }
+}
+
+// `add RECORD`, where this is the line from the record on.
+fn add_command(text: &[u8]) -> Command<'_>
+    ensures { meaning_of result ≡ add_request text.now }
+{
+    if text.is_empty() {
+        Command::Unknown
+    } else {
+        Command::Add(text)
+    }
+}
+
+// `find URI`.
+fn find_command(rest: &[u8]) -> Command<'_>
+    ensures { meaning_of result ≡ find_request (fields_of rest.now) }
+{
+    let Some((uri, rest)) = next_field(rest) else {
+        return Command::Unknown;
+    };
+    if next_field(rest).is_some() {
+        return Command::Unknown;
+    }
+    Command::Find(uri)
+}
+
+// `quit`.
+fn quit_command(rest: &[u8]) -> Command<'_>
+    ensures { meaning_of result ≡ quit_request (fields_of rest.now) }
+{
+    if next_field(rest).is_some() {
+        Command::Unknown
+    } else {
+        Command::Quit
+    }
+}
