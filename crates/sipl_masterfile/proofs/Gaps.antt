@@ -1,5 +1,5 @@
 -- Gaps behind a backslash, octet by octet.
-use Rattle.std.proofs.Common.{◌≡◌, ℕ, suc, ◌+◌, ◌<◌, Bool, true, false, not, ◌&&◌, ◌||◌, List, [], ◌∷◌, length, drop, get_or, refl, ap, sym, ◌∙◌, nat_eq, add-one, drop-cons}
+use Rattle.std.proofs.Common.{◌≡◌, ℕ, suc, ◌+◌, ◌<◌, Bool, true, false, not, ◌&&◌, ◌||◌, List, [], ◌∷◌, length, drop, get_or, refl, ◌∙◌, nat_eq, add-one, drop-cons}
 use Rattle.sipl_records.specs.Fields.{is_gap}
 use Rattle.sipl_masterfile.specs.RecordText.{escapes_gap}
 

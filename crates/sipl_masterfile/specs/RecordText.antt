@@ -1,5 +1,5 @@
 -- What a record's line says (RFC 1035, 5.1): OWNER `A` ADDRESS, the one form that is read so far.
-use Rattle.std.specs.Prelude.{ℕ, Bool, true, false, ◌||◌, not, List, [], ◌∷◌, Option, None, Some, Result, Ok, Err, codes, nat_eq, if◌then◌else◌, ◌==◌}
+use Rattle.std.specs.Prelude.{ℕ, Bool, true, false, ◌||◌, List, [], ◌∷◌, None, Some, Result, Ok, Err, codes, nat_eq, if◌then◌else◌, ◌==◌}
 use Rattle.std.specs.List.{list_any}
 use Rattle.std.specs.Str.{str_to_ascii_lowercase}
 use lib.Pointwise.{pointwise}

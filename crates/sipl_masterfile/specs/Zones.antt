@@ -1,5 +1,5 @@
 -- What a zone's text says (RFC 1035, 5.1), as far as texts without entries go.
-use Rattle.std.specs.Prelude.{◌≡◌, ℕ, ◌+◌, Bool, true, false, not, ◌&&◌, ◌||◌, List, [], ◌∷◌, length, Option, None, Some, Result, Ok, Err, count_by, nat_le, if◌then◌else◌, ◌==◌}
+use Rattle.std.specs.Prelude.{◌≡◌, ℕ, ◌+◌, Bool, true, false, not, ◌||◌, List, [], ◌∷◌, Option, None, Some, Result, Ok, Err, count_by, nat_le, if◌then◌else◌, ◌==◌}
 use Rattle.std.specs.List.{list_any, list_all}
 use Rattle.sipl_names.specs.Labels.{is_within}
 use Rattle.sipl_records.specs.Parts.{parts, cut_at}

@@ -4,3 +4,5 @@ pub mod Sets
 pub mod Notes
 pub mod ChangedKeys
 pub mod Limits
+pub mod Elements
+pub mod Settling

@@ -6,12 +6,14 @@ mod checks;
 mod compare;
 mod edits;
 mod fault;
+mod laws;
 mod store;
 #[cfg(test)]
 mod tests;
 
 pub use changed::Changed;
 pub use fault::StoreFault;
+pub use laws::edits_settle;
 pub use store::ZoneStore;
 
 /// The most records that a store takes.

@@ -1,4 +1,5 @@
-ghost use Rattle.std.specs.Prelude.{◌≡◌, ◌≢◌, ◌≤◌, length, Some, None, IfOk, IfErr, OnOk, OnErr};
+ghost use Rattle.std.specs.Prelude.{◌≡◌, ◌≢◌, ◌≤◌, length, Some, None, IfOk, IfErr, OnOk, OnErr, option_to_list};
+ghost use Rattle.sipl_records.specs.Sets.{key_of};
 ghost use Rattle.sipl_zonestore.specs.Store.{no_zones, load_refusal, after_load, add_refusal, after_add};
 ghost use Rattle.sipl_zonestore.specs.Changes.{changed_keys};
 
@@ -61,7 +62,8 @@ impl ZoneStore {
     }
 
     /// Loads a zone: the records within its apex give way to those of its text, which come last, and its apex
-    /// comes last where it is new. It answers the keys of the sets that changed.
+    /// comes last where it is new. It answers the keys of the sets that changed. It costs all records for each
+    /// record of the zone, before and after.
     ///
     /// The fault is the first one: a loaded zone strictly above or below the apex (S1), more records than
     /// the store takes (S7).
@@ -87,7 +89,8 @@ impl ZoneStore {
         Ok(Changed::new(keys))
     }
 
-    /// Adds a record, which comes last. It answers the key of its set.
+    /// Adds a record, which comes last. It answers the key of its set, the only one that changed. It goes
+    /// through all records twice.
     ///
     /// The fault is the first one: an owner in no loaded zone (S2), a record that stands there already (S3),
     /// a set of 32 records (S6), more records than the store takes (S7).
@@ -95,6 +98,7 @@ impl ZoneStore {
         ensures accepted { OnOk result (add_refusal self.old.most added.now self.old.zones ≡ None) }
         ensures after { OnOk result (self.new.zones ≡ after_add added.now self.old.zones) }
         ensures changed { IfOk result (λ changed. changed ≡ changed_keys self.old.zones.records self.new.zones.records) }
+        ensures key { IfOk result (λ changed. changed ≡ option_to_list (key_of added.now)) }
         ensures refused { IfErr result
             (λ fault. fault ≢ StoreFault.Memory → add_refusal self.old.most added.now self.old.zones ≡ Some fault) }
         ensures unchanged { OnErr result (self.new ≡ self.old) }

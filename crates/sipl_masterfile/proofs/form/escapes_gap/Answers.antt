@@ -1,4 +1,4 @@
-use Rattle.std.proofs.Common.{◌≡◌, ◌&&◌, true, false, not, get_or, nat_eq, ap, sym, refl, ◌∙◌, arith, rules}
+use Rattle.std.proofs.Common.{◌≡◌, ◌&&◌, true, false, not, get_or, nat_eq, ap, sym, refl, ◌∙◌, rules}
 use Rattle.sipl_records.specs.Fields.{is_gap}
 use Rattle.sipl_masterfile.proofs.Gaps.{escapes_more}
 use Rattle.sipl_masterfile.proofs.form.escapes_gap.Goals as goal
