@@ -4,7 +4,7 @@ use Rattle.std.proofs.lemmas.List.{take_at, drop_at, length-take}
 use Rattle.std.proofs.lemmas.Bool.Decides.{same_from_decides}
 use lib.Pointwise.{pointwise, bytes_decides}
 use Rattle.sipl_names.specs.Labels.{wire_of, IsName, same_name}
-use Rattle.sipl_names.specs.SameName.{same_name-Decides}
+use Rattle.sipl_names.specs.SameName.{same_name_decides}
 use Rattle.sipl_names.specs.Wire.{first_labels, labels_of_wire, IsWire, IsNameWire}
 
 first_labels-wire_of : (most : ℕ) (labels : List (List ℕ)) → length (wire_of labels) ≤ most → first_labels most (wire_of labels) ≡ labels
@@ -37,7 +37,7 @@ same_from_wires a b e = sym (labels_of_wire-wire_of a) ∙ ap labels_of_wire e �
 pub same_name-wires : (a b : List (List ℕ)) → pointwise nat_eq (wire_of a) (wire_of b) ≡ same_name a b
 same_name-wires a b =
     let wires = bytes_decides (wire_of a) (wire_of b) in
-    same_from_decides _ _ (λ e. same_from_wires a b (wires.0 e), λ e. wires.1 (ap wire_of e)) (same_name-Decides a b)
+    same_from_decides _ _ (λ e. same_from_wires a b (wires.0 e), λ e. wires.1 (ap wire_of e)) (same_name_decides a b)
 
 pub compared_wires : (u w : List ℕ) → IsWire u → IsWire w → pointwise nat_eq u w ≡ same_name (labels_of_wire u) (labels_of_wire w)
 compared_wires u w e f = (λ i. pointwise nat_eq (e i) (f i)) ∙ same_name-wires (labels_of_wire u) (labels_of_wire w)

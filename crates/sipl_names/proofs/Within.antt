@@ -2,7 +2,7 @@
 use Rattle.std.proofs.Common.{◌≡◌, ℕ, suc, ◌+◌, ◌≤◌, ◌<◌, ◌≢◌, Bool, true, false, ◌||◌, List, [], ◌∷◌, ◌++◌, Option, Some, None, length, refl, sym, ap, ◌∙◌, subst, arith, length-append, IsTrue, ◌↔◌, nat_eq}
 use lib.Pointwise.{pointwise}
 use Rattle.sipl_names.specs.Labels.{wire_of, same_name, is_within, top_label_of}
-use Rattle.sipl_names.specs.SameName.{same_name-Decides}
+use Rattle.sipl_names.specs.SameName.{same_name_decides}
 use Rattle.sipl_names.specs.Wire.{labels_of_wire, IsWire}
 use Rattle.sipl_names.proofs.Wires.{compared_wires}
 
@@ -26,7 +26,7 @@ not_true false h = refl
 -- names whose wire forms differ in length are not the same
 pub same_name-apart : (a b : List (List ℕ)) → length (wire_of a) ≢ length (wire_of b) → same_name a b ≡ false
 same_name-apart a b apart =
-    not_true (same_name a b) (λ same. apart (ap (λ labels. length (wire_of labels)) ((same_name-Decides a b).0 same)))
+    not_true (same_name a b) (λ same. apart (ap (λ labels. length (wire_of labels)) ((same_name_decides a b).0 same)))
 
 longer : (label : List ℕ) (labels : List (List ℕ)) → length (wire_of (label ∷ labels)) ≡ suc (length label + length (wire_of labels))
 longer label labels = ap suc (length-append label (wire_of labels))
@@ -53,10 +53,10 @@ is_within-as_long (label ∷ labels) apex short =
 
 -- the last labels of a name within the apex are those of the apex
 within_suffix : (labels apex : List (List ℕ)) → is_within labels apex ≡ true → (front : List (List ℕ)) × (labels ≡ front ++ apex)
-within_suffix [] apex within = ([], (same_name-Decides [] apex).0 within)
+within_suffix [] apex within = ([], (same_name_decides [] apex).0 within)
 within_suffix (label ∷ labels) apex within =
     elim (same_name (label ∷ labels) apex) as (λ same. same_name (label ∷ labels) apex ≡ same → (front : List (List ℕ)) × (label ∷ labels ≡ front ++ apex)) [
-      | true ↦ λ e. ([], (same_name-Decides (label ∷ labels) apex).0 e)
+      | true ↦ λ e. ([], (same_name_decides (label ∷ labels) apex).0 e)
       | false ↦ λ e. let rest = within_suffix labels apex (rw e at within) in (label ∷ rest.0, ap (λ ls. label ∷ ls) rest.1)
     ] refl
 
@@ -66,7 +66,7 @@ or_true false b h = h
 
 same_within : (labels : List (List ℕ)) → is_within labels labels ≡ true
 same_within [] = refl
-same_within (label ∷ labels) = rw ((same_name-Decides (label ∷ labels) (label ∷ labels)).1 refl) refl
+same_within (label ∷ labels) = rw ((same_name_decides (label ∷ labels) (label ∷ labels)).1 refl) refl
 
 suffix_within : (front apex : List (List ℕ)) → is_within (front ++ apex) apex ≡ true
 suffix_within [] apex = same_within apex

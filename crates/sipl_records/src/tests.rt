@@ -5,12 +5,13 @@ use crate::data::Data;
 use crate::fault::AddressFault;
 use crate::kind::Kind;
 use crate::record::{Key, Record};
+use crate::sequence::Sequence;
 use sipl_names::Name;
 use std::alloc::Global;
 use std::test::Fail;
 
 /// Compares two records. Its contract is that `==` tells equal records from others.
-#[tactic(auto, using(crate::specs::Same::same_name_decides))]
+#[tactic(auto, using(sipl_names::specs::SameName::same_name_decides))]
 fn same_record(a: &Record, b: &Record) -> bool
     ensures { IsTrue result ↔ (a.now ≡ b.now) }
 {
@@ -18,7 +19,7 @@ fn same_record(a: &Record, b: &Record) -> bool
 }
 
 /// Compares two keys. Its contract is that `==` tells equal keys from others.
-#[tactic(auto, using(crate::specs::Same::same_name_decides))]
+#[tactic(auto, using(sipl_names::specs::SameName::same_name_decides))]
 fn same_key(a: &Key, b: &Key) -> bool
     ensures { IsTrue result ↔ (a.now ≡ b.now) }
 {
@@ -245,5 +246,30 @@ fn copies_and_compares(rt: HostRuntime) -> Result<(), Fail> {
     assert!(rt; is_among(&records, &copy));
     let keys = vec![in alloc; addresses]?;
     assert!(rt; !is_key_among(&keys, &key(alloc, b"www.example.com.", Kind::Alias)?));
+    Ok(())
+}
+
+#[test]
+fn gives_the_key_of_a_record(rt: HostRuntime) -> Result<(), Fail> {
+    let alloc = rt.alloc();
+    let www = record(alloc, b"www.example.com.", 0xC000_0201)?;
+    let like = record(alloc, b"WWW.example.com.", 0xC000_0202)?;
+    let above = record(alloc, b"example.com.", 0xC000_0201)?;
+    assert!(rt; www.shares_set(&like) && !www.shares_set(&above));
+    assert_eq!(rt; www.value.kind(), Some(Kind::Address4));
+    let Some(found) = like.key(alloc)? else {
+        panic!(rt; "no key");
+    };
+    assert!(rt; same_key(&found, &key(alloc, b"www.example.com.", Kind::Address4)?));
+    Ok(())
+}
+
+#[test]
+fn keeps_values_in_order(rt: HostRuntime) -> Result<(), Fail> {
+    let sequence = Sequence::from_vec(vec![in rt.alloc(); 3u8, 1, 2]?);
+    assert!(rt; sequence.len() == 3 && !sequence.is_empty());
+    assert_eq!(rt; sequence.as_slice(), [3u8, 1, 2].as_slice());
+    assert_eq!(rt; sequence.into_vec().as_slice(), [3u8, 1, 2].as_slice());
+    assert!(rt; Sequence::<u8>::from_vec(Vec::new(rt.alloc())).is_empty());
     Ok(())
 }

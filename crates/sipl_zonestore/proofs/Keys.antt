@@ -5,7 +5,7 @@ use Rattle.std.specs.Bool.{Decides}
 use Rattle.std.proofs.Math.Bool.{and-false}
 use Rattle.std.proofs.lemmas.Bool.Decides.{Decides-and, Decides-like, same_from_decides}
 use Rattle.sipl_names.specs.Labels.{same_name}
-use Rattle.sipl_names.specs.SameName.{same_name-Decides}
+use Rattle.sipl_names.specs.SameName.{same_name_decides}
 use Rattle.sipl_records.specs.declared.data.Data.{Data}
 use Rattle.sipl_records.specs.declared.data.Data.TheVariants.{Address4 as data_address4}
 use Rattle.sipl_records.specs.declared.kind.Kind.{Kind}
@@ -13,7 +13,6 @@ use Rattle.sipl_records.specs.declared.kind.Kind.TheVariants.{Address4, Address6
 use Rattle.sipl_records.specs.declared.record.Record.{Record}
 use Rattle.sipl_records.specs.declared.record.Key.{Key}
 use Rattle.sipl_records.specs.contracts.record.KeyPartialEq.TheImpl.{eq-value}
-use Rattle.sipl_records.specs.Same.{same_name_decides}
 use Rattle.sipl_records.specs.Sets.{is_of_kind, is_of_key, kind_of, kinds_match, same_key, key_of}
 
 pub kinds_match-Decides : (a b : Kind) → Decides (kinds_match a b) (a ≡ b)
@@ -26,7 +25,7 @@ kinds_match-Decides _ _ = (λ h. cc, λ h. cc)
 
 pub same_key-Decides : (a b : Key) → Decides (same_key a b) (a ≡ b)
 same_key-Decides a b =
-    Decides-like (same_key a b) (λ both. λ i. record { name = both.0 i; kind = both.1 i }) (λ e. (ap (λ (key : Key). key.name) e, ap (λ (key : Key). key.kind) e)) (Decides-and (same_name a.name b.name) (kinds_match a.kind b.kind) (same_name-Decides a.name b.name) (kinds_match-Decides a.kind b.kind))
+    Decides-like (same_key a b) (λ both. λ i. record { name = both.0 i; kind = both.1 i }) (λ e. (ap (λ (key : Key). key.name) e, ap (λ (key : Key). key.kind) e)) (Decides-and (same_name a.name b.name) (kinds_match a.kind b.kind) (same_name_decides a.name b.name) (kinds_match-Decides a.kind b.kind))
 
 pub same_key-refl : (a : Key) → same_key a a ≡ true
 same_key-refl a = (same_key-Decides a a).1 refl
@@ -77,7 +76,7 @@ both_true false b h = h
 
 -- a record of a key's set has the key's name
 pub is_of_key-name : (key : Key) (r : Record) → is_of_key key r ≡ true → r.owner ≡ key.name
-is_of_key-name key r of = (same_name-Decides r.owner key.name).0 (both_true _ (is_of_kind key.kind r.value) of)
+is_of_key-name key r of = (same_name_decides r.owner key.name).0 (both_true _ (is_of_kind key.kind r.value) of)
 
 -- `==` of two keys answers whether they are the same
 derived-Decides : (a b : Key) → Decides (eq-value.it a b) (a ≡ b)

@@ -5,7 +5,7 @@ use Rattle.std.proofs.lemmas.Bool.{cases_Bool}
 use Rattle.std.proofs.lemmas.Bool.Decides.{Decides-eqb, Decides-like, same_from_decides}
 use Rattle.std.proofs.lemmas.List.Folds.{list_any-append, list_all-append}
 use Rattle.sipl_names.specs.Labels.{same_name, is_within}
-use Rattle.sipl_names.specs.SameName.{same_name-Decides}
+use Rattle.sipl_names.specs.SameName.{same_name_decides}
 use Rattle.sipl_records.specs.declared.data.Data.{Data}
 use Rattle.sipl_records.specs.declared.data.Data.TheVariants.{Address4 as data_address4}
 use Rattle.sipl_records.specs.declared.record.Record.{Record}
@@ -18,7 +18,7 @@ use Rattle.sipl_zonestore.proofs.Elements.{or_left, or_right, or_first, or_secon
 
 same_name-sym : (a b : List (List ℕ)) → same_name a b ≡ same_name b a
 same_name-sym a b =
-    same_from_decides (same_name a b) (same_name b a) (same_name-Decides a b) (Decides-like (same_name b a) (λ e. sym e) (λ e. sym e) (same_name-Decides b a))
+    same_from_decides (same_name a b) (same_name b a) (same_name_decides a b) (Decides-like (same_name b a) (λ e. sym e) (λ e. sym e) (same_name_decides b a))
 
 same_data-sym : (a b : Data) → same_data a b ≡ same_data b a
 same_data-sym (data_address4 m) (data_address4 n) =
@@ -58,7 +58,7 @@ covered_more p apexes apex some = elim (cases_Bool (list_any (same_name apex) ap
 any_same : (p : List (List ℕ) → Bool) (apexes : List (List (List ℕ))) (apex : List (List ℕ)) → list_any (same_name apex) apexes ≡ true → p apex ≡ true → list_any p apexes ≡ true
 any_same p [] apex known here = known
 any_same p (first ∷ apexes) apex known here = elim (cases_Bool (same_name apex first)) [
-  | inl same ↦ or_first (p first) (list_any p apexes) (ap p (sym ((same_name-Decides apex first).0 same)) ∙ here)
+  | inl same ↦ or_first (p first) (list_any p apexes) (ap p (sym ((same_name_decides apex first).0 same)) ∙ here)
   | inr other ↦ or_second (p first) (list_any p apexes) (any_same p apexes apex (rw other at known) here)
 ]
 
@@ -91,7 +91,7 @@ repeats-append (r ∷ a) b distinct distinct' apart =
 
 other_owner : (apex : List (List ℕ)) (a b : Record) → is_within a.owner apex ≡ false → is_within b.owner apex ≡ true → same_record a b ≡ false
 other_owner apex a b outside inside = elim (cases_Bool (same_name a.owner b.owner)) [
-  | inl same ↦ let never : true ≡ false = sym inside ∙ ap (λ name. is_within name apex) (sym ((same_name-Decides a.owner b.owner).0 same)) ∙ outside in cc
+  | inl same ↦ let never : true ≡ false = sym inside ∙ ap (λ name. is_within name apex) (sym ((same_name_decides a.owner b.owner).0 same)) ∙ outside in cc
   | inr other ↦ rw other refl
 ]
 
