@@ -30,3 +30,8 @@ abilities_fault (transport ∷ others) = if repeats_transport (transport ∷ oth
 abbrev pub code_of : AbilitiesFault → List ℕ
 code_of EmptyAbilities = codes "C1"
 code_of RepeatedTransport = codes "C2"
+
+-- what a fault says to a person
+abbrev pub message_of : AbilitiesFault → List ℕ
+message_of EmptyAbilities = codes "a client without a transport"
+message_of RepeatedTransport = codes "a transport that stands in the preference twice"

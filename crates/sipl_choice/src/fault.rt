@@ -26,6 +26,11 @@ impl AbilitiesFault {
 }
 
 impl fmt::Display for AbilitiesFault {
+    ghost use Rattle.std.specs.Prelude.{Some};
+    ghost use Rattle.sipl_choice.specs.Abilities.{message_of};
+
+    ghost output = { λ fault. Some (message_of fault) };
+
     fn fmt<W: fmt::Write>(&self, f: &mut fmt::Formatter<W>) -> fmt::Result {
         match self {
             AbilitiesFault::EmptyAbilities => write!(f, "a client without a transport"),

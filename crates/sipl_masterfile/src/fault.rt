@@ -51,6 +51,11 @@ impl ZoneFault {
 }
 
 impl fmt::Display for ZoneCause {
+    ghost use Rattle.std.specs.Prelude.{Some};
+    ghost use Rattle.sipl_masterfile.specs.FaultCode.{message_of};
+
+    ghost output = { λ fault. Some (message_of fault) };
+
     fn fmt<W: fmt::Write>(&self, f: &mut fmt::Formatter<W>) -> fmt::Result {
         match self {
             ZoneCause::InName(fault) => write!(f, "bad name: {fault}"),
@@ -62,6 +67,11 @@ impl fmt::Display for ZoneCause {
 }
 
 impl fmt::Display for ZoneFault {
+    ghost use Rattle.std.specs.Prelude.{Some};
+    ghost use Rattle.sipl_masterfile.specs.FaultCode.{fault_message};
+
+    ghost output = { λ fault. Some (fault_message fault) };
+
     fn fmt<W: fmt::Write>(&self, f: &mut fmt::Formatter<W>) -> fmt::Result {
         write!(f, "line {}: {}", self.line, self.cause)
     }

@@ -1,5 +1,5 @@
 -- Where a request goes: the transport, and the servers with their addresses (RFC 3263, 4.1 and 4.2).
-use Rattle.std.specs.Prelude.{ℕ, Bool, true, false, List, [], ◌∷◌, Option, None, Some, if◌then◌else◌}
+use Rattle.std.specs.Prelude.{ℕ, Bool, true, false, List, [], ◌∷◌, None, Some, if◌then◌else◌}
 use Rattle.sipl_records.specs.declared.address.Address.{Address}
 use Rattle.sipl_records.specs.declared.address.Address.TheVariants.{V4 as v4}
 use Rattle.sipl_records.specs.declared.data.Data.{Data}

@@ -1,5 +1,5 @@
 -- Sets of records (RFC 2181, 5).
-use Rattle.std.specs.Prelude.{Bool, true, false, ◌&&◌, List, [], ◌∷◌, Option, None, Some, option_map, if◌then◌else◌, ◌==◌}
+use Rattle.std.specs.Prelude.{Bool, true, false, ◌&&◌, List, [], ◌∷◌, Option, Some, option_map, if◌then◌else◌, ◌==◌}
 use Rattle.sipl_names.specs.Labels.{same_name}
 use Rattle.sipl_records.specs.declared.data.Data.{Data}
 use Rattle.sipl_records.specs.declared.data.Data.TheVariants.{Address4 as data_address4}

@@ -22,6 +22,10 @@ impl QueueFault {
 }
 
 impl fmt::Display for QueueFault {
+    ghost use Rattle.std.specs.Prelude.{Some};
+
+    ghost output = { λ _. Some (codes "no id is queued") };
+
     fn fmt<W: fmt::Write>(&self, f: &mut fmt::Formatter<W>) -> fmt::Result {
         f.write_str(match self {
             QueueFault::Empty => "no id is queued",

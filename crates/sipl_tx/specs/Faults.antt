@@ -7,3 +7,9 @@ abbrev pub code_of : TxFault → List ℕ
 code_of ClockBack = codes "X1"
 code_of BadCode = codes "X2"
 code_of Ended = codes "X3"
+
+-- what a refusal says to a person
+abbrev pub message_of : TxFault → List ℕ
+message_of ClockBack = codes "the moment is before the last one"
+message_of BadCode = codes "the status code is not within 100 to 699"
+message_of Ended = codes "the transaction is over"

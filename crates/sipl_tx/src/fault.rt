@@ -29,6 +29,11 @@ impl TxFault {
 }
 
 impl fmt::Display for TxFault {
+    ghost use Rattle.std.specs.Prelude.{Some};
+    ghost use Rattle.sipl_tx.specs.Faults.{message_of};
+
+    ghost output = { λ fault. Some (message_of fault) };
+
     fn fmt<W: fmt::Write>(&self, f: &mut fmt::Formatter<W>) -> fmt::Result {
         f.write_str(match self {
             TxFault::ClockBack => "the moment is before the last one",

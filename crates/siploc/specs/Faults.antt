@@ -1,5 +1,5 @@
 -- What a clause tells of how serving went.
-use Rattle.std.specs.Prelude.{Bool, true, false, Result, Ok, Err}
+use Rattle.std.specs.Prelude.{ℕ, Bool, true, false, List, Result, Ok, Err, codes}
 use Rattle.siploc.specs.declared.serve.Ended.{Ended}
 use Rattle.siploc.specs.declared.serve.Ended.TheVariants.{Quit, EndOfInput}
 use Rattle.siploc.specs.declared.serve.ServeFault.{ServeFault}
@@ -42,3 +42,10 @@ abbrev pub OnEndOfInput : Result Ended ServeFault → Type 0 → Type 0
 OnEndOfInput (Ok Quit) fact = Unit {0}
 OnEndOfInput (Ok EndOfInput) fact = fact
 OnEndOfInput (Err fault) fact = Unit {0}
+
+-- how programs name a fault on standard error
+abbrev pub fault_text : ServeFault → List ℕ
+fault_text Read = codes "read"
+fault_text Write = codes "write"
+fault_text TooManyTurns = codes "turns"
+fault_text Memory = codes "memory"

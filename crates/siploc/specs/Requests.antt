@@ -1,5 +1,5 @@
 -- What a line of a session asks for.
-use Rattle.std.specs.Prelude.{ℕ, Bool, true, false, List, [], ◌∷◌, Option, None, Some, codes, nat_eq, if◌then◌else◌, ◌==◌}
+use Rattle.std.specs.Prelude.{ℕ, Bool, false, List, [], ◌∷◌, None, Some, codes, nat_eq, if◌then◌else◌, ◌==◌}
 use lib.Pointwise.{pointwise}
 use Rattle.sipl_records.specs.Fields.{fields_of, from_field, behind_field}
 use Rattle.sipl_records.specs.Numbers.{number_of}

@@ -44,6 +44,11 @@ pub enum ServeFault {
 }
 
 impl fmt::Display for ServeFault {
+    ghost use Rattle.std.specs.Prelude.{Some};
+    ghost use Rattle.siploc.specs.Faults.{fault_text};
+
+    ghost output = { λ fault. Some (fault_text fault) };
+
     fn fmt<W: fmt::Write>(&self, f: &mut fmt::Formatter<W>) -> fmt::Result {
         f.write_str(match self {
             ServeFault::Read => "read",

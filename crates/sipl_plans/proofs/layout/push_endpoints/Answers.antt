@@ -1,4 +1,4 @@
-use Rattle.std.proofs.Common.{◌<◌, length, arith, sym, ap, ◌∙◌}
+use Rattle.std.proofs.Common.{◌<◌, length, sym, ap, ◌∙◌}
 use Rattle.sipl_plans.proofs.Endpoints.{among, endpoint_at, step_known, step_new}
 use Rattle.sipl_plans.proofs.layout.push_endpoints.Goals as goal
 use Rattle.sipl_plans.proofs.layout.push_endpoints.Goals.{then-not-is_among+in_ok-push, else-not-is_among}

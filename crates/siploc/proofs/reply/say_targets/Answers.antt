@@ -1,4 +1,3 @@
-use Rattle.std.proofs.Common.{◌≤◌, length, take, ap, arith}
 use Rattle.siploc.proofs.Fronts.{starts_with_trans, at_error}
 use Rattle.siploc.proofs.reply.say_targets.Goals as goal
 

@@ -1,4 +1,3 @@
-use Rattle.std.proofs.Common.{OnErr}
 use Rattle.siploc.specs.Requests.{zone, add, find}
 use Rattle.siploc.proofs.Fronts.{at_error, at_ok}
 use Rattle.siploc.proofs.Outcomes.{zone_outcome-replies, add_outcome-replies, find_outcome-replies, line-replies, question-keeps}
