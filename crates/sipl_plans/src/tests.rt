@@ -1,12 +1,12 @@
 ghost use Rattle.std.specs.Prelude.{◌≡◌, true, IfOk, IsTrue};
 ghost use Rattle.sipl_plans.specs.Route.{is_direct};
 
-use crate::{Answer, Reason, plan_of};
+use crate::{Answer, Layout, Reason, Source, draw, plan_of};
 use sipl_choice::{Abilities, Endpoint, Families, Transport};
 use sipl_names::{Name, NameFault};
-use sipl_records::{Address, Data, Record};
+use sipl_records::{Address, Data, Record, Sequence};
 use sipl_uri::{Question, Target};
-use std::alloc::Global;
+use std::alloc::{AllocError, Global};
 use std::test::Fail;
 
 const SERVER: u32 = 0xC000_0201;
@@ -134,6 +134,55 @@ fn takes_a_numeric_target_as_it_is(rt: HostRuntime) -> Result<(), Fail> {
         let answer = plan_of(alloc, &[], &question, &client)?;
         assert!(rt; is_targets(&answer, &[endpoint(transport, SERVER, port)]));
     }
+    Ok(())
+}
+
+fn source(
+    alloc: Global,
+    priority: u16,
+    port: u16,
+    numbers: &[u32],
+) -> Result<Source, AllocError> {
+    let mut addresses = Vec::with_capacity(alloc, numbers.len())?;
+    for number in numbers {
+        addresses.push(Address::V4(*number))?;
+    }
+    Ok(Source {
+        priority,
+        weight: 0,
+        port,
+        addresses: Sequence::from_vec(addresses),
+    })
+}
+
+#[test]
+fn draws_each_endpoint_at_its_first_place(rt: HostRuntime) -> Result<(), Fail> {
+    let alloc = rt.alloc();
+    // The second server shares an endpoint with the first, the third has no address.
+    let mut servers = Vec::with_capacity(alloc, 4)?;
+    servers.push(source(alloc, 0, 5070, &[SERVER, OTHER, SERVER])?)?;
+    servers.push(source(alloc, 1, 5070, &[OTHER])?)?;
+    servers.push(source(alloc, 2, 5070, &[])?)?;
+    servers.push(source(alloc, 3, 5080, &[OTHER])?)?;
+    let layout = Layout::Servers(Transport::Tcp, Sequence::from_vec(servers));
+    let want = [
+        endpoint(Transport::Tcp, SERVER, 5070),
+        endpoint(Transport::Tcp, OTHER, 5070),
+        endpoint(Transport::Tcp, OTHER, 5080),
+    ];
+    assert!(rt; is_targets(&draw(alloc, &layout)?, &want));
+    Ok(())
+}
+
+#[test]
+fn draws_a_reason_where_there_is_no_endpoint(rt: HostRuntime) -> Result<(), Fail> {
+    let alloc = rt.alloc();
+    let mut servers = Vec::with_capacity(alloc, 1)?;
+    servers.push(source(alloc, 0, 5070, &[])?)?;
+    let layout = Layout::Servers(Transport::Tcp, Sequence::from_vec(servers));
+    assert!(rt; is_none(&draw(alloc, &layout)?, Reason::NoAddress));
+    let layout = Layout::Refused(Reason::NoTransport);
+    assert!(rt; is_none(&draw(alloc, &layout)?, Reason::NoTransport));
     Ok(())
 }
 

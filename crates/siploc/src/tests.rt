@@ -211,6 +211,19 @@ fn long_lines_are_refused_and_skipped(rt: HostRuntime) -> Result<(), Fail> {
 }
 
 #[test]
+fn a_million_lines_are_answered(rt: HostRuntime) -> Result<(), Fail> {
+    let alloc = rt.alloc();
+    let mut input = Vec::new(alloc);
+    let mut want = Vec::new(alloc);
+    for _ in 0..1_000_000 {
+        input.extend_from_slice(b"find x\n")?;
+        want.extend_from_slice(b"err U1\n")?;
+    }
+    assert!(rt; replies(alloc, &input)?.as_slice() == want.as_slice());
+    Ok(())
+}
+
+#[test]
 fn pieces_make_no_difference(rt: HostRuntime) -> Result<(), Fail> {
     for most in 1..50 {
         let mut reader = Tapped::new(Pieces {
