@@ -4,8 +4,8 @@ ghost use Rattle.std.specs.List.{list_any};
 ghost use Rattle.sipl_records.specs.Fields as fields;
 ghost use Rattle.sipl_masterfile.specs.RecordText as text;
 
-/// Whether the line is of another form than OWNER, a type, and data, parted by spaces and tabs: it
-/// begins with a gap or a directive's `$`, or has a parenthesis, a quote, a comment or an end of line.
+// Whether the line is of another form than OWNER, a type, and data, parted by spaces and tabs: it
+// begins with a gap or a directive's `$`, or has a parenthesis, a quote, a comment or an end of line.
 pub(crate) fn is_other_form(line: &[u8]) -> bool
     ensures { result ≡ text.is_other_form line.now }
 {

@@ -10,7 +10,7 @@ use crate::MAX_LABEL_LEN;
 use crate::fault::NameFault;
 use std::alloc::AllocError;
 
-/// The first label, and the wire form of those behind it; None where there is no label.
+// The first label, and the wire form of those behind it; None where there is no label.
 pub(crate) fn split_label(wire: &[u8]) -> Option<(&[u8], &[u8])>
     requires { IsWire wire.now }
     ensures none { IfNone result (wire.now ≡ []) }
@@ -23,7 +23,7 @@ pub(crate) fn split_label(wire: &[u8]) -> Option<(&[u8], &[u8])>
     Some(rest.split_at(*count as usize))
 }
 
-/// Whether the octets can be a label.
+// Whether the octets can be a label.
 pub(crate) fn check_label(label: &[u8]) -> Result<(), NameFault>
     ensures { MatchResult result
         (λ _. label_fault label.now ≡ None)
@@ -38,8 +38,8 @@ pub(crate) fn check_label(label: &[u8]) -> Result<(), NameFault>
     Ok(())
 }
 
-/// The octets of the wire form of these labels, or 2^64 - 1 where they are more; else the fault of
-/// the first that is no label.
+// The octets of the wire form of these labels, or 2^64 - 1 where they are more; else the fault of
+// the first that is no label.
 pub(crate) fn checked_len(labels: &[&[u8]]) -> Result<usize, NameFault>
     ensures faultless { IfOk result (λ _. first_label_fault (octets_of labels.now) ≡ None) }
     ensures len { IfOk result
@@ -55,7 +55,7 @@ pub(crate) fn checked_len(labels: &[&[u8]]) -> Result<usize, NameFault>
     Ok(len)
 }
 
-/// Appends the wire form of these labels, in lower case.
+// Appends the wire form of these labels, in lower case.
 pub(crate) fn push_labels(wire: &mut Vec<u8>, labels: &[&[u8]]) -> Result<(), AllocError>
     requires { first_label_fault (octets_of labels.now) ≡ None }
     ensures ok { OnOk result

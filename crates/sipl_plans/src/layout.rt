@@ -46,7 +46,7 @@ pub fn draw(alloc: Global, layout: &Layout) -> Result<Answer, AllocError>
     Ok(Answer::Targets(Sequence::from_vec(targets)))
 }
 
-/// Appends those of the server's endpoints that do not stand there yet.
+// Appends those of the server's endpoints that do not stand there yet.
 fn push_endpoints(
     targets: &mut Vec<Endpoint>,
     transport: Transport,
@@ -69,7 +69,7 @@ fn push_endpoints(
     Ok(())
 }
 
-/// Whether the endpoint stands among these.
+// Whether the endpoint stands among these.
 fn is_among(endpoints: &[Endpoint], endpoint: &Endpoint) -> bool
     ensures { result ≡ list_any (λ other. same_endpoint other endpoint.now) endpoints.now }
 {

@@ -27,8 +27,8 @@ pub fn plan_of(
     draw(alloc, &layout)
 }
 
-/// Where requests go (RFC 3263, 4.1 and 4.2): to the target's own addresses, over the transport
-/// and at the port that the question gives or implies.
+// Where requests go (RFC 3263, 4.1 and 4.2): to the target's own addresses, over the transport
+// and at the port that the question gives or implies.
 fn route_of(
     alloc: Global,
     records: &[Record],
@@ -54,7 +54,7 @@ fn route_of(
     Ok(Layout::Servers(transport, Sequence::from_vec(servers)))
 }
 
-/// The transport that the question gives, else UDP for `sip` and TLS for `sips` (RFC 3263, 4.1).
+// The transport that the question gives, else UDP for `sip` and TLS for `sips` (RFC 3263, 4.1).
 fn transport_of(question: &Question) -> Transport
     ensures { result ≡ transport_given question.now }
 {
@@ -65,7 +65,7 @@ fn transport_of(question: &Question) -> Transport
     }
 }
 
-/// The target's own addresses: a numeric one is its own (RFC 3263, 4.2).
+// The target's own addresses: a numeric one is its own (RFC 3263, 4.2).
 fn target_addresses(
     alloc: Global,
     records: &[Record],
@@ -83,7 +83,7 @@ fn target_addresses(
     }
 }
 
-/// The IPv4 addresses of a name, in the order of the records.
+// The IPv4 addresses of a name, in the order of the records.
 fn addresses4(alloc: Global, records: &[Record], name: &Name) -> Result<Vec<Address>, AllocError>
     ensures { IfOk result
         (λ found. found.items ≡ addresses (set_of records.now) name.now Families.V4) }

@@ -137,12 +137,7 @@ fn takes_a_numeric_target_as_it_is(rt: HostRuntime) -> Result<(), Fail> {
     Ok(())
 }
 
-fn source(
-    alloc: Global,
-    priority: u16,
-    port: u16,
-    numbers: &[u32],
-) -> Result<Source, AllocError> {
+fn source(alloc: Global, priority: u16, port: u16, numbers: &[u32]) -> Result<Source, AllocError> {
     let mut addresses = Vec::with_capacity(alloc, numbers.len())?;
     for number in numbers {
         addresses.push(Address::V4(*number))?;

@@ -6,10 +6,10 @@ ghost use Rattle.sipl_records.specs.Addresses.{group_of, number_of_text, text_of
 use itoa::write_digits;
 use std::alloc::AllocError;
 
-/// Octets of the longest text, `255.255.255.255`.
+// Octets of the longest text, `255.255.255.255`.
 const MAX_TEXT_LEN: usize = 15;
 
-/// The number of a text of four groups parted by dots.
+// The number of a text of four groups parted by dots.
 pub(crate) fn read(text: &[u8]) -> Option<u32>
     ensures { result ≡ number_of_text text.now }
 {
@@ -20,7 +20,7 @@ pub(crate) fn read(text: &[u8]) -> Option<u32>
     Some(u32::from_be_bytes([first, second, third, fourth]))
 }
 
-/// The octet of the group that the first dot ends, and the text behind the dot.
+// The octet of the group that the first dot ends, and the text behind the dot.
 fn group_before_dot(text: &[u8]) -> Option<(u8, &[u8])>
     ensures read { IfSome result (λ read.
         map group_of (parts 46 text.now) ≡ Some read.0 ∷ map group_of (parts 46 read.1.now)) }
@@ -31,14 +31,14 @@ fn group_before_dot(text: &[u8]) -> Option<(u8, &[u8])>
     Some((octet, &text[dot + 1..]))
 }
 
-/// Where the first dot stands.
+// Where the first dot stands.
 fn first_dot(text: &[u8]) -> Option<usize>
     ensures { result ≡ position (λ octet. octet == 46) text.now }
 {
     text.iter().position(|octet| *octet == b'.')
 }
 
-/// The octet of one to three digits.
+// The octet of one to three digits.
 fn group(digits: &[u8]) -> Option<u8>
     ensures { result ≡ group_of digits.now }
 {
@@ -55,7 +55,7 @@ fn group(digits: &[u8]) -> Option<u8>
     u8::try_from(value).ok()
 }
 
-/// Appends the text of an address, its groups without leading zeros.
+// Appends the text of an address, its groups without leading zeros.
 #[tactic(auto, using(crate::proofs::Dotted::octet_digits))]
 pub(crate) fn write(number: u32, out: &mut Vec<u8>) -> Result<(), AllocError>
     ensures ok { OnOk result (out.new.items ≡ out.old.items ++ text_of_number number) }

@@ -10,7 +10,7 @@ use sipl_names::Name;
 use std::alloc::Global;
 use std::test::Fail;
 
-/// Compares two records. Its contract is that `==` tells equal records from others.
+// Compares two records. Its contract is that `==` tells equal records from others.
 #[tactic(auto, using(sipl_names::specs::SameName::same_name_decides))]
 fn same_record(a: &Record, b: &Record) -> bool
     ensures { IsTrue result ↔ (a.now ≡ b.now) }
@@ -18,7 +18,7 @@ fn same_record(a: &Record, b: &Record) -> bool
     a == b
 }
 
-/// Compares two keys. Its contract is that `==` tells equal keys from others.
+// Compares two keys. Its contract is that `==` tells equal keys from others.
 #[tactic(auto, using(sipl_names::specs::SameName::same_name_decides))]
 fn same_key(a: &Key, b: &Key) -> bool
     ensures { IsTrue result ↔ (a.now ≡ b.now) }
@@ -26,7 +26,7 @@ fn same_key(a: &Key, b: &Key) -> bool
     a == b
 }
 
-/// Whether a record is among others. Its contract is that `contains` finds equal records.
+// Whether a record is among others. Its contract is that `contains` finds equal records.
 #[tactic(auto, using(crate::specs::Same::same_record_decides))]
 fn is_among(records: &[Record], wanted: &Record) -> bool
     ensures { IsTrue result ↔ Contains records.now wanted.now }
@@ -34,7 +34,7 @@ fn is_among(records: &[Record], wanted: &Record) -> bool
     records.contains(wanted)
 }
 
-/// Whether a key is among others. Its contract is that `contains` finds equal keys.
+// Whether a key is among others. Its contract is that `contains` finds equal keys.
 #[tactic(auto, using(crate::specs::Same::same_key_decides))]
 fn is_key_among(keys: &[Key], key: &Key) -> bool
     ensures { IsTrue result ↔ Contains keys.now key.now }
@@ -42,21 +42,21 @@ fn is_key_among(keys: &[Key], key: &Key) -> bool
     keys.contains(key)
 }
 
-/// Compares two data. Its contract is that `==` tells equal data from others.
+// Compares two data. Its contract is that `==` tells equal data from others.
 fn same_data(a: &Data, b: &Data) -> bool
     ensures { IsTrue result ↔ (a.now ≡ b.now) }
 {
     a == b
 }
 
-/// Compares two addresses. Its contract is that `==` tells equal addresses from others.
+// Compares two addresses. Its contract is that `==` tells equal addresses from others.
 fn same_address(a: &Address, b: &Address) -> bool
     ensures { IsTrue result ↔ (a.now ≡ b.now) }
 {
     a == b
 }
 
-/// The record of an address at this owner.
+// The record of an address at this owner.
 fn record(alloc: Global, owner: &[u8], address: u32) -> Result<Record, Fail> {
     let root = Name::root(alloc);
     Ok(Record {
@@ -65,7 +65,7 @@ fn record(alloc: Global, owner: &[u8], address: u32) -> Result<Record, Fail> {
     })
 }
 
-/// The key of the records of this owner and kind.
+// The key of the records of this owner and kind.
 fn key(alloc: Global, name: &[u8], kind: Kind) -> Result<Key, Fail> {
     let root = Name::root(alloc);
     Ok(Key {
@@ -127,7 +127,7 @@ fn refuses_other_texts(rt: HostRuntime) {
     }
 }
 
-/// What `1.2.3.4` says with this octet at this place: the digits stand at the even places, the dots at the odd ones.
+// What `1.2.3.4` says with this octet at this place: the digits stand at the even places, the dots at the odd ones.
 fn address_with(place: usize, octet: u8) -> Result<Address, AddressFault> {
     let is_dot_place = place % 2 == 1;
     let is_read = if is_dot_place {

@@ -7,10 +7,10 @@ use indexmap::IndexSet;
 use std::alloc::{AllocError, Global};
 use std::marker::Model;
 
-/// A set of ids with room made ahead, so that neither an insert nor a removal takes memory.
-///
-/// The members are the first `present` of the ids in the table; those behind them were removed, and wait there to be
-/// inserted again or to be cut off. A removal from the table itself could lose its place for good.
+// A set of ids with room made ahead, so that neither an insert nor a removal takes memory.
+//
+// The members are the first `present` of the ids in the table; those behind them were removed, and wait there to be
+// inserted again or to be cut off. A removal from the table itself could lose its place for good.
 #[derive(Drop)]
 pub(crate) struct IdSet {
     ids: IndexSet<u64>,
@@ -45,7 +45,7 @@ impl IdSet {
         }
     }
 
-    /// Makes room for `room` ids in all. The table gets twice as many places, so that a cut is rare.
+    // Makes room for `room` ids in all. The table gets twice as many places, so that a cut is rare.
     pub(crate) fn reserve(&mut self, room: usize) -> Result<(), AllocError>
         ensures ok { OnOk result (self.new ≡ with_room self.old room) }
         ensures err { OnErr result (self.new ≡ self.old) }
@@ -72,7 +72,7 @@ impl IdSet {
         }
     }
 
-    /// Inserts an id, and returns whether it is new.
+    // Inserts an id, and returns whether it is new.
     pub(crate) fn insert(&mut self, id: u64) -> bool
         requires { IsTrue (set.contains self.old.members id || nat_lt (set.len self.old.members) self.old.room) }
         ensures added { result ≡ not (set.contains self.old.members id) }
@@ -87,7 +87,7 @@ impl IdSet {
         true
     }
 
-    /// Removes an id, and returns whether it was there.
+    // Removes an id, and returns whether it was there.
     pub(crate) fn remove(&mut self, id: u64) -> bool
         ensures removed { result ≡ set.contains self.old.members id }
         ensures after { self.new ≡ without_id self.old id }

@@ -192,7 +192,7 @@ impl ClientTx {
         self.moment
     }
 
-    /// Whether no final response came yet.
+    // Whether no final response came yet.
     fn awaits_final(&self) -> bool
         ensures { result ≡ awaits_final self.now.kind self.now.state }
     {
@@ -203,7 +203,7 @@ impl ClientTx {
         }
     }
 
-    /// Takes a response where no final one came yet.
+    // Takes a response where no final one came yet.
     fn answer(&mut self, code: u16) -> Acts
         requires { IsTrue (awaits_final self.old.kind self.old.state) }
         ensures next { self.new ≡ (after self.old (Response code)).transaction }
@@ -225,7 +225,7 @@ impl ClientTx {
         }
     }
 
-    /// Whether the timer that ends the transaction is over.
+    // Whether the timer that ends the transaction is over.
     fn is_over(&self) -> bool
         ensures { result ≡ is_over self.now }
     {
@@ -235,7 +235,7 @@ impl ClientTx {
         }
     }
 
-    /// Whether the request is to be sent again.
+    // Whether the request is to be sent again.
     fn is_due(&self) -> bool
         ensures { result ≡ is_due self.now }
     {

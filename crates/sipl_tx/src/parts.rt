@@ -49,7 +49,7 @@ pub struct Acts {
 }
 
 impl Acts {
-    /// Nothing is to be done.
+    // Nothing is to be done.
     pub(crate) const QUIET: Acts = Acts {
         send: false,
         ack: false,

@@ -59,7 +59,7 @@ fn started(kind: Kind, reliable: bool) -> ClientTx {
     transaction
 }
 
-/// Each tick at this moment gives these acts.
+// Each tick at this moment gives these acts.
 fn expect_ticks(rt: &impl Abort, transaction: &mut ClientTx, ticks: &[(u32, Acts)]) {
     for &(moment, acts) in ticks {
         assert_eq!(rt;

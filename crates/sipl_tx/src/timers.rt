@@ -20,7 +20,7 @@ pub const TIMEOUT: u64 = 64 * T1;
 /// Timer D, for an unreliable transport: at least 32 seconds.
 pub const TIMER_D: u64 = 32_000;
 
-/// How long the timer that ends a transaction in this state runs.
+// How long the timer that ends a transaction in this state runs.
 pub(crate) fn ending_length(kind: Kind, state: State) -> Option<u64>
     ensures { result ≡ ending_timer kind state }
 {
@@ -33,7 +33,7 @@ pub(crate) fn ending_length(kind: Kind, state: State) -> Option<u64>
     }
 }
 
-/// Whether a timer that sends the request again runs in this state.
+// Whether a timer that sends the request again runs in this state.
 pub(crate) fn has_retransmissions(kind: Kind, reliable: bool, state: State) -> bool
     ensures { result ≡ retransmits kind reliable state }
 {
@@ -44,7 +44,7 @@ pub(crate) fn has_retransmissions(kind: Kind, reliable: bool, state: State) -> b
     }
 }
 
-/// The interval of timer A or E once it has fired.
+// The interval of timer A or E once it has fired.
 pub(crate) fn interval_after(kind: Kind, state: State, interval: u64) -> u64
     requires { 2 * interval < 2 ^ 64 }
     ensures { result ≡ next_interval kind state interval }

@@ -10,7 +10,7 @@ use sipl_names::{Name, NameFault};
 use sipl_records::Address;
 use std::alloc::Global;
 
-/// Reads an address or a hostname.
+// Reads an address or a hostname.
 pub(crate) fn read_host(alloc: Global, text: &[u8]) -> Result<Target, UriFault>
     ensures read { IfOk result (λ target. host_of text.now ≡ Some target) }
     ensures cause { IfErr result (λ fault. fault ≢ UriFault.Memory → fault ≡ UriFault.Host) }
@@ -22,7 +22,7 @@ pub(crate) fn read_host(alloc: Global, text: &[u8]) -> Result<Target, UriFault>
     Ok(Target::Domain(read_hostname(alloc, text)?))
 }
 
-/// Reads a hostname, and takes it from the root.
+// Reads a hostname, and takes it from the root.
 fn read_hostname(alloc: Global, text: &[u8]) -> Result<Name, UriFault>
     ensures read { IfOk result (λ name. hostname_of text.now ≡ Some name) }
     ensures cause { IfErr result (λ fault. fault ≢ UriFault.Memory → fault ≡ UriFault.Host) }
@@ -43,14 +43,14 @@ fn read_hostname(alloc: Global, text: &[u8]) -> Result<Name, UriFault>
     Ok(name)
 }
 
-/// Whether a hostname may have each of the octets in it.
+// Whether a hostname may have each of the octets in it.
 fn has_host_octets(text: &[u8]) -> bool
     ensures { result ≡ list_all of_host text.now }
 {
     text.iter().all(|octet| is_host_octet(*octet))
 }
 
-/// Whether the label next to the root begins with a letter.
+// Whether the label next to the root begins with a letter.
 fn has_letter_on_top(name: &Name) -> bool
     ensures { result ≡ top_begins_with_letter name.now }
 {
@@ -60,7 +60,7 @@ fn has_letter_on_top(name: &Name) -> bool
     }
 }
 
-/// Whether a label begins with a letter.
+// Whether a label begins with a letter.
 fn begins_with_letter(label: &[u8]) -> bool
     ensures { result ≡ letter_first label.now }
 {

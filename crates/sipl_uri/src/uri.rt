@@ -37,7 +37,7 @@ impl Uri {
     }
 }
 
-/// Reads what stands behind the scheme's colon.
+// Reads what stands behind the scheme's colon.
 fn read_question(alloc: Global, text: &[u8]) -> Result<Question, UriFault>
     ensures read { IfOk result (λ question. behind_scheme text.now ≡ Ok question) }
     ensures refused { IfErr result
@@ -62,14 +62,14 @@ fn read_question(alloc: Global, text: &[u8]) -> Result<Question, UriFault>
     })
 }
 
-/// Whether an octet may not stand in a URI, or is not read so far.
+// Whether an octet may not stand in a URI, or is not read so far.
 fn has_barred_octet(text: &[u8]) -> bool
     ensures { result ≡ list_any (λ c. foreign c || unread c) text.now }
 {
     text.iter().any(|octet| is_barred(*octet))
 }
 
-/// Reads a port.
+// Reads a port.
 fn read_port(digits: &[u8]) -> Option<u16>
     ensures { result ≡ port_of digits.now }
 {

@@ -10,8 +10,8 @@ use std::{env, io};
 // The status of a call with wrong arguments.
 const WRONG_ARGUMENTS: u8 = 2;
 
-/// Does what the arguments ask for. The status is 0, 1 after a fault, or 2 where the arguments are
-/// wrong; then one line on standard error says why.
+// Does what the arguments ask for. The status is 0, 1 after a fault, or 2 where the arguments are
+// wrong; then one line on standard error says why.
 pub(crate) fn start<R: Env + Input + Print + Eprint + AllocGlobal>(rt: &R) -> ExitCode {
     match asks_run(rt) {
         Ok(true) => run(rt),
