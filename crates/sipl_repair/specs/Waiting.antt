@@ -13,6 +13,7 @@ pub record Waiting : Type 0 where
   pub leased : set.FinSet nat_cmp
   pub room : ℕ
 
+-- the code by which proofs tell two of these apart
 abbrev pub waiting_code : Coded Waiting
 waiting_code =
     code_by (List ℕ × (set.FinSet nat_cmp × ℕ)) (coded× (coded_list coded_ℕ) (coded× (set.code coded_ℕ) coded_ℕ))
