@@ -1,13 +1,13 @@
 -- Gaps behind a backslash, octet by octet.
 use Rattle.std.proofs.Common.{◌≡◌, ℕ, suc, ◌+◌, ◌<◌, Bool, true, false, not, ◌&&◌, ◌||◌, List, [], ◌∷◌, length, drop, get_or, refl, ◌∙◌, nat_eq, add-one, drop-cons}
-use Rattle.sipl_records.specs.Fields.{is_gap}
+use Rattle.sipl_records.specs.Fields.{is_wsp}
 use Rattle.sipl_masterfile.specs.RecordText.{escapes_gap}
 
 -- whether what is left of a line, behind a backslash or not, has a gap or the end behind one
 abbrev pub escapes_from : Bool → List ℕ → Bool
 escapes_from false rest = escapes_gap rest
 escapes_from true [] = true
-escapes_from true (next ∷ rest) = is_gap next || escapes_gap rest
+escapes_from true (next ∷ rest) = is_wsp next || escapes_gap rest
 
 plain : (b : Bool) (c : ℕ) (rest : List ℕ) → nat_eq c 92 ≡ b → escapes_gap (c ∷ rest) ≡ escapes_from b rest
 plain true c [] is = is
@@ -15,11 +15,11 @@ plain false c [] is = is
 plain true c (next ∷ rest) is = rw is refl
 plain false c (next ∷ rest) is = rw is refl
 
-step : (is_escaped : Bool) (c : ℕ) (rest : List ℕ) → (is_escaped && is_gap c) ≡ false → escapes_from is_escaped (c ∷ rest) ≡ escapes_from (not is_escaped && nat_eq c 92) rest
+step : (is_escaped : Bool) (c : ℕ) (rest : List ℕ) → (is_escaped && is_wsp c) ≡ false → escapes_from is_escaped (c ∷ rest) ≡ escapes_from (not is_escaped && nat_eq c 92) rest
 step true c rest other = rw other refl
 step false c rest other = plain (nat_eq c 92) c rest refl
 
 -- one more octet, which no backslash takes, or which is no gap
-pub escapes_more : (line : List ℕ) (i : ℕ) (is_escaped next : Bool) → escapes_gap line ≡ escapes_from is_escaped (drop i line) → i < length line → (is_escaped && is_gap (get_or line i 0)) ≡ false → next ≡ (not is_escaped && nat_eq (get_or line i 0) 92) → escapes_gap line ≡ escapes_from next (drop (i + 1) line)
+pub escapes_more : (line : List ℕ) (i : ℕ) (is_escaped next : Bool) → escapes_gap line ≡ escapes_from is_escaped (drop i line) → i < length line → (is_escaped && is_wsp (get_or line i 0)) ≡ false → next ≡ (not is_escaped && nat_eq (get_or line i 0) 92) → escapes_gap line ≡ escapes_from next (drop (i + 1) line)
 escapes_more line i is_escaped next so_far inside other is =
     rw add-one (so_far ∙ (rw (drop-cons line i 0, is) (step is_escaped (get_or line i 0) (drop (suc i) line) other)))

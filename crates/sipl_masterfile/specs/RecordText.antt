@@ -5,7 +5,7 @@ use Rattle.std.specs.Str.{str_to_ascii_lowercase}
 use lib.Pointwise.{pointwise}
 use Rattle.sipl_names.specs.NameText.{name_of}
 use Rattle.sipl_records.specs.Addresses.{address_of}
-use Rattle.sipl_records.specs.Fields.{fields_of, is_gap}
+use Rattle.sipl_records.specs.Fields.{fields_of, is_wsp}
 use Rattle.sipl_records.specs.declared.address.Address.{Address}
 use Rattle.sipl_records.specs.declared.address.Address.TheVariants.{V4}
 use Rattle.sipl_records.specs.declared.data.Data.{Data}
@@ -22,12 +22,12 @@ is_other_mark c = c == 40 || c == 41 || c == 34 || c == 59 || c == 10 || c == 13
 abbrev pub escapes_gap : List ℕ → Bool
 escapes_gap [] = false
 escapes_gap (c ∷ []) = c == 92
-escapes_gap (c ∷ next ∷ line) = if c == 92 then is_gap next || escapes_gap line else escapes_gap (next ∷ line)
+escapes_gap (c ∷ next ∷ line) = if c == 92 then is_wsp next || escapes_gap line else escapes_gap (next ∷ line)
 
 -- whether the line begins with a gap, or with the `$` of a directive
 abbrev pub has_no_owner : List ℕ → Bool
 has_no_owner [] = true
-has_no_owner (c ∷ line) = is_gap c || c == 36
+has_no_owner (c ∷ line) = is_wsp c || c == 36
 
 -- whether the line is of another form than those that are read so far
 abbrev pub is_other_form : List ℕ → Bool

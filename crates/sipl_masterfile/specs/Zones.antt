@@ -2,7 +2,7 @@
 use Rattle.std.specs.Prelude.{◌≡◌, ℕ, ◌+◌, Bool, true, false, not, ◌||◌, List, [], ◌∷◌, Option, None, Some, Result, Ok, Err, count_by, nat_le, if◌then◌else◌, ◌==◌}
 use Rattle.std.specs.List.{list_any, list_all}
 use Rattle.sipl_names.specs.Labels.{is_within}
-use Rattle.sipl_records.specs.Parts.{parts, cut_at}
+use Rattle.sipl_records.specs.Parts.{parts, split_once}
 use Rattle.sipl_records.specs.Sets.{same_record, shares_set}
 use Rattle.sipl_records.specs.declared.record.Record.{Record}
 use Rattle.sipl_records.specs.declared.record.TheConstants.{MAX_SET_LEN}
@@ -38,7 +38,7 @@ is_blank c = c == 32 || c == 9 || c == 13
 
 -- whether a line has an entry: more than blanks before its comment
 abbrev pub has_entry : List ℕ → Bool
-has_entry line = list_any (λ c. not (is_blank c)) (cut_at 59 line).0
+has_entry line = list_any (λ c. not (is_blank c)) (split_once 59 line).0
 
 -- the number of the first line that has an entry, where the first of these lines has this number
 abbrev pub first_entry : ℕ → List (List ℕ) → Option ℕ

@@ -1,8 +1,9 @@
 //! The forms of lines that are read so far.
 ghost use Rattle.std.specs.Prelude.{◌≡◌};
 ghost use Rattle.std.specs.List.{list_any};
-ghost use Rattle.sipl_records.specs.Fields as fields;
 ghost use Rattle.sipl_masterfile.specs.RecordText as text;
+
+use sipl_records::is_wsp;
 
 // Whether the line is of another form than OWNER, a type, and data, parted by spaces and tabs: it
 // begins with a gap or a directive's `$`, or has a parenthesis, a quote, a comment or an end of line.
@@ -17,7 +18,7 @@ fn has_no_owner(line: &[u8]) -> bool
     ensures { result ≡ text.has_no_owner line.now }
 {
     match line.first() {
-        Some(octet) => is_gap(*octet) || *octet == b'$',
+        Some(octet) => is_wsp(*octet) || *octet == b'$',
         None => true,
     }
 }
@@ -35,16 +36,10 @@ fn escapes_gap(line: &[u8]) -> bool
 {
     let mut is_escaped = false;
     for octet in line {
-        if is_escaped && is_gap(*octet) {
+        if is_escaped && is_wsp(*octet) {
             return true;
         }
         is_escaped = !is_escaped && *octet == b'\\';
     }
     is_escaped
-}
-
-fn is_gap(octet: u8) -> bool
-    ensures { result ≡ fields.is_gap octet }
-{
-    octet == b' ' || octet == b'\t'
 }

@@ -4,7 +4,7 @@ use Rattle.std.specs.List.{position, position_or_len}
 use Rattle.std.proofs.lemmas.Bool.Decides.{nat_tests}
 use Rattle.std.proofs.lemmas.List.Quantifiers.{position-Some}
 use Rattle.std.proofs.lemmas.List.Sums.{fails_before_first}
-use Rattle.sipl_records.specs.Parts.{parts, in_first}
+use Rattle.sipl_records.specs.Parts.{parts, prepend_to_first}
 
 -- the part in front of the first separator, and the parts of what follows it
 parts_at : (s : ℕ) (text : List ℕ) (i : ℕ) → i < length text → nat_eq (get_or text i 0) s ≡ true → ((k : ℕ) → k < i → nat_eq (get_or text k 0) s ≡ false) → parts s text ≡ take i text ∷ parts s (drop (suc i) text)
@@ -34,13 +34,13 @@ parts-None s text none =
     let past : length text ≤ position_or_len (λ c. nat_eq c s) text = grind (arith, nat_tests) in
     parts_without s text (λ k h. fails_before_first (λ c. nat_eq c s) text k 0 (omega arith))
 
-length-in_first : (c : ℕ) (ps : List (List ℕ)) → 1 ≤ length (in_first c ps)
-length-in_first c [] = omega arith
-length-in_first c (p ∷ ps) = omega arith
+length-prepend_to_first : (c : ℕ) (ps : List (List ℕ)) → 1 ≤ length (prepend_to_first c ps)
+length-prepend_to_first c [] = omega arith
+length-prepend_to_first c (p ∷ ps) = omega arith
 
-length-step : (b : Bool) (c : ℕ) (ps qs : List (List ℕ)) → 1 ≤ length (if b then ([] ∷ ps) else in_first c qs)
+length-step : (b : Bool) (c : ℕ) (ps qs : List (List ℕ)) → 1 ≤ length (if b then ([] ∷ ps) else prepend_to_first c qs)
 length-step true c ps qs = omega arith
-length-step false c ps qs = length-in_first c qs
+length-step false c ps qs = length-prepend_to_first c qs
 
 -- a text has a part, even an empty one
 pub length-parts : (s : ℕ) (text : List ℕ) → 1 ≤ length (parts s text)

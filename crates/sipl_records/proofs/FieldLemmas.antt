@@ -4,7 +4,7 @@ use Rattle.std.specs.List.{position, position_or_len}
 use Rattle.std.proofs.lemmas.Bool.{cases_Bool, ltb-false}
 use Rattle.std.proofs.lemmas.List.Sums.{prefix_len-le-length}
 use Rattle.std.proofs.lemmas.Grind.{common_steps}
-use Rattle.sipl_records.specs.Fields.{is_gap, from_field, before_gap, from_gap, behind_field, with_octet, fields_of}
+use Rattle.sipl_records.specs.Fields.{is_wsp, trim_start, before_wsp, from_wsp, after_field, with_octet, fields_of}
 
 take-one : (n c : ℕ) (line : List ℕ) → take (1 + n) (c ∷ line) ≡ c ∷ take n line
 take-one n c line = grind (arith, common_steps)
@@ -12,79 +12,79 @@ take-one n c line = grind (arith, common_steps)
 drop-one : (n c : ℕ) (line : List ℕ) → drop (1 + n) (c ∷ line) ≡ drop n line
 drop-one n c line = grind (arith, common_steps)
 
-before_gap-step : (gap : Bool) (c n : ℕ) (front line : List ℕ) → front ≡ take n line → cond gap [] (c ∷ front) ≡ take (cond (not gap) (1 + n) 0) (c ∷ line)
-before_gap-step true c n front line e = refl
-before_gap-step false c n front line e = ap (λ rest. c ∷ rest) e ∙ sym (take-one n c line)
+before_wsp-step : (gap : Bool) (c n : ℕ) (front line : List ℕ) → front ≡ take n line → cond gap [] (c ∷ front) ≡ take (cond (not gap) (1 + n) 0) (c ∷ line)
+before_wsp-step true c n front line e = refl
+before_wsp-step false c n front line e = ap (λ rest. c ∷ rest) e ∙ sym (take-one n c line)
 
-from_gap-step : (gap : Bool) (c n : ℕ) (back line : List ℕ) → back ≡ drop n line → cond gap (c ∷ line) back ≡ drop (cond (not gap) (1 + n) 0) (c ∷ line)
-from_gap-step true c n back line e = refl
-from_gap-step false c n back line e = e ∙ sym (drop-one n c line)
+from_wsp-step : (gap : Bool) (c n : ℕ) (back line : List ℕ) → back ≡ drop n line → cond gap (c ∷ line) back ≡ drop (cond (not gap) (1 + n) 0) (c ∷ line)
+from_wsp-step true c n back line e = refl
+from_wsp-step false c n back line e = e ∙ sym (drop-one n c line)
 
 -- the first gap, by its place
-pub before_gap-is : (line : List ℕ) → before_gap line ≡ take (position_or_len is_gap line) line
-before_gap-is [] = refl
-before_gap-is (c ∷ line) = before_gap-step (is_gap c) c _ _ line (before_gap-is line)
+pub before_wsp-is : (line : List ℕ) → before_wsp line ≡ take (position_or_len is_wsp line) line
+before_wsp-is [] = refl
+before_wsp-is (c ∷ line) = before_wsp-step (is_wsp c) c _ _ line (before_wsp-is line)
 
-pub from_gap-is : (line : List ℕ) → from_gap line ≡ drop (position_or_len is_gap line) line
-from_gap-is [] = refl
-from_gap-is (c ∷ line) = from_gap-step (is_gap c) c _ _ line (from_gap-is line)
+pub from_wsp-is : (line : List ℕ) → from_wsp line ≡ drop (position_or_len is_wsp line) line
+from_wsp-is [] = refl
+from_wsp-is (c ∷ line) = from_wsp-step (is_wsp c) c _ _ line (from_wsp-is line)
 
 -- a line cut at its first gap is that line
-pub before_gap-append : (line : List ℕ) → before_gap line ++ from_gap line ≡ line
-before_gap-append [] = refl
-before_gap-append (c ∷ line) = elim (cases_Bool (is_gap c)) [ inl gap ↦ rw gap refl | inr octet ↦ rw octet (ap (λ rest. c ∷ rest) (before_gap-append line)) ]
+pub before_wsp-append : (line : List ℕ) → before_wsp line ++ from_wsp line ≡ line
+before_wsp-append [] = refl
+before_wsp-append (c ∷ line) = elim (cases_Bool (is_wsp c)) [ inl gap ↦ rw gap refl | inr octet ↦ rw octet (ap (λ rest. c ∷ rest) (before_wsp-append line)) ]
 
-pub length-from_gap-le : (line : List ℕ) → length (from_gap line) ≤ length line
-length-from_gap-le [] = omega arith
-length-from_gap-le (c ∷ line) = elim (cases_Bool (is_gap c)) [ inl gap ↦ rw gap (omega arith) | inr octet ↦ rw octet (omega (arith, length-from_gap-le line)) ]
+pub length-from_wsp-le : (line : List ℕ) → length (from_wsp line) ≤ length line
+length-from_wsp-le [] = omega arith
+length-from_wsp-le (c ∷ line) = elim (cases_Bool (is_wsp c)) [ inl gap ↦ rw gap (omega arith) | inr octet ↦ rw octet (omega (arith, length-from_wsp-le line)) ]
 
-pub length-from_field-le : (line : List ℕ) → length (from_field line) ≤ length line
-length-from_field-le [] = omega arith
-length-from_field-le (c ∷ line) = elim (cases_Bool (is_gap c)) [ inl gap ↦ rw gap (omega (arith, length-from_field-le line)) | inr octet ↦ rw octet (omega arith) ]
+pub length-trim_start-le : (line : List ℕ) → length (trim_start line) ≤ length line
+length-trim_start-le [] = omega arith
+length-trim_start-le (c ∷ line) = elim (cases_Bool (is_wsp c)) [ inl gap ↦ rw gap (omega (arith, length-trim_start-le line)) | inr octet ↦ rw octet (omega arith) ]
 
 -- gaps before the first field change no field
-pub fields_of-from_field : (line : List ℕ) → fields_of (from_field line) ≡ fields_of line
-fields_of-from_field [] = refl
-fields_of-from_field (c ∷ line) = elim (cases_Bool (is_gap c)) [ inl gap ↦ rw gap (fields_of-from_field line) | inr octet ↦ rw octet (rw octet refl) ]
+pub fields_of-trim_start : (line : List ℕ) → fields_of (trim_start line) ≡ fields_of line
+fields_of-trim_start [] = refl
+fields_of-trim_start (c ∷ line) = elim (cases_Bool (is_wsp c)) [ inl gap ↦ rw gap (fields_of-trim_start line) | inr octet ↦ rw octet (rw octet refl) ]
 
-with_octet-gap : (c next : ℕ) (line : List ℕ) (fields : List (List ℕ)) → is_gap next ≡ true → with_octet c (next ∷ line) fields ≡ (c ∷ []) ∷ fields
+with_octet-gap : (c next : ℕ) (line : List ℕ) (fields : List (List ℕ)) → is_wsp next ≡ true → with_octet c (next ∷ line) fields ≡ (c ∷ []) ∷ fields
 with_octet-gap c next line [] gap = refl
 with_octet-gap c next line (field ∷ fields) gap = rw gap refl
 
 -- an octet of a field before a line: the field that it begins, and those behind it
-with_octet-is : (c : ℕ) (line : List ℕ) → with_octet c line (fields_of line) ≡ (c ∷ before_gap line) ∷ fields_of (from_gap line)
+with_octet-is : (c : ℕ) (line : List ℕ) → with_octet c line (fields_of line) ≡ (c ∷ before_wsp line) ∷ fields_of (from_wsp line)
 with_octet-is c [] = refl
-with_octet-is c (next ∷ line) = elim (cases_Bool (is_gap next)) [
+with_octet-is c (next ∷ line) = elim (cases_Bool (is_wsp next)) [
   | inl gap ↦ rw gap (rw gap (with_octet-gap c next line (fields_of line) gap))
   | inr octet ↦ rw octet (rw (with_octet-is next line) (rw octet refl))
 ]
 
 -- a line that begins with a field: that field, and those behind it
-pub fields_of-octet : (c : ℕ) (line : List ℕ) → is_gap c ≡ false → fields_of (c ∷ line) ≡ before_gap (c ∷ line) ∷ fields_of (from_gap (c ∷ line))
+pub fields_of-octet : (c : ℕ) (line : List ℕ) → is_wsp c ≡ false → fields_of (c ∷ line) ≡ before_wsp (c ∷ line) ∷ fields_of (from_wsp (c ∷ line))
 fields_of-octet c line octet = rw octet (with_octet-is c line)
 
 unwrap_or-place : (n len : ℕ) → n ≤ len → unwrap_or (cond (nat_lt n len) (Some n) None) len ≡ n
 unwrap_or-place n len below = elim (cases_Bool (nat_lt n len)) [ inl inside ↦ rw inside refl | inr past ↦ rw past (omega (arith, ltb-false n len past)) ]
 
 -- the place of the first gap, or the end of the line
-pub unwrap_or-position : (line : List ℕ) → unwrap_or (position is_gap line) (length line) ≡ position_or_len is_gap line
-unwrap_or-position line = unwrap_or-place _ _ (prefix_len-le-length (λ c. not (is_gap c)) line)
+pub unwrap_or-position : (line : List ℕ) → unwrap_or (position is_wsp line) (length line) ≡ position_or_len is_wsp line
+unwrap_or-position line = unwrap_or-place _ _ (prefix_len-le-length (λ c. not (is_wsp c)) line)
 
 -- a line without the gaps in front is empty, or begins with an octet of a field
-from_field-cases : (line : List ℕ) → (from_field line ≡ []) ⊎ ((c : ℕ) × (rest : List ℕ) × (from_field line ≡ c ∷ rest) × (is_gap c ≡ false))
-from_field-cases [] = inl refl
-from_field-cases (c ∷ line) = elim (cases_Bool (is_gap c)) [ inl gap ↦ rw gap (from_field-cases line) | inr octet ↦ rw octet (inr (c, line, refl, octet)) ]
+trim_start-cases : (line : List ℕ) → (trim_start line ≡ []) ⊎ ((c : ℕ) × (rest : List ℕ) × (trim_start line ≡ c ∷ rest) × (is_wsp c ≡ false))
+trim_start-cases [] = inl refl
+trim_start-cases (c ∷ line) = elim (cases_Bool (is_wsp c)) [ inl gap ↦ rw gap (trim_start-cases line) | inr octet ↦ rw octet (inr (c, line, refl, octet)) ]
 
 -- a line with a field: its first field, and those behind it
-pub fields_of-cut : (line : List ℕ) → 0 < length (from_field line) → fields_of line ≡ before_gap (from_field line) ∷ fields_of (behind_field line)
-fields_of-cut line some = elim (from_field-cases line) [
+pub fields_of-cut : (line : List ℕ) → 0 < length (trim_start line) → fields_of line ≡ before_wsp (trim_start line) ∷ fields_of (after_field line)
+fields_of-cut line some = elim (trim_start-cases line) [
   | inl none ↦ absurd (omega (arith, ap length none))
-  | inr first ↦ sym (fields_of-from_field line) ∙ rw first.2 (fields_of-octet first.0 first.1 first.3)
+  | inr first ↦ sym (fields_of-trim_start line) ∙ rw first.2 (fields_of-octet first.0 first.1 first.3)
 ]
 
 -- what stands behind a field is shorter than the line
-pub length-behind_field-lt : (line : List ℕ) → 0 < length (from_field line) → length (behind_field line) < length line
-length-behind_field-lt line some = elim (from_field-cases line) [
+pub length-after_field-lt : (line : List ℕ) → 0 < length (trim_start line) → length (after_field line) < length line
+length-after_field-lt line some = elim (trim_start-cases line) [
   | inl none ↦ absurd (omega (arith, ap length none))
-  | inr first ↦ rw first.2 (rw first.3 (omega (arith, ap length first.2, length-from_gap-le first.1, length-from_field-le line)))
+  | inr first ↦ rw first.2 (rw first.3 (omega (arith, ap length first.2, length-from_wsp-le first.1, length-trim_start-le line)))
 ]

@@ -9,18 +9,18 @@ use Rattle.sipl_records.specs.declared.record.Record.{Record}
 use Rattle.sipl_records.specs.declared.record.Key.{Key}
 
 -- whether the data are of this kind
-abbrev pub is_of_kind : Kind → Data → Bool
-is_of_kind Address4 (data_address4 n) = true
-is_of_kind _ _ = false
+abbrev pub has_kind : Kind → Data → Bool
+has_kind Address4 (data_address4 n) = true
+has_kind _ _ = false
 
 -- whether the record belongs to the key's set: it has that owner and kind
-abbrev pub is_of_key : Key → Record → Bool
-is_of_key key record' = same_name record'.owner key.name && is_of_kind key.kind record'.value
+abbrev pub has_key : Key → Record → Bool
+has_key key record' = same_name record'.owner key.name && has_kind key.kind record'.value
 
 -- RFC 2181, 5: the data of one owner and kind, in the order of the records
 abbrev pub set_of : List Record → Key → List Data
 set_of [] key = []
-set_of (r ∷ records) key = if is_of_key key r then r.value ∷ set_of records key else set_of records key
+set_of (r ∷ records) key = if has_key key r then r.value ∷ set_of records key else set_of records key
 
 -- whether two data are the same
 abbrev pub same_data : Data → Data → Bool

@@ -1,9 +1,9 @@
 ghost use Rattle.std.specs.Prelude.{◌≡◌, ◌==◌, position};
 ghost use Rattle.std.specs.Option.{option_copied};
-ghost use Rattle.sipl_records.specs.Parts.{cut_at as cut_of};
+ghost use Rattle.sipl_records.specs.Parts.{split_once as cut_of};
 
 /// The text before the first octet that is the separator, and the text behind it, where there is one.
-pub fn cut_at(text: &[u8], separator: u8) -> (&[u8], Option<&[u8]>)
+pub fn split_once(text: &[u8], separator: u8) -> (&[u8], Option<&[u8]>)
     ensures before { result.0.now ≡ (cut_of separator text.now).0 }
     ensures behind { option_copied result.1 ≡ (cut_of separator text.now).1 }
 {
@@ -35,7 +35,7 @@ mod tests {
             ("", "", None),
             ("a;b", "a;b", None),
         ] {
-            let parts = cut_at(text.as_bytes(), b':');
+            let parts = split_once(text.as_bytes(), b':');
             assert_eq!(rt; parts.0, before.as_bytes(), "at {text}");
             assert_eq!(rt; parts.1, behind.map(|rest| rest.as_bytes()), "at {text}");
         }

@@ -1,5 +1,5 @@
 ghost use Rattle.std.specs.Prelude.{◌≡◌, IfOk};
-ghost use Rattle.sipl_records.specs.Sets.{is_of_kind, kind_of, same_kind};
+ghost use Rattle.sipl_records.specs.Sets.{has_kind, kind_of, same_kind};
 
 use crate::kind::Kind;
 use std::alloc::{AllocError, Global};
@@ -22,14 +22,14 @@ impl Data {
     }
 
     /// Whether the data are of this kind.
-    pub fn is_of(&self, kind: Kind) -> bool
-        ensures { result ≡ is_of_kind kind self.now }
+    pub fn has_kind(&self, kind: Kind) -> bool
+        ensures { result ≡ has_kind kind self.now }
     {
         self.kind() == Some(kind)
     }
 
     /// Whether the two are of one kind.
-    pub fn is_like(&self, other: &Data) -> bool
+    pub fn has_same_kind(&self, other: &Data) -> bool
         ensures { result ≡ same_kind self.now other.now }
     {
         match (self, other) {

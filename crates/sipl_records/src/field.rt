@@ -1,28 +1,28 @@
 ghost use Rattle.std.specs.Prelude.{◌≡◌, ◌<◌, ◌∷◌, ◌++◌, [], length, MatchOption, IfSome};
-ghost use Rattle.sipl_records.specs.Fields.{fields_of, from_field, behind_field, before_gap, from_gap, is_gap as gap};
+ghost use Rattle.sipl_records.specs.Fields.{fields_of, trim_start, after_field, before_wsp, from_wsp, is_wsp};
 
 /// Takes the first field off a line whose fields are parted by spaces and tabs: the field, and
 /// the line behind it. `None` where the line has no field.
 pub fn next_field(line: &[u8]) -> Option<(&[u8], &[u8])>
     ensures fields { MatchOption result (fields_of line.now ≡ []) (λ next. fields_of line.now ≡ next.0.now ∷ fields_of next.1.now) }
-    ensures behind { IfSome result (λ next. next.1.now ≡ behind_field line.now) }
-    ensures parts { IfSome result (λ next. from_field line.now ≡ next.0.now ++ next.1.now) }
+    ensures behind { IfSome result (λ next. next.1.now ≡ after_field line.now) }
+    ensures parts { IfSome result (λ next. trim_start line.now ≡ next.0.now ++ next.1.now) }
     ensures shorter { IfSome result (λ next. length next.1.now < length line.now) }
 {
-    let line = trim_gaps(line);
+    let line = trim_start(line);
     if line.is_empty() {
         return None;
     }
-    Some(split_at_gap(line))
+    Some(split_at_wsp(line))
 }
 
 /// The line from its first octet that is neither a space nor a tab.
-pub fn trim_gaps(line: &[u8]) -> &[u8]
-    ensures { result.now ≡ from_field line.now }
+pub fn trim_start(line: &[u8]) -> &[u8]
+    ensures { result.now ≡ trim_start line.now }
 {
     let mut rest = line;
     while let [octet, others @ ..] = rest {
-        if !is_gap(*octet) {
+        if !is_wsp(*octet) {
             break;
         }
         rest = others;
@@ -31,19 +31,20 @@ pub fn trim_gaps(line: &[u8]) -> &[u8]
 }
 
 // The octets before the first gap, and the line from it on.
-fn split_at_gap(line: &[u8]) -> (&[u8], &[u8])
-    ensures front { result.0.now ≡ before_gap line.now }
-    ensures back { result.1.now ≡ from_gap line.now }
+fn split_at_wsp(line: &[u8]) -> (&[u8], &[u8])
+    ensures front { result.0.now ≡ before_wsp line.now }
+    ensures back { result.1.now ≡ from_wsp line.now }
 {
     let end = line
         .iter()
-        .position(|octet| is_gap(*octet))
+        .position(|octet| is_wsp(*octet))
         .unwrap_or(line.len());
     line.split_at(end)
 }
 
-fn is_gap(octet: u8) -> bool
-    ensures { result ≡ gap octet }
+/// Whether the octet is a space or a tab, `WSP` in RFC 5234, B.1.
+pub fn is_wsp(octet: u8) -> bool
+    ensures { result ≡ is_wsp octet }
 {
     octet == b' ' || octet == b'\t'
 }
@@ -81,7 +82,7 @@ mod tests {
             (" \t", ""),
             ("\r a", "\r a"),
         ] {
-            assert_eq!(rt; trim_gaps(line.as_bytes()), want.as_bytes());
+            assert_eq!(rt; trim_start(line.as_bytes()), want.as_bytes());
         }
     }
 }

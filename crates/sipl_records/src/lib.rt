@@ -16,10 +16,10 @@ mod sequence;
 mod tests;
 
 pub use address::{Address, printing_addresses_reads_back};
-pub use cut::cut_at;
+pub use cut::split_once;
 pub use data::Data;
 pub use fault::AddressFault;
-pub use field::{next_field, trim_gaps};
+pub use field::{is_wsp, next_field, trim_start};
 pub use kind::Kind;
 pub use number::read_number;
 pub use record::{Key, MAX_SET_LEN, Record};

@@ -1,5 +1,5 @@
 ghost use Rattle.std.specs.Prelude.{◌≡◌, IfOk};
-ghost use Rattle.sipl_records.specs.Sets.{is_of_key, key_of, shares_set};
+ghost use Rattle.sipl_records.specs.Sets.{has_key, key_of, shares_set};
 
 use crate::data::Data;
 use crate::kind::Kind;
@@ -18,17 +18,17 @@ pub struct Record {
 
 impl Record {
     /// Whether the record belongs to the set that the key finds (RFC 2181, 5).
-    pub fn is_of(&self, key: &Key) -> bool
-        ensures { result ≡ is_of_key key.now self.now }
+    pub fn has_key(&self, key: &Key) -> bool
+        ensures { result ≡ has_key key.now self.now }
     {
-        self.owner == key.name && self.value.is_of(key.kind)
+        self.owner == key.name && self.value.has_kind(key.kind)
     }
 
     /// Whether the two records stand in one set: equal owners, and data of one kind.
     pub fn shares_set(&self, other: &Record) -> bool
         ensures { result ≡ shares_set self.now other.now }
     {
-        self.owner == other.owner && self.value.is_like(&other.value)
+        self.owner == other.owner && self.value.has_same_kind(&other.value)
     }
 
     /// The key of the set that the record stands in; `None` where it stands in none.

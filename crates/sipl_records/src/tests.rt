@@ -208,7 +208,7 @@ fn tells_the_records_of_a_key(rt: HostRuntime) -> Result<(), Fail> {
     for (row, (name, kind, members)) in rows.into_iter().enumerate() {
         let key = key(alloc, name, kind)?;
         for (record, is_member) in records.iter().zip(members.iter()) {
-            assert_eq!(rt; record.is_of(&key), *is_member, "row {row}");
+            assert_eq!(rt; record.has_key(&key), *is_member, "row {row}");
         }
     }
     Ok(())
@@ -217,9 +217,9 @@ fn tells_the_records_of_a_key(rt: HostRuntime) -> Result<(), Fail> {
 #[test]
 fn tells_the_kind_of_data(rt: HostRuntime) {
     let data = Data::Address4(0xC000_0201);
-    assert!(rt; data.is_of(Kind::Address4));
+    assert!(rt; data.has_kind(Kind::Address4));
     for kind in [Kind::Address6, Kind::Alias, Kind::Service, Kind::Pointer] {
-        assert!(rt; !data.is_of(kind), "{kind}");
+        assert!(rt; !data.has_kind(kind), "{kind}");
     }
 }
 

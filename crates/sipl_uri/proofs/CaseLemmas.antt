@@ -13,7 +13,7 @@ use Rattle.sipl_names.specs.NameText.{Symbol, octet, dot, no_escape, symbols, la
 use Rattle.sipl_records.specs.declared.address.Address.TheVariants.{V4}
 use Rattle.sipl_records.specs.Addresses.{group_of, four_groups, address_of}
 use Rattle.sipl_records.specs.Numbers.{number_of}
-use Rattle.sipl_records.specs.Parts.{in_first, parts, cut_at}
+use Rattle.sipl_records.specs.Parts.{prepend_to_first, parts, split_once}
 use Rattle.sipl_uri.specs.declared.fault.UriFault.{UriFault}
 use Rattle.sipl_uri.specs.declared.fault.UriFault.TheVariants.{Scheme, Characters, Host, Port}
 use Rattle.sipl_uri.specs.declared.question.Target.{Target}
@@ -60,7 +60,7 @@ group_of-lower text = elim (cases_Bool (all_ascii_digits text)) [
 port_of-lower : (text : List ℕ) → port_of (str_to_ascii_lowercase text) ≡ port_of text
 port_of-lower text = λ i. elim (number_of-lower text 65535 i) as (λ _. Option ℕ) [ Some port ↦ (if port == 0 then None else Some port) | None ↦ None ]
 
-part-lower : (b : Bool) (c : ℕ) (others : List (List ℕ)) → (if b then [] ∷ map str_to_ascii_lowercase others else in_first (to_ascii_lowercase c) (map str_to_ascii_lowercase others)) ≡ map str_to_ascii_lowercase (if b then [] ∷ others else in_first c others)
+part-lower : (b : Bool) (c : ℕ) (others : List (List ℕ)) → (if b then [] ∷ map str_to_ascii_lowercase others else prepend_to_first (to_ascii_lowercase c) (map str_to_ascii_lowercase others)) ≡ map str_to_ascii_lowercase (if b then [] ∷ others else prepend_to_first c others)
 part-lower true c others = refl
 part-lower false c [] = refl
 part-lower false c (part ∷ others) = refl
@@ -69,7 +69,7 @@ part-lower false c (part ∷ others) = refl
 parts-lower : (s : ℕ) → sees_no_case (λ c. nat_eq c s) ≡ true → (text : List ℕ) → parts s (str_to_ascii_lowercase text) ≡ map str_to_ascii_lowercase (parts s text)
 parts-lower s e [] = refl
 parts-lower s e (c ∷ text) =
-    (λ i. if test_lower (λ d. nat_eq d s) e c i then [] ∷ parts-lower s e text i else in_first (to_ascii_lowercase c) (parts-lower s e text i)) ∙ part-lower (nat_eq c s) c (parts s text)
+    (λ i. if test_lower (λ d. nat_eq d s) e c i then [] ∷ parts-lower s e text i else prepend_to_first (to_ascii_lowercase c) (parts-lower s e text i)) ∙ part-lower (nat_eq c s) c (parts s text)
 
 groups-lower : (texts : List (List ℕ)) → map group_of (map str_to_ascii_lowercase texts) ≡ map group_of texts
 groups-lower [] = refl
@@ -144,10 +144,10 @@ cut_with-lower : (b : Bool) (c : ℕ) (text : List ℕ) (cut : List ℕ × Optio
 cut_with-lower true c text cut = refl
 cut_with-lower false c text cut = refl
 
-cut_at-lower : (s : ℕ) → sees_no_case (λ c. nat_eq c s) ≡ true → (text : List ℕ) → cut_at s (str_to_ascii_lowercase text) ≡ cut-lower (cut_at s text)
-cut_at-lower s e [] = refl
-cut_at-lower s e (c ∷ text) =
-    (λ i. cut_with (test_lower (λ d. nat_eq d s) e c i) (to_ascii_lowercase c) (str_to_ascii_lowercase text) (cut_at-lower s e text i)) ∙ cut_with-lower (nat_eq c s) c text (cut_at s text)
+split_once-lower : (s : ℕ) → sees_no_case (λ c. nat_eq c s) ≡ true → (text : List ℕ) → split_once s (str_to_ascii_lowercase text) ≡ cut-lower (split_once s text)
+split_once-lower s e [] = refl
+split_once-lower s e (c ∷ text) =
+    (λ i. cut_with (test_lower (λ d. nat_eq d s) e c i) (to_ascii_lowercase c) (str_to_ascii_lowercase text) (split_once-lower s e text i)) ∙ cut_with-lower (nat_eq c s) c text (split_once s text)
 
 with_port-lower : (target : Target) (digits : Option (List ℕ)) → with_port target (option_map str_to_ascii_lowercase digits) ≡ with_port target digits
 with_port-lower target None = refl
@@ -158,7 +158,7 @@ with_host-lower cut = λ i. elim (host_of-lower cut.0 i) as (λ _. Result Questi
 
 behind_scheme-lower : (text : List ℕ) → behind_scheme (str_to_ascii_lowercase text) ≡ behind_scheme text
 behind_scheme-lower text =
-    let same : with_host (cut_at 58 (str_to_ascii_lowercase text)) ≡ with_host (cut_at 58 text) = ap with_host (cut_at-lower 58 refl text) ∙ with_host-lower (cut_at 58 text) in
+    let same : with_host (split_once 58 (str_to_ascii_lowercase text)) ≡ with_host (split_once 58 text) = ap with_host (split_once-lower 58 refl text) ∙ with_host-lower (split_once 58 text) in
     λ i. if list_any-lower (λ c. is_foreign c || is_unread c) refl text i then Err Characters else same i
 
 abbrev rest_of : Option (List ℕ) → Result Question UriFault
@@ -176,4 +176,4 @@ asked-lower cut = λ i. if pointwise nat_eq (lower-lower cut.0 i) (codes "sip") 
 
 -- a URI in lower case asks the same
 pub question_of-lower : (uri : List ℕ) → question_of (str_to_ascii_lowercase uri) ≡ question_of uri
-question_of-lower uri = ap asked (cut_at-lower 58 refl uri) ∙ asked-lower (cut_at 58 uri)
+question_of-lower uri = ap asked (split_once-lower 58 refl uri) ∙ asked-lower (split_once 58 uri)

@@ -13,7 +13,7 @@ use Rattle.sipl_names.specs.Labels.{label_fault}
 use Rattle.sipl_names.specs.NameText.{Symbol, octet, dot, no_escape, symbols, labels_from, Read, followed_by, completed, name_of}
 use Rattle.sipl_records.specs.declared.address.Address.{Address}
 use Rattle.sipl_records.specs.Addresses.{address_of}
-use Rattle.sipl_records.specs.Parts.{cut_at}
+use Rattle.sipl_records.specs.Parts.{split_once}
 use Rattle.sipl_uri.specs.declared.fault.UriFault.{UriFault}
 use Rattle.sipl_uri.specs.declared.fault.UriFault.TheVariants.{Scheme, Characters, Host, Port}
 use Rattle.sipl_uri.specs.declared.question.Target.{Target}
@@ -149,7 +149,7 @@ readable false rest question e = e
 
 behind_scheme_is : (text : List ℕ) (question : Question) → behind_scheme text ≡ Ok question → IsHost question.target
 behind_scheme_is text question e =
-    host_is (cut_at 58 text).0 question.target (with_host_is (host_of (cut_at 58 text).0) (cut_at 58 text).1 question (readable _ _ question e))
+    host_is (split_once 58 text).0 question.target (with_host_is (host_of (split_once 58 text).0) (split_once 58 text).1 question (readable _ _ question e))
 
 question_by : (b : Bool) (rest : Option (List ℕ)) (question : Question) → (if b then elim rest [ Some text ↦ behind_scheme text | None ↦ Err Scheme ] else Err Scheme) ≡ Ok question → IsHost question.target
 question_by true (Some text) question e = behind_scheme_is text question e
@@ -158,4 +158,4 @@ question_by false rest question e = cc
 
 -- every question is of a host
 pub question_is : (uri : List ℕ) (question : Question) → question_of uri ≡ Ok question → IsHost question.target
-question_is uri question e = question_by _ (cut_at 58 uri).1 question e
+question_is uri question e = question_by _ (split_once 58 uri).1 question e

@@ -8,7 +8,7 @@ use Rattle.sipl_names.specs.Labels.{top_label_of}
 use Rattle.sipl_names.specs.NameText.{name_of}
 use Rattle.sipl_records.specs.Addresses.{address_of}
 use Rattle.sipl_records.specs.Numbers.{number_of}
-use Rattle.sipl_records.specs.Parts.{cut_at}
+use Rattle.sipl_records.specs.Parts.{split_once}
 use Rattle.sipl_uri.specs.declared.question.Question.{Question}
 use Rattle.sipl_uri.specs.declared.question.Target.{Target}
 use Rattle.sipl_uri.specs.declared.question.Target.TheVariants.{Numeric, Domain}
@@ -73,11 +73,11 @@ with_host cut = elim (host_of cut.0) [ Some target ↦ with_port target cut.1 | 
 
 -- what stands behind the scheme's colon
 abbrev pub behind_scheme : List ℕ → Result Question UriFault
-behind_scheme text = if list_any (λ c. is_foreign c || is_unread c) text then Err Characters else with_host (cut_at 58 text)
+behind_scheme text = if list_any (λ c. is_foreign c || is_unread c) text then Err Characters else with_host (split_once 58 text)
 
 -- the question that a URI asks, or the first fault: the scheme is `sip` in either case
 abbrev pub question_of : List ℕ → Result Question UriFault
 question_of uri =
-    let cut = cut_at 58 uri in
+    let cut = split_once 58 uri in
     if pointwise nat_eq (str_to_ascii_lowercase cut.0) (codes "sip")
     then elim cut.1 [ Some text ↦ behind_scheme text | None ↦ Err Scheme ] else Err Scheme

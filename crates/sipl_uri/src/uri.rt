@@ -6,7 +6,7 @@ use crate::fault::UriFault;
 use crate::host::read_host;
 use crate::octet::is_barred;
 use crate::question::Question;
-use sipl_records::{cut_at, read_number};
+use sipl_records::{split_once, read_number};
 use std::alloc::Global;
 
 /// A SIP URI in text (RFC 3261, 19.1.1), so far of the form `sip:HOST:PORT`.
@@ -27,7 +27,7 @@ impl Uri {
         ensures no_transport { IfOk result (λ question. question.transport ≡ None) }
         ensures not_secure { IfOk result (λ question. question.secure ≡ false) }
     {
-        let (scheme, Some(rest)) = cut_at(bytes, b':') else {
+        let (scheme, Some(rest)) = split_once(bytes, b':') else {
             return Err(UriFault::Scheme);
         };
         if !scheme.eq_ignore_ascii_case(b"sip") {
@@ -49,7 +49,7 @@ fn read_question(alloc: Global, text: &[u8]) -> Result<Question, UriFault>
     if has_barred_octet(text) {
         return Err(UriFault::Characters);
     }
-    let (host, digits) = cut_at(text, b':');
+    let (host, digits) = split_once(text, b':');
     let target = read_host(alloc, host)?;
     let Some(port) = digits.and_then(|digits| read_port(digits)) else {
         return Err(UriFault::Port);

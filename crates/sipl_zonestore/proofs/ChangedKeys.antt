@@ -7,12 +7,12 @@ use Rattle.std.proofs.lemmas.List.Folds.{list_any-append}
 use Rattle.sipl_names.specs.Labels.{is_within}
 use Rattle.sipl_records.specs.declared.record.Record.{Record}
 use Rattle.sipl_records.specs.declared.record.Key.{Key}
-use Rattle.sipl_records.specs.Sets.{is_of_key, set_of, same_key, key_of}
+use Rattle.sipl_records.specs.Sets.{has_key, set_of, same_key, key_of}
 use Rattle.sipl_zonestore.specs.Store.{outside_of, within_of}
 use Rattle.sipl_zonestore.specs.Changes.{first_key, keys_of, is_changed, changed_keys}
 use Rattle.sipl_zonestore.specs.Noted.{is_same_set, all_noted}
 use Rattle.sipl_zonestore.proofs.Filters.{filter-swap, filter-none, filter-other, filter-all}
-use Rattle.sipl_zonestore.proofs.Keys.{same_key-Decides, same_key-refl, same_key-sym, is_key, is_of_key-key_of, is_of_key-name, key_of-name}
+use Rattle.sipl_zonestore.proofs.Keys.{same_key-Decides, same_key-refl, same_key-sym, is_key, has_key-key_of, has_key-name, key_of-name}
 use Rattle.sipl_zonestore.proofs.Notes.{all_noted-append, all_noted-is, is_fresh, filter-without}
 use Rattle.sipl_zonestore.proofs.Sets.{set_of-append, set_of-filter, set_of-filter_none, same_set-refl, same_set-push}
 
@@ -40,14 +40,14 @@ keys_of-part p p' q drops agrees (r ∷ records) = elim (cases_Bool (q r)) [
 -- a set outside a zone stays as it is
 stays : (apex : List (List ℕ)) (old text : List Record) (key : Key) → list_all (λ r. is_within r.owner apex) text ≡ true → is_within key.name apex ≡ false → is_changed old (outside_of apex old ++ text) key ≡ false
 stays apex old text key all outside =
-    let kept : set_of (outside_of apex old) key ≡ set_of old key = set_of-filter (λ r. not (is_within r.owner apex)) key (λ r of. rw (is_of_key-name key r of, outside) refl) old in
-    let none : set_of text key ≡ [] = ap (λ rs. set_of rs key) (sym (filter-all (λ r. is_within r.owner apex) text all)) ∙ set_of-filter_none (λ r. is_within r.owner apex) key (λ r of. rw (is_of_key-name key r of) outside) text in
+    let kept : set_of (outside_of apex old) key ≡ set_of old key = set_of-filter (λ r. not (is_within r.owner apex)) key (λ r of. rw (has_key-name key r of, outside) refl) old in
+    let none : set_of text key ≡ [] = ap (λ rs. set_of rs key) (sym (filter-all (λ r. is_within r.owner apex) text all)) ∙ set_of-filter_none (λ r. is_within r.owner apex) key (λ r of. rw (has_key-name key r of) outside) text in
     rw (set_of-append (outside_of apex old) text key, kept, none, append-nil (set_of old key), same_set-refl (set_of old key)) refl
 
 -- a set within it is that of the text
 comes : (apex : List (List ℕ)) (old text : List Record) (key : Key) → is_within key.name apex ≡ true → is_changed old (outside_of apex old ++ text) key ≡ not (is_same_set old text key)
 comes apex old text key inside =
-    let gone : set_of (outside_of apex old) key ≡ [] = set_of-filter_none (λ r. not (is_within r.owner apex)) key (λ r of. rw (is_of_key-name key r of, inside) refl) old in
+    let gone : set_of (outside_of apex old) key ≡ [] = set_of-filter_none (λ r. not (is_within r.owner apex)) key (λ r of. rw (has_key-name key r of, inside) refl) old in
     rw (set_of-append (outside_of apex old) text key, gone) refl
 
 parted : (apex : List (List ℕ)) (old text : List Record) → filter (λ r. is_within r.owner apex) (old ++ (outside_of apex old ++ text)) ≡ within_of apex old ++ within_of apex text
@@ -89,9 +89,9 @@ keys_of-own key (r ∷ records) = own_step key (key_of r) (keys_of records) (lis
 
 -- a set changes where the record that is added belongs to it
 pushed : (old : List Record) (r : Record) (key : Key) → is_changed old (old ++ r ∷ []) key ≡ is_key key (key_of r)
-pushed old r key = elim (cases_Bool (is_of_key key r)) [
-  | inl holds ↦ rw (set_of-append old (r ∷ []) key, holds, same_set-push (set_of old key) r.value) (sym holds ∙ is_of_key-key_of key r)
-  | inr fails ↦ rw (set_of-append old (r ∷ []) key, fails, append-nil (set_of old key), same_set-refl (set_of old key)) (sym fails ∙ is_of_key-key_of key r)
+pushed old r key = elim (cases_Bool (has_key key r)) [
+  | inl holds ↦ rw (set_of-append old (r ∷ []) key, holds, same_set-push (set_of old key) r.value) (sym holds ∙ has_key-key_of key r)
+  | inr fails ↦ rw (set_of-append old (r ∷ []) key, fails, append-nil (set_of old key), same_set-refl (set_of old key)) (sym fails ∙ has_key-key_of key r)
 ]
 
 or_true : (a b : Bool) → b ≡ true → (a || b) ≡ true

@@ -13,7 +13,7 @@ use Rattle.sipl_records.specs.declared.kind.Kind.TheVariants.{Address4, Address6
 use Rattle.sipl_records.specs.declared.record.Record.{Record}
 use Rattle.sipl_records.specs.declared.record.Key.{Key}
 use Rattle.sipl_records.specs.contracts.record.KeyPartialEq.TheImpl.{eq-value}
-use Rattle.sipl_records.specs.Sets.{is_of_kind, is_of_key, kind_of, kinds_match, same_key, key_of}
+use Rattle.sipl_records.specs.Sets.{has_kind, has_key, kind_of, kinds_match, same_key, key_of}
 
 pub kinds_match-Decides : (a b : Kind) → Decides (kinds_match a b) (a ≡ b)
 kinds_match-Decides Address4 Address4 = (λ _. refl, λ _. refl)
@@ -44,20 +44,20 @@ abbrev pub is_kind : Kind → Option Kind → Bool
 is_kind kind None = false
 is_kind kind (Some own) = kinds_match own kind
 
-of_kind : (kind : Kind) (value : Data) → is_of_kind kind value ≡ is_kind kind (kind_of value)
+of_kind : (kind : Kind) (value : Data) → has_kind kind value ≡ is_kind kind (kind_of value)
 of_kind Address4 (data_address4 n) = refl
 of_kind Address6 (data_address4 n) = refl
 of_kind Alias (data_address4 n) = refl
 of_kind Service (data_address4 n) = refl
 of_kind Pointer (data_address4 n) = refl
 
-of_key : (key : Key) (r : Record) (own : Option Kind) → is_of_kind key.kind r.value ≡ is_kind key.kind own → is_of_key key r ≡ is_key key (option_map (λ kind. record { name = r.owner; kind = kind }) own)
+of_key : (key : Key) (r : Record) (own : Option Kind) → has_kind key.kind r.value ≡ is_kind key.kind own → has_key key r ≡ is_key key (option_map (λ kind. record { name = r.owner; kind = kind }) own)
 of_key key r None is = rw is (and-false (same_name r.owner key.name))
 of_key key r (Some kind) is = rw is refl
 
 -- a record belongs to a key's set where the key is its own
-pub is_of_key-key_of : (key : Key) (r : Record) → is_of_key key r ≡ is_key key (key_of r)
-is_of_key-key_of key r = of_key key r (kind_of r.value) (of_kind key.kind r.value)
+pub has_key-key_of : (key : Key) (r : Record) → has_key key r ≡ is_key key (key_of r)
+has_key-key_of key r = of_key key r (kind_of r.value) (of_kind key.kind r.value)
 
 named : (r : Record) (key : Key) (own : Option Kind) → option_map (λ kind. record { name = r.owner; kind = kind }) own ≡ Some key → r.owner ≡ key.name
 named r key None e = cc
@@ -75,8 +75,8 @@ both_true true b h = refl
 both_true false b h = h
 
 -- a record of a key's set has the key's name
-pub is_of_key-name : (key : Key) (r : Record) → is_of_key key r ≡ true → r.owner ≡ key.name
-is_of_key-name key r of = (same_name_decides r.owner key.name).0 (both_true _ (is_of_kind key.kind r.value) of)
+pub has_key-name : (key : Key) (r : Record) → has_key key r ≡ true → r.owner ≡ key.name
+has_key-name key r of = (same_name_decides r.owner key.name).0 (both_true _ (has_kind key.kind r.value) of)
 
 -- `==` of two keys answers whether they are the same
 derived-Decides : (a b : Key) → Decides (eq-value.it a b) (a ≡ b)

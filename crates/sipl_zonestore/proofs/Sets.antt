@@ -8,28 +8,28 @@ use Rattle.sipl_records.specs.declared.data.Data.{Data}
 use Rattle.sipl_records.specs.declared.data.Data.TheVariants.{Address4 as data_address4}
 use Rattle.sipl_records.specs.declared.record.Record.{Record}
 use Rattle.sipl_records.specs.declared.record.Key.{Key}
-use Rattle.sipl_records.specs.Sets.{is_of_key, set_of, same_data}
+use Rattle.sipl_records.specs.Sets.{has_key, set_of, same_data}
 
 pub set_of-append : (a b : List Record) (key : Key) → set_of (a ++ b) key ≡ set_of a key ++ set_of b key
 set_of-append [] b key = refl
-set_of-append (r ∷ a) b key = elim (cases_Bool (is_of_key key r)) [
+set_of-append (r ∷ a) b key = elim (cases_Bool (has_key key r)) [
   | inl holds ↦ rw holds (ap (λ data'. r.value ∷ data') (set_of-append a b key))
   | inr fails ↦ rw fails (set_of-append a b key)
 ]
 
 -- records that are left out without their sets
-pub set_of-filter : (q : Record → Bool) (key : Key) → ((r : Record) → is_of_key key r ≡ true → q r ≡ true) → (records : List Record) → set_of (filter q records) key ≡ set_of records key
+pub set_of-filter : (q : Record → Bool) (key : Key) → ((r : Record) → has_key key r ≡ true → q r ≡ true) → (records : List Record) → set_of (filter q records) key ≡ set_of records key
 set_of-filter q key keeps [] = refl
-set_of-filter q key keeps (r ∷ records) = elim (cases_Bool (is_of_key key r)) [
+set_of-filter q key keeps (r ∷ records) = elim (cases_Bool (has_key key r)) [
   | inl holds ↦ rw (keeps r holds) (rw holds (ap (λ data'. r.value ∷ data') (set_of-filter q key keeps records)))
   | inr fails ↦ rw fails (elim (cases_Bool (q r)) [ inl kept ↦ rw kept (rw fails (set_of-filter q key keeps records)) | inr out ↦ rw out (set_of-filter q key keeps records) ])
 ]
 
 -- records that are left out with their set
-pub set_of-filter_none : (q : Record → Bool) (key : Key) → ((r : Record) → is_of_key key r ≡ true → q r ≡ false) → (records : List Record) → set_of (filter q records) key ≡ []
+pub set_of-filter_none : (q : Record → Bool) (key : Key) → ((r : Record) → has_key key r ≡ true → q r ≡ false) → (records : List Record) → set_of (filter q records) key ≡ []
 set_of-filter_none q key drops [] = refl
 set_of-filter_none q key drops (r ∷ records) = elim (cases_Bool (q r)) [
-  | inl kept ↦ rw kept (elim (cases_Bool (is_of_key key r)) [ inl holds ↦ let fails : true ≡ false = sym kept ∙ drops r holds in cc | inr fails ↦ rw fails (set_of-filter_none q key drops records) ])
+  | inl kept ↦ rw kept (elim (cases_Bool (has_key key r)) [ inl holds ↦ let fails : true ≡ false = sym kept ∙ drops r holds in cc | inr fails ↦ rw fails (set_of-filter_none q key drops records) ])
   | inr out ↦ rw out (set_of-filter_none q key drops records)
 ]
 

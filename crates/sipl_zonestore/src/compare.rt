@@ -112,7 +112,7 @@ fn first_of<'a>(records: &'a [Record], key: &Key) -> Option<(&'a Data, &'a [Reco
 {
     let mut rest = records;
     while let [record, behind @ ..] = rest {
-        if record.is_of(key) {
+        if record.has_key(key) {
             return Some((&record.value, behind));
         }
         rest = behind;

@@ -3,7 +3,7 @@ use Rattle.std.proofs.Common.{◌≡◌, ℕ, ◌+◌, ◌-◌, ◌<◌, ◌≤�
 use Rattle.std.proofs.lemmas.List.{drop_more, take_more, take_all, take-take, take-append-drop, drop_all, take_at, take-append-le, length-take-le, length-append}
 use Rattle.std.proofs.lemmas.Bool.{cases_lt}
 use Rattle.std.proofs.Math.Seq.{take-append-add}
-use Rattle.sipl_records.specs.Parts.{parts, in_first}
+use Rattle.sipl_records.specs.Parts.{parts, prepend_to_first}
 use Rattle.siploc.specs.Lines.{without_cr, closed_lines, lines_of}
 use Rattle.siploc.specs.Machine.{lines_from, rest_from, kept_of, last_line, HasNoEnd, EndsFirst}
 use Rattle.siploc.specs.Streams.{ended_lines, whole_lines}
@@ -41,17 +41,17 @@ abbrev HasFirst : List (List ℕ) → Type 0
 HasFirst [] = ⊥
 HasFirst (part ∷ others) = Unit {0}
 
-in_first-has : (c : ℕ) (all : List (List ℕ)) → HasFirst (in_first c all)
-in_first-has c [] = tt
-in_first-has c (part ∷ others) = tt
+prepend_to_first-has : (c : ℕ) (all : List (List ℕ)) → HasFirst (prepend_to_first c all)
+prepend_to_first-has c [] = tt
+prepend_to_first-has c (part ∷ others) = tt
 
 parts-has : (input : List ℕ) → HasFirst (parts 10 input)
 parts-has [] = tt
-parts-has (c ∷ input) = elim (c == 10) as (λ v. HasFirst (if v then [] ∷ parts 10 input else in_first c (parts 10 input))) [ true ↦ tt | false ↦ in_first-has c (parts 10 input) ]
+parts-has (c ∷ input) = elim (c == 10) as (λ v. HasFirst (if v then [] ∷ parts 10 input else prepend_to_first c (parts 10 input))) [ true ↦ tt | false ↦ prepend_to_first-has c (parts 10 input) ]
 
-with_front-in_first : (pending : List ℕ) (c : ℕ) (all : List (List ℕ)) → HasFirst all → with_front pending (in_first c all) ≡ with_front (pending ++ c ∷ []) all
-with_front-in_first pending c [] has = absurd has
-with_front-in_first pending c (part ∷ others) has = ap (λ first. first ∷ others) (sym (append_assoc pending (c ∷ []) part))
+with_front-prepend_to_first : (pending : List ℕ) (c : ℕ) (all : List (List ℕ)) → HasFirst all → with_front pending (prepend_to_first c all) ≡ with_front (pending ++ c ∷ []) all
+with_front-prepend_to_first pending c [] has = absurd has
+with_front-prepend_to_first pending c (part ∷ others) has = ap (λ first. first ∷ others) (sym (append_assoc pending (c ∷ []) part))
 
 ended-cons : (part : List ℕ) (others : List (List ℕ)) → HasFirst others → ended_lines (part ∷ others) ≡ without_cr part ∷ ended_lines others
 ended-cons part [] has = absurd has
@@ -60,12 +60,12 @@ ended-cons part (next ∷ others) has = refl
 ended-from : (input pending : List ℕ) → ended_lines (with_front pending (parts 10 input)) ≡ lines_from pending input
 ended-from [] pending = refl
 ended-from (c ∷ input) pending =
-    elim (c == 10) as (λ v. ended_lines (with_front pending (if v then [] ∷ parts 10 input else in_first c (parts 10 input)))
+    elim (c == 10) as (λ v. ended_lines (with_front pending (if v then [] ∷ parts 10 input else prepend_to_first c (parts 10 input)))
     ≡ (if v then without_cr pending ∷ lines_from [] input else lines_from (pending ++ c ∷ []) input)) [
       | true ↦ ended-cons (pending ++ []) (parts 10 input) (parts-has input)
           ∙ ap (λ p. without_cr p ∷ ended_lines (parts 10 input)) (append-nil pending)
           ∙ ap (λ lines. without_cr pending ∷ lines) (ap ended_lines (sym (with_front-nil (parts 10 input))) ∙ ended-from input [])
-      | false ↦ ap ended_lines (with_front-in_first pending c (parts 10 input) (parts-has input)) ∙ ended-from input (pending ++ c ∷ [])
+      | false ↦ ap ended_lines (with_front-prepend_to_first pending c (parts 10 input) (parts-has input)) ∙ ended-from input (pending ++ c ∷ [])
     ]
 
 -- the lines that are whole in an input are those that the machine ends
@@ -85,13 +85,13 @@ closed-one (c ∷ part) = refl
 closed-from : (input pending : List ℕ) → closed_lines (with_front pending (parts 10 input)) ≡ lines_from pending input ++ last_line (rest_from pending input)
 closed-from [] pending = closed-one (pending ++ []) ∙ ap last_line (append-nil pending)
 closed-from (c ∷ input) pending =
-    elim (c == 10) as (λ v. closed_lines (with_front pending (if v then [] ∷ parts 10 input else in_first c (parts 10 input)))
+    elim (c == 10) as (λ v. closed_lines (with_front pending (if v then [] ∷ parts 10 input else prepend_to_first c (parts 10 input)))
     ≡ (if v then without_cr pending ∷ lines_from [] input else lines_from (pending ++ c ∷ []) input)
     ++ last_line (if v then rest_from [] input else rest_from (pending ++ c ∷ []) input)) [
       | true ↦ closed-cons (pending ++ []) (parts 10 input) (parts-has input)
           ∙ ap (λ p. without_cr p ∷ closed_lines (parts 10 input)) (append-nil pending)
           ∙ ap (λ lines. without_cr pending ∷ lines) (ap closed_lines (sym (with_front-nil (parts 10 input))) ∙ closed-from input [])
-      | false ↦ ap closed_lines (with_front-in_first pending c (parts 10 input) (parts-has input)) ∙ closed-from input (pending ++ c ∷ [])
+      | false ↦ ap closed_lines (with_front-prepend_to_first pending c (parts 10 input) (parts-has input)) ∙ closed-from input (pending ++ c ∷ [])
     ]
 
 -- the lines of an input are those that the machine ends, and then what is pending

@@ -1,7 +1,7 @@
 -- What a line of a session asks for.
 use Rattle.std.specs.Prelude.{ℕ, Bool, false, List, [], ◌∷◌, None, Some, codes, nat_eq, if◌then◌else◌, ◌==◌}
 use lib.Pointwise.{pointwise}
-use Rattle.sipl_records.specs.Fields.{fields_of, from_field, behind_field}
+use Rattle.sipl_records.specs.Fields.{fields_of, trim_start, after_field}
 use Rattle.sipl_records.specs.Numbers.{number_of}
 
 -- a command with its fields; a line without fields and a comment ask for nothing
@@ -42,7 +42,7 @@ quit_request _ = unknown
 abbrev pub command_request : List ℕ → List (List ℕ) → List ℕ → Request
 command_request word others line =
     if pointwise nat_eq word (codes "zone") then zone_request others
-    else (if pointwise nat_eq word (codes "add") then add_request (from_field (behind_field line))
+    else (if pointwise nat_eq word (codes "add") then add_request (trim_start (after_field line))
     else (if pointwise nat_eq word (codes "find") then find_request others
     else (if pointwise nat_eq word (codes "quit") then quit_request others else unknown)))
 

@@ -1,10 +1,10 @@
 // What a line of a session asks for.
 ghost use Rattle.std.specs.Prelude.{◌≡◌};
-ghost use Rattle.sipl_records.specs.Fields.{fields_of, from_field};
+ghost use Rattle.sipl_records.specs.Fields.{fields_of, trim_start};
 ghost use Rattle.siploc.specs.Requests.{add_request, find_request, quit_request, request_of, zone_request};
 ghost use Rattle.siploc.specs.CommandMeaning.{meaning_of};
 
-use sipl_records::{next_field, read_number, trim_gaps};
+use sipl_records::{next_field, read_number, trim_start};
 
 /// A command, with its fields as they stand in the line.
 #[derive(Clone, Copy)]
@@ -36,7 +36,7 @@ pub fn read_command(line: &[u8]) -> Command<'_>
     if word == b"zone".as_slice() {
         zone_command(rest)
     } else if word == b"add".as_slice() {
-        add_command(trim_gaps(rest))
+        add_command(trim_start(rest))
     } else if word == b"find".as_slice() {
         find_command(rest)
     } else if word == b"quit".as_slice() {
