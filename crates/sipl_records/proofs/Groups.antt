@@ -14,7 +14,7 @@ use Rattle.std.proofs.lemmas.Int.Digits.{digits_value_more}
 use Rattle.std.proofs.lemmas.List.{length-map}
 use Rattle.std.proofs.lemmas.List.Quantifiers.{position-Some}
 use Rattle.sipl_records.specs.Parts.{parts}
-use Rattle.sipl_records.specs.Addresses.{group_of, four_groups, number_of_four, LacksGroup}
+use Rattle.sipl_records.specs.Addresses.{group_of, four_groups, number_of_four, HasNoGroupBeforeDot}
 use Rattle.sipl_records.proofs.Cuts.{parts-Some, parts-None, length-parts}
 
 -- an octet that is no digit makes the whole no digits
@@ -88,16 +88,16 @@ last_by_place a b c text (Some i) found =
 pub four_groups-last : (a b c : ℕ) (text : List ℕ) → four_groups (Some a ∷ Some b ∷ Some c ∷ map group_of (parts 46 text)) ≡ option_map (number_of_four a b c) (group_of text)
 four_groups-last a b c text = last_by_place a b c text (position (λ o. nat_eq o 46) text) refl
 
-lacks_behind : (last : Option ℕ) → LacksGroup (last ∷ [])
+lacks_behind : (last : Option ℕ) → HasNoGroupBeforeDot (last ∷ [])
 lacks_behind (Some a) = tt
 lacks_behind None = tt
 
 -- without a dot no group with another behind it stands first
-pub lacks_dot : (text : List ℕ) → position (λ o. nat_eq o 46) text ≡ None → LacksGroup (map group_of (parts 46 text))
+pub lacks_dot : (text : List ℕ) → position (λ o. nat_eq o 46) text ≡ None → HasNoGroupBeforeDot (map group_of (parts 46 text))
 lacks_dot text none = rw (parts-None 46 text none) (lacks_behind (group_of text))
 
 -- nor where what the first dot ends is no group
-pub lacks_group : (text : List ℕ) (i : ℕ) → position (λ o. nat_eq o 46) text ≡ Some i → group_of (take i text) ≡ None → LacksGroup (map group_of (parts 46 text))
+pub lacks_group : (text : List ℕ) (i : ℕ) → position (λ o. nat_eq o 46) text ≡ Some i → group_of (take i text) ≡ None → HasNoGroupBeforeDot (map group_of (parts 46 text))
 lacks_group text i found bad = rw (parts-Some 46 text i found, bad) tt
 
 -- the group that the first dot ends, and those behind it

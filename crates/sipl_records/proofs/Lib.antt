@@ -1,6 +1,8 @@
 pub mod Filters
 pub mod Unique
 pub mod Sets
+pub mod Same
+pub mod Keys
 pub mod Cuts
 pub mod Groups
 pub mod Dotted

@@ -16,7 +16,7 @@ mod sequence;
 #[cfg(test)]
 mod tests;
 
-pub use address::{Address, printing_addresses_reads_back};
+pub use address::{Address, MAX_ADDRESS_TEXT_LEN};
 pub use cut::split_once;
 pub use data::Data;
 pub use fault::AddressFault;
