@@ -15,7 +15,7 @@ use Rattle.std.proofs.lemmas.List.{length-map}
 use Rattle.std.proofs.lemmas.List.Quantifiers.{position-Some}
 use Rattle.sipl_records.specs.Parts.{parts}
 use Rattle.sipl_records.specs.Addresses.{group_of, four_groups, number_of_four, HasNoGroupBeforeDot}
-use Rattle.sipl_records.proofs.Cuts.{parts-Some, parts-None, length-parts}
+use Rattle.sipl_records.proofs.Parts.{parts-Some, parts-None, length-parts}
 
 -- an octet that is no digit makes the whole no digits
 pub all_ascii_digits-other : (digits : List ℕ) (i : ℕ) → i < length digits → is_ascii_digit (get_or digits i 0) ≡ false → all_ascii_digits digits ≡ false

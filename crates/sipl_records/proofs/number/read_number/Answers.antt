@@ -1,7 +1,7 @@
 use Rattle.std.proofs.Common.{get_or, sym, ◌∙◌, arith}
 use Rattle.std.proofs.lemmas.Int.Digits.{digits_value_more}
 use Rattle.std.proofs.lemmas.Str.{digit_value_digit}
-use Rattle.sipl_records.proofs.NumberLemmas.{number_of-no_digit, number_of-too_great, all_ascii_digits_more}
+use Rattle.sipl_records.proofs.Numbers.{number_of-no_digit, number_of-too_great, all_ascii_digits_more}
 use Rattle.sipl_records.proofs.number.read_number.Goals as goal
 
 pub returns-then-not-is_ascii_digit : goal.returns-then-not-is_ascii_digit
