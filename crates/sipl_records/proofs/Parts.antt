@@ -1,48 +1,67 @@
--- What the parts of a text are, by its first separator.
-use Rattle.std.proofs.Common.{◌≡◌, ℕ, ◌+◌, ◌<◌, ◌≤◌, suc, zero, Bool, true, false, List, [], ◌∷◌, length, None, Some, get_or, take, drop, if◌then◌else◌, refl, arith, add-one, nat_eq}
-use Rattle.std.specs.List.{position, position_or_len}
-use Rattle.std.proofs.lemmas.Bool.Decides.{nat_tests}
-use Rattle.std.proofs.lemmas.List.Quantifiers.{position-Some}
-use Rattle.std.proofs.lemmas.List.Sums.{fails_before_first}
-use Rattle.sipl_records.specs.Parts.{parts, prepend_to_first}
+-- The parts of a text, by its split at the first separator.
+use Rattle.std.proofs.Common.{◌≡◌, ℕ, ◌≤◌, Bool, true, false, List, [], ◌∷◌, ◌++◌, Option, None, Some, length, if◌then◌else◌, refl, ap, sym, ◌∙◌, arith, nat_eq, inl, inr}
+use Rattle.std.specs.List.{slice_split, onto_first}
+use Rattle.std.proofs.lemmas.Bool.{cases_Bool, eqb-true}
+use Rattle.sipl_records.specs.Parts.{parts, prepend_to_first, split_once}
 
--- the part in front of the first separator, and the parts of what follows it
-parts_at : (s : ℕ) (text : List ℕ) (i : ℕ) → i < length text → nat_eq (get_or text i 0) s ≡ true → ((k : ℕ) → k < i → nat_eq (get_or text k 0) s ≡ false) → parts s text ≡ take i text ∷ parts s (drop (suc i) text)
-parts_at s [] i within here before = absurd (omega arith)
-parts_at s (c ∷ text) zero within here before = rw here refl
-parts_at s (c ∷ text) (suc i) within here before =
-    let other : nat_eq c s ≡ false = before 0 (omega arith) in
-    let rest : parts s text ≡ take i text ∷ parts s (drop (suc i) text) = parts_at s text i (omega arith) here (λ k h. before (suc k) (omega arith)) in
-    rw (other, rest) refl
+-- the parts after the first
+parts_after : ℕ → Option (List ℕ) → List (List ℕ)
+parts_after s None = []
+parts_after s (Some rest) = parts s rest
+
+parts-split : (s : ℕ) (text : List ℕ) → parts s text ≡ (split_once s text).0 ∷ parts_after s (split_once s text).1
+unfolding parts_after
+parts-split s [] = refl
+parts-split s (c ∷ text) = elim (cases_Bool (nat_eq c s)) [
+  | inl here ↦ rw here refl
+  | inr other ↦ rw other (ap (prepend_to_first c) (parts-split s text))
+]
+
+pub parts-Some : (s : ℕ) (text rest : List ℕ) → (split_once s text).1 ≡ Some rest → parts s text ≡ (split_once s text).0 ∷ parts s rest
+unfolding parts_after
+parts-Some s text rest found = parts-split s text ∙ ap (λ after. (split_once s text).0 ∷ parts_after s after) found
+
+-- the text of the two parts
+joined : ℕ → List ℕ → Option (List ℕ) → List ℕ
+joined s before None = before
+joined s before (Some rest) = before ++ s ∷ rest
+
+joined-cons : (s c : ℕ) (before : List ℕ) (after : Option (List ℕ)) → joined s (c ∷ before) after ≡ c ∷ joined s before after
+unfolding joined
+joined-cons s c before None = refl
+joined-cons s c before (Some rest) = refl
+
+joined-split : (s : ℕ) (text : List ℕ) → text ≡ joined s (split_once s text).0 (split_once s text).1
+unfolding joined
+joined-split s [] = refl
+joined-split s (c ∷ text) = elim (cases_Bool (nat_eq c s)) [
+  | inl here ↦ rw here (ap (λ d. d ∷ text) (eqb-true c s here))
+  | inr other ↦ rw other (ap (λ rest. c ∷ rest) (joined-split s text) ∙ sym (joined-cons s c (split_once s text).0 (split_once s text).1))
+]
+
+-- a text is what is before its first separator, the separator, and the rest
+pub split_once-whole : (s : ℕ) (text rest : List ℕ) → (split_once s text).1 ≡ Some rest → text ≡ (split_once s text).0 ++ s ∷ rest
+unfolding joined
+split_once-whole s text rest found = joined-split s text ∙ ap (joined s (split_once s text).0) found
 
 -- a text without a separator is one part
-parts_without : (s : ℕ) (text : List ℕ) → ((k : ℕ) → k < length text → nat_eq (get_or text k 0) s ≡ false) → parts s text ≡ text ∷ []
-parts_without s [] none = refl
-parts_without s (c ∷ text) none =
-    let other : nat_eq c s ≡ false = none 0 (omega arith) in
-    let rest : parts s text ≡ text ∷ [] = parts_without s text (λ k h. none (suc k) (omega arith)) in
-    rw (other, rest) refl
-
--- the same by what `position` answers
-pub parts-Some : (s : ℕ) (text : List ℕ) (i : ℕ) → position (λ c. nat_eq c s) text ≡ Some i → parts s text ≡ take i text ∷ parts s (drop (i + 1) text)
-parts-Some s text i found =
-    let at = position-Some (λ c. nat_eq c s) text i 0 found in
-    rw add-one (parts_at s text i at.0 at.1 at.2)
-
-pub parts-None : (s : ℕ) (text : List ℕ) → position (λ c. nat_eq c s) text ≡ None → parts s text ≡ text ∷ []
+pub parts-None : (s : ℕ) (text : List ℕ) → (split_once s text).1 ≡ None → parts s text ≡ text ∷ []
+unfolding joined parts_after
 parts-None s text none =
-    let past : length text ≤ position_or_len (λ c. nat_eq c s) text = grind (arith, nat_tests) in
-    parts_without s text (λ k h. fails_before_first (λ c. nat_eq c s) text k 0 (omega arith))
-
-length-prepend_to_first : (c : ℕ) (ps : List (List ℕ)) → 1 ≤ length (prepend_to_first c ps)
-length-prepend_to_first c [] = omega arith
-length-prepend_to_first c (p ∷ ps) = omega arith
-
-length-step : (b : Bool) (c : ℕ) (ps qs : List (List ℕ)) → 1 ≤ length (if b then ([] ∷ ps) else prepend_to_first c qs)
-length-step true c ps qs = omega arith
-length-step false c ps qs = length-prepend_to_first c qs
+    parts-split s text ∙ ap (λ after. (split_once s text).0 ∷ parts_after s after) none ∙ ap (λ part. part ∷ []) (sym (joined-split s text ∙ ap (joined s (split_once s text).0) none))
 
 -- a text has a part, even an empty one
 pub length-parts : (s : ℕ) (text : List ℕ) → 1 ≤ length (parts s text)
-length-parts s [] = omega arith
-length-parts s (c ∷ text) = length-step (nat_eq c s) c (parts s text) (parts s text)
+length-parts s text = rw (parts-split s text) (omega arith)
+
+prepend-is : (c : ℕ) (ps : List (List ℕ)) → prepend_to_first c ps ≡ onto_first c ps
+prepend-is c [] = refl
+prepend-is c (part ∷ ps) = refl
+
+-- in the words of std
+pub parts-slice_split : (s : ℕ) (text : List ℕ) → parts s text ≡ slice_split (λ c. nat_eq c s) text
+parts-slice_split s [] = refl
+parts-slice_split s (c ∷ text) = elim (cases_Bool (nat_eq c s)) [
+  | inl here ↦ rw here (ap (λ ps. [] ∷ ps) (parts-slice_split s text))
+  | inr other ↦ rw other (prepend-is c (parts s text) ∙ ap (onto_first c) (parts-slice_split s text))
+]

@@ -1,9 +1,10 @@
 //! IPv4 addresses in text (RFC 1123, 2.1).
-ghost use Rattle.std.specs.Prelude.{◌≡◌, ℕ, ◌+◌, ◌++◌, ◌∷◌, ◌==◌, length, map, Some, IfSome, IfNone, OnOk, OnErr, IsOk, position, ◌≤◌, vec_len, vec_capacity};
+ghost use Rattle.std.specs.Prelude.{◌≡◌, ℕ, ◌+◌, ◌++◌, ◌∷◌, length, map, Some, IfSome, IfNone, OnOk, OnErr, IsOk, ◌≤◌, vec_len, vec_capacity};
 ghost use Rattle.sipl_records.specs.Parts.{parts};
 ghost use Rattle.sipl_records.specs.Addresses.{group_of, number_of_text, text_of_number, HasNoGroupBeforeDot};
 
 use crate::address::MAX_ADDRESS_TEXT_LEN;
+use crate::split::split_once;
 use itoa::write_digits;
 use std::alloc::AllocError;
 
@@ -24,16 +25,10 @@ fn group_before_dot(text: &[u8]) -> Option<(u8, &[u8])>
         map group_of (parts 46 text.now) ≡ Some read.0 ∷ map group_of (parts 46 read.1.now)) }
     ensures refused { IfNone result (HasNoGroupBeforeDot (map group_of (parts 46 text.now))) }
 {
-    let dot = first_dot(text)?;
-    let octet = group(&text[..dot])?;
-    Some((octet, &text[dot + 1..]))
-}
-
-// The index of the first dot.
-fn first_dot(text: &[u8]) -> Option<usize>
-    ensures { result ≡ position (λ octet. octet == 46) text.now }
-{
-    text.iter().position(|octet| *octet == b'.')
+    let (digits, rest) = split_once(text, b'.');
+    let rest = rest?;
+    let octet = group(digits)?;
+    Some((octet, rest))
 }
 
 // The octet of one to three digits.
