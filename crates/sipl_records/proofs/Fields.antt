@@ -1,10 +1,11 @@
 -- The first field of a line, and the rest after it.
-use Rattle.std.proofs.Common.{◌≡◌, ℕ, ◌+◌, ◌<◌, ◌≤◌, Bool, true, false, cond, not, Option, Some, None, List, [], ◌∷◌, ◌++◌, length, take, drop, unwrap_or, refl, ap, sym, ◌∙◌, ◌⊎◌, inl, inr, arith}
-use Rattle.std.specs.List.{position_or_len}
+use Rattle.std.proofs.Common.{◌≡◌, ℕ, nat_lt, ◌+◌, ◌<◌, ◌≤◌, Bool, true, false, cond, not, Option, Some, None, List, [], ◌∷◌, ◌++◌, length, take, drop, unwrap_or, refl, ap, sym, ◌∙◌, ◌⊎◌, inl, inr, arith}
+use Rattle.std.specs.List.{position_or_len, filter, slice_split, onto_first}
 use Rattle.std.proofs.lemmas.Bool.{cases_Bool, false_from_ne_true}
 use Rattle.memchr.specs.Find.{IsFirstByte}
 use Rattle.std.proofs.lemmas.List.Sums.{position_or_len_is}
 use Rattle.std.proofs.lemmas.Grind.{common_steps}
+use Rattle.std.proofs.lemmas.Bool.Decides.{nat_tests}
 use Rattle.sipl_records.specs.Fields.{is_wsp, trim_start, before_wsp, from_wsp, after_field, prepend_octet, fields_of}
 
 take-one : (n c : ℕ) (line : List ℕ) → take (1 + n) (c ∷ line) ≡ c ∷ take n line
@@ -88,4 +89,33 @@ pub length-after_field-lt : (line : List ℕ) → 0 < length (trim_start line) �
 length-after_field-lt line some = elim (trim_start-cases line) [
   | inl none ↦ absurd (omega (arith, ap length none))
   | inr first ↦ rw first.2 (rw first.3 (omega (arith, ap length first.2, length-from_wsp-le first.1, length-trim_start-le line)))
+]
+
+-- whether a part has an octet
+abbrev pub is_field : List ℕ → Bool
+is_field part = nat_lt 0 (length part)
+
+filter-some : (c : ℕ) (part : List ℕ) (others : List (List ℕ)) → filter is_field ((c ∷ part) ∷ others) ≡ (c ∷ part) ∷ filter is_field others
+filter-some c part others =
+    let some : is_field (c ∷ part) ≡ true = grind (arith, nat_tests) in
+    rw some refl
+
+prepend_after-field : (c next : ℕ) (line : List ℕ) (others fields : List (List ℕ)) → is_wsp next ≡ false → fields ≡ filter is_field (onto_first next others) → prepend_octet c (next ∷ line) fields ≡ filter is_field (onto_first c (onto_first next others))
+prepend_after-field c next line [] fields octet is = rw is (rw octet refl)
+prepend_after-field c next line (part ∷ others) fields octet is =
+    ap (prepend_octet c (next ∷ line)) (is ∙ filter-some next part others) ∙ rw octet (sym (filter-some c (next ∷ part) others))
+
+prepend_parts : (c : ℕ) (line : List ℕ) → fields_of line ≡ filter is_field (slice_split is_wsp line) → prepend_octet c line (fields_of line) ≡ filter is_field (onto_first c (slice_split is_wsp line))
+prepend_parts c [] is = refl
+prepend_parts c (next ∷ line) is = elim (cases_Bool (is_wsp next)) [
+  | inl wsp ↦ let rest : fields_of line ≡ filter is_field (slice_split is_wsp line) = rw wsp at is in prepend_octet-wsp c next line (fields_of (next ∷ line)) wsp ∙ rw wsp (ap (λ fields. (c ∷ []) ∷ fields) rest)
+  | inr octet ↦ prepend_after-field c next line (slice_split is_wsp line) (fields_of (next ∷ line)) octet (is ∙ rw octet refl) ∙ rw octet refl
+]
+
+-- the fields are the parts between white space that have an octet
+pub fields_of-slice_split : (line : List ℕ) → fields_of line ≡ filter is_field (slice_split is_wsp line)
+fields_of-slice_split [] = refl
+fields_of-slice_split (c ∷ line) = elim (cases_Bool (is_wsp c)) [
+  | inl wsp ↦ rw wsp (fields_of-slice_split line)
+  | inr octet ↦ rw octet (prepend_parts c line (fields_of-slice_split line))
 ]

@@ -1,9 +1,9 @@
 //! What follows from the definitions. Each law is the contract of a function that does nothing.
 
-ghost use Rattle.std.specs.Prelude.{◌≡◌, ◌↔◌, ℕ, ◌<◌, ◌≤◌, Bool, true, false, List, [], ◌∷◌, ◌++◌, Some, IsTrue, length, count_by, map, filter, find, All, AllPairs, Contains, if◌then◌else◌};
+ghost use Rattle.std.specs.Prelude.{◌≡◌, ◌↔◌, ◌==◌, nat_lt, ℕ, ◌<◌, ◌≤◌, Bool, true, false, List, [], ◌∷◌, ◌++◌, Some, IsTrue, length, count_by, map, filter, find, All, AllPairs, Contains, if◌then◌else◌};
 ghost use Rattle.std.specs.Bool.{Decides};
 ghost use Rattle.std.specs.Cmp.{IsEquivalence};
-ghost use Rattle.std.specs.List.{IsDistinct, list_any, position_or_len};
+ghost use Rattle.std.specs.List.{IsDistinct, list_any, position_or_len, slice_split};
 ghost use Rattle.sipl_records.specs.declared.record.Record.{Record};
 ghost use Rattle.sipl_records.specs.declared.record.Key.{Key};
 ghost use Rattle.sipl_records.specs.declared.address.Address.{Address};
@@ -11,6 +11,8 @@ ghost use Rattle.sipl_records.specs.declared.address.TheConstants.{MAX_ADDRESS_T
 ghost use Rattle.sipl_records.specs.Addresses.{address_of, text_of_address, IsAddress};
 ghost use Rattle.sipl_records.specs.Sets.{has_key, key_of, set_of, shares_set};
 ghost use Rattle.sipl_records.specs.Unique.{unique};
+ghost use Rattle.sipl_records.specs.Parts.{parts};
+ghost use Rattle.sipl_records.specs.Fields.{fields_of, is_wsp};
 
 /// `unique` keeps each value of a list once: every value is the same as one that is kept, no two
 /// that are kept are the same, each is the first in the list of those that are the same, and they
@@ -93,4 +95,16 @@ pub fn address_text_has_at_most_15_octets()
     ensures short { (address : Address) → IsAddress address
         → length (text_of_address address) ≤ 15 }
     ensures constant { MAX_ADDRESS_TEXT_LEN ≡ 15 }
+{}
+
+/// The parts of a text are what std's `split` at the separator yields.
+pub fn parts_are_the_slices_between_separators()
+    ensures { (separator : ℕ) (text : List ℕ)
+        → parts separator text ≡ slice_split (λ octet. octet == separator) text }
+{}
+
+/// The fields of a line are its parts between white space, without the empty ones.
+pub fn fields_are_the_parts_that_have_an_octet()
+    ensures { (line : List ℕ) → fields_of line
+        ≡ filter (λ part. nat_lt 0 (length part)) (slice_split is_wsp line) }
 {}
