@@ -1,8 +1,11 @@
 -- A text of groups that is written from its end, over dots.
-use Rattle.std.proofs.Common.{◌≡◌, ℕ, ◌+◌, ◌-◌, ◌<◌, ◌≤◌, suc, List, [], ◌∷◌, ◌++◌, length, get_or, take, drop, sym, ap, ◌∙◌, arith, decimal, drop-cons, subst, append_assoc, append-nil, Result, Ok, Err, is_ok, if◌then◌else◌}
+use Rattle.std.proofs.Common.{◌≡◌, ℕ, ◌+◌, ◌-◌, ◌/◌, ◌%◌, ◌^◌, length-append, ◌<◌, ◌≤◌, suc, List, [], ◌∷◌, ◌++◌, length, get_or, take, drop, sym, ap, ◌∙◌, arith, decimal, drop-cons, subst, append_assoc, append-nil, Result, Ok, Err, is_ok, if◌then◌else◌}
 use Rattle.std.specs.Prelude.{OnOk}
 use lib.ListN.{replicate}
 use Rattle.std.proofs.lemmas.Fmt.{length-decimal-le}
+use Rattle.sipl_records.specs.declared.address.Address.{Address}
+use Rattle.sipl_records.specs.declared.address.Address.TheVariants.{V4}
+use Rattle.sipl_records.specs.Addresses.{text_of_number, text_of_address, IsAddress}
 use Rattle.sipl_records.proofs.Groups.{rest_whole}
 use Rattle.std.proofs.lemmas.List.{take-take, take-replicate, get_or-take, get_or-replicate}
 
@@ -10,7 +13,18 @@ use Rattle.std.proofs.lemmas.List.{take-take, take-replicate, get_or-take, get_o
 pub octet_digits : (n : ℕ) → n < 256 → length (decimal n) ≤ 3
 octet_digits n small = length-decimal-le 3 n (omega arith) (omega arith) (omega arith)
 
--- dots in front of the end, and this text from there on
+length-four : (a b c d : List ℕ) → length a ≤ 3 → length b ≤ 3 → length c ≤ 3 → length d ≤ 3 → length (a ++ 46 ∷ b ++ 46 ∷ c ++ 46 ∷ d) ≤ 15
+length-four a b c d three_a three_b three_c three_d = simp length-append (omega arith)
+
+-- four octets and three dots
+pub length-text_of_number : (n : ℕ) → n < 2 ^ 32 → length (text_of_number n) ≤ 15
+length-text_of_number n small =
+    length-four (decimal (n / 16777216)) (decimal (n / 65536 % 256)) (decimal (n / 256 % 256)) (decimal (n % 256)) (octet_digits (n / 16777216) (omega arith)) (octet_digits (n / 65536 % 256) (omega arith)) (octet_digits (n / 256 % 256) (omega arith)) (octet_digits (n % 256) (omega arith))
+
+pub length-text_of_address : (address : Address) → IsAddress address → length (text_of_address address) ≤ 15
+length-text_of_address (V4 n) small = length-text_of_number n small
+
+-- dots before the end, and this text from there on
 pub record IsDotted (end : ℕ) (tail text : List ℕ) : Type 0 where
   pub front : take end text ≡ replicate end 46
   pub back : drop end text ≡ tail

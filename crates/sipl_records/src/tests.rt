@@ -27,7 +27,7 @@ fn same_key(a: &Key, b: &Key) -> bool
 }
 
 // Whether a record is among others. Its contract is that `contains` finds equal records.
-#[tactic(auto, using(crate::specs::Same::same_record_decides))]
+#[tactic(auto, using(crate::proofs::Same::same_record_decides))]
 fn is_among(records: &[Record], wanted: &Record) -> bool
     ensures { IsTrue result ↔ Contains records.now wanted.now }
 {
@@ -35,7 +35,7 @@ fn is_among(records: &[Record], wanted: &Record) -> bool
 }
 
 // Whether a key is among others. Its contract is that `contains` finds equal keys.
-#[tactic(auto, using(crate::specs::Same::same_key_decides))]
+#[tactic(auto, using(crate::proofs::Same::same_key_decides))]
 fn is_key_among(keys: &[Key], key: &Key) -> bool
     ensures { IsTrue result ↔ Contains keys.now key.now }
 {
