@@ -1,8 +1,8 @@
 use Rattle.std.proofs.Common.{◌≡◌, ◌&&◌, true, false, not, get_or, nat_eq, ap, sym, refl, ◌∙◌, rules}
 use Rattle.sipl_records.specs.Fields.{is_wsp}
-use Rattle.sipl_masterfile.proofs.Gaps.{escapes_more}
-use Rattle.sipl_masterfile.proofs.form.escapes_gap.Goals as goal
-use Rattle.sipl_masterfile.proofs.form.escapes_gap.Goals.{else-is_escaped-via-then-is_escaped+else-is_wsp, else-is_escaped-via-else-is_escaped, then-not-is_escaped, else-not-is_escaped}
+use Rattle.sipl_masterfile.proofs.Escapes.{escapes_more}
+use Rattle.sipl_masterfile.proofs.form.escapes_wsp.Goals as goal
+use Rattle.sipl_masterfile.proofs.form.escapes_wsp.Goals.{else-is_escaped-via-then-is_escaped+else-is_wsp, else-is_escaped-via-else-is_escaped, then-not-is_escaped, else-not-is_escaped}
 
 pub loop-octet-preserved : goal.loop-octet-preserved
 loop-octet-preserved c =
