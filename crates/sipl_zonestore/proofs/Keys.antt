@@ -1,6 +1,6 @@
 -- Keys that are found the same, and the key of a record's set.
-use Rattle.std.proofs.Common.{◌≡◌, Bool, true, false, ◌&&◌, ◌||◌, List, [], ◌∷◌, Option, None, Some, option_map, refl, ap, sym, rules}
-use Rattle.std.specs.List.{list_any}
+use Rattle.std.proofs.Common.{◌≡◌, Bool, true, false, ◌&&◌, ◌||◌, List, [], ◌∷◌, Option, None, Some, option_map, refl, ap, sym, ◌∙◌, rules}
+use Rattle.std.specs.List.{list_any, filter_map}
 use Rattle.std.specs.Bool.{Decides}
 use Rattle.std.proofs.Math.Bool.{and-false}
 use Rattle.std.proofs.lemmas.Bool.Decides.{Decides-and, Decides-like, same_from_decides}
@@ -34,6 +34,9 @@ pub same_key-sym : (a b : Key) → same_key a b ≡ same_key b a
 same_key-sym a b =
     same_from_decides (same_key a b) (same_key b a) (same_key-Decides a b) (Decides-like (same_key b a) (λ e. sym e) (λ e. sym e) (same_key-Decides b a))
 
+pub same_key-trans : (a b c : Key) → same_key a b ≡ true → same_key b c ≡ true → same_key a c ≡ true
+same_key-trans a b c ab bc = (same_key-Decides a c).1 ((same_key-Decides a b).0 ab ∙ (same_key-Decides b c).0 bc)
+
 -- whether the key is the one, if there is one
 abbrev pub is_key : Key → Option Key → Bool
 is_key key None = false
@@ -59,6 +62,16 @@ of_key key r (Some kind) is = rw is refl
 pub has_key-key_of : (key : Key) (r : Record) → has_key key r ≡ is_key key (key_of r)
 has_key-key_of key r = of_key key r (kind_of r.value) (of_kind key.kind r.value)
 
+-- a key is among those of a list of records where a record belongs to its set
+among_step : (key : Key) (own : Option Key) (r : Record) (records : List Record) → key_of r ≡ own → list_any (λ other. same_key other key) (filter_map key_of (r ∷ records)) ≡ (is_key key own || list_any (λ other. same_key other key) (filter_map key_of records))
+among_step key None r records is = rw is refl
+among_step key (Some own) r records is = rw is refl
+
+pub list_any-filter_map : (key : Key) (records : List Record) → list_any (λ other. same_key other key) (filter_map key_of records) ≡ list_any (has_key key) records
+list_any-filter_map key [] = refl
+list_any-filter_map key (r ∷ records) =
+    among_step key (key_of r) r records refl ∙ (λ i. sym (has_key-key_of key r) i || list_any-filter_map key records i)
+
 named : (r : Record) (key : Key) (own : Option Kind) → option_map (λ kind. record { name = r.owner; kind = kind }) own ≡ Some key → r.owner ≡ key.name
 named r key None e = cc
 named r key (Some kind) e =
@@ -70,23 +83,14 @@ named r key (Some kind) e =
 pub key_of-name : (r : Record) (key : Key) → key_of r ≡ Some key → r.owner ≡ key.name
 key_of-name r key e = named r key (kind_of r.value) e
 
-both_true : (a b : Bool) → (a && b) ≡ true → a ≡ true
-both_true true b h = refl
-both_true false b h = h
-
--- a record of a key's set has the key's name
-pub has_key-name : (key : Key) (r : Record) → has_key key r ≡ true → r.owner ≡ key.name
-has_key-name key r of = (same_name_decides r.owner key.name).0 (both_true _ (has_kind key.kind r.value) of)
-
--- `==` of two keys answers whether they are the same
+-- `==` of two keys returns whether they are the same
 derived-Decides : (a b : Key) → Decides (eq-value.it a b) (a ≡ b)
 derived-Decides a b = search (rules, same_name_decides)
 
-derived : (a b : Key) → eq-value.it a b ≡ same_key b a
-derived a b =
-    same_from_decides (eq-value.it a b) (same_key b a) (derived-Decides a b) (Decides-like (same_key b a) (λ e. sym e) (λ e. sym e) (same_key-Decides b a))
+derived : (a b : Key) → eq-value.it a b ≡ same_key a b
+derived a b = same_from_decides (eq-value.it a b) (same_key a b) (derived-Decides a b) (same_key-Decides a b)
 
 -- and so a search for a key
-pub contains-is : (keys : List Key) (key : Key) → list_any (λ other. eq-value.it other key) keys ≡ list_any (same_key key) keys
+pub contains-is : (keys : List Key) (key : Key) → list_any (λ other. eq-value.it other key) keys ≡ list_any (λ other. same_key other key) keys
 contains-is [] key = refl
 contains-is (first ∷ keys) key = λ i. derived first key i || contains-is keys key i
