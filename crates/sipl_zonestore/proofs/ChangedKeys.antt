@@ -1,25 +1,25 @@
 -- Which sets loading a zone changes, and which adding a record changes.
 use Rattle.std.proofs.Common.{◌≡◌, ◌≢◌, ℕ, ◌+◌, ◌<◌, Bool, true, false, not, ◌&&◌, ◌||◌, List, [], ◌∷◌, ◌++◌, length, take, get_or, Option, None, Some, option_to_list, cond, refl, ap, subst, sym, ◌∙◌, inl, inr, append-nil, append_assoc}
 use Rattle.std.specs.Prelude.{◌↔◌}
-use Rattle.std.specs.List.{filter, filter_map, list_any, list_all, All, Contains, IsDistinct}
+use Rattle.std.specs.List.{filter, filter_map, list_any, list_all, Contains, IsDistinct}
 use lib.Pointwise.{pointwise}
 use Rattle.std.proofs.lemmas.Bool.{cases_Bool}
 use Rattle.std.proofs.lemmas.List.Elements.{filter_agree, filter-append, filter_more, filter_passes, filter_map-append, All-contains}
 use Rattle.std.proofs.lemmas.List.Folds.{list_any-append}
 use Rattle.std.proofs.lemmas.Map.Views.{Contains-from_any}
 use Rattle.sipl_names.specs.Labels.{is_within}
-use Rattle.sipl_records.specs.declared.data.Data.{Data}
 use Rattle.sipl_records.specs.declared.record.Record.{Record}
 use Rattle.sipl_records.specs.declared.record.Key.{Key}
 use Rattle.sipl_records.specs.Sets.{has_key, set_of, same_data, same_key, key_of}
 use Rattle.sipl_records.specs.Unique.{unique}
 use Rattle.sipl_records.proofs.Filters.{filter-none, filter-other, filter-all, list_any-filter}
+use Rattle.sipl_records.proofs.Keys.{same_key-Decides, same_key-refl, same_key-sym, is_key, has_key-key_of, key_of-name}
 use Rattle.sipl_records.proofs.Unique.{unique-append, unique-filter, list_any-unique, IsDistinct-unique}
 use Rattle.sipl_records.proofs.Sets.{set_of-append, set_of-filter_kept, set_of-filter_dropped, has_key-name}
 use Rattle.sipl_zonestore.specs.Store.{records_outside, records_within}
 use Rattle.sipl_zonestore.specs.Changes.{is_changed, changed_among, changed_keys}
 use Rattle.sipl_zonestore.proofs.Elements.{or_first, or_second, or_left, or_right}
-use Rattle.sipl_zonestore.proofs.Keys.{same_key-Decides, same_key-refl, same_key-sym, same_key-trans, is_key, has_key-key_of, list_any-filter_map, key_of-name}
+use Rattle.sipl_zonestore.proofs.Keys.{same_key-trans, list_any-filter_map}
 use Rattle.sipl_zonestore.proofs.SameSets.{same_set-refl, same_set-true, same_set-push}
 
 -- a test sees no difference between keys that are the same

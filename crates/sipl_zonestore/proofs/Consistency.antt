@@ -1,5 +1,5 @@
 -- Accepted edits keep the store consistent.
-use Rattle.std.proofs.Common.{◌≡◌, ◌≢◌, ℕ, ◌+◌, ◌<◌, ◌≤◌, Bool, true, false, not, ◌&&◌, ◌||◌, List, [], ◌∷◌, ◌++◌, Option, None, Some, if◌then◌else◌, length, get_or, cond, refl, ap, sym, ◌∙◌, inl, inr, nat_eq, nat_le, nat_lt, arith, length-append}
+use Rattle.std.proofs.Common.{◌≡◌, ◌≢◌, ℕ, ◌+◌, ◌≤◌, Bool, true, false, not, ◌&&◌, ◌||◌, List, [], ◌∷◌, ◌++◌, Option, None, Some, if◌then◌else◌, get_or, cond, refl, ap, sym, ◌∙◌, inl, inr, nat_eq, nat_le, nat_lt, arith, length-append}
 use Rattle.std.specs.List.{filter, list_any, list_all, count_by, AllPairs}
 use Rattle.std.proofs.lemmas.Bool.{cases_Bool}
 use Rattle.std.proofs.lemmas.Bool.Decides.{Decides-eqb, Decides-like, same_from_decides, nat_tests}
@@ -11,16 +11,14 @@ use Rattle.sipl_names.specs.SameName.{same_name_decides}
 use Rattle.sipl_records.specs.declared.data.Data.{Data}
 use Rattle.sipl_records.specs.declared.data.Data.TheVariants.{Address4 as data_address4}
 use Rattle.sipl_records.specs.declared.record.Record.{Record}
-use Rattle.sipl_records.specs.Sets.{same_data, same_record, same_kind, shares_set}
+use Rattle.sipl_records.specs.declared.record.Key.{Key}
+use Rattle.sipl_records.specs.Sets.{same_data, same_record, key_of, shares_set}
+use Rattle.sipl_records.proofs.Keys.{same_name-sym, shares_set-Decides, shares_set-Some}
 use Rattle.sipl_masterfile.specs.Zones.{Zone, IsZone, has_repeats, sets_fit}
 use Rattle.sipl_zonestore.specs.declared.fault.StoreFault.{StoreFault}
-use Rattle.sipl_zonestore.specs.Store.{Zones, Store, overlaps, is_covered, records_outside, apexes_after_load, records_after_load, after_load, load_refusal, after_add, add_refusal}
+use Rattle.sipl_zonestore.specs.Store.{Zones, overlaps, is_covered, records_outside, apexes_after_load, records_after_load, after_load, load_refusal, after_add, add_refusal}
 use Rattle.sipl_zonestore.specs.Consistent.{IsConsistent}
 use Rattle.sipl_zonestore.proofs.Elements.{or_left, or_right, or_first, or_second, and_first, and_second, all-weaker, all-both, all-filter_weaker, any-filter, none-at, count-filter-le, count-same}
-
-same_name-sym : (a b : List (List ℕ)) → same_name a b ≡ same_name b a
-same_name-sym a b =
-    same_from_decides (same_name a b) (same_name b a) (same_name_decides a b) (Decides-like (same_name b a) (λ e. sym e) (λ e. sym e) (same_name_decides b a))
 
 same_data-sym : (a b : Data) → same_data a b ≡ same_data b a
 same_data-sym (data_address4 m) (data_address4 n) =
@@ -177,13 +175,11 @@ fit_after_load apex records text all fits text_fits =
       was_false true h = sym h
       was_false false h = refl
 
-same_kind-swap : (a b c : Data) → same_kind a b ≡ true → same_kind a c ≡ same_kind b c
-same_kind-swap (data_address4 l) (data_address4 m) (data_address4 n) same = refl
-
 -- two records of one set share it with the same records
 shares_set-swap : (a b : Record) → shares_set a b ≡ true → (c : Record) → shares_set a c ≡ shares_set b c
 shares_set-swap a b shared c =
-    λ i. same_name (shares_set-owner a b shared i) c.owner && same_kind-swap a.value b.value c.value (and_second (same_name a.owner b.owner) _ shared) i
+    let both : (key : Key) × (key_of a ≡ Some key) × (key_of b ≡ Some key) = (shares_set-Decides a b).0 shared in
+    shares_set-Some a both.0 both.1 c ∙ sym (shares_set-Some b both.0 both.2 c)
 
 one_more : (m n : ℕ) (b : Bool) → m ≡ n + cond b 1 0 → nat_le 32 n ≡ false → nat_le m 32 ≡ true
 one_more m n true whole below = grind (arith, nat_tests)

@@ -19,9 +19,9 @@ pub(crate) fn check_load(
     requires { length records.now ≤ max_records }
     ensures { MatchResult result
         (λ _. load_refusal max_records zone.now
-            (record { apexes = apexes.now; records = records.now }) ≡ None)
+        (record { apexes = apexes.now; records = records.now }) ≡ None)
         (λ fault. load_refusal max_records zone.now
-            (record { apexes = apexes.now; records = records.now }) ≡ Some fault) }
+        (record { apexes = apexes.now; records = records.now }) ≡ Some fault) }
 {
     let apex = zone.apex();
     if overlaps_any(apex, apexes) {
@@ -43,9 +43,9 @@ pub(crate) fn check_add(
 ) -> Result<(), StoreFault>
     ensures { MatchResult result
         (λ _. add_refusal max_records new.now
-            (record { apexes = apexes.now; records = records.now }) ≡ None)
+        (record { apexes = apexes.now; records = records.now }) ≡ None)
         (λ fault. add_refusal max_records new.now
-            (record { apexes = apexes.now; records = records.now }) ≡ Some fault) }
+        (record { apexes = apexes.now; records = records.now }) ≡ Some fault) }
 {
     if !is_covered(apexes, &new.owner) {
         return Err(StoreFault::NoZone);

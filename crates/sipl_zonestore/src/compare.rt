@@ -49,7 +49,7 @@ fn push_changed_within(
     ensures { OnOk result ((before : List Record)
         → keys.old.items ≡ changed_among old.now new.now before
         → keys.new.items
-            ≡ changed_among old.now new.now (before ++ records_within apex.now records.now)) }
+        ≡ changed_among old.now new.now (before ++ records_within apex.now records.now)) }
 {
     for record in records {
         if record.owner.is_within(apex) {

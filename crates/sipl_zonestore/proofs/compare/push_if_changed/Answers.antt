@@ -1,6 +1,5 @@
-use Rattle.std.proofs.Common.{◌≡◌, true, false, Some, ap, sym, ◌∙◌, rules}
+use Rattle.std.proofs.Common.{◌≡◌, true, false, ap, sym, ◌∙◌, rules}
 use Rattle.std.specs.List.{list_any}
-use Rattle.sipl_records.specs.Sets.{key_of, same_key}
 use Rattle.sipl_zonestore.proofs.Keys.{contains-is}
 use Rattle.sipl_zonestore.proofs.ChangedKeys.{append_key, keep_known, keep_same}
 use Rattle.sipl_zonestore.proofs.compare.push_if_changed.Goals as goal

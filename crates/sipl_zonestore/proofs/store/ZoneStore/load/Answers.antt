@@ -1,5 +1,5 @@
-use Rattle.std.proofs.Common.{◌≡◌, List, ◌∷◌, [], ◌++◌, option_to_list, None, refl, ap, sym, ◌∙◌, append-nil}
-use Rattle.sipl_zonestore.specs.Store.{apexes_after_load, load_refusal, records_after_load}
+use Rattle.std.proofs.Common.{◌≡◌, ◌∷◌, [], ◌++◌, option_to_list, None, refl, ap, sym, ◌∙◌, append-nil}
+use Rattle.sipl_zonestore.specs.Store.{apexes_after_load, load_refusal}
 use Rattle.sipl_zonestore.proofs.Consistency.{consistent-loaded}
 use Rattle.sipl_zonestore.proofs.store.ZoneStore.load.Goals as goal
 
