@@ -33,11 +33,13 @@ is_unsupported_octet c = c == 40 || c == 41 || c == 34 || c == 59 || c == 10 || 
 abbrev pub escapes_wsp : List ℕ → Bool
 escapes_wsp [] = false
 escapes_wsp (c ∷ []) = c == 92
-escapes_wsp (c ∷ next ∷ line) = if c == 92 then is_wsp next || escapes_wsp line else escapes_wsp (next ∷ line)
+escapes_wsp (c ∷ next ∷ line) =
+    if c == 92 then is_wsp next || escapes_wsp line else escapes_wsp (next ∷ line)
 
 -- whether the line is of a form that is not supported yet
 abbrev pub is_unsupported : List ℕ → Bool
-is_unsupported line = omits_owner line || is_directive line || list_any is_unsupported_octet line || escapes_wsp line
+is_unsupported line =
+    omits_owner line || is_directive line || list_any is_unsupported_octet line || escapes_wsp line
 
 -- the data of an address
 abbrev pub address_data : Address → Data
@@ -51,12 +53,17 @@ data_at_end value (other ∷ others) = Err MissingField
 -- RFC 1035, 3.4.1: the data of type `A` are an address, and no field after it
 abbrev pub address_data_of : List (List ℕ) → Result Data ZoneCause
 address_data_of [] = Err MissingField
-address_data_of (text ∷ others) = elim (address_of text) [ None ↦ Err BadAddress | Some address ↦ data_at_end (address_data address) others ]
+address_data_of (text ∷ others) = elim (address_of text) [
+  | None ↦ Err BadAddress
+  | Some address ↦ data_at_end (address_data address) others
+]
 
 -- the type, `A` in either case, and its data
 abbrev pub data_of : List (List ℕ) → Result Data ZoneCause
 data_of [] = Err MissingField
-data_of (type ∷ others) = if pointwise nat_eq (str_to_ascii_lowercase type) (codes "a") then address_data_of others else Err MissingField
+data_of (type ∷ others) =
+    if pointwise nat_eq (str_to_ascii_lowercase type) (codes "a") then address_data_of others
+    else Err MissingField
 
 -- the record of an owner and its data
 abbrev pub with_owner : List (List ℕ) → Result Data ZoneCause → Result Record ZoneCause
@@ -66,11 +73,15 @@ with_owner owner (Err cause) = Err cause
 -- the record of a line's fields: the owner, the type and its data, read from left to right
 abbrev pub record_of_fields : List (List ℕ) → List (List ℕ) → Result Record ZoneCause
 record_of_fields [] origin = Err MissingField
-record_of_fields (owner ∷ others) origin = elim (name_of owner origin) [ Ok name ↦ with_owner name (data_of others) | Err fault ↦ Err (InName fault) ]
+record_of_fields (owner ∷ others) origin = elim (name_of owner origin) [
+  | Ok name ↦ with_owner name (data_of others)
+  | Err fault ↦ Err (InName fault)
+]
 
 -- the record of a line, or its first cause
 abbrev pub record_or_cause : List ℕ → List (List ℕ) → Result Record ZoneCause
-record_or_cause line origin = if is_unsupported line then Err MissingField else record_of_fields (fields_of line) origin
+record_or_cause line origin =
+    if is_unsupported line then Err MissingField else record_of_fields (fields_of line) origin
 
 -- a cause in line 1
 abbrev pub in_first_line : Result Record ZoneCause → Result Record ZoneFault

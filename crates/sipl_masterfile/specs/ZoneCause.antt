@@ -1,4 +1,5 @@
--- The causes of faults in master files: their codes and messages, and the cause that a fault in a name is.
+-- The causes of faults in master files: their codes and messages, and the cause that a fault in a
+-- name is.
 use Rattle.std.specs.Prelude.{ℕ, List, ◌++◌, codes}
 use Rattle.sipl_names.specs.FaultCode.{message_of as name_message}
 use Rattle.sipl_names.specs.declared.fault.NameFault.{NameFault}

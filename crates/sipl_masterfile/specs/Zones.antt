@@ -8,8 +8,8 @@ use Rattle.sipl_records.specs.declared.record.Record.{Record}
 use Rattle.sipl_masterfile.specs.declared.fault.ZoneFault.{ZoneFault}
 use Rattle.sipl_masterfile.specs.declared.fault.ZoneCause.TheVariants.{MissingField}
 
--- what callers see of a zone's text: its apex, its records, and how many records were left out, since
--- their owner is outside the apex or since they are repeated
+-- what callers see of a zone's text: its apex, its records, and how many records were left out,
+-- since their owner is outside the apex or since they are repeated
 pub record Zone : Type 0 where
   pub apex : List (List ℕ)
   pub records : List Record
@@ -25,7 +25,8 @@ has_repeats (r ∷ records) = list_any (same_record r) records || has_repeats re
 abbrev pub sets_fit : List Record → Bool
 sets_fit records = list_all (λ r. nat_le (count_by (shares_set r) records) 32) records
 
--- what holds of each zone's text: all owners are within the apex, no record is there twice, no set has over 32 records
+-- what holds of each zone's text: all owners are within the apex, no record is there twice, no set
+-- has over 32 records
 pub record IsZone (zone : Zone) : Type 0 where
   pub within : list_all (λ r. is_within r.owner zone.apex) zone.records ≡ true
   pub distinct : has_repeats zone.records ≡ false
@@ -42,9 +43,14 @@ has_entry line = list_any (λ c. not (is_blank c)) (split_once 59 line).0
 -- the number of the first line that has an entry, where the first of these lines has this number
 abbrev pub first_entry : ℕ → List (List ℕ) → Option ℕ
 first_entry number [] = None
-first_entry number (line ∷ lines) = if has_entry line then Some number else first_entry (number + 1) lines
+first_entry number (line ∷ lines) =
+    if has_entry line then Some number else first_entry (number + 1) lines
 
--- the zone of a text without entries; the first entry is a fault at its line, as long as entries are not supported
+-- the zone of a text without entries; the first entry is a fault at its line, as long as entries
+-- are not supported
 abbrev pub zone_of : List ℕ → List (List ℕ) → Result Zone ZoneFault
 zone_of text apex =
-    elim (first_entry 1 (parts 10 text)) [ Some number ↦ Err (record { line = number; cause = MissingField }) | None ↦ Ok (record { apex = apex; records = []; outside = 0; repeated = 0 }) ]
+    elim (first_entry 1 (parts 10 text)) [
+      | Some number ↦ Err (record { line = number; cause = MissingField })
+      | None ↦ Ok (record { apex = apex; records = []; outside = 0; repeated = 0 })
+    ]

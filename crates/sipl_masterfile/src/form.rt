@@ -5,9 +5,9 @@ ghost use Rattle.sipl_masterfile.specs.RecordText.{is_unsupported, omits_owner, 
 
 use sipl_records::is_wsp;
 
-// Whether the line is of another form than OWNER, a type, and data, separated by spaces and tabs: it
-// begins with a space, a tab or a directive's `$`, or has a parenthesis, a quote, a comment or an end
-// of line.
+// Whether the line is of another form than OWNER, a type, and data, separated by spaces and tabs:
+// it begins with a space, a tab or a directive's `$`, or has a parenthesis, a quote, a comment or
+// an end of line.
 pub(crate) fn is_unsupported(line: &[u8]) -> bool
     ensures { result ≡ is_unsupported line.now }
 {

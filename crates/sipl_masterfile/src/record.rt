@@ -8,12 +8,13 @@ use sipl_names::{Name, NameFault};
 use sipl_records::{Address, Data, Record, next_field};
 use std::alloc::Global;
 
-/// Reads one record's line (RFC 1035, 5.1): OWNER `A` ADDRESS, separated by spaces and tabs, the type
-/// in either case. An owner without a dot at its end is relative to the origin, and `@` is the origin.
-/// Other types and forms are not supported yet. Linear in the length of the line.
+/// Reads one record's line (RFC 1035, 5.1): OWNER `A` ADDRESS, separated by spaces and tabs, the
+/// type in either case. An owner without a dot at its end is relative to the origin, and `@` is the
+/// origin. Other types and forms are not supported yet. Linear in the length of the line.
 ///
-/// The fault is the first one, from left to right: an unsupported form, a missing or a further field
-/// (Z2), an invalid owner (Z1), an invalid address (Z4). Its line is 1, also where an allocation fails.
+/// The fault is the first one, from left to right: an unsupported form, a missing or a further
+/// field (Z2), an invalid owner (Z1), an invalid address (Z4). Its line is 1, also where an
+/// allocation fails.
 pub fn read_record(alloc: Global, line: &[u8], origin: &Name) -> Result<Record, ZoneFault>
     ensures read { IfOk result (λ r. record_of line.now origin.now ≡ Ok r) }
     ensures refused { IfErr result

@@ -8,8 +8,8 @@ use sipl_records::Record;
 use std::alloc::Global;
 use std::marker::Model;
 
-/// A zone's records, read from its text (RFC 1035, 5.1): all owners are within the apex, no record is
-/// there twice, and no set has more than 32 records.
+/// A zone's records, read from its text (RFC 1035, 5.1): all owners are within the apex, no record
+/// is there twice, and no set has more than 32 records.
 #[derive(Debug, Drop)]
 pub struct ZoneText {
     apex: Name,
@@ -70,9 +70,9 @@ impl ZoneText {
 }
 
 /// Reads a zone's text (RFC 1035, 5.1): lines that LF ends, with spaces, tabs and CR as blanks, and
-/// comments from `;` to the line's end. Entries are not supported yet: the first one is a fault (Z2) at
-/// its line, where the first line is 1. An allocation failure is at line 1. Linear in the length of the
-/// text.
+/// comments from `;` to the line's end. Entries are not supported yet: the first one is a fault
+/// (Z2) at its line, where the first line is 1. An allocation failure is at line 1. Linear in the
+/// length of the text.
 pub fn read_zone(alloc: Global, text: &[u8], apex: &Name) -> Result<ZoneText, ZoneFault>
     ensures read { IfOk result (λ zone. zone_of text.now apex.now ≡ Ok zone) }
     ensures refused { IfErr result

@@ -12,7 +12,8 @@ is_changed old new key = not (pointwise same_data (set_of old key) (set_of new k
 
 -- the keys of these records whose set differs, each once, in the order of the records
 abbrev pub changed_among : List Record → List Record → List Record → List Key
-changed_among old new records = filter (is_changed old new) (unique same_key (filter_map key_of records))
+changed_among old new records =
+    filter (is_changed old new) (unique same_key (filter_map key_of records))
 
 -- the keys whose set differs, each once, in the order of the old records followed by the new
 abbrev pub changed_keys : List Record → List Record → List Key

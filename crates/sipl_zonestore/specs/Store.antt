@@ -44,17 +44,23 @@ records_after_load zone records = records_outside zone.apex records ++ zone.reco
 
 -- the apexes once a zone is loaded: a new one is last
 abbrev pub apexes_after_load : List (List ℕ) → List (List (List ℕ)) → List (List (List ℕ))
-apexes_after_load apex apexes = if list_any (same_name apex) apexes then apexes else apexes ++ apex ∷ []
+apexes_after_load apex apexes =
+    if list_any (same_name apex) apexes then apexes else apexes ++ apex ∷ []
 
 -- the store once a zone is loaded
 abbrev pub after_load : Zone → Zones → Zones
-after_load zone zones = record { apexes = apexes_after_load zone.apex zones.apexes; records = records_after_load zone zones.records }
+after_load zone zones =
+    record {
+      apexes = apexes_after_load zone.apex zones.apexes;
+      records = records_after_load zone zones.records;
+    }
 
 -- the fault of loading a zone, in a store of at most this many records
 abbrev pub load_refusal : ℕ → Zone → Zones → Option StoreFault
 load_refusal max_records zone zones =
     if list_any (overlaps zone.apex) zones.apexes then Some Overlap
-    else (if nat_lt max_records (length (records_after_load zone zones.records)) then Some StoreFull else None)
+    else (if nat_lt max_records (length (records_after_load zone zones.records)) then Some StoreFull
+    else None)
 
 -- the store once a record is added: it is last
 abbrev pub after_add : Record → Zones → Zones

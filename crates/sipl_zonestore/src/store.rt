@@ -14,9 +14,10 @@ use sipl_records::{Key, Record, Sequence};
 use std::alloc::Global;
 use std::marker::Model;
 
-/// The loaded zones and their records, seen as the list of their apexes and the list of all records,
-/// each in the order of addition. No zone is strictly within another, each owner is within a loaded
-/// zone, no record is there twice, and no set has more than 32 records (RFC 1034, 4.2; RFC 2181, 5).
+/// The loaded zones and their records, seen as the list of their apexes and the list of all
+/// records, each in the order of addition. No zone is strictly within another (RFC 1034, 4.2),
+/// each owner is within a loaded zone, no record is there twice, and no set (RFC 2181, 5) has more
+/// than 32 records.
 #[derive(Drop)]
 pub struct ZoneStore {
     alloc: Global,
@@ -64,12 +65,12 @@ impl ZoneStore {
         }
     }
 
-    /// Loads a zone: the records of its text replace those within its apex, and are last, and its apex
-    /// is last where it is new. Returns the keys of the sets that changed. Linear in the number of all
-    /// records for each record that the zone had and for each that it has.
+    /// Loads a zone: the records of its text replace those within its apex, and are last, and its
+    /// apex is last where it is new. Returns the keys of the sets that changed. Linear in the
+    /// number of all records for each record that the zone had and for each that it has.
     ///
-    /// The fault is the first one: a loaded zone strictly above or below the apex (S1), more records than
-    /// the store's maximum (S7).
+    /// The fault is the first one: a loaded zone strictly above or below the apex (S1), more
+    /// records than the store's maximum (S7).
     pub fn load(&mut self, zone: &ZoneText) -> Result<Sequence<Key>, StoreFault>
         ensures accepted { OnOk result
             (load_refusal self.old.max_records zone.now self.old.zones ≡ None) }
@@ -94,11 +95,11 @@ impl ZoneStore {
         Ok(Sequence::from_vec(keys))
     }
 
-    /// Adds a record, which is last. Returns the keys of the sets that changed. Linear in the number of
-    /// all records.
+    /// Adds a record, which is last. Returns the keys of the sets that changed. Linear in the
+    /// number of all records.
     ///
-    /// The fault is the first one: an owner in no loaded zone (S2), a record that is in the store already
-    /// (S3), a set of 32 records (S6), as many records as the store's maximum (S7).
+    /// The fault is the first one: an owner in no loaded zone (S2), a record that is in the store
+    /// already (S3), a set of 32 records (S6), as many records as the store's maximum (S7).
     pub fn add(&mut self, new: &Record) -> Result<Sequence<Key>, StoreFault>
         ensures accepted { OnOk result
             (add_refusal self.old.max_records new.now self.old.zones ≡ None) }
