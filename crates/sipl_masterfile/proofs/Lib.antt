@@ -1,2 +1,2 @@
 pub mod Lines
-pub mod Gaps
+pub mod Escapes

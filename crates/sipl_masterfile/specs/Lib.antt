@@ -1,4 +1,5 @@
-pub mod FaultCode
+pub mod ZoneCause
+pub mod ZoneFault
 pub mod Zones
 pub mod RecordText
 pub use Rattle.sipl_records.specs.Sets

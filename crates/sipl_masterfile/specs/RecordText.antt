@@ -1,4 +1,4 @@
--- What a record's line says (RFC 1035, 5.1): OWNER `A` ADDRESS, the one form that is read so far.
+-- The record of a line (RFC 1035, 5.1): OWNER `A` ADDRESS; other forms are not supported yet.
 use Rattle.std.specs.Prelude.{ℕ, Bool, true, false, ◌||◌, List, [], ◌∷◌, None, Some, Result, Ok, Err, codes, nat_eq, if◌then◌else◌, ◌==◌}
 use Rattle.std.specs.List.{list_any}
 use Rattle.std.specs.Str.{str_to_ascii_lowercase}
@@ -13,55 +13,81 @@ use Rattle.sipl_records.specs.declared.data.Data.TheVariants.{Address4}
 use Rattle.sipl_records.specs.declared.record.Record.{Record}
 use Rattle.sipl_masterfile.specs.declared.fault.ZoneCause.{ZoneCause}
 use Rattle.sipl_masterfile.specs.declared.fault.ZoneCause.TheVariants.{InName, MissingField, BadAddress}
+use Rattle.sipl_masterfile.specs.declared.fault.ZoneFault.{ZoneFault}
 
--- what parts or joins fields in another way: ( ) " ; and the ends of lines
-abbrev pub is_other_mark : ℕ → Bool
-is_other_mark c = c == 40 || c == 41 || c == 34 || c == 59 || c == 10 || c == 13
+-- whether the line is empty, or begins with a space or a tab: its owner is the last stated one
+abbrev pub omits_owner : List ℕ → Bool
+omits_owner [] = true
+omits_owner (c ∷ line) = is_wsp c
 
--- whether a backslash takes the gap behind it, or the line's end
-abbrev pub escapes_gap : List ℕ → Bool
-escapes_gap [] = false
-escapes_gap (c ∷ []) = c == 92
-escapes_gap (c ∷ next ∷ line) = if c == 92 then is_wsp next || escapes_gap line else escapes_gap (next ∷ line)
+-- whether the line begins with the `$` of a directive
+abbrev pub is_directive : List ℕ → Bool
+is_directive [] = false
+is_directive (c ∷ line) = c == 36
 
--- whether the line begins with a gap, or with the `$` of a directive
-abbrev pub has_no_owner : List ℕ → Bool
-has_no_owner [] = true
-has_no_owner (c ∷ line) = is_wsp c || c == 36
+-- an octet of an unsupported form: ( ) " ; LF CR
+abbrev pub is_unsupported_octet : ℕ → Bool
+is_unsupported_octet c = c == 40 || c == 41 || c == 34 || c == 59 || c == 10 || c == 13
 
--- whether the line is of another form than those that are read so far
-abbrev pub is_other_form : List ℕ → Bool
-is_other_form line = has_no_owner line || list_any is_other_mark line || escapes_gap line
+-- whether a backslash escapes a space, a tab or the line's end
+abbrev pub escapes_wsp : List ℕ → Bool
+escapes_wsp [] = false
+escapes_wsp (c ∷ []) = c == 92
+escapes_wsp (c ∷ next ∷ line) =
+    if c == 92 then is_wsp next || escapes_wsp line else escapes_wsp (next ∷ line)
+
+-- whether the line is of a form that is not supported yet
+abbrev pub is_unsupported : List ℕ → Bool
+is_unsupported line =
+    omits_owner line || is_directive line || list_any is_unsupported_octet line || escapes_wsp line
 
 -- the data of an address
 abbrev pub address_data : Address → Data
 address_data (V4 n) = Address4 n
 
--- the data, where no field is left
-abbrev pub alone : Data → List (List ℕ) → Result Data ZoneCause
-alone value [] = Ok value
-alone value (other ∷ others) = Err MissingField
+-- the data, where no further field follows
+abbrev pub data_at_end : Data → List (List ℕ) → Result Data ZoneCause
+data_at_end value [] = Ok value
+data_at_end value (other ∷ others) = Err MissingField
 
--- RFC 1035, 3.4.1: the data of type `A` are an address, and nothing behind it
+-- RFC 1035, 3.4.1: the data of type `A` are an address, and no field after it
 abbrev pub address_data_of : List (List ℕ) → Result Data ZoneCause
 address_data_of [] = Err MissingField
-address_data_of (text ∷ others) = elim (address_of text) [ None ↦ Err BadAddress | Some address ↦ alone (address_data address) others ]
+address_data_of (text ∷ others) = elim (address_of text) [
+  | None ↦ Err BadAddress
+  | Some address ↦ data_at_end (address_data address) others
+]
 
 -- the type, `A` in either case, and its data
 abbrev pub data_of : List (List ℕ) → Result Data ZoneCause
 data_of [] = Err MissingField
-data_of (type ∷ others) = if pointwise nat_eq (str_to_ascii_lowercase type) (codes "a") then address_data_of others else Err MissingField
+data_of (type ∷ others) =
+    if pointwise nat_eq (str_to_ascii_lowercase type) (codes "a") then address_data_of others
+    else Err MissingField
 
--- what is said of the owner
-abbrev pub said_of : List (List ℕ) → Result Data ZoneCause → Result Record ZoneCause
-said_of owner (Ok value) = Ok (record { owner = owner; value = value })
-said_of owner (Err cause) = Err cause
+-- the record of an owner and its data
+abbrev pub with_owner : List (List ℕ) → Result Data ZoneCause → Result Record ZoneCause
+with_owner owner (Ok value) = Ok (record { owner = owner; value = value })
+with_owner owner (Err cause) = Err cause
 
--- the owner, and what is said of it
-abbrev pub record_from : List (List ℕ) → List (List ℕ) → Result Record ZoneCause
-record_from [] origin = Err MissingField
-record_from (owner ∷ others) origin = elim (name_of owner origin) [ Ok name ↦ said_of name (data_of others) | Err fault ↦ Err (InName fault) ]
+-- the record of a line's fields: the owner, the type and its data, read from left to right
+abbrev pub record_of_fields : List (List ℕ) → List (List ℕ) → Result Record ZoneCause
+record_of_fields [] origin = Err MissingField
+record_of_fields (owner ∷ others) origin = elim (name_of owner origin) [
+  | Ok name ↦ with_owner name (data_of others)
+  | Err fault ↦ Err (InName fault)
+]
 
--- the record that a line says, or the first cause: fields are read from left to right
-abbrev pub record_of : List ℕ → List (List ℕ) → Result Record ZoneCause
-record_of line origin = if is_other_form line then Err MissingField else record_from (fields_of line) origin
+-- the record of a line, or its first cause
+abbrev pub record_or_cause : List ℕ → List (List ℕ) → Result Record ZoneCause
+record_or_cause line origin =
+    if is_unsupported line then Err MissingField else record_of_fields (fields_of line) origin
+
+-- a cause in line 1
+abbrev pub in_first_line : Result Record ZoneCause → Result Record ZoneFault
+in_first_line (Ok r) = Ok r
+in_first_line (Err cause) = Err (record { line = 1; cause = cause })
+
+-- the record of a text of one line, or its first fault
+abbrev pub record_of : List ℕ → List (List ℕ) → Result Record ZoneFault
+record_of line origin = in_first_line (record_or_cause line origin)

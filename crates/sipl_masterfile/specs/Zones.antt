@@ -1,32 +1,32 @@
--- What a zone's text says (RFC 1035, 5.1), as far as texts without entries go.
+-- The zone of a master file (RFC 1035, 5.1); entries are not supported yet.
 use Rattle.std.specs.Prelude.{◌≡◌, ℕ, ◌+◌, Bool, true, false, not, ◌||◌, List, [], ◌∷◌, Option, None, Some, Result, Ok, Err, count_by, nat_le, if◌then◌else◌, ◌==◌}
 use Rattle.std.specs.List.{list_any, list_all}
 use Rattle.sipl_names.specs.Labels.{is_within}
 use Rattle.sipl_records.specs.Parts.{parts, split_once}
 use Rattle.sipl_records.specs.Sets.{same_record, shares_set}
 use Rattle.sipl_records.specs.declared.record.Record.{Record}
-use Rattle.sipl_records.specs.declared.record.TheConstants.{MAX_SET_LEN}
 use Rattle.sipl_masterfile.specs.declared.fault.ZoneFault.{ZoneFault}
 use Rattle.sipl_masterfile.specs.declared.fault.ZoneCause.TheVariants.{MissingField}
 
--- what callers see of a zone's text: its apex, the records that were taken in, and how many records were
--- left out, since their owner is outside the apex or since they stood there already
+-- what callers see of a zone's text: its apex, its records, and how many records were left out,
+-- since their owner is outside the apex or since they are repeated
 pub record Zone : Type 0 where
   pub apex : List (List ℕ)
   pub records : List Record
   pub outside : ℕ
   pub repeated : ℕ
 
--- whether a record stands there twice
+-- whether a record is there twice
 abbrev pub has_repeats : List Record → Bool
 has_repeats [] = false
 has_repeats (r ∷ records) = list_any (same_record r) records || has_repeats records
 
--- whether the set of each record is no larger than a set may be
+-- whether the set of each record has at most 32 records
 abbrev pub sets_fit : List Record → Bool
-sets_fit records = list_all (λ r. nat_le (count_by (shares_set r) records) MAX_SET_LEN) records
+sets_fit records = list_all (λ r. nat_le (count_by (shares_set r) records) 32) records
 
--- what holds of each zone's text: all owners are within the apex, no record stands there twice, no set is too large
+-- what holds of each zone's text: all owners are within the apex, no record is there twice, no set
+-- has over 32 records
 pub record IsZone (zone : Zone) : Type 0 where
   pub within : list_all (λ r. is_within r.owner zone.apex) zone.records ≡ true
   pub distinct : has_repeats zone.records ≡ false
@@ -43,9 +43,14 @@ has_entry line = list_any (λ c. not (is_blank c)) (split_once 59 line).0
 -- the number of the first line that has an entry, where the first of these lines has this number
 abbrev pub first_entry : ℕ → List (List ℕ) → Option ℕ
 first_entry number [] = None
-first_entry number (line ∷ lines) = if has_entry line then Some number else first_entry (number + 1) lines
+first_entry number (line ∷ lines) =
+    if has_entry line then Some number else first_entry (number + 1) lines
 
--- what a text without entries says; entries are not read so far
+-- the zone of a text without entries; the first entry is a fault at its line, as long as entries
+-- are not supported
 abbrev pub zone_of : List ℕ → List (List ℕ) → Result Zone ZoneFault
 zone_of text apex =
-    elim (first_entry 1 (parts 10 text)) [ Some number ↦ Err (record { line = number; cause = MissingField }) | None ↦ Ok (record { apex = apex; records = []; outside = 0; repeated = 0 }) ]
+    elim (first_entry 1 (parts 10 text)) [
+      | Some number ↦ Err (record { line = number; cause = MissingField })
+      | None ↦ Ok (record { apex = apex; records = []; outside = 0; repeated = 0 })
+    ]

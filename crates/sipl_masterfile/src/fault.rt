@@ -1,5 +1,4 @@
 ghost use Rattle.std.specs.Prelude.{◌≡◌};
-ghost use Rattle.sipl_masterfile.specs.FaultCode.{code_of};
 
 use sipl_names::NameFault;
 use sipl_records::AddressFault;
@@ -10,17 +9,18 @@ use std::fmt;
 /// What is wrong with an entry of a master file.
 #[derive(Clone, Copy, Debug, PartialEq, Eq, Hash)]
 pub enum ZoneCause {
-    /// Z1: a name that is none, and why.
+    /// Z1: an invalid name, and its fault.
     InName(NameFault),
-    /// Z2: a field is missing, or the entry is of a form that is not read.
+    /// Z2: a missing or a further field, or a form that is not supported.
     MissingField,
-    /// Z4: an address that is none.
+    /// Z4: an invalid address.
     BadAddress,
-    /// A growth of memory was refused.
+    /// An allocation failed.
     Memory,
 }
 
-/// The first fault of a text, and the line, from 1, on which its entry begins.
+/// The first fault of a text, and the line on which its entry begins, counted from 1. An allocation
+/// failure is at line 1.
 #[derive(Clone, Copy, Debug, PartialEq, Eq, Hash)]
 pub struct ZoneFault {
     pub line: u64,
@@ -28,7 +28,9 @@ pub struct ZoneFault {
 }
 
 impl ZoneCause {
-    /// The refusal's code, such as `Z1`, or `Memory`.
+    ghost use Rattle.sipl_masterfile.specs.ZoneCause.{code_of};
+
+    /// The error's code in replies, such as `Z1`.
     pub fn code(self) -> &'static str
         ensures { result.now ≡ code_of self }
     {
@@ -42,9 +44,11 @@ impl ZoneCause {
 }
 
 impl ZoneFault {
-    /// The refusal's code, such as `Z1`, or `Memory`.
+    ghost use Rattle.sipl_masterfile.specs.ZoneFault.{code_of};
+
+    /// The error's code in replies, such as `Z1`.
     pub fn code(self) -> &'static str
-        ensures { result.now ≡ code_of self.cause }
+        ensures { result.now ≡ code_of self }
     {
         self.cause.code()
     }
@@ -52,25 +56,25 @@ impl ZoneFault {
 
 impl fmt::Display for ZoneCause {
     ghost use Rattle.std.specs.Prelude.{Some};
-    ghost use Rattle.sipl_masterfile.specs.FaultCode.{message_of};
+    ghost use Rattle.sipl_masterfile.specs.ZoneCause.{message_of};
 
     ghost output = { λ fault. Some (message_of fault) };
 
     fn fmt<W: fmt::Write>(&self, f: &mut fmt::Formatter<W>) -> fmt::Result {
         match self {
             ZoneCause::InName(fault) => write!(f, "bad name: {fault}"),
-            ZoneCause::MissingField => write!(f, "a field is missing"),
-            ZoneCause::BadAddress => write!(f, "not an IP address"),
-            ZoneCause::Memory => write!(f, "out of memory"),
+            ZoneCause::MissingField => f.write_str("a field is missing"),
+            ZoneCause::BadAddress => f.write_str("not an IP address"),
+            ZoneCause::Memory => f.write_str("out of memory"),
         }
     }
 }
 
 impl fmt::Display for ZoneFault {
     ghost use Rattle.std.specs.Prelude.{Some};
-    ghost use Rattle.sipl_masterfile.specs.FaultCode.{fault_message};
+    ghost use Rattle.sipl_masterfile.specs.ZoneFault.{message_of};
 
-    ghost output = { λ fault. Some (fault_message fault) };
+    ghost output = { λ fault. Some (message_of fault) };
 
     fn fmt<W: fmt::Write>(&self, f: &mut fmt::Formatter<W>) -> fmt::Result {
         write!(f, "line {}: {}", self.line, self.cause)
@@ -92,9 +96,23 @@ impl From<AllocError> for ZoneCause {
     }
 }
 
+impl From<AllocError> for ZoneFault {
+    ghost use Rattle.std.specs.Prelude.{◌≡◌};
+    ghost use Rattle.sipl_masterfile.specs.declared.fault.ZoneCause.TheVariants.{Memory};
+
+    ghost from_gives = { λ _ fault. fault ≡ record { line = 1; cause = Memory } };
+
+    fn from(_: AllocError) -> ZoneFault {
+        ZoneFault {
+            line: 1,
+            cause: ZoneCause::Memory,
+        }
+    }
+}
+
 impl From<NameFault> for ZoneCause {
     ghost use Rattle.std.specs.Prelude.{◌≡◌};
-    ghost use Rattle.sipl_masterfile.specs.FaultCode.{cause_of};
+    ghost use Rattle.sipl_masterfile.specs.ZoneCause.{cause_of};
 
     ghost from_gives = { λ fault cause. cause ≡ cause_of fault };
 

@@ -8,13 +8,13 @@ fn name(rt: &impl Abort, alloc: Global, text: &[u8]) -> Name {
     Name::from_text(alloc, text, &Name::root(alloc)).expect(rt, "a name")
 }
 
-// What the line says under the origin `example.com.`.
+// The record of the line under the origin `example.com.`.
 fn read(rt: &impl Abort, alloc: Global, line: &[u8]) -> Result<Record, ZoneFault> {
     read_record(alloc, line, &name(rt, alloc, b"example.com."))
 }
 
 #[test]
-fn reads_records(rt: HostRuntime) {
+fn record_lines_give_owner_and_address(rt: HostRuntime) {
     let alloc = rt.alloc();
     for (line, owner) in [
         ("server1.example.com. A 192.0.2.1", "server1.example.com."),
@@ -34,7 +34,7 @@ fn reads_records(rt: HostRuntime) {
 }
 
 #[test]
-fn refuses_other_lines(rt: HostRuntime) {
+fn unsupported_lines_lack_a_field(rt: HostRuntime) {
     let alloc = rt.alloc();
     for line in [
         "",
@@ -62,7 +62,7 @@ fn refuses_other_lines(rt: HostRuntime) {
 }
 
 #[test]
-fn names_the_first_cause(rt: HostRuntime) {
+fn first_cause_from_the_left_is_reported(rt: HostRuntime) {
     let alloc = rt.alloc();
     for (line, want) in [
         ("a..b A 192.0.2.1", ZoneCause::InName(NameFault::EmptyLabel)),
@@ -82,21 +82,21 @@ fn names_the_first_cause(rt: HostRuntime) {
     }
 }
 
-// A line of an owner of four labels, the last one of this many octets, without the origin.
+// A line whose owner has four labels, the last one of this many octets.
 fn long_line(rt: &impl Abort, alloc: Global, last: usize) -> Vec<u8> {
     let mut line = Vec::new(alloc);
     for count in [63, 63, 63, last] {
         for _ in 0..count {
-            line.push(b'a').expect(rt, "room");
+            line.push(b'a').expect(rt, "memory");
         }
-        line.push(b'.').expect(rt, "room");
+        line.push(b'.').expect(rt, "memory");
     }
-    line.extend_from_slice(b" A 192.0.2.1").expect(rt, "room");
+    line.extend_from_slice(b" A 192.0.2.1").expect(rt, "memory");
     line
 }
 
 #[test]
-fn keeps_the_limit_of_names(rt: HostRuntime) {
+fn owners_have_at_most_255_octets(rt: HostRuntime) {
     let alloc = rt.alloc();
     // Wire forms of 255 and of 256 octets.
     assert!(rt; read(&rt, alloc, &long_line(&rt, alloc, 61)).is_ok());
@@ -108,7 +108,7 @@ fn keeps_the_limit_of_names(rt: HostRuntime) {
 }
 
 #[test]
-fn reads_zones_without_entries(rt: HostRuntime) {
+fn blanks_and_comments_are_no_entries(rt: HostRuntime) {
     let alloc = rt.alloc();
     let apex = name(&rt, alloc, b"example.com.");
     for text in [
@@ -127,7 +127,7 @@ fn reads_zones_without_entries(rt: HostRuntime) {
 }
 
 #[test]
-fn names_the_line_of_the_first_entry(rt: HostRuntime) {
+fn fault_has_the_line_of_the_first_entry(rt: HostRuntime) {
     let alloc = rt.alloc();
     let apex = name(&rt, alloc, b"example.com.");
     for (text, line) in [
@@ -146,7 +146,7 @@ fn names_the_line_of_the_first_entry(rt: HostRuntime) {
 }
 
 #[test]
-fn prints_faults(rt: HostRuntime) {
+fn faults_print_line_and_message(rt: HostRuntime) {
     let alloc = rt.alloc();
     for (cause, code, text) in [
         (
@@ -161,7 +161,7 @@ fn prints_faults(rt: HostRuntime) {
         let fault = ZoneFault { line: 3, cause };
         assert_eq!(rt; fault.code(), code);
         assert_eq!(rt; cause.code(), code);
-        let printed = format!(in alloc; "{fault}").expect(&rt, "room");
+        let printed = format!(in alloc; "{fault}").expect(&rt, "memory");
         assert_eq!(rt; printed.as_str(), text);
     }
 }

@@ -8,8 +8,8 @@ use sipl_records::Record;
 use std::alloc::Global;
 use std::marker::Model;
 
-/// A zone's records, read from its text (RFC 1035, 5.1): all owners are within the apex, no record stands
-/// there twice, and no set has more than 32 records.
+/// A zone's records, read from its text (RFC 1035, 5.1): all owners are within the apex, no record
+/// is there twice, and no set has more than 32 records.
 #[derive(Debug, Drop)]
 pub struct ZoneText {
     apex: Name,
@@ -46,7 +46,7 @@ impl ZoneText {
         &self.apex
     }
 
-    /// The records that were taken in, in the order of the text.
+    /// The zone's records, in the order of the text.
     pub fn records(&self) -> &[Record]
         ensures value { result.now ≡ self.now.records }
         ensures zone { IsZone self.now }
@@ -54,14 +54,14 @@ impl ZoneText {
         &self.records
     }
 
-    /// How many records were left out since their owner is outside the apex.
+    /// How many records of the text were left out, since their owner is outside the apex.
     pub fn outside(&self) -> u64
         ensures { result ≡ self.now.outside }
     {
         self.outside
     }
 
-    /// How many records were left out since they stood there already.
+    /// How many records of the text were left out, since they are repeated.
     pub fn repeated(&self) -> u64
         ensures { result ≡ self.now.repeated }
     {
@@ -69,13 +69,15 @@ impl ZoneText {
     }
 }
 
-/// Reads a zone's text (RFC 1035, 5.1): lines that LF ends, with spaces, tabs and CR as blanks and with
-/// comments from `;` to the line's end. Entries are not read so far: the first one is a fault (Z2) at its line,
-/// the first line being 1. It costs the text's octets.
+/// Reads a zone's text (RFC 1035, 5.1): lines that LF ends, with spaces, tabs and CR as blanks, and
+/// comments from `;` to the line's end. Entries are not supported yet: the first one is a fault
+/// (Z2) at its line, where the first line is 1. An allocation failure is at line 1. Linear in the
+/// length of the text.
 pub fn read_zone(alloc: Global, text: &[u8], apex: &Name) -> Result<ZoneText, ZoneFault>
     ensures read { IfOk result (λ zone. zone_of text.now apex.now ≡ Ok zone) }
     ensures refused { IfErr result
         (λ fault. fault.cause ≢ ZoneCause.Memory → zone_of text.now apex.now ≡ Err fault) }
+    ensures memory { IfErr result (λ fault. fault.cause ≡ ZoneCause.Memory → fault.line ≡ 1) }
 {
     if let Some(line) = find_entry(text) {
         return Err(ZoneFault {
@@ -83,21 +85,15 @@ pub fn read_zone(alloc: Global, text: &[u8], apex: &Name) -> Result<ZoneText, Zo
             cause: ZoneCause::MissingField,
         });
     }
-    let Ok(apex) = apex.dup(alloc) else {
-        return Err(ZoneFault {
-            line: 1,
-            cause: ZoneCause::Memory,
-        });
-    };
     Ok(ZoneText {
-        apex,
+        apex: apex.dup(alloc)?,
         records: Vec::new(alloc),
         outside: 0,
         repeated: 0,
     })
 }
 
-// The number, from 1, of the first line with more than blanks before its comment.
+// The number, counted from 1, of the first line with more than blanks before its comment.
 fn find_entry(text: &[u8]) -> Option<u64>
     ensures { result ≡ first_entry 1 (parts 10 text.now) }
 {

@@ -1,91 +1,144 @@
 -- Which sets loading a zone changes, and which adding a record changes.
-use Rattle.std.proofs.Common.{◌≡◌, ℕ, Bool, true, false, not, ◌&&◌, ◌||◌, List, [], ◌∷◌, ◌++◌, Option, None, Some, option_to_list, cond, refl, ap, subst, sym, ◌∙◌, inl, inr, append-nil}
-use Rattle.std.specs.List.{filter, list_any, list_all}
+use Rattle.std.proofs.Common.{◌≡◌, ◌≢◌, ℕ, ◌+◌, ◌<◌, Bool, true, false, not, ◌&&◌, ◌||◌, List, [], ◌∷◌, ◌++◌, length, take, get_or, Option, None, Some, option_to_list, cond, refl, ap, subst, sym, ◌∙◌, inl, inr, append-nil, append_assoc}
+use Rattle.std.specs.Prelude.{◌↔◌}
+use Rattle.std.specs.List.{filter, filter_map, list_any, list_all, Contains, IsDistinct}
+use lib.Pointwise.{pointwise}
 use Rattle.std.proofs.lemmas.Bool.{cases_Bool}
-use Rattle.std.proofs.lemmas.List.Elements.{filter_agree, filter-append}
+use Rattle.std.proofs.lemmas.List.Elements.{filter_agree, filter-append, filter_more, filter_passes, filter_map-append, All-contains}
 use Rattle.std.proofs.lemmas.List.Folds.{list_any-append}
+use Rattle.std.proofs.lemmas.Map.Views.{Contains-from_any}
 use Rattle.sipl_names.specs.Labels.{is_within}
 use Rattle.sipl_records.specs.declared.record.Record.{Record}
 use Rattle.sipl_records.specs.declared.record.Key.{Key}
-use Rattle.sipl_records.specs.Sets.{has_key, set_of, same_key, key_of}
-use Rattle.sipl_zonestore.specs.Store.{outside_of, within_of}
-use Rattle.sipl_zonestore.specs.Changes.{first_key, keys_of, is_changed, changed_keys}
-use Rattle.sipl_zonestore.specs.Noted.{is_same_set, all_noted}
-use Rattle.sipl_zonestore.proofs.Filters.{filter-swap, filter-none, filter-other, filter-all}
-use Rattle.sipl_zonestore.proofs.Keys.{same_key-Decides, same_key-refl, same_key-sym, is_key, has_key-key_of, has_key-name, key_of-name}
-use Rattle.sipl_zonestore.proofs.Notes.{all_noted-append, all_noted-is, is_fresh, filter-without}
-use Rattle.sipl_zonestore.proofs.Sets.{set_of-append, set_of-filter, set_of-filter_none, same_set-refl, same_set-push}
+use Rattle.sipl_records.specs.Sets.{has_key, set_of, same_data, same_key, key_of}
+use Rattle.sipl_records.specs.Unique.{unique}
+use Rattle.sipl_records.proofs.Filters.{filter-none, filter-other, filter-all, list_any-filter}
+use Rattle.sipl_records.proofs.Keys.{same_key-Decides, same_key-refl, same_key-sym, is_key, has_key-key_of, key_of-name}
+use Rattle.sipl_records.proofs.Unique.{unique-append, unique-filter, list_any-unique, IsDistinct-unique}
+use Rattle.sipl_records.proofs.Sets.{set_of-append, set_of-filter_kept, set_of-filter_dropped, has_key-name}
+use Rattle.sipl_zonestore.specs.Store.{records_outside, records_within}
+use Rattle.sipl_zonestore.specs.Changes.{is_changed, changed_among, changed_keys}
+use Rattle.sipl_zonestore.proofs.Elements.{or_first, or_second, or_left, or_right}
+use Rattle.sipl_zonestore.proofs.Keys.{same_key-trans, list_any-filter_map}
+use Rattle.sipl_zonestore.proofs.SameSets.{same_set-refl, same_set-true, same_set-push}
+
+-- a test sees no difference between keys that are the same
+respects : (p : Key → Bool) (a b : Key) → same_key a b ≡ true → p a ≡ p b
+respects p a b same = ap p ((same_key-Decides a b).0 same)
+
+-- a key is among those that pass a test which it passes itself where it is among all
+kept-any : (p : Key → Bool) (key : Key) → p key ≡ true → (keys : List Key) → list_any (λ other. same_key other key) (filter p keys) ≡ list_any (λ other. same_key other key) keys
+kept-any p key passes keys =
+    list_any-filter (λ other. same_key other key) p (λ other fails. elim (cases_Bool (same_key other key)) [
+      | inl same ↦ let never : true ≡ false = sym passes ∙ sym (respects p other key same) ∙ fails in cc
+      | inr differs ↦ differs
+    ]) keys
+
+-- one more record without a key
+pub among-none : (old new before : List Record) (r : Record) → key_of r ≡ None → changed_among old new (before ++ r ∷ []) ≡ changed_among old new before
+among-none old new before r none =
+    ap (λ keys. filter (is_changed old new) (unique same_key keys)) (filter_map-append key_of before (r ∷ []) ∙ rw none (append-nil (filter_map key_of before)))
+
+appended : (old new : List Record) (keys : List Key) (key : Key) (known differs : Bool) → list_any (λ other. same_key other key) (unique same_key keys) ≡ known → is_changed old new key ≡ differs → filter (is_changed old new) (unique same_key (keys ++ key ∷ [])) ≡ filter (is_changed old new) (unique same_key keys) ++ cond (differs && not known) (key ∷ []) []
+appended old new keys key true true known differs =
+    rw (unique-append same_key same_key-trans keys key, known) (sym (append-nil (filter (is_changed old new) (unique same_key keys))))
+appended old new keys key true false known differs =
+    rw (unique-append same_key same_key-trans keys key, known) (sym (append-nil (filter (is_changed old new) (unique same_key keys))))
+appended old new keys key false true known differs =
+    rw (unique-append same_key same_key-trans keys key, known) (filter-append (is_changed old new) (unique same_key keys) (key ∷ []) ∙ rw differs refl)
+appended old new keys key false false known differs =
+    rw (unique-append same_key same_key-trans keys key, known) (filter-append (is_changed old new) (unique same_key keys) (key ∷ []) ∙ rw differs refl)
+
+among-some : (old new before : List Record) (r : Record) (key : Key) (known differs : Bool) → key_of r ≡ Some key → list_any (λ other. same_key other key) (unique same_key (filter_map key_of before)) ≡ known → is_changed old new key ≡ differs → changed_among old new (before ++ r ∷ []) ≡ changed_among old new before ++ cond (differs && not known) (key ∷ []) []
+among-some old new before r key known differs own known_is differs_is =
+    ap (λ keys. filter (is_changed old new) (unique same_key keys)) (filter_map-append key_of before (r ∷ []) ∙ rw own refl)
+    ∙ appended old new (filter_map key_of before) key known differs known_is differs_is
+
+-- a key whose set stays
+pub among-same : (old new before : List Record) (r : Record) (key : Key) → key_of r ≡ Some key → is_changed old new key ≡ false → changed_among old new (before ++ r ∷ []) ≡ changed_among old new before
+among-same old new before r key own same =
+    among-some old new before r key _ false own refl same ∙ append-nil (changed_among old new before)
+
+-- a key that is among them already
+pub among-known : (old new before : List Record) (r : Record) (key : Key) → key_of r ≡ Some key → list_any (λ other. same_key other key) (changed_among old new before) ≡ true → changed_among old new (before ++ r ∷ []) ≡ changed_among old new before
+among-known old new before r key own known = elim (cases_Bool (is_changed old new key)) [
+  | inr same ↦ among-same old new before r key own same
+  | inl differs ↦
+      let all : list_any (λ other. same_key other key) (unique same_key (filter_map key_of before)) ≡ true = sym (kept-any (is_changed old new) key differs (unique same_key (filter_map key_of before))) ∙ known in
+      among-some old new before r key true true own all differs ∙ append-nil (changed_among old new before)
+]
+
+-- a further key whose set differs
+pub among-push : (old new before : List Record) (r : Record) (key : Key) → key_of r ≡ Some key → list_any (λ other. same_key other key) (changed_among old new before) ≡ false → is_changed old new key ≡ true → changed_among old new (before ++ r ∷ []) ≡ changed_among old new before ++ key ∷ []
+among-push old new before r key own unknown differs =
+    let none : list_any (λ other. same_key other key) (unique same_key (filter_map key_of before)) ≡ false = sym (kept-any (is_changed old new) key differs (unique same_key (filter_map key_of before))) ∙ unknown in
+    among-some old new before r key false true own none differs
+
+-- a loop over records, of which those within the apex count: one more record that counts
+pub within-more : (apex : List (List ℕ)) (first records : List Record) (i : ℕ) (r : Record) → i < length records → r ≡ get_or records i r → is_within r.owner apex ≡ true → first ++ records_within apex (take (i + 1) records) ≡ (first ++ records_within apex (take i records)) ++ r ∷ []
+within-more apex first records i r inside here within =
+    ap (λ rs. first ++ rs) (filter_more (λ r. is_within r.owner apex) records i r inside ∙ (λ j. records_within apex (take i records) ++ cond (is_within (sym here j).owner apex) (sym here j ∷ []) []) ∙ rw within refl) ∙ sym (append_assoc first (records_within apex (take i records)) (r ∷ []))
+
+-- and one that does not
+pub within-same : (apex : List (List ℕ)) (first records : List Record) (i : ℕ) (r : Record) → i < length records → r ≡ get_or records i r → is_within r.owner apex ≡ false → first ++ records_within apex (take (i + 1) records) ≡ first ++ records_within apex (take i records)
+within-same apex first records i r inside here outside =
+    ap (λ rs. first ++ rs) (filter_more (λ r. is_within r.owner apex) records i r inside ∙ (λ j. records_within apex (take i records) ++ cond (is_within (sym here j).owner apex) (sym here j ∷ []) []) ∙ rw outside (append-nil (records_within apex (take i records))))
 
 -- Keys of records that fail a test, where such keys do not count; two ways to count the others.
-part_step : (p p' : Key → Bool) (key : Key) (others kept : List Key) → p key ≡ p' key → filter p others ≡ filter p' kept → filter p (first_key (Some key) others) ≡ filter p' (first_key (Some key) kept)
-part_step p p' key others kept here rest =
-    let behind : filter p (filter (λ other. not (same_key key other)) others) ≡ filter p' (filter (λ other. not (same_key key other)) kept) = filter-swap p (λ other. not (same_key key other)) others ∙ ap (filter (λ other. not (same_key key other))) rest ∙ sym (filter-swap p' (λ other. not (same_key key other)) kept) in
-    rw here (ap (λ ks. cond (p' key) (key ∷ ks) ks) behind)
+counted : (p p' : Key → Bool) (own : Option Key) (r : Record) (records kept : List Record) → key_of r ≡ own → ((key : Key) → own ≡ Some key → p key ≡ p' key) → filter p (filter_map key_of records) ≡ filter p' (filter_map key_of kept) → filter p (filter_map key_of (r ∷ records)) ≡ filter p' (filter_map key_of (r ∷ kept))
+counted p p' None r records kept is here rest = rw is rest
+counted p p' (Some key) r records kept is here rest = rw is (rw (here key refl) (ap (λ ks. cond (p' key) (key ∷ ks) ks) rest))
 
-taken : (p p' : Key → Bool) (own : Option Key) (others kept : List Key) → ((key : Key) → own ≡ Some key → p key ≡ p' key) → filter p others ≡ filter p' kept → filter p (first_key own others) ≡ filter p' (first_key own kept)
-taken p p' None others kept here rest = rest
-taken p p' (Some key) others kept here rest = part_step p p' key others kept (here key refl) rest
+left_out : (p p' : Key → Bool) (own : Option Key) (r : Record) (records kept : List Record) → key_of r ≡ own → ((key : Key) → own ≡ Some key → p key ≡ false) → filter p (filter_map key_of records) ≡ filter p' (filter_map key_of kept) → filter p (filter_map key_of (r ∷ records)) ≡ filter p' (filter_map key_of kept)
+left_out p p' None r records kept is here rest = rw is rest
+left_out p p' (Some key) r records kept is here rest = rw is (rw (here key refl) rest)
 
-passed : (p p' : Key → Bool) (own : Option Key) (others kept : List Key) → ((key : Key) → own ≡ Some key → p key ≡ false) → filter p others ≡ filter p' kept → filter p (first_key own others) ≡ filter p' kept
-passed p p' None others kept here rest = rest
-passed p p' (Some key) others kept here rest = rw (here key refl) (filter-without p key (here key refl) others ∙ rest)
-
-keys_of-part : (p p' : Key → Bool) (q : Record → Bool) → ((r : Record) (key : Key) → key_of r ≡ Some key → q r ≡ false → p key ≡ false) → ((r : Record) (key : Key) → key_of r ≡ Some key → q r ≡ true → p key ≡ p' key) → (records : List Record) → filter p (keys_of records) ≡ filter p' (keys_of (filter q records))
-keys_of-part p p' q drops agrees [] = refl
-keys_of-part p p' q drops agrees (r ∷ records) = elim (cases_Bool (q r)) [
-  | inl holds ↦ rw holds (taken p p' (key_of r) (keys_of records) (keys_of (filter q records)) (λ key own. agrees r key own holds) (keys_of-part p p' q drops agrees records))
-  | inr fails ↦ rw fails (passed p p' (key_of r) (keys_of records) (keys_of (filter q records)) (λ key own. drops r key own fails) (keys_of-part p p' q drops agrees records))
+keys-part : (p p' : Key → Bool) (q : Record → Bool) → ((r : Record) (key : Key) → key_of r ≡ Some key → q r ≡ false → p key ≡ false) → ((r : Record) (key : Key) → key_of r ≡ Some key → q r ≡ true → p key ≡ p' key) → (records : List Record) → filter p (filter_map key_of records) ≡ filter p' (filter_map key_of (filter q records))
+keys-part p p' q drops agrees [] = refl
+keys-part p p' q drops agrees (r ∷ records) = elim (cases_Bool (q r)) [
+  | inl holds ↦ rw holds (counted p p' (key_of r) r records (filter q records) refl (λ key own. agrees r key own holds) (keys-part p p' q drops agrees records))
+  | inr fails ↦ rw fails (left_out p p' (key_of r) r records (filter q records) refl (λ key own. drops r key own fails) (keys-part p p' q drops agrees records))
 ]
 
 -- a set outside a zone stays as it is
-stays : (apex : List (List ℕ)) (old text : List Record) (key : Key) → list_all (λ r. is_within r.owner apex) text ≡ true → is_within key.name apex ≡ false → is_changed old (outside_of apex old ++ text) key ≡ false
+stays : (apex : List (List ℕ)) (old text : List Record) (key : Key) → list_all (λ r. is_within r.owner apex) text ≡ true → is_within key.name apex ≡ false → is_changed old (records_outside apex old ++ text) key ≡ false
 stays apex old text key all outside =
-    let kept : set_of (outside_of apex old) key ≡ set_of old key = set_of-filter (λ r. not (is_within r.owner apex)) key (λ r of. rw (has_key-name key r of, outside) refl) old in
-    let none : set_of text key ≡ [] = ap (λ rs. set_of rs key) (sym (filter-all (λ r. is_within r.owner apex) text all)) ∙ set_of-filter_none (λ r. is_within r.owner apex) key (λ r of. rw (has_key-name key r of) outside) text in
-    rw (set_of-append (outside_of apex old) text key, kept, none, append-nil (set_of old key), same_set-refl (set_of old key)) refl
+    let kept : set_of (records_outside apex old) key ≡ set_of old key = set_of-filter_kept (λ r. not (is_within r.owner apex)) key (λ r of. rw (has_key-name key r of, outside) refl) old in
+    let none : set_of text key ≡ [] = ap (λ rs. set_of rs key) (sym (filter-all (λ r. is_within r.owner apex) text all)) ∙ set_of-filter_dropped (λ r. is_within r.owner apex) key (λ r of. rw (has_key-name key r of) outside) text in
+    rw (set_of-append (records_outside apex old) text key, kept, none, append-nil (set_of old key), same_set-refl (set_of old key)) refl
 
 -- a set within it is that of the text
-comes : (apex : List (List ℕ)) (old text : List Record) (key : Key) → is_within key.name apex ≡ true → is_changed old (outside_of apex old ++ text) key ≡ not (is_same_set old text key)
-comes apex old text key inside =
-    let gone : set_of (outside_of apex old) key ≡ [] = set_of-filter_none (λ r. not (is_within r.owner apex)) key (λ r of. rw (has_key-name key r of, inside) refl) old in
-    rw (set_of-append (outside_of apex old) text key, gone) refl
+of_text : (apex : List (List ℕ)) (old text : List Record) (key : Key) → is_within key.name apex ≡ true → is_changed old (records_outside apex old ++ text) key ≡ is_changed old text key
+of_text apex old text key inside =
+    let gone : set_of (records_outside apex old) key ≡ [] = set_of-filter_dropped (λ r. not (is_within r.owner apex)) key (λ r of. rw (has_key-name key r of, inside) refl) old in
+    rw (set_of-append (records_outside apex old) text key, gone) refl
 
-parted : (apex : List (List ℕ)) (old text : List Record) → filter (λ r. is_within r.owner apex) (old ++ (outside_of apex old ++ text)) ≡ within_of apex old ++ within_of apex text
-parted apex old text =
-    filter-append (λ r. is_within r.owner apex) old (outside_of apex old ++ text)
-    ∙ ap (λ rs. within_of apex old ++ rs) (filter-append (λ r. is_within r.owner apex) (outside_of apex old) text ∙ ap (λ rs. rs ++ within_of apex text) (filter-other (λ r. is_within r.owner apex) old))
+both_within : (apex : List (List ℕ)) (old text : List Record) → filter (λ r. is_within r.owner apex) (old ++ (records_outside apex old ++ text)) ≡ records_within apex old ++ records_within apex text
+both_within apex old text =
+    filter-append (λ r. is_within r.owner apex) old (records_outside apex old ++ text)
+    ∙ ap (λ rs. records_within apex old ++ rs) (filter-append (λ r. is_within r.owner apex) (records_outside apex old) text ∙ ap (λ rs. rs ++ records_within apex text) (filter-other (λ r. is_within r.owner apex) old))
 
-no_less : (b : Bool) → (b && true) ≡ b
-no_less true = refl
-no_less false = refl
-
--- the keys that are noted of the records within the zone, and then of the text, are those that changed
-pub changed-load : (apex : List (List ℕ)) (old text : List Record) → list_all (λ r. is_within r.owner apex) text ≡ true → all_noted old text (all_noted old text [] (within_of apex old)) (within_of apex text) ≡ changed_keys old (outside_of apex old ++ text)
+-- the keys of the records within the zone, old and new, whose sets differ between the old records and the
+-- text are those that changed
+pub changed-load : (apex : List (List ℕ)) (old text : List Record) → list_all (λ r. is_within r.owner apex) text ≡ true → changed_among old text (records_within apex old ++ records_within apex text) ≡ changed_keys old (records_outside apex old ++ text)
 changed-load apex old text all =
-    let new : List Record = outside_of apex old ++ text in
-    sym (all_noted-append old text [] (within_of apex old) (within_of apex text))
-    ∙ all_noted-is old text [] (within_of apex old ++ within_of apex text)
-    ∙ filter_agree (is_fresh old text []) (λ key. not (is_same_set old text key)) (λ key. no_less (not (is_same_set old text key))) (keys_of (within_of apex old ++ within_of apex text))
-    ∙ sym (keys_of-part (is_changed old new) (λ key. not (is_same_set old text key)) (λ r. is_within r.owner apex) (λ r key own outside. stays apex old text key all (sym (ap (λ name. is_within name apex) (key_of-name r key own)) ∙ outside)) (λ r key own inside. comes apex old text key (sym (ap (λ name. is_within name apex) (key_of-name r key own)) ∙ inside)) (old ++ new) ∙ ap (λ rs. filter (λ key. not (is_same_set old text key)) (keys_of rs)) (parted apex old text))
+    let new : List Record = records_outside apex old ++ text in
+    unique-filter same_key (is_changed old text) (respects (is_changed old text)) (filter_map key_of (records_within apex old ++ records_within apex text))
+    ∙ ap (λ keys. unique same_key keys) (sym (keys-part (is_changed old new) (is_changed old text) (λ r. is_within r.owner apex) (λ r key own outside. stays apex old text key all (sym (ap (λ name. is_within name apex) (key_of-name r key own)) ∙ outside)) (λ r key own inside. of_text apex old text key (sym (ap (λ name. is_within name apex) (key_of-name r key own)) ∙ inside)) (old ++ new) ∙ ap (λ rs. filter (is_changed old text) (filter_map key_of rs)) (both_within apex old text)))
+    ∙ sym (unique-filter same_key (is_changed old new) (respects (is_changed old new)) (filter_map key_of (old ++ new)))
 
-one_key : (key : Key) (others : List Key) → filter (same_key key) (key ∷ filter (λ other. not (same_key key other)) others) ≡ key ∷ []
-one_key key others = rw (same_key-refl key) (ap (λ ks. key ∷ ks) (filter-other (same_key key) others))
-
--- the one key that is the same as this one, where a record has it
-own_step : (key : Key) (own : Option Key) (others : List Key) (among : Bool) → filter (same_key key) others ≡ cond among (key ∷ []) [] → filter (same_key key) (first_key own others) ≡ cond (is_key key own || among) (key ∷ []) []
-own_step key None others among rest = rest
-own_step key (Some first) others among rest = elim (cases_Bool (same_key first key)) [
+-- of the keys that are the same as one, one is kept
+one_key : (key : Key) (keys : List Key) → unique same_key (filter (λ other. same_key other key) keys) ≡ cond (list_any (λ other. same_key other key) keys) (key ∷ []) []
+one_key key [] = refl
+one_key key (first ∷ keys) = elim (cases_Bool (same_key first key)) [
   | inl holds ↦
       let same : first ≡ key = (same_key-Decides first key).0 holds in
-      rw holds (subst (λ k. filter (same_key key) (k ∷ filter (λ other. not (same_key k other)) others) ≡ key ∷ []) (sym same) (one_key key others))
-  | inr fails ↦
-      let other : same_key key first ≡ false = same_key-sym key first ∙ fails in
-      rw (other, fails) (filter-without (same_key key) first other others ∙ rest)
-]
-
-keys_of-own : (key : Key) (records : List Record) → filter (same_key key) (keys_of records) ≡ cond (list_any (λ r. is_key key (key_of r)) records) (key ∷ []) []
-keys_of-own key [] = refl
-keys_of-own key (r ∷ records) = own_step key (key_of r) (keys_of records) (list_any (λ r. is_key key (key_of r)) records) (keys_of-own key records)
+      rw holds (subst (λ k. k ∷ filter (λ other. not (same_key k other)) (unique same_key (filter (λ other. same_key other key) keys)) ≡ key ∷ []) (sym same) (ap (λ ks. key ∷ ks) (ap (filter (λ other. not (same_key key other))) (one_key key keys) ∙ rest (list_any (λ other. same_key other key) keys))))
+  | inr fails ↦ rw fails (one_key key keys)
+] where
+  rest : (b : Bool) → filter (λ other. not (same_key key other)) (cond b (key ∷ []) []) ≡ []
+  rest true = rw (same_key-refl key) refl
+  rest false = refl
 
 -- a set changes where the record that is added belongs to it
 pushed : (old : List Record) (r : Record) (key : Key) → is_changed old (old ++ r ∷ []) key ≡ is_key key (key_of r)
@@ -94,21 +147,78 @@ pushed old r key = elim (cases_Bool (has_key key r)) [
   | inr fails ↦ rw (set_of-append old (r ∷ []) key, fails, append-nil (set_of old key), same_set-refl (set_of old key)) (sym fails ∙ has_key-key_of key r)
 ]
 
-or_true : (a b : Bool) → b ≡ true → (a || b) ≡ true
-or_true true b h = refl
-or_true false b h = h
-
-is_last : (f : Record → Bool) (old : List Record) (r : Record) → f r ≡ true → list_any f (old ++ r ∷ []) ≡ true
-is_last f old r here = list_any-append f old (r ∷ []) ∙ or_true (list_any f old) (f r || false) (rw here refl)
-
-own_changed : (old : List Record) (r : Record) (own : Option Key) → key_of r ≡ own → filter (λ key. is_key key own) (keys_of (old ++ (old ++ r ∷ []))) ≡ option_to_list own
-own_changed old r None is = filter-none (λ key. false) (λ key. refl) (keys_of (old ++ (old ++ r ∷ [])))
+own_changed : (old : List Record) (r : Record) (own : Option Key) → key_of r ≡ own → filter (λ key. is_key key own) (unique same_key (filter_map key_of (old ++ (old ++ r ∷ [])))) ≡ option_to_list own
+own_changed old r None is = filter-none (λ key. false) (λ key. refl) (unique same_key (filter_map key_of (old ++ (old ++ r ∷ []))))
 own_changed old r (Some key) is =
-    let here : is_key key (key_of r) ≡ true = rw is (same_key-refl key) in
-    let among : list_any (λ other. is_key key (key_of other)) (old ++ (old ++ r ∷ [])) ≡ true = list_any-append (λ other. is_key key (key_of other)) old (old ++ r ∷ []) ∙ or_true (list_any (λ other. is_key key (key_of other)) old) _ (is_last (λ other. is_key key (key_of other)) old r here) in
-    keys_of-own key (old ++ (old ++ r ∷ [])) ∙ rw among refl
+    let keys : List Key = filter_map key_of (old ++ (old ++ r ∷ [])) in
+    let here : has_key key r ≡ true = has_key-key_of key r ∙ rw is (same_key-refl key) in
+    let last : list_any (has_key key) (old ++ r ∷ []) ≡ true = list_any-append (has_key key) old (r ∷ []) ∙ or_second (list_any (has_key key) old) _ (or_first (has_key key r) false here) in
+    let among : list_any (has_key key) (old ++ (old ++ r ∷ [])) ≡ true = list_any-append (has_key key) old (old ++ r ∷ []) ∙ or_second (list_any (has_key key) old) _ last in
+    filter_agree (same_key key) (λ other. same_key other key) (same_key-sym key) (unique same_key keys)
+    ∙ unique-filter same_key (λ other. same_key other key) (respects (λ other. same_key other key)) keys
+    ∙ one_key key keys
+    ∙ rw (list_any-filter_map key (old ++ (old ++ r ∷ [])), among) refl
 
--- adding a record changes the set that it stands in, and fails other
+-- adding a record changes its set, and no other
 pub changed-add : (old : List Record) (r : Record) → changed_keys old (old ++ r ∷ []) ≡ option_to_list (key_of r)
 changed-add old r =
-    filter_agree (is_changed old (old ++ r ∷ [])) (λ key. is_key key (key_of r)) (pushed old r) (keys_of (old ++ (old ++ r ∷ []))) ∙ own_changed old r (key_of r) refl
+    filter_agree (is_changed old (old ++ r ∷ [])) (λ key. is_key key (key_of r)) (pushed old r) (unique same_key (filter_map key_of (old ++ (old ++ r ∷ [])))) ∙ own_changed old r (key_of r) refl
+
+not_false : (b : Bool) → not b ≡ true → b ≡ false
+not_false true e = sym e
+not_false false e = refl
+
+-- a set differs where the comparison says so
+differs-true : (old new : List Record) (key : Key) → is_changed old new key ≡ true → set_of old key ≢ set_of new key
+differs-true old new key differs same =
+    let equal : pointwise same_data (set_of old key) (set_of new key) ≡ true = subst (λ set. pointwise same_data (set_of old key) set ≡ true) same (same_set-refl (set_of old key)) in
+    let never : true ≡ false = sym equal ∙ not_false _ differs in
+    cc
+
+differs-is : (old new : List Record) (key : Key) → set_of old key ≢ set_of new key → is_changed old new key ≡ true
+differs-is old new key other = elim (cases_Bool (pointwise same_data (set_of old key) (set_of new key))) [
+  | inl same ↦ absurd (other (same_set-true (set_of old key) (set_of new key) same))
+  | inr differs ↦ rw differs refl
+]
+
+-- a list without records of a set
+set_of-none : (key : Key) (records : List Record) → list_any (has_key key) records ≡ false → set_of records key ≡ []
+set_of-none key [] none = refl
+set_of-none key (r ∷ records) none =
+    rw (or_left (has_key key r) (list_any (has_key key) records) none) (set_of-none key records (or_right (has_key key r) (list_any (has_key key) records) none))
+
+-- a set that differs has a record, old or new
+some_record : (old new : List Record) (key : Key) → set_of old key ≢ set_of new key → list_any (has_key key) (old ++ new) ≡ true
+some_record old new key other = elim (cases_Bool (list_any (has_key key) (old ++ new))) [
+  | inl some ↦ some
+  | inr none ↦
+      let neither : (list_any (has_key key) old || list_any (has_key key) new) ≡ false = sym (list_any-append (has_key key) old new) ∙ none in
+      absurd (other (set_of-none key old (or_left (list_any (has_key key) old) _ neither) ∙ sym (set_of-none key new (or_right (list_any (has_key key) old) _ neither))))
+]
+
+-- the changed keys are exactly those whose set differs
+pub changed_keys-exact : (old new : List Record) (key : Key) → Contains (changed_keys old new) key ↔ (set_of old key ≢ set_of new key)
+changed_keys-exact old new key =
+    let keys : List Key = unique same_key (filter_map key_of (old ++ new)) in
+    let among : is_changed old new key ≡ true → list_any (has_key key) (old ++ new) ≡ true → list_any (λ other. same_key other key) (changed_keys old new) ≡ true = λ differs some. kept-any (is_changed old new) key differs keys ∙ list_any-unique same_key same_key-trans (filter_map key_of (old ++ new)) key ∙ list_any-filter_map key (old ++ new) ∙ some in
+    let equal : (a b : Key) → same_key b a ≡ true → a ≡ b = λ a b same. sym ((same_key-Decides b a).0 same) in
+    (λ there. differs-true old new key (All-contains (λ key. is_changed old new key ≡ true) (changed_keys old new) key (filter_passes (is_changed old new) keys) there), λ other. Contains-from_any equal key (changed_keys old new) (among (differs-is old new key other) (some_record old new key other)))
+
+-- each once
+pub changed_keys-once : (old new : List Record) → IsDistinct same_key (changed_keys old new)
+changed_keys-once old new =
+    subst (λ keys. IsDistinct same_key keys) (sym (unique-filter same_key (is_changed old new) (respects (is_changed old new)) (filter_map key_of (old ++ new)))) (IsDistinct-unique same_key (filter (is_changed old new) (filter_map key_of (old ++ new))))
+
+-- a further key is appended
+pub append_key : (old new before : List Record) (keys after : List Key) (r : Record) (key : Key) → keys ≡ changed_among old new before → key_of r ≡ Some key → list_any (λ other. same_key other key) keys ≡ false → is_changed old new key ≡ true → after ≡ keys ++ key ∷ [] → after ≡ changed_among old new (before ++ r ∷ [])
+append_key old new before keys after r key held own unknown differs after_is =
+    after_is ∙ ap (λ ks. ks ++ key ∷ []) held ∙ sym (among-push old new before r key own (ap (list_any (λ other. same_key other key)) (sym held) ∙ unknown) differs)
+
+-- or it is among them
+pub keep_known : (old new before : List Record) (keys : List Key) (r : Record) (key : Key) → keys ≡ changed_among old new before → key_of r ≡ Some key → list_any (λ other. same_key other key) keys ≡ true → keys ≡ changed_among old new (before ++ r ∷ [])
+keep_known old new before keys r key held own known =
+    held ∙ sym (among-known old new before r key own (ap (list_any (λ other. same_key other key)) (sym held) ∙ known))
+
+-- or its set stays
+pub keep_same : (old new before : List Record) (keys : List Key) (r : Record) (key : Key) → keys ≡ changed_among old new before → key_of r ≡ Some key → is_changed old new key ≡ false → keys ≡ changed_among old new (before ++ r ∷ [])
+keep_same old new before keys r key held own same = held ∙ sym (among-same old new before r key own same)

@@ -1,7 +1,10 @@
 -- Tests of some element, and of each.
-use Rattle.std.proofs.Common.{◌≡◌, Bool, true, false, ◌&&◌, ◌||◌, List, [], ◌∷◌, refl, inl, inr}
-use Rattle.std.specs.List.{filter, list_any, list_all}
+use Rattle.std.proofs.Common.{◌≡◌, ℕ, ◌<◌, ◌≤◌, suc, zero, Bool, true, false, ◌&&◌, ◌||◌, List, [], ◌∷◌, length, get_or, refl, ap, sym, ◌∙◌, inl, inr, arith}
+use Rattle.std.specs.List.{filter, list_any, list_all, count_by}
 use Rattle.std.proofs.lemmas.Bool.{cases_Bool}
+use Rattle.std.proofs.lemmas.List.Elements.{filter_agree}
+use Rattle.std.proofs.lemmas.List.Sums.{length-filter, count_by-le-length}
+use Rattle.sipl_records.proofs.Filters.{filter-swap}
 
 pub or_left : (a b : Bool) → (a || b) ≡ false → a ≡ false
 or_left true b h = h
@@ -32,12 +35,21 @@ all-weaker p q weaker [] all = refl
 all-weaker p q weaker (x ∷ xs) all =
     rw (weaker x (and_first (p x) (list_all p xs) all)) (all-weaker p q weaker xs (and_second (p x) (list_all p xs) all))
 
-pub all-filter : {X : Type 0} (p q : X → Bool) (xs : List X) → list_all p xs ≡ true → list_all p (filter q xs) ≡ true
-all-filter p q [] all = refl
-all-filter p q (x ∷ xs) all = elim (cases_Bool (q x)) [
-  | inl kept ↦ rw kept (rw (and_first (p x) (list_all p xs) all) (all-filter p q xs (and_second (p x) (list_all p xs) all)))
-  | inr left ↦ rw left (all-filter p q xs (and_second (p x) (list_all p xs) all))
-]
+-- what two tests of each element say together
+pub all-both : {X : Type 0} (p p' q : X → Bool) → ((x : X) → p x ≡ true → p' x ≡ true → q x ≡ true) → (xs : List X) → list_all p xs ≡ true → list_all p' xs ≡ true → list_all q xs ≡ true
+all-both p p' q both [] all all' = refl
+all-both p p' q both (x ∷ xs) all all' =
+    rw (both x (and_first (p x) (list_all p xs) all) (and_first (p' x) (list_all p' xs) all')) (all-both p p' q both xs (and_second (p x) (list_all p xs) all) (and_second (p' x) (list_all p' xs) all'))
+
+-- what a test of each element says of those that pass another
+pub all-filter_weaker : {X : Type 0} (p p' q : X → Bool) → ((x : X) → q x ≡ true → p x ≡ true → p' x ≡ true) → (xs : List X) → list_all p xs ≡ true → list_all p' (filter q xs) ≡ true
+all-filter_weaker p p' q weaker [] all = refl
+all-filter_weaker p p' q weaker (x ∷ xs) all =
+    let rest : list_all p' (filter q xs) ≡ true = all-filter_weaker p p' q weaker xs (and_second (p x) (list_all p xs) all) in
+    elim (cases_Bool (q x)) [
+      | inl kept ↦ rw kept (rw (weaker x kept (and_first (p x) (list_all p xs) all)) rest)
+      | inr left ↦ rw left rest
+    ]
 
 pub any-filter : {X : Type 0} (p q : X → Bool) (xs : List X) → list_any p xs ≡ false → list_any p (filter q xs) ≡ false
 any-filter p q [] none = refl
@@ -45,3 +57,19 @@ any-filter p q (x ∷ xs) none = elim (cases_Bool (q x)) [
   | inl kept ↦ rw kept (rw (or_left (p x) (list_any p xs) none) (any-filter p q xs (or_right (p x) (list_any p xs) none)))
   | inr left ↦ rw left (any-filter p q xs (or_right (p x) (list_any p xs) none))
 ]
+
+-- no element passes, at each place
+pub none-at : {X : Type 0} (p : X → Bool) (xs : List X) → list_any p xs ≡ false → (k : ℕ) (d : X) → k < length xs → p (get_or xs k d) ≡ false
+none-at p [] none k d inside = absurd (omega arith)
+none-at p (x ∷ xs) none zero d inside = or_left (p x) (list_any p xs) none
+none-at p (x ∷ xs) none (suc k) d inside = none-at p xs (or_right (p x) (list_any p xs) none) k d (omega arith)
+
+-- a count of those that pass another test is no greater
+pub count-filter-le : {X : Type 0} (p q : X → Bool) (xs : List X) → count_by p (filter q xs) ≤ count_by p xs
+count-filter-le p q xs =
+    let swapped : length (filter p (filter q xs)) ≡ length (filter q (filter p xs)) = ap length (filter-swap p q xs) in
+    omega (arith, length-filter p (filter q xs), length-filter q (filter p xs), length-filter p xs, count_by-le-length q (filter p xs))
+
+-- the same count by two tests that agree
+pub count-same : {X : Type 0} (p q : X → Bool) → ((x : X) → p x ≡ q x) → (xs : List X) → count_by p xs ≡ count_by q xs
+count-same p q same xs = sym (length-filter p xs) ∙ ap length (filter_agree p q same xs) ∙ length-filter q xs

@@ -1,8 +1,6 @@
-pub mod Filters
+pub mod Elements
 pub mod Keys
-pub mod Sets
-pub mod Notes
+pub mod SameSets
 pub mod ChangedKeys
 pub mod Limits
-pub mod Elements
-pub mod Settling
+pub mod Consistency

@@ -1,6 +1,5 @@
-pub mod FaultCode
+pub mod StoreFault
 pub mod Store
 pub mod Changes
-pub mod Settled
-pub mod Noted
+pub mod Consistent
 pub use Rattle.sipl_masterfile.specs.Zones

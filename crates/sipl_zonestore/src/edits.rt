@@ -1,8 +1,8 @@
-//! What loading a zone makes of apexes and records.
+//! The apexes and the records after a load.
 ghost use Rattle.std.specs.Prelude.{◌≡◌, ◌+◌, ◌≤◌, ◌++◌, IfOk, option_to_list, vec_len, vec_capacity};
 ghost use Rattle.std.specs.List.{list_any};
 ghost use Rattle.sipl_names.specs.Labels.{same_name};
-ghost use Rattle.sipl_zonestore.specs.Store.{outside_of, apexes_after_load};
+ghost use Rattle.sipl_zonestore.specs.Store.{records_outside, apexes_after_load};
 
 use sipl_names::Name;
 use sipl_records::Record;
@@ -25,7 +25,8 @@ pub(crate) fn new_apex(
     apex: &Name,
     apexes: &[Name],
 ) -> Result<Option<Name>, AllocError>
-    ensures { IfOk result (λ added. apexes.now ++ option_to_list added ≡ apexes_after_load apex.now apexes.now) }
+    ensures { IfOk result
+        (λ new. apexes.now ++ option_to_list new ≡ apexes_after_load apex.now apexes.now) }
 {
     if has_apex(apexes, apex) {
         return Ok(None);
@@ -41,10 +42,10 @@ fn has_apex(apexes: &[Name], apex: &Name) -> bool
     apexes.iter().any(|other| *apex == *other)
 }
 
-// Those within the apex give way to the records of the text. It takes no memory.
+// Replaces the records within the apex by those of the text, which are last. Does not allocate.
 pub(crate) fn replace_records(records: &mut Vec<Record>, apex: &Name, mut text: Vec<Record>)
     requires { vec_len records.old + vec_len text ≤ vec_capacity records.old }
-    ensures { records.new.items ≡ outside_of apex.now records.old.items ++ text.items }
+    ensures { records.new.items ≡ records_outside apex.now records.old.items ++ text.items }
 {
     records.retain(|record| !record.owner.is_within(apex));
     records.append(&mut text).unwrap();

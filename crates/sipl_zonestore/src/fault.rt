@@ -1,29 +1,29 @@
 ghost use Rattle.std.specs.Prelude.{◌≡◌};
-ghost use Rattle.sipl_zonestore.specs.FaultCode.{code_of};
+ghost use Rattle.sipl_zonestore.specs.StoreFault.{code_of};
 
 use std::alloc::{AllocError, AllocFailed};
 use std::error::Error;
 use std::fmt;
 
-/// Why an edit of the store is refused.
+/// Why an edit of the store fails. The store is then unchanged.
 #[derive(Clone, Copy, Debug, PartialEq, Eq, Hash)]
 pub enum StoreFault {
     /// S1: a loaded zone is strictly above the apex or strictly below it.
     Overlap,
     /// S2: the owner is in no loaded zone.
     NoZone,
-    /// S3: the record stands there already.
+    /// S3: the record is in the store already.
     Duplicate,
     /// S6: the record's set has 32 records.
     SetFull,
-    /// S7: more records would stand than the store takes.
+    /// S7: the records would exceed the store's maximum.
     StoreFull,
-    /// A growth of memory was refused.
+    /// An allocation failed.
     Memory,
 }
 
 impl StoreFault {
-    /// The refusal's code, such as `S1`, or `Memory`.
+    /// The error's code in replies, such as `S1`.
     pub fn code(self) -> &'static str
         ensures { result.now ≡ code_of self }
     {
@@ -40,19 +40,19 @@ impl StoreFault {
 
 impl fmt::Display for StoreFault {
     ghost use Rattle.std.specs.Prelude.{Some};
-    ghost use Rattle.sipl_zonestore.specs.FaultCode.{message_of};
+    ghost use Rattle.sipl_zonestore.specs.StoreFault.{message_of};
 
     ghost output = { λ fault. Some (message_of fault) };
 
     fn fmt<W: fmt::Write>(&self, f: &mut fmt::Formatter<W>) -> fmt::Result {
-        match self {
-            StoreFault::Overlap => write!(f, "a loaded zone is above or below the apex"),
-            StoreFault::NoZone => write!(f, "the owner is in no loaded zone"),
-            StoreFault::Duplicate => write!(f, "the record stands there already"),
-            StoreFault::SetFull => write!(f, "the record's set is full"),
-            StoreFault::StoreFull => write!(f, "the store is full"),
-            StoreFault::Memory => write!(f, "out of memory"),
-        }
+        f.write_str(match self {
+            StoreFault::Overlap => "a loaded zone is above or below the apex",
+            StoreFault::NoZone => "the owner is in no loaded zone",
+            StoreFault::Duplicate => "the record is in the store already",
+            StoreFault::SetFull => "the record's set is full",
+            StoreFault::StoreFull => "the store is full",
+            StoreFault::Memory => "out of memory",
+        })
     }
 }
 

@@ -1,15 +1,15 @@
-ghost use Rattle.std.specs.Prelude.{◌≡◌, ℕ, None};
-ghost use Rattle.sipl_records.specs.declared.record.Record.{Record};
-ghost use Rattle.sipl_masterfile.specs.Zones.{Zone, IsZone};
-ghost use Rattle.sipl_zonestore.specs.Settled.{IsSettled};
-ghost use Rattle.sipl_zonestore.specs.Store.{Zones, no_zones, load_refusal, after_load, add_refusal, after_add};
+//! What follows from the definitions. Each law is the contract of a function that does nothing.
 
-/// After any accepted edits no loaded zone is strictly within another, all records are within loaded zones,
-/// and no record stands there twice.
-pub fn edits_settle()
-    ensures empty { IsSettled no_zones }
-    ensures loaded { (most : ℕ) (zone : Zone) (zones : Zones) → IsZone zone → IsSettled zones
-        → load_refusal most zone zones ≡ None → IsSettled (after_load zone zones) }
-    ensures added { (most : ℕ) (r : Record) (zones : Zones) → IsSettled zones
-        → add_refusal most r zones ≡ None → IsSettled (after_add r zones) }
+ghost use Rattle.std.specs.Prelude.{◌≢◌, ◌↔◌, List, Contains};
+ghost use Rattle.std.specs.List.{IsDistinct};
+ghost use Rattle.sipl_records.specs.declared.record.Record.{Record};
+ghost use Rattle.sipl_records.specs.declared.record.Key.{Key};
+ghost use Rattle.sipl_records.specs.Sets.{set_of, same_key};
+ghost use Rattle.sipl_zonestore.specs.Changes.{changed_keys};
+
+/// A key is among the changed keys exactly where its set differs, and no key is there twice.
+pub fn changed_keys_are_exact()
+    ensures exact { (old new : List Record) (key : Key)
+        → Contains (changed_keys old new) key ↔ (set_of old key ≢ set_of new key) }
+    ensures once { (old new : List Record) → IsDistinct same_key (changed_keys old new) }
 {}

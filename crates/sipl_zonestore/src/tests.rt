@@ -1,7 +1,7 @@
-use crate::{Changed, MAX_RECORDS, StoreFault, ZoneStore};
+use crate::{MAX_RECORDS, StoreFault, ZoneStore};
 use sipl_masterfile::{ZoneText, read_record, read_zone};
 use sipl_names::Name;
-use sipl_records::{Data, Kind, Record};
+use sipl_records::{Data, Key, Kind, Record, Sequence};
 use std::alloc::Global;
 use std::process::Abort;
 
@@ -23,13 +23,13 @@ fn add(
     alloc: Global,
     store: &mut ZoneStore,
     line: &str,
-) -> Result<Changed, StoreFault> {
+) -> Result<Sequence<Key>, StoreFault> {
     store.add(&record(rt, alloc, line))
 }
 
 // The zone `example.com.` with three records of two owners.
-fn example(rt: &impl Abort, alloc: Global, most: usize) -> ZoneStore {
-    let mut store = ZoneStore::with_limit(alloc, most);
+fn example(rt: &impl Abort, alloc: Global, max_records: usize) -> ZoneStore {
+    let mut store = ZoneStore::with_limit(alloc, max_records);
     let changed = store
         .load(&zone(rt, alloc, "example.com."))
         .expect(rt, "loaded");
@@ -48,8 +48,8 @@ fn example(rt: &impl Abort, alloc: Global, most: usize) -> ZoneStore {
 }
 
 // Whether the keys are those of the IPv4 sets of these owners.
-fn are_keys(rt: &impl Abort, alloc: Global, changed: &Changed, owners: &[&str]) -> bool {
-    for (key, owner) in changed.keys().iter().zip(owners.iter()) {
+fn are_keys(rt: &impl Abort, alloc: Global, changed: &Sequence<Key>, owners: &[&str]) -> bool {
+    for (key, owner) in changed.as_slice().iter().zip(owners.iter()) {
         if key.kind != Kind::Address4 || key.name != name(rt, alloc, owner) {
             return false;
         }
@@ -57,7 +57,7 @@ fn are_keys(rt: &impl Abort, alloc: Global, changed: &Changed, owners: &[&str]) 
     changed.len() == owners.len()
 }
 
-// Whether the records are those that the lines say.
+// Whether the records are those of the lines.
 fn are_records(rt: &impl Abort, alloc: Global, records: &[Record], lines: &[&str]) -> bool {
     for (found, line) in records.iter().zip(lines.iter()) {
         if *found != record(rt, alloc, line) {
@@ -78,7 +78,7 @@ fn are_apexes(rt: &impl Abort, alloc: Global, apexes: &[Name], names: &[&str]) -
 }
 
 #[test]
-fn keeps_records_and_apexes_in_order(rt: HostRuntime) {
+fn records_and_apexes_are_in_order_of_addition(rt: HostRuntime) {
     let alloc = rt.alloc();
     let mut store = example(&rt, alloc, MAX_RECORDS);
     assert!(rt; store.load(&zone(&rt, alloc, "example.org.")).is_ok());
@@ -102,7 +102,7 @@ fn keeps_records_and_apexes_in_order(rt: HostRuntime) {
 }
 
 #[test]
-fn empties_a_zone_that_is_loaded_again(rt: HostRuntime) {
+fn loading_again_empties_the_zone(rt: HostRuntime) {
     let alloc = rt.alloc();
     let mut store = example(&rt, alloc, MAX_RECORDS);
     assert!(rt; store.load(&zone(&rt, alloc, "example.org.")).is_ok());
@@ -136,7 +136,7 @@ fn empties_a_zone_that_is_loaded_again(rt: HostRuntime) {
 }
 
 #[test]
-fn refuses_zones_above_and_below(rt: HostRuntime) {
+fn zones_above_and_below_overlap(rt: HostRuntime) {
     let alloc = rt.alloc();
     let mut store = example(&rt, alloc, MAX_RECORDS);
     for apex in ["a.example.com.", "com.", ".", "b.a.example.com."] {
@@ -145,7 +145,7 @@ fn refuses_zones_above_and_below(rt: HostRuntime) {
             .expect_err(&rt, "refused");
         assert!(rt; refused == StoreFault::Overlap, "at {apex}");
     }
-    // The last octets of a name alone are no labels.
+    // The last octets of a name are not its last labels.
     assert!(rt; store.load(&zone(&rt, alloc, "anexample.com.")).is_ok());
     assert_eq!(rt; store.records().len(), 3);
     assert!(rt;
@@ -159,7 +159,7 @@ fn refuses_zones_above_and_below(rt: HostRuntime) {
 }
 
 #[test]
-fn names_the_first_refusal(rt: HostRuntime) {
+fn first_fault_is_reported(rt: HostRuntime) {
     let alloc = rt.alloc();
     let mut store = example(&rt, alloc, 3);
     for (line, want) in [
@@ -176,7 +176,7 @@ fn names_the_first_refusal(rt: HostRuntime) {
 }
 
 #[test]
-fn keeps_sets_at_32_records(rt: HostRuntime) {
+fn sets_have_at_most_32_records(rt: HostRuntime) {
     let alloc = rt.alloc();
     let mut store = ZoneStore::new(alloc);
     assert!(rt; store.load(&zone(&rt, alloc, "example.com.")).is_ok());
@@ -196,7 +196,7 @@ fn keeps_sets_at_32_records(rt: HostRuntime) {
 }
 
 #[test]
-fn prints_faults(rt: HostRuntime) {
+fn faults_print_codes_and_messages(rt: HostRuntime) {
     let alloc = rt.alloc();
     for (fault, code, text) in [
         (
@@ -208,14 +208,14 @@ fn prints_faults(rt: HostRuntime) {
         (
             StoreFault::Duplicate,
             "S3",
-            "the record stands there already",
+            "the record is in the store already",
         ),
         (StoreFault::SetFull, "S6", "the record's set is full"),
         (StoreFault::StoreFull, "S7", "the store is full"),
         (StoreFault::Memory, "Memory", "out of memory"),
     ] {
         assert_eq!(rt; fault.code(), code);
-        let printed = format!(in alloc; "{fault}").expect(&rt, "room");
+        let printed = format!(in alloc; "{fault}").expect(&rt, "memory");
         assert_eq!(rt; printed.as_str(), text);
     }
 }

@@ -7,5 +7,5 @@ use Rattle.sipl_masterfile.proofs.zone.find_entry.Given as goal
 abbrev pub invariant-loop-octet : goal.invariant-loop-octet
 invariant-loop-octet l = record {
   few : l.line_ends ≤ l.octet-index;
-  so_far : first_entry 1 (parts 10 l.text) ≡ entry_from l.in_comment (l.line_ends + 1) (drop l.octet-index l.text);
+  same : first_entry 1 (parts 10 l.text) ≡ entry_from l.in_comment (l.line_ends + 1) (drop l.octet-index l.text);
 }

@@ -1,0 +1,30 @@
+-- The causes of faults in master files: their codes and messages, and the cause that a fault in a
+-- name is.
+use Rattle.std.specs.Prelude.{ℕ, List, ◌++◌, codes}
+use Rattle.sipl_names.specs.FaultCode.{message_of as name_message}
+use Rattle.sipl_names.specs.declared.fault.NameFault.{NameFault}
+use Rattle.sipl_names.specs.declared.fault.NameFault.TheVariants.{EmptyLabel, LabelTooLong, NameTooLong, BadEscape, Memory as name_memory}
+use Rattle.sipl_masterfile.specs.declared.fault.ZoneCause.{ZoneCause}
+use Rattle.sipl_masterfile.specs.declared.fault.ZoneCause.TheVariants.{InName, MissingField, BadAddress, Memory}
+
+-- the cause's code in replies
+abbrev pub code_of : ZoneCause → List ℕ
+code_of (InName fault) = codes "Z1"
+code_of MissingField = codes "Z2"
+code_of BadAddress = codes "Z4"
+code_of Memory = codes "Memory"
+
+-- the cause that a fault of a name is: an allocation failure is no fault of the text
+abbrev pub cause_of : NameFault → ZoneCause
+cause_of EmptyLabel = InName EmptyLabel
+cause_of LabelTooLong = InName LabelTooLong
+cause_of NameTooLong = InName NameTooLong
+cause_of BadEscape = InName BadEscape
+cause_of name_memory = Memory
+
+-- the cause's message to a person
+abbrev pub message_of : ZoneCause → List ℕ
+message_of (InName fault) = codes "bad name: " ++ name_message fault
+message_of MissingField = codes "a field is missing"
+message_of BadAddress = codes "not an IP address"
+message_of Memory = codes "out of memory"
