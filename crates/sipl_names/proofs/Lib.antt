@@ -5,3 +5,4 @@ pub mod ReadText
 pub mod Completes
 pub mod Prefixes
 pub mod RoundTrip
+pub mod TextLength

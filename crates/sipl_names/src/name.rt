@@ -1,9 +1,9 @@
-ghost use Rattle.std.specs.Prelude.{◌≡◌, ◌≢◌, ◌↔◌, ◌++◌, [], List, ℕ, IsTrue, IfOk, IfErr, IfSome, OnOk, OnErr};
+ghost use Rattle.std.specs.Prelude.{◌≡◌, ◌≢◌, ◌↔◌, ◌++◌, [], IsTrue, IfOk, IfErr, IfSome, OnOk, OnErr};
 ghost use Rattle.std.specs.Option.{option_copied};
 ghost use Rattle.std.specs.Cmp as laws_of;
 ghost use Rattle.std.specs.Cmp.Lexicographic.{lists_equiv, nat_list_eq_equiv};
 ghost use Rattle.std.specs.Hash as fed;
-ghost use Rattle.sipl_names.specs.Labels.{IsName, wire_length, wire_of, same_name, is_within, parent_of, prefixed_of, top_label_of};
+ghost use Rattle.sipl_names.specs.Labels.{Labels, IsName, wire_length, wire_of, same_name, is_within, parent_of, prefixed_of, top_label_of};
 ghost use Rattle.sipl_names.specs.LabelSlices.{octets_of};
 ghost use Rattle.sipl_names.specs.NamePrint.{text_of};
 ghost use Rattle.sipl_names.specs.NameText.{name_of};
@@ -12,7 +12,7 @@ ghost use Rattle.sipl_names.specs.SameName.{same_wires};
 use crate::MAX_NAME_LEN;
 use crate::fault::NameFault;
 use crate::print::append_text;
-use crate::text::{Labels, read_labels};
+use crate::text::{SpelledLabels, read_labels};
 use crate::wire::{checked_len, push_labels, split_label};
 use std::alloc::{AllocError, Global};
 use std::hash::{Hash, Hasher};
@@ -28,10 +28,10 @@ pub struct Name {
 }
 
 impl Model for Name {
-    ghost use Rattle.std.specs.Prelude.{List, ℕ};
+    ghost use Rattle.sipl_names.specs.Labels.{Labels};
     ghost use Rattle.sipl_names.specs.Wire.{labels_of_wire, IsNameWire};
 
-    ghost Value = { List (List ℕ) };
+    ghost Value = { Labels };
 
     ghost view = { λ name. labels_of_wire name.wire.items };
 
@@ -68,7 +68,7 @@ impl Name {
         if text == b".".as_slice() {
             return Ok(Name::root(alloc));
         }
-        let Labels { mut wire, is_whole } = read_labels(alloc, text)?;
+        let SpelledLabels { mut wire, is_whole } = read_labels(alloc, text)?;
         if !is_whole {
             wire.extend_from_slice(&origin.wire)?;
         }
@@ -143,7 +143,7 @@ impl Name {
     pub fn is_within(&self, apex: &Name) -> bool
         ensures value { result ≡ is_within self.now apex.now }
         ensures suffix { IsTrue result
-            ↔ ((front : List (List ℕ)) × (self.now ≡ front ++ apex.now)) }
+            ↔ ((front : Labels) × (self.now ≡ front ++ apex.now)) }
     {
         let suffix = apex.wire.as_slice();
         let mut rest = self.wire.as_slice();

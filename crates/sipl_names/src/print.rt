@@ -1,19 +1,11 @@
 // How a name is printed (RFC 1035, 5.1).
-ghost use Rattle.std.specs.Prelude.{◌≡◌, ◌++◌, List, ℕ, Ok, OnOk};
-ghost use Rattle.sipl_names.specs.Labels.{IsName};
-ghost use Rattle.sipl_names.specs.NameText.{name_of};
+ghost use Rattle.std.specs.Prelude.{◌≡◌, ◌++◌, OnOk};
 ghost use Rattle.sipl_names.specs.NamePrint.{is_special, printed_octet, printed_label, text_of};
 ghost use Rattle.sipl_names.specs.Wire.{IsWire, labels_of_wire};
 ghost use Rattle.sipl_names.specs.Extends.{Extends};
 
 use crate::wire::split_label;
 use std::alloc::AllocError;
-
-/// What is printed reads back: the text of a name says that name, whatever the origin is.
-pub fn printing_reads_back()
-    ensures { (labels origin : List (List ℕ))
-        → IsName labels → name_of (text_of labels) origin ≡ Ok labels }
-{}
 
 // Appends the text of the labels that a wire form has. An `Err` leaves a part of it.
 pub(crate) fn append_text(wire: &[u8], out: &mut Vec<u8>) -> Result<(), AllocError>

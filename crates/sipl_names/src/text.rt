@@ -10,7 +10,7 @@ use crate::wire::check_label;
 use std::alloc::Global;
 
 // The labels that a text spells, in lower case, and whether a dot ends the text.
-pub(crate) struct Labels {
+pub(crate) struct SpelledLabels {
     pub(crate) wire: Vec<u8>,
     pub(crate) is_whole: bool,
 }
@@ -23,7 +23,7 @@ pub(crate) enum Symbol {
 }
 
 // The labels of a text; the text behind them may go on with those of the origin.
-pub(crate) fn read_labels(alloc: Global, text: &[u8]) -> Result<Labels, NameFault>
+pub(crate) fn read_labels(alloc: Global, text: &[u8]) -> Result<SpelledLabels, NameFault>
     ensures read { IfOk result (λ labels. IsRead text.now labels.wire.items labels.is_whole) }
     ensures refused { IfErr result
         (λ fault. fault ≢ NameFault.Memory → labels_from [] (symbols 0 text.now) ≡ Err fault) }
@@ -39,7 +39,7 @@ pub(crate) fn read_labels(alloc: Global, text: &[u8]) -> Result<Labels, NameFaul
             Symbol::Dot => {
                 end_label(&mut wire, start)?;
                 if behind.is_empty() {
-                    return Ok(Labels {
+                    return Ok(SpelledLabels {
                         wire,
                         is_whole: true,
                     });
@@ -51,7 +51,7 @@ pub(crate) fn read_labels(alloc: Global, text: &[u8]) -> Result<Labels, NameFaul
         rest = behind;
     }
     end_label(&mut wire, start)?;
-    Ok(Labels {
+    Ok(SpelledLabels {
         wire,
         is_whole: false,
     })
