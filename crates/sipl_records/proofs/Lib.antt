@@ -1,3 +1,6 @@
+pub mod Filters
+pub mod Unique
+pub mod Sets
 pub mod Cuts
 pub mod Groups
 pub mod Dotted

@@ -1,3 +1,4 @@
+pub mod Unique
 pub mod Parts
 pub mod Numbers
 pub mod Fields

@@ -9,6 +9,7 @@ mod data;
 mod fault;
 mod field;
 mod kind;
+pub mod laws;
 mod number;
 mod record;
 mod sequence;
