@@ -1,9 +1,9 @@
 use Rattle.sipl_tx.proofs.Steps.{end_leads_there, end_comes_from_elsewhere, leads_there_ends}
 use Rattle.sipl_tx.proofs.RunLaws as run_laws
-use Rattle.sipl_tx.proofs.laws.ends_once.Goals as goal
+use Rattle.sipl_tx.proofs.laws.end_is_reported_once.Goals as goal
 
 pub returns-clause-once : goal.returns-clause-once
-returns-clause-once c = run_laws.ends_once
+returns-clause-once c = run_laws.end_is_reported_once
 
 pub returns-clause-there : goal.returns-clause-there
 returns-clause-there c =

@@ -1,6 +1,6 @@
 use Rattle.sipl_tx.proofs.Steps.{awaited_is_delivered}
 use Rattle.sipl_tx.proofs.RunLaws.{ends_at_final}
-use Rattle.sipl_tx.proofs.laws.delivers_a_final_response_once.Goals as goal
+use Rattle.sipl_tx.proofs.laws.final_response_is_delivered_once.Goals as goal
 
 pub returns-clause-delivered : goal.returns-clause-delivered
 returns-clause-delivered c = awaited_is_delivered

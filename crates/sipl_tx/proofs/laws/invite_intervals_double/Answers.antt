@@ -1,5 +1,5 @@
 use Rattle.sipl_tx.proofs.Timelines.{invite_sendings, invite_timeout}
-use Rattle.sipl_tx.proofs.laws.retransmits_invite_by_doubling.Goals as goal
+use Rattle.sipl_tx.proofs.laws.invite_intervals_double.Goals as goal
 
 pub returns-clause-sendings : goal.returns-clause-sendings
 returns-clause-sendings c = invite_sendings
