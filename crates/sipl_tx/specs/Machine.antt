@@ -24,7 +24,7 @@ enters_completed Completed _ = false
 enters_completed _ Completed = true
 enters_completed _ _ = false
 
--- no final response has come yet
+-- a final response is awaited: none has come, and the transaction has not ended
 abbrev pub awaits_final : Kind → State → Bool
 awaits_final Invite Calling = true
 awaits_final Invite Proceeding = true

@@ -195,6 +195,17 @@ impl ClientTx {
         self.state
     }
 
+    /// Whether the transaction awaits a final response: none has come, and it has not ended.
+    pub fn awaits_final(&self) -> bool
+        ensures { result ≡ awaits_final self.now.kind self.now.state }
+    {
+        match (self.kind, self.state) {
+            (Kind::Invite, State::Calling | State::Proceeding) => true,
+            (Kind::Other, State::Trying | State::Proceeding) => true,
+            _ => false,
+        }
+    }
+
     /// The machine that the transaction follows.
     pub fn kind(&self) -> Kind
         ensures { result ≡ self.now.kind }
@@ -208,17 +219,6 @@ impl ClientTx {
         ensures limit { result ≤ 2 ^ 52 }
     {
         self.moment
-    }
-
-    // Whether no final response has come yet.
-    fn awaits_final(&self) -> bool
-        ensures { result ≡ awaits_final self.now.kind self.now.state }
-    {
-        match (self.kind, self.state) {
-            (Kind::Invite, State::Calling | State::Proceeding) => true,
-            (Kind::Other, State::Trying | State::Proceeding) => true,
-            _ => false,
-        }
     }
 
     // Receives a response where no final one has come yet.
