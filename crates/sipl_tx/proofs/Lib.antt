@@ -1,3 +1,4 @@
 pub mod Steps
 pub mod RunLaws
 pub mod Timelines
+pub mod Completed

@@ -3,93 +3,93 @@ use Rattle.std.proofs.Common.{◌≡◌, ◌≢◌, ℕ, ◌+◌, ◌≤◌, Boo
 use Rattle.std.proofs.lemmas.Bool.Decides.{nat_tests}
 use Rattle.std.specs.List.{AllByRecursion}
 use Rattle.sipl_tx.specs.declared.parts.Acts.{Acts}
-use Rattle.sipl_tx.specs.Table.{quiet}
+use Rattle.sipl_tx.specs.Table.{no_acts}
 use Rattle.sipl_tx.specs.Transaction.{Transaction, Event}
 use Rattle.sipl_tx.specs.Machine.{is_terminated, awaits_final}
 use Rattle.sipl_tx.specs.declared.parts.Kind.TheVariants.{Invite, Other}
 use Rattle.sipl_tx.specs.declared.parts.State.TheVariants.{Calling, Trying, Completed}
 use Rattle.sipl_tx.specs.Runs.{step, run, acts_of, moments_of, deliveries_of, with_code, EndsAtFinal, AreApart, sends_request, reports_timeout, ends_transaction}
-use Rattle.sipl_tx.proofs.Steps.{interval_stays_long, sending_is_apart, sending_is_last, sending_stays, clock_goes_on, counts_from_before, invite_never_tries, other_never_calls, reliable_never_completes, refused_at_end, timeout_ends, end_is_there, kind_stays, reliable_quiet, none_delivered, awaits_no_more, final_is_last}
+use Rattle.sipl_tx.proofs.Steps.{interval_stays_long, sending_is_apart, sending_is_last, sending_stays, time_goes_on, counts_from_before, invite_never_tries, other_never_calls, reliable_never_completes, refused_at_end, timeout_ends, end_is_there, kind_stays, reliable_sends_nothing, none_delivered, awaits_no_more, final_is_last}
 
--- what is nothing at each event after the end
-pub none_after_end : (test : Acts → Bool) → test quiet ≡ false → (t : Transaction) (events : List Event) → is_terminated t.state ≡ true → moments_of test t events ≡ []
+-- after the end no acts pass the test
+pub none_after_end : (test : Acts → Bool) → test no_acts ≡ false → (t : Transaction) (events : List Event) → is_terminated t.state ≡ true → moments_of test t events ≡ []
 unfolding moments_of
-none_after_end test nothing t [] over = refl
-none_after_end test nothing t (event ∷ events) over =
-    rw (refused_at_end t event over, nothing) (none_after_end test nothing t events over)
+none_after_end test nothing t [] at_end = refl
+none_after_end test nothing t (event ∷ events) at_end =
+    rw (refused_at_end t event at_end, nothing) (none_after_end test nothing t events at_end)
 
--- where the first time leaves nothing after it there is at most one
-one_in_front : (here : Bool) (moment : ℕ) (moments : List ℕ) → (here ≡ true → moments ≡ []) → length moments ≤ 1 → length (cond here (moment ∷ moments) moments) ≤ 1
-one_in_front true moment moments none few = rw (none refl) (omega arith)
-one_in_front false moment moments none few = few
+-- a list that ends after its first element has at most one
+at_most_one : (here : Bool) (moment : ℕ) (moments : List ℕ) → (here ≡ true → moments ≡ []) → length moments ≤ 1 → length (cond here (moment ∷ moments) moments) ≤ 1
+at_most_one true moment moments none few = rw (none refl) (omega arith)
+at_most_one false moment moments none few = few
 
--- what leads to the end comes at most once
-pub once_before_end : (test : Acts → Bool) → test quiet ≡ false → ((t : Transaction) (event : Event) → test (step t event).acts ≡ true → is_terminated (step t event).transaction.state ≡ true) → (t : Transaction) (events : List Event) → length (moments_of test t events) ≤ 1
+-- acts that terminate the transaction come at most once
+pub once_before_end : (test : Acts → Bool) → test no_acts ≡ false → ((t : Transaction) (event : Event) → test (step t event).acts ≡ true → is_terminated (step t event).transaction.state ≡ true) → (t : Transaction) (events : List Event) → length (moments_of test t events) ≤ 1
 unfolding moments_of
 once_before_end test nothing ends t [] = omega arith
 once_before_end test nothing ends t (event ∷ events) =
-    one_in_front (test (step t event).acts) (step t event).transaction.moment (moments_of test (step t event).transaction events)
+    at_most_one (test (step t event).acts) (step t event).transaction.moment (moments_of test (step t event).transaction events)
     (λ here. none_after_end test nothing (step t event).transaction events (ends t event here))
     (once_before_end test nothing ends (step t event).transaction events)
 
-pub times_out_once : (t : Transaction) (events : List Event) → length (moments_of reports_timeout t events) ≤ 1
-times_out_once = once_before_end reports_timeout refl timeout_ends
+pub timeout_is_reported_once : (t : Transaction) (events : List Event) → length (moments_of reports_timeout t events) ≤ 1
+timeout_is_reported_once = once_before_end reports_timeout refl timeout_ends
 
-pub ends_once : (t : Transaction) (events : List Event) → length (moments_of ends_transaction t events) ≤ 1
-ends_once = once_before_end ends_transaction refl end_is_there
+pub end_is_reported_once : (t : Transaction) (events : List Event) → length (moments_of ends_transaction t events) ≤ 1
+end_is_reported_once = once_before_end ends_transaction refl end_is_there
 
-pub stays_at_end : (t : Transaction) (events : List Event) → is_terminated t.state ≡ true → run t events ≡ t
+pub terminated_stays : (t : Transaction) (events : List Event) → is_terminated t.state ≡ true → run t events ≡ t
 unfolding run
-stays_at_end t [] over = refl
-stays_at_end t (event ∷ events) over = rw (refused_at_end t event over) (stays_at_end t events over)
+terminated_stays t [] at_end = refl
+terminated_stays t (event ∷ events) at_end = rw (refused_at_end t event at_end) (terminated_stays t events at_end)
 
-pub quiet_at_end : (t : Transaction) (events : List Event) → is_terminated t.state ≡ true → AllByRecursion (λ acts. acts ≡ quiet) (acts_of t events)
+pub terminated_has_no_acts : (t : Transaction) (events : List Event) → is_terminated t.state ≡ true → AllByRecursion (λ acts. acts ≡ no_acts) (acts_of t events)
 unfolding acts_of
-quiet_at_end t [] over = tt
-quiet_at_end t (event ∷ events) over = rw (refused_at_end t event over) (refl, quiet_at_end t events over)
+terminated_has_no_acts t [] at_end = tt
+terminated_has_no_acts t (event ∷ events) at_end = rw (refused_at_end t event at_end) (refl, terminated_has_no_acts t events at_end)
 
 pub reliable_sends_once : (t : Transaction) (events : List Event) → t.reliable ≡ true → moments_of sends_request t events ≡ []
 unfolding moments_of
 reliable_sends_once t [] reliable = refl
 reliable_sends_once t (event ∷ events) reliable =
-    rw (reliable_quiet t event reliable) (reliable_sends_once (step t event).transaction events ((kind_stays t event).1 ∙ reliable))
+    rw (reliable_sends_nothing t event reliable) (reliable_sends_once (step t event).transaction events ((kind_stays t event).1 ∙ reliable))
 
--- nothing is delivered once a final response was
+-- nothing is delivered after a final response
 pub none_after_final : (t : Transaction) (events : List Event) → awaits_final t.kind t.state ≡ false → deliveries_of t events ≡ []
 unfolding deliveries_of
 none_after_final t [] none = refl
 none_after_final t (event ∷ events) none =
     rw (none_delivered t event none) (none_after_final (step t event).transaction events (awaits_no_more t event none))
 
-in_front : (here : Option ℕ) (codes : List ℕ) → ((code : ℕ) → here ≡ Some code → 200 ≤ code → codes ≡ []) → EndsAtFinal codes → EndsAtFinal (with_code here codes)
-in_front None codes last rest = rest
-in_front (Some code) codes last rest = (last code refl, rest)
+after_code : (here : Option ℕ) (codes : List ℕ) → ((code : ℕ) → here ≡ Some code → 200 ≤ code → codes ≡ []) → EndsAtFinal codes → EndsAtFinal (with_code here codes)
+after_code None codes last rest = rest
+after_code (Some code) codes last rest = (last code refl, rest)
 
 pub ends_at_final : (t : Transaction) (events : List Event) → EndsAtFinal (deliveries_of t events)
 unfolding deliveries_of
 ends_at_final t [] = tt
 ends_at_final t (event ∷ events) =
-    in_front (step t event).acts.deliver (deliveries_of (step t event).transaction events)
+    after_code (step t event).acts.deliver (deliveries_of (step t event).transaction events)
     (λ code is_it final. none_after_final (step t event).transaction events (final_is_last t event (rw is_it (grind (arith, nat_tests)))))
     (ends_at_final (step t event).transaction events)
 
--- one moment before others that are apart from it
-apart_in_front : (here : Bool) (gap sent sent' moment : ℕ) (moments : List ℕ) → (here ≡ true → sent + gap ≤ moment) → (here ≡ true → sent' ≡ moment) → (here ≡ false → sent' ≡ sent) → AreApart gap sent' moments → AreApart gap sent (cond here (moment ∷ moments) moments)
-apart_in_front true gap sent sent' moment moments far new same rest = (far refl, rw (new refl) at rest)
-apart_in_front false gap sent sent' moment moments far new same rest = rw (same refl) at rest
+-- one time before others that are apart from it
+apart_after : (here : Bool) (gap sent sent' moment : ℕ) (moments : List ℕ) → (here ≡ true → sent + gap ≤ moment) → (here ≡ true → sent' ≡ moment) → (here ≡ false → sent' ≡ sent) → AreApart gap sent' moments → AreApart gap sent (cond here (moment ∷ moments) moments)
+apart_after true gap sent sent' moment moments far new same rest = (far refl, rw (new refl) at rest)
+apart_after false gap sent sent' moment moments far new same rest = rw (same refl) at rest
 
 pub sendings_are_apart : (t : Transaction) (events : List Event) → 500 ≤ t.interval → AreApart 500 t.sent (moments_of sends_request t events)
 unfolding moments_of
 sendings_are_apart t [] long = tt
 sendings_are_apart t (event ∷ events) long =
-    apart_in_front (sends_request (step t event).acts) 500 t.sent (step t event).transaction.sent (step t event).transaction.moment (moments_of sends_request (step t event).transaction events)
+    apart_after (sends_request (step t event).acts) 500 t.sent (step t event).transaction.sent (step t event).transaction.moment (moments_of sends_request (step t event).transaction events)
     (sending_is_apart t event long) (sending_is_last t event) (sending_stays t event)
     (sendings_are_apart (step t event).transaction events (interval_stays_long t event long))
 
-pub clock_goes_on_over : (t : Transaction) (events : List Event) → t.moment ≤ (run t events).moment
+pub time_goes_on_over : (t : Transaction) (events : List Event) → t.moment ≤ (run t events).moment
 unfolding run
-clock_goes_on_over t [] = omega arith
-clock_goes_on_over t (event ∷ events) = omega (arith, clock_goes_on t event, clock_goes_on_over (step t event).transaction events)
+time_goes_on_over t [] = omega arith
+time_goes_on_over t (event ∷ events) = omega (arith, time_goes_on t event, time_goes_on_over (step t event).transaction events)
 
 pub counts_from_before_over : (t : Transaction) (events : List Event) → t.since ≤ t.moment → (run t events).since ≤ (run t events).moment
 unfolding run

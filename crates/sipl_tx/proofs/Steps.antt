@@ -1,10 +1,10 @@
--- What one event does, by cases of the table.
+-- The outcome of one event, by cases of the table.
 use Rattle.std.proofs.Common.{◌≡◌, ◌≢◌, ℕ, ◌+◌, ◌≤◌, true, false, Some, None, arith}
 use Rattle.std.proofs.lemmas.Bool.Decides.{nat_tests}
 use Rattle.sipl_tx.specs.declared.parts.Kind.TheVariants.{Invite, Other}
 use Rattle.sipl_tx.specs.declared.parts.State.TheVariants.{Calling, Trying, Proceeding, Completed, Terminated}
 use Rattle.sipl_tx.specs.Timers.{ending_timer}
-use Rattle.sipl_tx.specs.Table.{quiet, sends}
+use Rattle.sipl_tx.specs.Table.{no_acts, send_acts}
 use Rattle.sipl_tx.specs.Transaction.{Transaction, Event}
 use Rattle.sipl_tx.specs.Transaction.Event.{Response, TransportError, Tick}
 use Rattle.sipl_tx.specs.Machine.{Outcome, is_terminated, awaits_final}
@@ -12,7 +12,7 @@ use Rattle.sipl_tx.specs.Runs.{step, sends_request, reports_timeout, ends_transa
 
 -- a refused event
 abbrev pub stays : Transaction → Outcome
-stays t = record { transaction = t; acts = quiet }
+stays t = record { transaction = t; acts = no_acts }
 
 -- nothing happens in Terminated, whatever else the transaction is
 pub refused_at_end : (t : Transaction) (event : Event) → is_terminated t.state ≡ true → step t event ≡ stays t
@@ -24,12 +24,12 @@ pub timeout_awaits : (t : Transaction) (event : Event) → reports_timeout (step
 unfolding step
 timeout_awaits t event h = grind (arith, nat_tests)
 
--- and where timer B or F runs
+-- a timeout is reported where timer B or F runs
 pub timeout_is_timed : (t : Transaction) (event : Event) → reports_timeout (step t event).acts ≡ true → ending_timer t.kind t.state ≡ Some 32000
 unfolding step
 timeout_is_timed t event h = grind (arith, nat_tests)
 
--- a timeout is the end
+-- a timeout terminates
 pub timeout_ends : (t : Transaction) (event : Event) → reports_timeout (step t event).acts ≡ true → is_terminated (step t event).transaction.state ≡ true
 unfolding step
 timeout_ends t event h = grind (arith, nat_tests)
@@ -40,9 +40,9 @@ unfolding step
 kind_stays t event = grind (arith, nat_tests)
 
 -- no retransmission over a reliable transport
-pub reliable_quiet : (t : Transaction) (event : Event) → t.reliable ≡ true → sends_request (step t event).acts ≡ false
+pub reliable_sends_nothing : (t : Transaction) (event : Event) → t.reliable ≡ true → sends_request (step t event).acts ≡ false
 unfolding step
-reliable_quiet t event h = grind (arith, nat_tests)
+reliable_sends_nothing t event h = grind (arith, nat_tests)
 
 -- after a final response none is delivered
 pub none_delivered : (t : Transaction) (event : Event) → awaits_final t.kind t.state ≡ false → (step t event).acts.deliver ≡ None
@@ -72,7 +72,7 @@ pub awaited_is_delivered : (t : Transaction) (code : ℕ) → awaits_final t.kin
 unfolding step
 awaited_is_delivered t code h low high = grind (arith, nat_tests)
 
--- only an INVITE acknowledges, and only 300 to 699
+-- only an INVITE is acknowledged, and only for 300 to 699
 pub invite_acknowledges : (t : Transaction) (event : Event) → (step t event).acts.ack ≡ true → t.kind ≡ Invite
 unfolding step
 invite_acknowledges t event h = grind (arith, nat_tests)
@@ -90,16 +90,16 @@ end_leads_there t event h = grind (arith, nat_tests)
 
 pub end_comes_from_elsewhere : (t : Transaction) (event : Event) → ends_transaction (step t event).acts ≡ true → t.state ≢ Terminated
 unfolding step
-end_comes_from_elsewhere t event h over = grind (arith, nat_tests)
+end_comes_from_elsewhere t event h at_end = grind (arith, nat_tests)
 
 pub leads_there_ends : (t : Transaction) (event : Event) → t.state ≢ Terminated → (step t event).transaction.state ≡ Terminated → ends_transaction (step t event).acts ≡ true
 unfolding step
 leads_there_ends t event elsewhere there = grind (arith, nat_tests)
 
 -- a retransmission is all that is done, at a tick
-pub sends_alone : (t : Transaction) (event : Event) → sends_request (step t event).acts ≡ true → (step t event).acts ≡ sends
+pub sends_only : (t : Transaction) (event : Event) → sends_request (step t event).acts ≡ true → (step t event).acts ≡ send_acts
 unfolding step
-sends_alone t event h = grind (arith, nat_tests)
+sends_only t event h = grind (arith, nat_tests)
 
 pub sends_at_tick : (t : Transaction) (event : Event) → sends_request (step t event).acts ≡ true → IsTick event
 unfolding step
@@ -112,7 +112,7 @@ pub interval_stays_long : (t : Transaction) (event : Event) → 500 ≤ t.interv
 unfolding step
 interval_stays_long t event long = grind (arith, nat_tests)
 
--- a retransmission comes when the interval is over, and is the last sending from then on
+-- a retransmission comes when the interval has passed, and is the last sending from then on
 pub sending_is_apart : (t : Transaction) (event : Event) → 500 ≤ t.interval → sends_request (step t event).acts ≡ true → t.sent + 500 ≤ (step t event).transaction.moment
 unfolding step
 sending_is_apart t event long h = grind (arith, nat_tests)
@@ -125,10 +125,10 @@ pub sending_stays : (t : Transaction) (event : Event) → sends_request (step t 
 unfolding step
 sending_stays t event h = grind (arith, nat_tests)
 
--- the clock does not go back, and the timer that ends the transaction counts from no later moment
-pub clock_goes_on : (t : Transaction) (event : Event) → t.moment ≤ (step t event).transaction.moment
+-- the time does not decrease, and the ending timer counts from no later time
+pub time_goes_on : (t : Transaction) (event : Event) → t.moment ≤ (step t event).transaction.moment
 unfolding step
-clock_goes_on t event = grind (arith, nat_tests)
+time_goes_on t event = grind (arith, nat_tests)
 
 pub counts_from_before : (t : Transaction) (event : Event) → t.since ≤ t.moment → (step t event).transaction.since ≤ (step t event).transaction.moment
 unfolding step
@@ -147,7 +147,7 @@ pub reliable_never_completes : (t : Transaction) (event : Event) → t.reliable 
 unfolding step
 reliable_never_completes t event reliable fits h = grind (arith, nat_tests)
 
--- a late tick ends what has a timer
+-- a late tick terminates where an ending timer runs
 pub late_tick_ends_invite : (t : Transaction) (moment : ℕ) → t.kind ≡ Invite → t.state ≢ Trying → t.state ≢ Proceeding → t.since ≤ t.moment → t.moment + 32000 ≤ moment → (step t (Tick moment)).transaction.state ≡ Terminated
 unfolding step
 late_tick_ends_invite t moment is_invite fits elsewhere before late = grind (arith, nat_tests)

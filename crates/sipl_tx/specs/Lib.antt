@@ -1,4 +1,4 @@
-pub mod Faults
+pub mod TxFault
 pub mod Timers
 pub mod Table
 pub mod Transaction

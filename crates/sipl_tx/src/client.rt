@@ -1,10 +1,10 @@
 //! One client transaction.
 
 ghost use Rattle.std.specs.Prelude.{◌≡◌, ◌≤◌, ◌^◌, None, Some, OnOk, OnErr, IfOk, IfErr, IsTrue};
-ghost use Rattle.sipl_tx.specs.Transaction.{started};
+ghost use Rattle.sipl_tx.specs.Transaction.{new_transaction};
 ghost use Rattle.sipl_tx.specs.Transaction.Event.{Response, TransportError, Tick};
-ghost use Rattle.sipl_tx.specs.Table.{sends};
-ghost use Rattle.sipl_tx.specs.Machine.{refusal_of, after, is_over, is_due, awaits_final};
+ghost use Rattle.sipl_tx.specs.Table.{send_acts};
+ghost use Rattle.sipl_tx.specs.Machine.{refusal_of, after, is_expired, is_due, awaits_final};
 
 use crate::fault::TxFault;
 use crate::parts::{Acts, Kind, Report, State};
@@ -13,44 +13,53 @@ use std::marker::Model;
 
 /// A client transaction of RFC 3261, section 17.1.
 ///
-/// Moments are milliseconds, at most 2^52. The transaction's own moment is that of its last `start` or `tick`: what
-/// comes between two ticks comes at the first of them. A refused call leaves the transaction as it was, and no call
-/// takes memory.
+/// Times are in milliseconds, at most 2^52. The transaction's own time is that of its last `start`
+/// or `tick`: an event between two ticks counts at the first of them. A refused call leaves the
+/// transaction as it was, and no call allocates.
 #[derive(Debug, Drop)]
 pub struct ClientTx {
     kind: Kind,
     reliable: bool,
     state: State,
-    /// The moment of the last start or tick.
+    /// The time of the last start or tick.
     moment: u64,
-    /// The moment from which timer B, F, D or K counts.
+    /// The time from which timer B, F, D or K counts.
     since: u64,
-    /// The moment from which timer A or E counts: that of the last sending.
+    /// The time from which timer A or E counts: that of the last sending.
     sent: u64,
     /// How long timer A or E runs.
     interval: u64,
 }
 
 impl Model for ClientTx {
-    ghost use Rattle.std.specs.Prelude.{◌≤◌, ◌+◌, ◌^◌};
-    ghost use Rattle.sipl_tx.specs.declared.timers.TheConstants.{T2};
+    ghost use Rattle.sipl_tx.specs.Timers.{AreTimely};
     ghost use Rattle.sipl_tx.specs.Transaction.{Transaction};
 
     ghost Value = { Transaction };
 
-    ghost view = { λ t. record { kind = t.kind; reliable = t.reliable; state = t.state; moment = t.moment; since = t.since; sent = t.sent; interval = t.interval } };
+    ghost view = { λ t.
+        record {
+          kind = t.kind;
+          reliable = t.reliable;
+          state = t.state;
+          moment = t.moment;
+          since = t.since;
+          sent = t.sent;
+          interval = t.interval;
+        } };
 
-    ghost invariant = { λ t. (t.since ≤ t.moment) × (t.sent ≤ t.moment) × (t.moment ≤ 2 ^ 52) × (t.interval ≤ t.sent + T2) };
+    ghost invariant = { λ t. AreTimely t.moment t.since t.sent t.interval };
 }
 
 impl ClientTx {
-    /// Starts a transaction: the request is to be sent.
+    /// Starts a transaction at this time: the request is to be sent (RFC 3261, 17.1.1.2 and
+    /// 17.1.2.2).
     ///
-    /// `reliable` says whether the transport is (TCP, TLS, SCTP) or not (UDP).
+    /// `reliable` says whether the transport is reliable (TCP, TLS, SCTP) or not (UDP).
     pub fn start(kind: Kind, reliable: bool, now: u64) -> (ClientTx, Acts)
         requires { now ≤ 2 ^ 52 }
-        ensures transaction { result.0 ≡ started kind reliable now }
-        ensures acts { result.1 ≡ sends }
+        ensures transaction { result.0 ≡ new_transaction kind reliable now }
+        ensures acts { result.1 ≡ send_acts }
     {
         let state = match kind {
             Kind::Invite => State::Calling,
@@ -69,19 +78,20 @@ impl ClientTx {
             transaction,
             Acts {
                 send: true,
-                ..Acts::QUIET
+                ..Acts::NONE
             },
         )
     }
 
-    /// A response with this status code came.
+    /// Receives a response with this status code (RFC 3261, 17.1.1.2 and 17.1.2.2).
     ///
-    /// A final response goes to the transaction user once; an INVITE acknowledges each of 300 to 699, repeated ones
-    /// too. The seconds of the Retry-After field move no transaction: they are for the layer above.
+    /// A final response goes to the transaction user once; an INVITE acknowledges each of 300 to
+    /// 699, repeated ones too. The seconds of the Retry-After field change no transaction: they are
+    /// for the layer above.
     ///
     /// # Errors
     ///
-    /// X2 if the status code is not within 100 to 699, and then X3 if the transaction is over.
+    /// X2 if the status code is not within 100 to 699, and then X3 if the transaction has ended.
     pub fn receive(&mut self, code: u16, retry_after: Option<u32>) -> Result<Acts, TxFault>
         ensures accepted { OnOk result (refusal_of self.old (Response code) ≡ None) }
         ensures next { OnOk result (self.new ≡ (after self.old (Response code)).transaction) }
@@ -98,20 +108,20 @@ impl ClientTx {
             return Err(TxFault::Ended);
         }
         if self.awaits_final() {
-            return Ok(self.answer(code));
+            return Ok(self.receive_awaited(code));
         }
         let repeated = self.kind == Kind::Invite && self.state == State::Completed && code >= 300;
         Ok(Acts {
             ack: repeated,
-            ..Acts::QUIET
+            ..Acts::NONE
         })
     }
 
-    /// The transport failed, which ends a transaction in any state.
+    /// Ends the transaction, in any state: its transport failed (RFC 3261, 17.1.4).
     ///
     /// # Errors
     ///
-    /// X3 if the transaction is over.
+    /// X3 if the transaction has ended.
     pub fn transport_error(&mut self) -> Result<Acts, TxFault>
         ensures accepted { OnOk result (refusal_of self.old TransportError ≡ None) }
         ensures next { OnOk result (self.new ≡ (after self.old TransportError).transaction) }
@@ -127,18 +137,18 @@ impl ClientTx {
         Ok(Acts {
             report: Some(Report::Broken),
             ended: true,
-            ..Acts::QUIET
+            ..Acts::NONE
         })
     }
 
-    /// The clock shows this moment.
+    /// Moves the clock to this time.
     ///
-    /// The timer that ends the transaction (B, F, D or K) comes first. Else timer A or E has the request sent once,
-    /// however late the tick is, and its next interval counts from here.
+    /// The timer that ends the transaction (B, F, D or K) comes first. Otherwise timer A or E sends
+    /// the request once, however late the tick is, and its next interval counts from this tick.
     ///
     /// # Errors
     ///
-    /// X1 if the moment is before the last one, and then X3 if the transaction is over.
+    /// X1 if the time is before that of the last tick, and then X3 if the transaction has ended.
     pub fn tick(&mut self, now: u64) -> Result<Acts, TxFault>
         requires { now ≤ 2 ^ 52 }
         ensures accepted { OnOk result (refusal_of self.old (Tick now) ≡ None) }
@@ -155,7 +165,7 @@ impl ClientTx {
             return Err(TxFault::Ended);
         }
         self.moment = now;
-        if self.is_over() {
+        if self.is_expired() {
             let report = match self.state {
                 State::Completed => None,
                 _ => Some(Report::Timeout),
@@ -164,7 +174,7 @@ impl ClientTx {
             return Ok(Acts {
                 report,
                 ended: true,
-                ..Acts::QUIET
+                ..Acts::NONE
             });
         }
         if self.is_due() {
@@ -172,28 +182,21 @@ impl ClientTx {
             self.interval = interval_after(self.kind, self.state, self.interval);
             return Ok(Acts {
                 send: true,
-                ..Acts::QUIET
+                ..Acts::NONE
             });
         }
-        Ok(Acts::QUIET)
+        Ok(Acts::NONE)
     }
 
-    /// The state that the transaction is in.
+    /// The state of the transaction (RFC 3261, figures 5 and 6).
     pub fn state(&self) -> State
         ensures { result ≡ self.now.state }
     {
         self.state
     }
 
-    /// The moment of the last `start` or `tick`.
-    pub fn now(&self) -> u64
-        ensures { result ≡ self.now.moment }
-    {
-        self.moment
-    }
-
-    // Whether no final response came yet.
-    fn awaits_final(&self) -> bool
+    /// Whether the transaction awaits a final response: none has come, and it has not ended.
+    pub fn awaits_final(&self) -> bool
         ensures { result ≡ awaits_final self.now.kind self.now.state }
     {
         match (self.kind, self.state) {
@@ -203,8 +206,23 @@ impl ClientTx {
         }
     }
 
-    // Takes a response where no final one came yet.
-    fn answer(&mut self, code: u16) -> Acts
+    /// The machine that the transaction follows.
+    pub fn kind(&self) -> Kind
+        ensures { result ≡ self.now.kind }
+    {
+        self.kind
+    }
+
+    /// The time of the last `start` or `tick`, in milliseconds.
+    pub fn now(&self) -> u64
+        ensures value { result ≡ self.now.moment }
+        ensures limit { result ≤ 2 ^ 52 }
+    {
+        self.moment
+    }
+
+    // Receives a response where no final one has come yet.
+    fn receive_awaited(&mut self, code: u16) -> Acts
         requires { IsTrue (awaits_final self.old.kind self.old.state) }
         ensures next { self.new ≡ (after self.old (Response code)).transaction }
         ensures acts { result ≡ (after self.old (Response code)).acts }
@@ -221,13 +239,13 @@ impl ClientTx {
             ack: self.kind == Kind::Invite && code >= 300,
             deliver: Some(code),
             ended: self.state == State::Terminated,
-            ..Acts::QUIET
+            ..Acts::NONE
         }
     }
 
-    // Whether the timer that ends the transaction is over.
-    fn is_over(&self) -> bool
-        ensures { result ≡ is_over self.now }
+    // Whether the timer that ends the transaction has fired.
+    fn is_expired(&self) -> bool
+        ensures { result ≡ is_expired self.now }
     {
         match ending_length(self.kind, self.state) {
             Some(length) => self.since + length <= self.moment,

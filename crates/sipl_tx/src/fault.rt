@@ -1,5 +1,5 @@
 ghost use Rattle.std.specs.Prelude.{◌≡◌};
-ghost use Rattle.sipl_tx.specs.Faults.{code_of};
+ghost use Rattle.sipl_tx.specs.TxFault.{code_of};
 
 use std::error::Error;
 use std::fmt;
@@ -7,16 +7,16 @@ use std::fmt;
 /// Why a call was refused. A refused call leaves the transaction as it was.
 #[derive(Clone, Copy, Debug, PartialEq, Eq, Hash)]
 pub enum TxFault {
-    /// X1: the moment is before the last one.
+    /// X1: the time is before that of the last tick.
     ClockBack,
     /// X2: the status code is not within 100 to 699.
     BadCode,
-    /// X3: the transaction is over.
+    /// X3: the transaction has ended.
     Ended,
 }
 
 impl TxFault {
-    /// The fault's code, as the programs print it.
+    /// The error's code in replies, such as `X1`.
     pub fn code(self) -> &'static str
         ensures { result.now ≡ code_of self }
     {
@@ -30,15 +30,15 @@ impl TxFault {
 
 impl fmt::Display for TxFault {
     ghost use Rattle.std.specs.Prelude.{Some};
-    ghost use Rattle.sipl_tx.specs.Faults.{message_of};
+    ghost use Rattle.sipl_tx.specs.TxFault.{message_of};
 
     ghost output = { λ fault. Some (message_of fault) };
 
     fn fmt<W: fmt::Write>(&self, f: &mut fmt::Formatter<W>) -> fmt::Result {
         f.write_str(match self {
-            TxFault::ClockBack => "the moment is before the last one",
+            TxFault::ClockBack => "the time is before that of the last tick",
             TxFault::BadCode => "the status code is not within 100 to 699",
-            TxFault::Ended => "the transaction is over",
+            TxFault::Ended => "the transaction has ended",
         })
     }
 }

@@ -1,7 +1,8 @@
-//! The client transactions of SIP (RFC 3261, section 17.1) as a machine that does nothing itself: it is told of the
-//! start, of responses, of failures of the transport and of moments, and says what to do about each.
+//! The client transactions of SIP (RFC 3261, section 17.1) as a state machine without input or
+//! output: the caller reports responses, transport errors and the time, and carries out the acts
+//! that each call returns.
 //!
-//! A moment is a number of milliseconds that the caller hands in, at most 2^52. No call takes memory.
+//! Times are in milliseconds, from any origin, and at most 2^52. No call allocates.
 #![tactic(auto)]
 
 mod client;

@@ -1,4 +1,4 @@
-//! What a transaction is told and what it answers.
+//! The kinds, states and acts of transactions.
 
 /// Which of the two machines of RFC 3261, section 17.1, a transaction is.
 #[derive(Clone, Copy, Debug, PartialEq, Eq, Hash)]
@@ -12,19 +12,19 @@ pub enum Kind {
 /// The states of RFC 3261, figures 5 and 6.
 #[derive(Clone, Copy, Debug, PartialEq, Eq, Hash)]
 pub enum State {
-    /// An INVITE that has no response.
+    /// An INVITE without any response yet.
     Calling,
-    /// Another request that has no response.
+    /// Another request without any response yet.
     Trying,
-    /// A provisional response came.
+    /// A provisional response has come.
     Proceeding,
-    /// A final response came, and may come again.
+    /// A final response has come, and may come again.
     Completed,
-    /// The end: nothing happens any more.
+    /// The transaction has ended.
     Terminated,
 }
 
-/// What a transaction tells its user beside responses.
+/// What a transaction reports to its user beside responses.
 #[derive(Clone, Copy, Debug, PartialEq, Eq, Hash)]
 pub enum Report {
     /// No final response came in time (timers B and F).
@@ -33,7 +33,7 @@ pub enum Report {
     Broken,
 }
 
-/// What is to be done after one call.
+/// The acts that are to be carried out after one call.
 #[derive(Clone, Copy, Debug, PartialEq, Eq, Hash)]
 pub struct Acts {
     /// The request is to be sent.
@@ -42,7 +42,7 @@ pub struct Acts {
     pub ack: bool,
     /// The status code of the response that goes to the transaction user.
     pub deliver: Option<u16>,
-    /// What the transaction user is told beside it.
+    /// What goes to the transaction user beside it.
     pub report: Option<Report>,
     /// This call ended the transaction.
     pub ended: bool,
@@ -50,7 +50,7 @@ pub struct Acts {
 
 impl Acts {
     // Nothing is to be done.
-    pub(crate) const QUIET: Acts = Acts {
+    pub(crate) const NONE: Acts = Acts {
         send: false,
         ack: false,
         deliver: None,

@@ -5,19 +5,20 @@ ghost use Rattle.sipl_tx.specs.Timers.{ending_timer, retransmits, next_interval}
 
 use crate::parts::{Kind, State};
 
-/// The estimate of the round-trip time: the first interval of timers A and E.
+/// T1, the estimate of the round-trip time and the first interval of timers A and E, in
+/// milliseconds.
 pub const T1: u64 = 500;
 
-/// The greatest interval of timer E.
+/// T2, the greatest interval of timer E, in milliseconds.
 pub const T2: u64 = 4_000;
 
-/// How long a message can stay in the network: timer K.
+/// T4, how long a message can stay in the network, and timer K, in milliseconds.
 pub const T4: u64 = 5_000;
 
-/// Timers B and F: 64 times T1, counted from the start.
+/// Timers B and F, in milliseconds: 64 times T1, counted from the start.
 pub const TIMEOUT: u64 = 64 * T1;
 
-/// Timer D, for an unreliable transport: at least 32 seconds.
+/// Timer D for an unreliable transport, in milliseconds: at least 32 seconds.
 pub const TIMER_D: u64 = 32_000;
 
 // How long the timer that ends a transaction in this state runs.

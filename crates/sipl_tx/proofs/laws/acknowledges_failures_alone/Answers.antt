@@ -1,8 +1,0 @@
-use Rattle.sipl_tx.proofs.Steps.{invite_acknowledges, failure_is_acknowledged}
-use Rattle.sipl_tx.proofs.laws.acknowledges_failures_alone.Goals as goal
-
-pub returns-clause-kind : goal.returns-clause-kind
-returns-clause-kind c = invite_acknowledges
-
-pub returns-clause-failure : goal.returns-clause-failure
-returns-clause-failure c = failure_is_acknowledged

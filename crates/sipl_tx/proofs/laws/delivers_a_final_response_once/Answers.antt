@@ -1,9 +1,0 @@
-use Rattle.sipl_tx.proofs.Steps.{awaited_is_delivered}
-use Rattle.sipl_tx.proofs.RunLaws.{ends_at_final}
-use Rattle.sipl_tx.proofs.laws.delivers_a_final_response_once.Goals as goal
-
-pub returns-clause-delivered : goal.returns-clause-delivered
-returns-clause-delivered c = awaited_is_delivered
-
-pub returns-clause-last : goal.returns-clause-last
-returns-clause-last c = ends_at_final
