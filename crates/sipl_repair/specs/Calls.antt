@@ -2,6 +2,7 @@
 use Rattle.std.specs.Prelude.{ℕ, List, [], ◌∷◌, IsTrue}
 use Rattle.sipl_repair.specs.QueueState.{QueueState, has_capacity_for, after_reserve, after_mark, after_lease, after_settle, after_requeue, after_give_back, after_forget}
 
+-- a call of a queue, with its arguments
 pub data Call : Type 0 where
   Reserve : ℕ → Call
   Mark : ℕ → Call
