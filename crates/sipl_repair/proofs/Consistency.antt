@@ -1,4 +1,4 @@
--- Each change of what waits keeps it consistent: no id twice, none both queued and leased, and room for all.
+-- Each change of a queue's state keeps it consistent: no id twice, none both queued and leased, and all within the capacity.
 use Rattle.std.proofs.Common.{◌≡◌, ℕ, ◌+◌, ◌<◌, ◌≤◌, Bool, true, false, cond, not, ◌&&◌, ◌||◌, eqb, ltb, List, [], ◌∷◌, ◌++◌, length, refl, sym, ap, subst, ◌∙◌, arith, inl, inr, ◌⊎◌, true≢false, filter}
 use Rattle.std.specs.List.{list_any, AllByRecursion, IsDistinct}
 use Rattle.std.specs.Ordering.{nat_cmp}
@@ -11,21 +11,21 @@ use Rattle.std.proofs.lemmas.List.Folds.{list_any-append}
 use Rattle.std.proofs.lemmas.List.Filters.{length-filter_both}
 use Rattle.std.proofs.lemmas.Map.Keys.{IsDistinct-cons, IsDistinct-tail, IsDistinct-push}
 use Rattle.std.proofs.lemmas.Map.Views.{exact_unsigned_eq}
-use Rattle.sipl_repair.specs.Queue.{waiting_of, IsSound}
-use Rattle.sipl_repair.specs.Waiting.{Waiting, IsConsistent, is_queued, is_leased, has_room_for, after_mark, nothing_waits}
+use Rattle.sipl_repair.specs.Queue.{state_of, IsValidQueue}
+use Rattle.sipl_repair.specs.QueueState.{QueueState, IsConsistent, is_queued, is_leased, has_capacity_for, after_mark, empty_queue}
 use Rattle.sipl_repair.specs.declared.queue.Queue.TheInside.{Inside}
 use Rattle.sipl_repair.proofs.Members.{NatSet, contains-from_list, contains-insert, contains-remove, len-from_list, len-insert_le, len-remove_le, len-remove_lt, head_is_new, passes_second}
 
--- these ids queued, these leased, and this room
-abbrev pub waits : List ℕ → NatSet → ℕ → Waiting
-waits ks s r = record { queued = ks; leased = s; room = r }
+-- the state with these ids queued, these leased, and this capacity
+abbrev pub queue_of : List ℕ → NatSet → ℕ → QueueState
+queue_of ks s r = record { queued = ks; leased = s; capacity = r }
 
 -- an id that is not in a list differs from each in it
 pub differs_from_each : (k : ℕ) (xs : List ℕ) → list_any (eqb k) xs ≡ false → AllByRecursion (λ y. eqb k y ≡ false) xs
 differs_from_each k [] h = tt
 differs_from_each k (x ∷ xs) h = let parts = or_parts _ _ h in (parts.0, differs_from_each k xs parts.1)
 
--- a leased id is no new one, so it is not among the queued with the new one
+-- a leased id differs from one that is not leased
 apart_from_new : (s : NatSet) (k id : ℕ) → set.contains s k ≡ false → set.contains s id ≡ true → eqb id k ≡ false
 apart_from_new s k id idle leased =
     elim (eqb id k) as (λ b. eqb id k ≡ b → b ≡ false) [
@@ -37,7 +37,7 @@ apart_from_new s k id idle leased =
 still_leased : (s : NatSet) (k id : ℕ) → set.contains (set.remove s k) id ≡ true → set.contains s id ≡ true
 still_leased s k id leased = (and_parts _ _ (sym (contains-remove s k id) ∙ leased)).1
 
--- what is nowhere in a list is nowhere in a filter of it
+-- what is not in a list is not in a filter of it
 list_any-filter_none : (t p : ℕ → Bool) (xs : List ℕ) → list_any t xs ≡ false → list_any t (filter p xs) ≡ false
 list_any-filter_none t p [] h = refl
 list_any-filter_none t p (x ∷ xs) h =
@@ -60,8 +60,8 @@ length-filter_le : (p : ℕ → Bool) (xs : List ℕ) → length (filter p xs) �
 length-filter_le p xs = omega (arith, length-filter_both p (λ x. not (p x)) (λ _. refl) xs)
 
 module _ (ks : List ℕ) (s : NatSet) (r k : ℕ) where
-  -- an idle id that goes to the end
-  pub IsConsistent-push : IsConsistent (waits ks s r) → list_any (eqb k) ks ≡ false → set.contains s k ≡ false → length ks + set.len s < r → IsConsistent (waits (ks ++ k ∷ []) s r)
+  -- an idle id is appended
+  pub IsConsistent-push : IsConsistent (queue_of ks s r) → list_any (eqb k) ks ≡ false → set.contains s k ≡ false → length ks + set.len s < r → IsConsistent (queue_of (ks ++ k ∷ []) s r)
   IsConsistent-push h new idle fits =
       record {
         distinct = IsDistinct-push nat_eq_equiv ks k h.distinct new;
@@ -69,8 +69,8 @@ module _ (ks : List ℕ) (s : NatSet) (r k : ℕ) where
         within = omega (arith, length_push ks k);
       }
 
-  -- an idle id that goes to the front
-  pub IsConsistent-cons : IsConsistent (waits ks s r) → list_any (eqb k) ks ≡ false → set.contains s k ≡ false → length ks + set.len s < r → IsConsistent (waits (k ∷ ks) s r)
+  -- an idle id is prepended
+  pub IsConsistent-cons : IsConsistent (queue_of ks s r) → list_any (eqb k) ks ≡ false → set.contains s k ≡ false → length ks + set.len s < r → IsConsistent (queue_of (k ∷ ks) s r)
   IsConsistent-cons h new idle fits =
       record {
         distinct = IsDistinct-cons eqb k ks (differs_from_each k ks new) h.distinct;
@@ -78,8 +78,8 @@ module _ (ks : List ℕ) (s : NatSet) (r k : ℕ) where
         within = omega arith;
       }
 
-  -- the first queued id, once it is leased
-  pub IsConsistent-lease : IsConsistent (waits (k ∷ ks) s r) → IsConsistent (waits ks (set.insert s k) r)
+  -- the first queued id is leased
+  pub IsConsistent-lease : IsConsistent (queue_of (k ∷ ks) s r) → IsConsistent (queue_of ks (set.insert s k) r)
   IsConsistent-lease h =
       record {
         distinct = IsDistinct-tail eqb k ks h.distinct;
@@ -91,8 +91,8 @@ module _ (ks : List ℕ) (s : NatSet) (r k : ℕ) where
       by id (inl e) = ap (λ x. list_any (eqb x) ks) (exact_unsigned_eq id k e) ∙ head_is_new k ks h.distinct
       by id (inr leased) = (or_parts _ _ (h.apart id leased)).1
 
-  -- an id that is leased no longer
-  pub IsConsistent-remove : IsConsistent (waits ks s r) → IsConsistent (waits ks (set.remove s k) r)
+  -- an id is no longer leased
+  pub IsConsistent-remove : IsConsistent (queue_of ks s r) → IsConsistent (queue_of ks (set.remove s k) r)
   IsConsistent-remove h =
       record {
         distinct = h.distinct;
@@ -100,8 +100,8 @@ module _ (ks : List ℕ) (s : NatSet) (r k : ℕ) where
         within = omega (arith, len-remove_le s k);
       }
 
-  -- an id that is neither queued nor leased any longer
-  pub IsConsistent-without : IsConsistent (waits ks s r) → IsConsistent (waits (filter (λ q. not (eqb q k)) ks) (set.remove s k) r)
+  -- an id is no longer queued, and no longer leased
+  pub IsConsistent-without : IsConsistent (queue_of ks s r) → IsConsistent (queue_of (filter (λ q. not (eqb q k)) ks) (set.remove s k) r)
   IsConsistent-without h =
       record {
         distinct = IsDistinct-filter (λ q. not (eqb q k)) ks h.distinct;
@@ -113,14 +113,14 @@ module _ (ks : List ℕ) (s : NatSet) (r k : ℕ) where
 not_removed : (s : NatSet) (k : ℕ) → set.contains (set.remove s k) k ≡ false
 not_removed s k = contains-remove s k k ∙ ap (λ b. not b && set.contains s k) (eq-eqb k k refl)
 
-module _ (ks : List ℕ) (s : NatSet) (r k : ℕ) (h : IsConsistent (waits ks s r)) (leased : set.contains s k ≡ true) where
-  -- a leased id that is queued again, at the end or at the front
-  pub IsConsistent-requeue : IsConsistent (waits (ks ++ k ∷ []) (set.remove s k) r)
+module _ (ks : List ℕ) (s : NatSet) (r k : ℕ) (h : IsConsistent (queue_of ks s r)) (leased : set.contains s k ≡ true) where
+  -- a leased id is appended to the queued ones, or prepended
+  pub IsConsistent-requeue : IsConsistent (queue_of (ks ++ k ∷ []) (set.remove s k) r)
   IsConsistent-requeue =
       IsConsistent-push ks (set.remove s k) r k (IsConsistent-remove ks s r k h) (h.apart k leased) (not_removed s k)
       (omega (arith, h.within, len-remove_lt s k leased))
 
-  pub IsConsistent-give_back : IsConsistent (waits (k ∷ ks) (set.remove s k) r)
+  pub IsConsistent-give_back : IsConsistent (queue_of (k ∷ ks) (set.remove s k) r)
   IsConsistent-give_back =
       IsConsistent-cons ks (set.remove s k) r k (IsConsistent-remove ks s r k h) (h.apart k leased) (not_removed s k)
       (omega (arith, h.within, len-remove_lt s k leased))
@@ -129,62 +129,62 @@ IsDistinct-nil : IsDistinct eqb []
 unfolding IsDistinct
 IsDistinct-nil = tt
 
--- to filter out what is nowhere in a list leaves the list
+-- a filter that drops what is not in a list leaves the list
 pub filter-absent : (ks : List ℕ) (k : ℕ) → list_any (eqb k) ks ≡ false → filter (λ q. not (eqb q k)) ks ≡ ks
 filter-absent [] k absent = refl
 filter-absent (x ∷ ks) k absent =
     let parts = or_parts _ _ absent in
     cond-true _ _ _ (ap not (nat_eq_equiv.symm x k ∙ parts.0)) ∙ ap (λ xs. x ∷ xs) (filter-absent ks k parts.1)
 
--- nothing is consistent
-pub IsConsistent-nothing : IsConsistent nothing_waits
-IsConsistent-nothing = record { distinct = IsDistinct-nil; apart = λ id leased. refl; within = omega (arith, set.len-empty nat_cmp) }
+-- a new queue is consistent
+pub IsConsistent-empty : IsConsistent empty_queue
+IsConsistent-empty = record { distinct = IsDistinct-nil; apart = λ id leased. refl; within = omega (arith, set.len-empty nat_cmp) }
 
--- the fields of a queue that shows these ids, with room in each part
-pub sound : (q : Inside) (ks : List ℕ) (s : NatSet) → q.order.items ≡ ks → q.leased.members ≡ s → IsConsistent (waits ks s q.room) → q.queued.members ≡ set.from_list ks
-    → q.room ≤ deque_capacity q.order → q.room ≤ q.queued.room → q.room ≤ q.leased.room → IsSound q
-sound q ks s in_order leased h same_ids order_room queued_room leased_room =
+-- the fields of a queue with these ids are valid, where each part has the capacity
+pub sound : (q : Inside) (ks : List ℕ) (s : NatSet) → q.order.items ≡ ks → q.leased.members ≡ s → IsConsistent (queue_of ks s q.capacity) → q.queued.members ≡ set.from_list ks
+    → q.capacity ≤ deque_capacity q.order → q.capacity ≤ q.queued.capacity → q.capacity ≤ q.leased.capacity → IsValidQueue q
+sound q ks s in_order leased h same_ids order_capacity queued_capacity leased_capacity =
     record {
-      consistent = subst (λ xs. IsConsistent (waits xs q.leased.members q.room)) (sym in_order) (subst (λ t. IsConsistent (waits ks t q.room)) (sym leased) h);
+      consistent = subst (λ xs. IsConsistent (queue_of xs q.leased.members q.capacity)) (sym in_order) (subst (λ t. IsConsistent (queue_of ks t q.capacity)) (sym leased) h);
       same_ids = same_ids ∙ ap set.from_list (sym in_order);
-      order_room = order_room;
-      queued_room = queued_room;
-      leased_room = leased_room;
+      order_capacity = order_capacity;
+      queued_capacity = queued_capacity;
+      leased_capacity = leased_capacity;
     }
 
--- what the set of queued ids has, and how many
-pub contains-queued : (q : Inside) → IsSound q → (id : ℕ) → set.contains q.queued.members id ≡ list_any (eqb id) q.order.items
+-- the members of the set of queued ids, and how many
+pub contains-queued : (q : Inside) → IsValidQueue q → (id : ℕ) → set.contains q.queued.members id ≡ list_any (eqb id) q.order.items
 contains-queued q h id = ap (λ s. set.contains s id) h.same_ids ∙ contains-from_list _ id
 
-pub len-queued : (q : Inside) → IsSound q → set.len q.queued.members ≡ length q.order.items
+pub len-queued : (q : Inside) → IsValidQueue q → set.len q.queued.members ≡ length q.order.items
 len-queued q h = ap set.len h.same_ids ∙ len-from_list _ h.consistent.distinct
 
--- where the queued ids leave room, the set of queued ids takes one more
-pub may_queue : (q : Inside) → IsSound q → (id : ℕ) → length q.order.items < q.room → (set.contains q.queued.members id || ltb (set.len q.queued.members) q.queued.room) ≡ true
+-- where the queued ids are below the capacity, the set of queued ids has space for one more
+pub may_queue : (q : Inside) → IsValidQueue q → (id : ℕ) → length q.order.items < q.capacity → (set.contains q.queued.members id || ltb (set.len q.queued.members) q.queued.capacity) ≡ true
 may_queue q h id less =
-    let below : set.len q.queued.members < q.queued.room = omega (arith, len-queued q h, h.queued_room) in
+    let below : set.len q.queued.members < q.queued.capacity = omega (arith, len-queued q h, h.queued_capacity) in
     or_right _ _ (lt-ltb _ _ below)
 
-module _ (q : Inside) (w : Waiting) (id : ℕ) (h : IsSound q) (shown : waiting_of q ≡ w) (may : has_room_for w id ≡ true) (idle : set.contains q.leased.members id ≡ false) where
-  -- a mark of an idle id finds room for one more
-  pub mark_fits : list_any (eqb id) q.order.items ≡ false → length q.order.items + set.len q.leased.members < q.room
-  mark_fits absent = ltb-true _ _ (passes_second _ _ (or_from _ _ absent idle) (ap (λ v. has_room_for v id) shown ∙ may))
+module _ (q : Inside) (w : QueueState) (id : ℕ) (h : IsValidQueue q) (shown : state_of q ≡ w) (may : has_capacity_for w id ≡ true) (idle : set.contains q.leased.members id ≡ false) where
+  -- a mark of an idle id is within the capacity
+  pub mark_fits : list_any (eqb id) q.order.items ≡ false → length q.order.items + set.len q.leased.members < q.capacity
+  mark_fits absent = ltb-true _ _ (passes_second _ _ (or_from _ _ absent idle) (ap (λ v. has_capacity_for v id) shown ∙ may))
 
-  -- and so does the set of queued ids, if it does not have the id
-  pub may_mark : (set.contains q.queued.members id || ltb (set.len q.queued.members) q.queued.room) ≡ true
+  -- the set of queued ids has space for it
+  pub may_mark : (set.contains q.queued.members id || ltb (set.len q.queued.members) q.queued.capacity) ≡ true
   may_mark =
       elim (cases_Bool (list_any (eqb id) q.order.items)) [
         | inl there ↦ or_left _ _ (contains-queued q h id ∙ there)
         | inr absent ↦ let fits = mark_fits absent in may_queue q h id (omega arith)
       ]
 
--- a mark of an id that is neither queued nor leased, and of one that is queued
-pub after_mark-idle : (w : Waiting) (id : ℕ) → is_queued w id ≡ false → is_leased w id ≡ false → after_mark w id ≡ record w { queued = w.queued ++ id ∷ [] }
+-- a mark of an idle id, and of a queued one
+pub after_mark-idle : (w : QueueState) (id : ℕ) → is_queued w id ≡ false → is_leased w id ≡ false → after_mark w id ≡ record w { queued = w.queued ++ id ∷ [] }
 after_mark-idle w id absent idle = cond-false _ _ _ (or_from _ _ absent idle)
 
-pub after_mark-queued : (w : Waiting) (id : ℕ) → is_queued w id ≡ true → after_mark w id ≡ w
+pub after_mark-queued : (w : QueueState) (id : ℕ) → is_queued w id ≡ true → after_mark w id ≡ w
 after_mark-queued w id there = cond-true _ _ _ (or_left _ _ there)
 
--- a leased id that is queued again finds room, since it had it
-pub returned_fits : (q : Inside) → IsSound q → (id : ℕ) → set.contains q.leased.members id ≡ true → length q.order.items < q.room
+-- a leased id is within the capacity when it is queued again
+pub returned_fits : (q : Inside) → IsValidQueue q → (id : ℕ) → set.contains q.leased.members id ≡ true → length q.order.items < q.capacity
 returned_fits q h id leased = omega (arith, h.consistent.within, len-remove_lt q.leased.members id leased)

@@ -1,4 +1,4 @@
--- The set of a list of numbers: its members, its size, and what a change of the list makes of it.
+-- The set of a list of numbers: its members, its size, and the set after a change of the list.
 use Rattle.std.proofs.Common.{◌≡◌, ℕ, ◌+◌, ◌-◌, Bool, true, false, cond, not, ◌&&◌, ◌||◌, eqb, List, [], ◌∷◌, ◌++◌, ◌<◌, ◌≤◌, ltb, take, length, refl, sym, ap, ◌∙◌, arith, add-one, true≢false}
 use Rattle.std.specs.List.{list_any, AllByRecursion, IsDistinct, filter}
 use Rattle.std.specs.List.Sorted.{IsPermutation}
@@ -38,7 +38,7 @@ pub from_list-IsPermutation : (xs ys : List ℕ) → IsPermutation xs ys → set
 from_list-IsPermutation xs ys moved =
     same_members _ _ (λ q. contains-from_list xs q ∙ list_any-IsPermutation (eqb q) xs ys moved ∙ sym (contains-from_list ys q))
 
--- a new member that goes again leaves the set
+-- a new member that is removed again leaves the set
 pub remove-insert : (s : NatSet) (x : ℕ) → set.contains s x ≡ false → set.remove (set.insert s x) x ≡ s
 remove-insert s x none = same_members _ _ (λ q. contains-remove _ x q ∙ ap (λ b. not (eqb q x) && b) (contains-insert s x q) ∙ back q)
   where
@@ -66,14 +66,14 @@ len-from_list (k ∷ ks) apart =
     ∙ cond-false _ _ _ absent
     ∙ ap (λ n. n + 1) (len-from_list ks (IsDistinct-tail eqb k ks apart)) ∙ add-one _
 
--- what is filtered out of a list goes out of its set
+-- what is filtered out of a list is removed from its set
 pub from_list-without : (xs : List ℕ) (x : ℕ) → set.from_list {R = nat_cmp} (filter (λ y. not (eqb y x)) xs) ≡ set.remove (set.from_list xs) x
 from_list-without xs x = same_members _ _ (λ q.
     contains-from_list _ q
     ∙ any-filter_same (eqb q) (λ y. not (eqb y x)) (not (eqb q x)) (λ k e. ap (λ y. not (eqb y x)) (sym (exact_unsigned_eq q k e))) xs
     ∙ sym (contains-remove _ x q ∙ ap (λ b. not (eqb q x) && b) (contains-from_list xs q)))
 
--- to insert a member, or to remove what is none, changes nothing
+-- to insert a member, or to remove what is not one, changes nothing
 pub insert_present : (s : NatSet) (x : ℕ) → set.contains s x ≡ true → set.insert s x ≡ s
 insert_present s x there = same_members _ _ (λ q. contains-insert s x q ∙ same q)
   where
@@ -105,28 +105,28 @@ remove-from_list xs ys x moved apart =
     sym (remove-insert _ x (contains-from_list ys x ∙ head_is_new x ys still_apart))
     ∙ ap (λ s. set.remove s x) (sym (from_list-IsPermutation xs (x ∷ ys) moved))
 
--- what a set of ids made of a list has
-pub contains-ids : (s : Ids) (ks : List ℕ) (room q : ℕ) → record { members = set.from_list ks; room = room } ≡ s → set.contains s.members q ≡ list_any (eqb q) ks
-contains-ids s ks room q made = ap (λ t. set.contains t.members q) (sym made) ∙ contains-from_list ks q
+-- the members of a set of ids made from a list
+pub contains-ids : (s : Ids) (ks : List ℕ) (capacity q : ℕ) → record { members = set.from_list ks; capacity = capacity } ≡ s → set.contains s.members q ≡ list_any (eqb q) ks
+contains-ids s ks capacity q made = ap (λ t. set.contains t.members q) (sym made) ∙ contains-from_list ks q
 
-pub len-ids : (s : Ids) (ks : List ℕ) (room : ℕ) → record { members = set.from_list ks; room = room } ≡ s → IsDistinct eqb ks → set.len s.members ≡ length ks
-len-ids s ks room made apart = ap (λ t. set.len t.members) (sym made) ∙ len-from_list ks apart
+pub len-ids : (s : Ids) (ks : List ℕ) (capacity : ℕ) → record { members = set.from_list ks; capacity = capacity } ≡ s → IsDistinct eqb ks → set.len s.members ≡ length ks
+len-ids s ks capacity made apart = ap (λ t. set.len t.members) (sym made) ∙ len-from_list ks apart
 
 -- the second of two tests passes where the first fails and one passes
 pub passes_second : (a b : Bool) → a ≡ false → (a || b) ≡ true → b ≡ true
 passes_second true b e h = absurd (true≢false e)
 passes_second false b e h = h
 
--- an id that is no member and may be inserted leaves room for one more among the first of the table
-pub room_below : (s : Ids) (ks : List ℕ) (k room q : ℕ) → record { members = set.from_list (take k ks); room = room } ≡ s → IsDistinct eqb ks → k ≤ length ks
-    → list_any (eqb q) (take k ks) ≡ false → (set.contains s.members q || ltb (set.len s.members) s.room) ≡ true → k < room
-room_below s ks k room q made apart within absent may =
-    let less = ltb-true _ _ (passes_second _ _ (contains-ids s (take k ks) room q made ∙ absent) may) in
-    let size = len-ids s (take k ks) room made (distinct-take nat_eq_equiv k ks apart) in
-    let same_room = ap (λ t. t.room) made in
+-- where an id that is not a member may be inserted, the members are below the capacity
+pub is_below_capacity : (s : Ids) (ks : List ℕ) (k capacity q : ℕ) → record { members = set.from_list (take k ks); capacity = capacity } ≡ s → IsDistinct eqb ks → k ≤ length ks
+    → list_any (eqb q) (take k ks) ≡ false → (set.contains s.members q || ltb (set.len s.members) s.capacity) ≡ true → k < capacity
+is_below_capacity s ks k capacity q made apart within absent may =
+    let less = ltb-true _ _ (passes_second _ _ (contains-ids s (take k ks) capacity q made ∙ absent) may) in
+    let size = len-ids s (take k ks) capacity made (distinct-take nat_eq_equiv k ks apart) in
+    let same_capacity = ap (λ t. t.capacity) made in
     omega (arith, length-take-le k ks within)
 
--- how an insert and a removal move the size
+-- the size after an insert and after a removal
 pub len-insert_le : (s : NatSet) (k : ℕ) → set.len (set.insert s k) ≤ set.len s + 1
 len-insert_le s k =
     let le : cond (set.contains s k) (set.len s) (set.len s + 1) ≤ set.len s + 1 = cond_both (set.contains s k) (set.len s) (set.len s + 1) (λ n. n ≤ set.len s + 1) (λ _. omega arith) (λ _. omega arith) in

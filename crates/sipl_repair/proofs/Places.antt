@@ -1,4 +1,4 @@
--- A list of distinct numbers whose first places are taken: what stands among them, and what an exchange does.
+-- A list of distinct numbers of which the first ones are members: what is among them, and what a swap changes.
 use Rattle.std.proofs.Common.{◌≡◌, ℕ, ◌+◌, ◌-◌, ◌<◌, ◌≤◌, Bool, false, eqb, ltb, List, [], ◌∷◌, ◌++◌, length, get_or, set, take, drop, slice_get, Some, sym, ap, subst, ◌∙◌, arith, position, inl, inr}
 use Rattle.std.specs.List.{list_any, swap, swap_remove}
 use Rattle.std.specs.List.Sorted.{IsPermutation}
@@ -12,7 +12,7 @@ use Rattle.std.proofs.lemmas.List.Sorted.{IsPermutation-swap_remove}
 use Rattle.std.proofs.lemmas.Map.Views.{exact_unsigned_eq}
 use Rattle.std.proofs.lemmas.Option.{slice_get-get_or, slice_get_within, get_or_from_slice_get}
 
--- the first place of a number is among the first k exactly if the number stands there
+-- the first place of a number is among the first k exactly if the number is there
 pub list_any-take_at : (p : ℕ → Bool) (xs : List ℕ) (i k : ℕ) → position p xs ≡ Some i → k ≤ length xs → ltb i k ≡ list_any p (take k xs)
 list_any-take_at p xs i k at within =
     let size = length-take-le k xs within in
@@ -30,18 +30,18 @@ pub list_any-take_absent : (p : ℕ → Bool) (xs : List ℕ) (k : ℕ) → list
 list_any-take_absent p xs k none =
     (or_parts _ _ (sym (list_any-append p (take k xs) (drop k xs)) ∙ ap (list_any p) (take-append-drop k xs) ∙ none)).0
 
--- what stands at the first place of a number is the number
+-- the element at the first place of a number is the number
 pub slice_get-position : (xs : List ℕ) (q i : ℕ) → position (eqb q) xs ≡ Some i → slice_get xs i ≡ Some q
 slice_get-position xs q i at =
     let here = position-Some (eqb q) xs i q at in
     slice_get-get_or xs i q here.0 ∙ ap Some (sym (exact_unsigned_eq q (get_or xs i q) here.1))
 
--- the exchange of two places, written out
+-- the swap of two places, written out
 swapped : (xs : List ℕ) (i k x : ℕ) → slice_get xs i ≡ Some x → k < length xs → swap xs i k ≡ set (set xs i (get_or xs k x)) k x
 swapped xs i k x at within =
     sym (swap_is xs i k x (slice_get_within xs i x at) within) ∙ ap (set (set xs i (get_or xs k x)) k) (get_or_from_slice_get xs i x x at)
 
--- an element from k on that is exchanged with the one at k joins the first k
+-- an element from k on that is swapped with the one at k joins the first k
 pub take-swap_in : (xs : List ℕ) (i k x : ℕ) → slice_get xs i ≡ Some x → k ≤ i → take (k + 1) (swap xs i k) ≡ take k xs ++ x ∷ []
 take-swap_in xs i k x at le =
     let i_lt = slice_get_within xs i x at in
@@ -49,7 +49,7 @@ take-swap_in xs i k x at le =
     ∙ take_more_set (set xs i (get_or xs k x)) k x (omega (arith, length-set xs i (get_or xs k x)))
     ∙ ap (λ ys. ys ++ x ∷ []) (take-set-le k xs i _ le)
 
--- an element that is pushed stands at the end
+-- an element that is pushed is at the end
 pub slice_get-push : (xs : List ℕ) (x i : ℕ) → i ≡ length xs → slice_get (xs ++ x ∷ []) i ≡ Some x
 slice_get-push xs x i end =
     slice_get-get_or (xs ++ x ∷ []) i x (omega (arith, length_push xs x)) ∙ ap Some (get_or_push xs x x i (sym end))
@@ -68,7 +68,7 @@ swap_remove-take xs i k x at le within =
     ∙ sym (take-set (set xs i (get_or xs k x)) k x)
     ∙ ap (take k) (sym (swapped xs i k x at within))
 
--- an element before k that is exchanged with the one at k is among the first k no longer, and the others are
+-- an element before k that is swapped with the one at k is no longer among the first k, and the others are
 pub IsPermutation-swap_out : (xs : List ℕ) (i k x : ℕ) → slice_get xs i ≡ Some x → i ≤ k → k < length xs → IsPermutation (take (k + 1) xs) (x ∷ take k (swap xs i k))
 IsPermutation-swap_out xs i k x at le within =
     let size = length-take-le (k + 1) xs (omega arith) in

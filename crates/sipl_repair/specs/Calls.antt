@@ -1,7 +1,8 @@
--- The calls of a queue, one after another.
+-- The calls of a queue, and the state after a list of them.
 use Rattle.std.specs.Prelude.{ℕ, List, [], ◌∷◌, IsTrue}
-use Rattle.sipl_repair.specs.Waiting.{Waiting, has_room_for, after_reserve, after_mark, after_lease, after_settle, after_requeue, after_give_back, after_forget}
+use Rattle.sipl_repair.specs.QueueState.{QueueState, has_capacity_for, after_reserve, after_mark, after_lease, after_settle, after_requeue, after_give_back, after_forget}
 
+-- a call of a queue, with its arguments
 pub data Call : Type 0 where
   Reserve : ℕ → Call
   Mark : ℕ → Call
@@ -11,32 +12,32 @@ pub data Call : Type 0 where
   GiveBack : ℕ → Call
   Forget : ℕ → Call
 
--- what waits after a call
-abbrev pub after_call : Waiting → Call → Waiting
-after_call w (Reserve n) = after_reserve w n
-after_call w (Mark id) = after_mark w id
-after_call w Lease = after_lease w
-after_call w (Settle id) = after_settle w id
-after_call w (Requeue id) = after_requeue w id
-after_call w (GiveBack id) = after_give_back w id
-after_call w (Forget id) = after_forget w id
+-- the state after a call
+abbrev pub after_call : QueueState → Call → QueueState
+after_call q (Reserve n) = after_reserve q n
+after_call q (Mark id) = after_mark q id
+after_call q Lease = after_lease q
+after_call q (Settle id) = after_settle q id
+after_call q (Requeue id) = after_requeue q id
+after_call q (GiveBack id) = after_give_back q id
+after_call q (Forget id) = after_forget q id
 
--- what waits after the calls in turn
-abbrev pub after_calls : Waiting → List Call → Waiting
-after_calls w [] = w
-after_calls w (call ∷ calls) = after_calls (after_call w call) calls
+-- the state after a list of calls
+abbrev pub after_calls : QueueState → List Call → QueueState
+after_calls q [] = q
+after_calls q (call ∷ calls) = after_calls (after_call q call) calls
 
--- a mark needs room, and every other call may be made
-abbrev pub IsAllowed : Waiting → Call → Type 0
-IsAllowed w (Reserve n) = Unit {0}
-IsAllowed w (Mark id) = IsTrue (has_room_for w id)
-IsAllowed w Lease = Unit {0}
-IsAllowed w (Settle id) = Unit {0}
-IsAllowed w (Requeue id) = Unit {0}
-IsAllowed w (GiveBack id) = Unit {0}
-IsAllowed w (Forget id) = Unit {0}
+-- a mark needs capacity for its id, and every other call is always allowed
+abbrev pub IsAllowed : QueueState → Call → Type 0
+IsAllowed q (Reserve n) = Unit {0}
+IsAllowed q (Mark id) = IsTrue (has_capacity_for q id)
+IsAllowed q Lease = Unit {0}
+IsAllowed q (Settle id) = Unit {0}
+IsAllowed q (Requeue id) = Unit {0}
+IsAllowed q (GiveBack id) = Unit {0}
+IsAllowed q (Forget id) = Unit {0}
 
--- each of the calls is allowed where it is made
-abbrev pub AreAllowed : Waiting → List Call → Type 0
-AreAllowed w [] = Unit {0}
-AreAllowed w (call ∷ calls) = IsAllowed w call × AreAllowed (after_call w call) calls
+-- each of the calls is allowed in the state that the earlier ones leave
+abbrev pub AreAllowed : QueueState → List Call → Type 0
+AreAllowed q [] = Unit {0}
+AreAllowed q (call ∷ calls) = IsAllowed q call × AreAllowed (after_call q call) calls

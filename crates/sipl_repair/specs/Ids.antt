@@ -1,30 +1,25 @@
--- A set of ids with its room, and what each change makes of it.
-use Rattle.std.specs.Prelude.{ℕ, max, refl}
-use Rattle.std.specs.Coded.{Coded, code_by, coded×, coded_ℕ}
+-- A set of ids with its capacity, and the set after each change.
+use Rattle.std.specs.Prelude.{ℕ, max}
 use Rattle.std.specs.FinSet as set
 use Rattle.std.specs.Ordering.{nat_cmp}
 
--- a set of ids, and how many ids it can hold with no allocation
+-- a set of ids, and how many ids it can hold without an allocation
 pub record Ids : Type 0 where
   pub members : set.FinSet nat_cmp
-  pub room : ℕ
+  pub capacity : ℕ
 
-abbrev pub ids_code : Coded Ids
-ids_code =
-    code_by (set.FinSet nat_cmp × ℕ) (coded× (set.code coded_ℕ) coded_ℕ) (λ s. (s.members, s.room)) (λ p. record { members = p.0; room = p.1 }) (λ _. refl)
-
--- no members, and room for none
+-- no members and no capacity
 abbrev pub no_ids : Ids
-no_ids = record { members = set.empty; room = 0 }
+no_ids = record { members = set.empty; capacity = 0 }
 
--- the same members, with room for n at least
-abbrev pub with_room : Ids → ℕ → Ids
-with_room s n = record s { room = max s.room n }
+-- the same members, with capacity for at least n
+abbrev pub with_capacity : Ids → ℕ → Ids
+with_capacity s n = record s { capacity = max s.capacity n }
 
--- one more member, if it is new
+-- the set with an id
 abbrev pub with_id : Ids → ℕ → Ids
 with_id s id = record s { members = set.insert s.members id }
 
--- one member less, if it is there
+-- the set without an id
 abbrev pub without_id : Ids → ℕ → Ids
 without_id s id = record s { members = set.remove s.members id }

@@ -1,5 +1,7 @@
 pub mod Calls
+pub mod Codes
 pub mod IdSet
 pub mod Ids
 pub mod Queue
-pub mod Waiting
+pub mod QueueFault
+pub mod QueueState

@@ -2,9 +2,10 @@ ghost use Rattle.std.specs.Prelude.{◌≡◌, ℕ};
 
 use std::marker::Model;
 
-/// The right to look one entry up again, handed out by `Queue::lease` alone. Contracts see it as the entry's id.
+/// The right to look up one entry again, which only `Queue::lease` returns. Contracts see it as
+/// the entry's id.
 ///
-/// It has to be spent, by `Queue::settle`, `Queue::requeue` or `Queue::give_back`: it can't be dropped.
+/// It must be spent by `Queue::settle`, `Queue::requeue` or `Queue::give_back`: it can't be dropped.
 pub struct Lease {
     id: u64,
 }

@@ -1,9 +1,9 @@
-//! The repair queue: ids of entries that an edit made stale, first in first out, and the leases under which workers
-//! look them up again.
+//! The repair queue: ids of entries whose evidence an edit changed, first in first out, and the
+//! leases under which workers look them up again.
 //!
-//! An id is idle, queued once, or leased. `Queue::mark` queues an idle id, `Queue::lease` hands out the first one, and
-//! the lease is spent by `Queue::settle`, `Queue::requeue` or `Queue::give_back`. Room is made by `Queue::reserve`
-//! alone: no other call takes memory.
+//! An id is idle, queued once, or leased. `Queue::mark` queues an idle id, `Queue::lease` leases
+//! the first one, and the lease is spent by `Queue::settle`, `Queue::requeue` or
+//! `Queue::give_back`. Only `Queue::reserve` allocates.
 #![tactic(auto)]
 
 mod fault;

@@ -7,72 +7,75 @@ use std::alloc::{AllocError, Global};
 use std::collections::VecDeque;
 use std::marker::Model;
 
-/// Ids of entries that wait for repair, first in first out, and beside them the leased ids.
+/// Ids of entries that are to be looked up again, first in first out, and the leased ids.
 ///
-/// An id is idle, queued once, or leased. Queued and leased ids together fit the room that `reserve` made, and no
-/// other call takes memory.
+/// An id is idle, queued once, or leased. The queued and leased ids are within the capacity that
+/// `reserve` makes, and no other call allocates.
 #[derive(Drop)]
 pub struct Queue {
     order: VecDeque<u64>,
     queued: IdSet,
     leased: IdSet,
-    room: usize,
+    capacity: usize,
 }
 
 impl Model for Queue {
-    ghost use Rattle.sipl_repair.specs.Waiting.{Waiting, waiting_code};
+    ghost use Rattle.sipl_repair.specs.QueueState.{QueueState};
 
-    ghost Value = { Waiting };
+    ghost Value = { QueueState };
 
-    ghost coded = { waiting_code };
+    ghost use Rattle.sipl_repair.specs.Codes.{queue_state_code};
 
-    ghost use Rattle.sipl_repair.specs.Queue.{waiting_of, IsSound};
+    ghost coded = { queue_state_code };
 
-    ghost view = { waiting_of };
+    ghost use Rattle.sipl_repair.specs.Queue.{state_of, IsValidQueue};
 
-    ghost invariant = { IsSound };
+    ghost view = { state_of };
+
+    ghost invariant = { IsValidQueue };
 }
 
 impl Queue {
-    ghost use Rattle.sipl_repair.specs.Waiting.{is_queued, is_leased, nothing_waits, first_of, has_room_for, IsConsistent, after_reserve, after_mark, after_lease, after_settle, after_requeue, after_give_back, after_forget};
+    ghost use Rattle.sipl_repair.specs.QueueState.{is_queued, is_leased, empty_queue, first_of, has_capacity_for, IsConsistent, after_reserve, after_mark, after_lease, after_settle, after_requeue, after_give_back, after_forget};
 
-    /// A queue with nothing in it and no room.
+    /// An empty queue with no capacity.
     pub fn new(alloc: Global) -> Self
-        ensures { result ≡ nothing_waits }
+        ensures { result ≡ empty_queue }
     {
         Queue {
             order: VecDeque::new(alloc),
             queued: IdSet::new(alloc),
             leased: IdSet::new(alloc),
-            room: 0,
+            capacity: 0,
         }
     }
 
-    /// Makes room for `room` ids in all, queued and leased ones together. Room is never given back.
-    pub fn reserve(&mut self, room: usize) -> Result<(), AllocError>
-        ensures ok { OnOk result (self.new ≡ after_reserve self.old room) }
+    /// Reserves space for `capacity` ids in all, queued and leased ones together. The capacity
+    /// never shrinks. An allocation failure leaves the queue as it was.
+    pub fn reserve(&mut self, capacity: usize) -> Result<(), AllocError>
+        ensures ok { OnOk result (self.new ≡ after_reserve self.old capacity) }
         ensures err { OnErr result (self.new ≡ self.old) }
-        ensures succeeds { room ≤ self.old.room → IsOk result }
+        ensures succeeds { capacity ≤ self.old.capacity → IsOk result }
     {
-        if self.room < room {
-            let more = room - self.len();
-            self.order.reserve(more)?;
-            self.queued.reserve(room)?;
-            self.leased.reserve(room)?;
-            self.room = room;
+        if self.capacity < capacity {
+            let additional = capacity - self.len();
+            self.order.reserve(additional)?;
+            self.queued.reserve(capacity)?;
+            self.leased.reserve(capacity)?;
+            self.capacity = capacity;
         }
         Ok(())
     }
 
-    /// How many ids there is room for in all.
-    pub fn room(&self) -> usize
-        ensures room { result ≡ self.now.room }
+    /// How many ids, queued and leased ones together, the queue can hold without an allocation.
+    pub fn capacity(&self) -> usize
+        ensures capacity { result ≡ self.now.capacity }
         ensures consistent { IsConsistent self.now }
     {
-        self.room
+        self.capacity
     }
 
-    /// How many ids are queued. Leased ones don't count.
+    /// How many ids are queued. Leased ones are not counted.
     pub fn len(&self) -> usize
         ensures len { result ≡ length self.now.queued }
         ensures consistent { IsConsistent self.now }
@@ -104,17 +107,17 @@ impl Queue {
         self.leased.contains(id)
     }
 
-    /// Whether an id may be marked: it is queued or leased already, or there is room for one more.
-    pub fn has_room_for(&self, id: u64) -> bool
-        ensures room { result ≡ has_room_for self.now id }
+    /// Whether an id may be marked: it is queued or leased already, or there is space for one more.
+    pub fn has_capacity_for(&self, id: u64) -> bool
+        ensures capacity { result ≡ has_capacity_for self.now id }
         ensures consistent { IsConsistent self.now }
     {
-        self.is_queued(id) || self.is_leased(id) || self.len() + self.leased.len() < self.room
+        self.is_queued(id) || self.is_leased(id) || self.len() + self.leased.len() < self.capacity
     }
 
-    /// Puts an idle id at the end. An id that is queued or leased stays as it is.
+    /// Appends an idle id to the queued ones. A queued or leased id stays as it is.
     pub fn mark(&mut self, id: u64)
-        requires { IsTrue (has_room_for self.old id) }
+        requires { IsTrue (has_capacity_for self.old id) }
         ensures { self.new ≡ after_mark self.old id }
     {
         if self.is_leased(id) {
@@ -127,7 +130,7 @@ impl Queue {
 
     /// Leases the first queued id. Q1 where none is queued.
     pub fn lease(&mut self) -> Result<Lease, QueueFault>
-        ensures answer { result ≡ first_of self.old.queued }
+        ensures first { result ≡ first_of self.old.queued }
         ensures after { self.new ≡ after_lease self.old }
     {
         let Some(id) = self.order.pop_front() else {
@@ -138,14 +141,16 @@ impl Queue {
         Ok(Lease::new(id))
     }
 
-    /// Spends a lease whose entry was repaired: its id is idle again. An id that is not leased here stays as it is.
+    /// Spends a lease whose entry was looked up again: its id is idle. An id that is not leased in
+    /// this queue stays as it is.
     pub fn settle(&mut self, lease: Lease)
         ensures { self.new ≡ after_settle self.old lease }
     {
         self.leased.remove(lease.into_id());
     }
 
-    /// Spends a lease and puts its id at the end. An id that is not leased here stays as it is.
+    /// Spends a lease and appends its id to the queued ones. An id that is not leased in this queue
+    /// stays as it is.
     pub fn requeue(&mut self, lease: Lease)
         ensures { self.new ≡ after_requeue self.old lease }
     {
@@ -156,7 +161,8 @@ impl Queue {
         }
     }
 
-    /// Spends a lease and puts its id at the front. An id that is not leased here stays as it is.
+    /// Spends a lease and prepends its id to the queued ones. An id that is not leased in this
+    /// queue stays as it is.
     pub fn give_back(&mut self, lease: Lease)
         ensures { self.new ≡ after_give_back self.old lease }
     {
@@ -167,7 +173,7 @@ impl Queue {
         }
     }
 
-    /// Makes an id idle, wherever it stands. A lease on it then queues it no longer.
+    /// Makes an id idle, whether it is queued or leased. A lease on it then no longer queues it.
     pub fn forget(&mut self, id: u64)
         ensures { self.new ≡ after_forget self.old id }
     {

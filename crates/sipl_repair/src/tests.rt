@@ -5,7 +5,7 @@ use std::test::Fail;
 const MANY: u64 = 65_536;
 
 fn mark(rt: &impl Abort, queue: &mut Queue, id: u64) {
-    assert!(rt; queue.has_room_for(id), "no room for {id}");
+    assert!(rt; queue.has_capacity_for(id), "no capacity for {id}");
     queue.mark(id);
 }
 
@@ -13,8 +13,8 @@ fn next(rt: &impl Abort, queue: &mut Queue) -> Lease {
     queue.lease().expect(rt, "no id is queued")
 }
 
-// The refusal of a lease, or none where an id is queued, which stays so.
-fn refusal(queue: &mut Queue) -> Option<QueueFault> {
+// The fault of a lease, or none where an id is queued, which stays queued.
+fn fault_of_lease(queue: &mut Queue) -> Option<QueueFault> {
     match queue.lease() {
         Ok(lease) => {
             queue.give_back(lease);
@@ -45,12 +45,12 @@ fn leases_each_marked_id_once_and_in_order(rt: HostRuntime) -> Result<(), Fail> 
         assert_eq!(rt; lease.id(), id);
         settle(&mut queue, lease);
     }
-    assert_eq!(rt; refusal(&mut queue), Some(QueueFault::Empty));
+    assert_eq!(rt; fault_of_lease(&mut queue), Some(QueueFault::Empty));
     Ok(())
 }
 
 #[test]
-fn tells_where_an_id_stands(rt: HostRuntime) -> Result<(), Fail> {
+fn reports_queued_leased_and_idle_ids(rt: HostRuntime) -> Result<(), Fail> {
     let mut queue = Queue::new(rt.alloc());
     queue.reserve(1)?;
     mark(&rt, &mut queue, 1);
@@ -67,28 +67,28 @@ fn tells_where_an_id_stands(rt: HostRuntime) -> Result<(), Fail> {
 }
 
 #[test]
-fn tells_its_room(rt: HostRuntime) -> Result<(), Fail> {
+fn reports_its_capacity(rt: HostRuntime) -> Result<(), Fail> {
     let mut queue = Queue::new(rt.alloc());
-    let before = queue.room();
+    let before = queue.capacity();
     queue.reserve(1)?;
-    assert_eq!(rt; [before, queue.room()], [0, 1]);
+    assert_eq!(rt; [before, queue.capacity()], [0, 1]);
     mark(&rt, &mut queue, 1);
     assert_eq!(rt;
-        [queue.has_room_for(1), queue.has_room_for(2)],
+        [queue.has_capacity_for(1), queue.has_capacity_for(2)],
         [true, false]
     );
     Ok(())
 }
 
 #[test]
-fn tells_its_fault_by_code_and_text(rt: HostRuntime) -> Result<(), Fail> {
+fn fault_prints_its_code_and_message(rt: HostRuntime) -> Result<(), Fail> {
     let text = format!(in rt.alloc(); "{} {}", QueueFault::Empty.code(), QueueFault::Empty)?;
     assert_eq!(rt; text.as_str(), "Q1 no id is queued");
     Ok(())
 }
 
 #[test]
-fn puts_a_lease_back_first_or_last(rt: HostRuntime) -> Result<(), Fail> {
+fn give_back_prepends_and_requeue_appends(rt: HostRuntime) -> Result<(), Fail> {
     let mut queue = Queue::new(rt.alloc());
     queue.reserve(3)?;
     for id in [5, 6, 7] {
@@ -109,7 +109,7 @@ fn puts_a_lease_back_first_or_last(rt: HostRuntime) -> Result<(), Fail> {
 }
 
 #[test]
-fn forgets_queued_and_leased_ids(rt: HostRuntime) -> Result<(), Fail> {
+fn forget_makes_queued_and_leased_ids_idle(rt: HostRuntime) -> Result<(), Fail> {
     let mut queue = Queue::new(rt.alloc());
     queue.reserve(4)?;
     for id in [1, 2, 3, 4] {
@@ -134,7 +134,7 @@ fn forgets_queued_and_leased_ids(rt: HostRuntime) -> Result<(), Fail> {
 }
 
 #[test]
-fn leaves_ids_alone_that_a_foreign_lease_names(rt: HostRuntime) -> Result<(), Fail> {
+fn leases_of_another_queue_change_nothing(rt: HostRuntime) -> Result<(), Fail> {
     let mut other = Queue::new(rt.alloc());
     other.reserve(3)?;
     for id in [2, 8, 9] {
@@ -161,9 +161,9 @@ fn leaves_ids_alone_that_a_foreign_lease_names(rt: HostRuntime) -> Result<(), Fa
     Ok(())
 }
 
-// Each round marks other ids, so that places of settled ids are used again.
+// Each round marks other ids, so that the space of settled ids is used again.
 #[test]
-fn goes_round_with_all_the_room_in_use(rt: HostRuntime) -> Result<(), Fail> {
+fn reuses_the_whole_capacity(rt: HostRuntime) -> Result<(), Fail> {
     let mut queue = Queue::new(rt.alloc());
     queue.reserve(65_536)?;
     for round in 0..4 {
@@ -171,14 +171,14 @@ fn goes_round_with_all_the_room_in_use(rt: HostRuntime) -> Result<(), Fail> {
             mark(&rt, &mut queue, round * MANY + id);
         }
         assert_eq!(rt; queue.len(), 65_536);
-        assert!(rt; !queue.has_room_for(10 * MANY));
+        assert!(rt; !queue.has_capacity_for(10 * MANY));
         for id in 0..MANY {
             let lease = next(&rt, &mut queue);
             assert_eq!(rt; lease.id(), round * MANY + id);
             queue.settle(lease);
         }
-        assert_eq!(rt; refusal(&mut queue), Some(QueueFault::Empty));
+        assert_eq!(rt; fault_of_lease(&mut queue), Some(QueueFault::Empty));
     }
-    assert_eq!(rt; queue.room(), 65_536);
+    assert_eq!(rt; queue.capacity(), 65_536);
     Ok(())
 }

@@ -1,5 +1,5 @@
 use Rattle.std.proofs.Common.{ap, ◌∙◌}
-use Rattle.sipl_repair.specs.Waiting.{is_queued}
+use Rattle.sipl_repair.specs.QueueState.{is_queued}
 use Rattle.sipl_repair.proofs.Consistency.{contains-queued}
 use Rattle.sipl_repair.proofs.queue.Queue.is_queued.Goals as goal
 

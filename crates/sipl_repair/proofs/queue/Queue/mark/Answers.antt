@@ -1,9 +1,9 @@
 use Rattle.std.proofs.Common.{refl, sym, ap, ◌∙◌, arith}
 use Rattle.std.specs.FinSet as set
 use Rattle.std.proofs.lemmas.Bool.{not-true, not-false}
-use Rattle.sipl_repair.specs.Waiting.{after_mark, is_leased}
+use Rattle.sipl_repair.specs.QueueState.{after_mark, is_leased}
 use Rattle.sipl_repair.proofs.Members.{from_list-push, insert_present}
-use Rattle.sipl_repair.proofs.Consistency.{waits, sound, contains-queued, may_mark, mark_fits, IsConsistent-push, after_mark-idle, after_mark-queued}
+use Rattle.sipl_repair.proofs.Consistency.{queue_of, sound, contains-queued, may_mark, mark_fits, IsConsistent-push, after_mark-idle, after_mark-queued}
 use Rattle.sipl_repair.proofs.queue.Queue.mark.Goals as goal
 
 pub insert-requires : goal.insert-requires
@@ -24,9 +24,9 @@ invariant_of-self c =
     let absent = sym (contains-queued q h c.args.id) ∙ not-true _ (sym c.if-insert.ensures.added) in
     let fits = mark_fits q _ c.args.id h c.self.view_is c.requires idle absent in
     sound _ _ _ c.push_back_reserved.ensures.items refl
-    (IsConsistent-push q.order.items q.leased.members q.room c.args.id h.consistent absent idle fits)
+    (IsConsistent-push q.order.items q.leased.members q.capacity c.args.id h.consistent absent idle fits)
     (ap (λ s. s.members) c.insert.ensures.after ∙ ap (λ m. set.insert m c.args.id) h.same_ids ∙ sym (from_list-push _ c.args.id))
-    (omega arith) (omega (arith, ap (λ s. s.room) c.insert.ensures.after)) h.leased_room
+    (omega arith) (omega (arith, ap (λ s. s.capacity) c.insert.ensures.after)) h.leased_capacity
 
 pub invariant_of-self-else-insert : goal.invariant_of-self-else-insert
 invariant_of-self-else-insert c =
@@ -34,19 +34,19 @@ invariant_of-self-else-insert c =
     let h = c.self.invariant in
     sound _ _ _ refl refl h.consistent
     (ap (λ s. s.members) c.insert.ensures.after ∙ insert_present _ c.args.id (not-false _ (sym c.if-insert.ensures.added)) ∙ h.same_ids)
-    h.order_room (omega (arith, ap (λ s. s.room) c.insert.ensures.after)) h.leased_room
+    h.order_capacity (omega (arith, ap (λ s. s.capacity) c.insert.ensures.after)) h.leased_capacity
 
 pub returns-then-insert : goal.returns-then-insert
 returns-then-insert c =
     let q = c.self.inside in
     let absent = sym (contains-queued q c.self.invariant c.args.id) ∙ not-true _ (sym c.if-insert.ensures.added) in
-    ap (λ ks. waits ks q.leased.members q.room) c.push_back_reserved.ensures.items
-    ∙ sym (after_mark-idle (waits q.order.items q.leased.members q.room) c.args.id absent (ap (λ w. is_leased w c.args.id) c.self.view_is ∙ sym c.if-is_leased.ensures.leased))
+    ap (λ ks. queue_of ks q.leased.members q.capacity) c.push_back_reserved.ensures.items
+    ∙ sym (after_mark-idle (queue_of q.order.items q.leased.members q.capacity) c.args.id absent (ap (λ w. is_leased w c.args.id) c.self.view_is ∙ sym c.if-is_leased.ensures.leased))
     ∙ ap (λ w. after_mark w c.args.id) c.self.view_is
 
 pub returns-else-insert : goal.returns-else-insert
 returns-else-insert c =
     let q = c.self.inside in
     let there = sym (contains-queued q c.self.invariant c.args.id) ∙ not-false _ (sym c.if-insert.ensures.added) in
-    sym (after_mark-queued (waits q.order.items q.leased.members q.room) c.args.id there)
+    sym (after_mark-queued (queue_of q.order.items q.leased.members q.capacity) c.args.id there)
     ∙ ap (λ w. after_mark w c.args.id) c.self.view_is

@@ -7,5 +7,5 @@ invariant_of-self c =
     let q = c.self.inside in
     let h = c.self.invariant in
     sound _ _ _ refl (ap (λ s. s.members) c.remove.ensures.after)
-    (IsConsistent-remove q.order.items q.leased.members q.room _ h.consistent)
-    h.same_ids h.order_room h.queued_room (omega (arith, ap (λ s. s.room) c.remove.ensures.after))
+    (IsConsistent-remove q.order.items q.leased.members q.capacity _ h.consistent)
+    h.same_ids h.order_capacity h.queued_capacity (omega (arith, ap (λ s. s.capacity) c.remove.ensures.after))

@@ -1,7 +1,7 @@
 use Rattle.std.proofs.Common.{ap, ◌∙◌, eqb}
 use Rattle.std.specs.List.{list_any}
 use Rattle.sipl_repair.proofs.Places.{list_any-take_absent}
-use Rattle.sipl_repair.proofs.id_set.make_place.Goals as goal
+use Rattle.sipl_repair.proofs.id_set.truncate_if_full.Goals as goal
 
 pub returns-then-len-capacity-clause-none_new : goal.returns-then-len-capacity-clause-none_new
 returns-then-len-capacity-clause-none_new c = λ id absent.

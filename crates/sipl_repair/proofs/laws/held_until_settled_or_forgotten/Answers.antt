@@ -1,5 +1,5 @@
 use Rattle.sipl_repair.proofs.Holding.{is_held-after_mark, is_held-after_lease, is_held-after_settle, is_held-after_requeue, is_held-after_give_back, is_held-after_forget}
-use Rattle.sipl_repair.proofs.laws.ids_wait_until_settled_or_forgotten.Goals as goal
+use Rattle.sipl_repair.proofs.laws.held_until_settled_or_forgotten.Goals as goal
 
 pub returns-clause-mark : goal.returns-clause-mark
 returns-clause-mark c = is_held-after_mark
