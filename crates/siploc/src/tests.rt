@@ -1,5 +1,6 @@
+use crate::command::MAX_LINE_LEN;
 use crate::serve::{Ended, MAX_READS, ServeFault, serve, serve_within};
-use crate::session::{LONGEST_LINE, Session};
+use crate::session::Session;
 use crate::tapped::Tapped;
 use crate::testing::{Failing, Paper, Pieces, blank, replies, whole};
 use std::alloc::{AllocError, Global};
@@ -194,14 +195,14 @@ fn each_octet_in_each_place_is_answered(rt: HostRuntime) -> Result<(), Fail> {
 fn long_lines_are_refused_and_skipped(rt: HostRuntime) -> Result<(), Fail> {
     for (count, end, want) in [
         (
-            LONGEST_LINE,
+            MAX_LINE_LEN,
             b"\n".as_slice(),
             b"err K1\nerr U1\n".as_slice(),
         ),
-        (LONGEST_LINE + 1, b"\n", b"err K2\nerr U1\n"),
-        (LONGEST_LINE, b"\r\n", b"err K1\nerr U1\n"),
-        (LONGEST_LINE + 1, b"\r\n", b"err K2\nerr U1\n"),
-        (3 * LONGEST_LINE, b"\r\n", b"err K2\nerr U1\n"),
+        (MAX_LINE_LEN + 1, b"\n", b"err K2\nerr U1\n"),
+        (MAX_LINE_LEN, b"\r\n", b"err K1\nerr U1\n"),
+        (MAX_LINE_LEN + 1, b"\r\n", b"err K2\nerr U1\n"),
+        (3 * MAX_LINE_LEN, b"\r\n", b"err K2\nerr U1\n"),
     ] {
         let input = long_line(rt.alloc(), count, end)?;
         let text = replies(rt.alloc(), &input)?;
@@ -351,7 +352,7 @@ fn quit_reads_no_more(rt: HostRuntime) -> Result<(), Fail> {
     let mut writer = Tapped::new(blank(rt.alloc()));
     let mut session = Session::new(rt.alloc())?;
     let ended = serve(rt.alloc(), &mut reader, &mut writer, &mut session);
-    assert!(rt; ended == Ok(Ended::Quit) && session.is_over() && reader.reads() == 1);
+    assert!(rt; ended == Ok(Ended::Quit) && session.has_ended() && reader.reads() == 1);
     assert!(rt; writer.into_inner().text.as_slice() == b"ok quit\n".as_slice());
     Ok(())
 }
@@ -359,14 +360,23 @@ fn quit_reads_no_more(rt: HostRuntime) -> Result<(), Fail> {
 #[test]
 fn faults_have_words(rt: HostRuntime) -> Result<(), Fail> {
     let faults = [
-        (ServeFault::Read, "read"),
-        (ServeFault::Write, "write"),
-        (ServeFault::TooManyTurns, "turns"),
-        (ServeFault::Memory, "memory"),
+        (ServeFault::Read, "read", "a read failed"),
+        (
+            ServeFault::Write,
+            "write",
+            "a write failed, or wrote nothing",
+        ),
+        (
+            ServeFault::TooManyTurns,
+            "turns",
+            "the session is longer than the reads that are allowed",
+        ),
+        (ServeFault::Memory, "memory", "out of memory"),
     ];
-    for (fault, want) in faults {
+    for (fault, code, message) in faults {
+        assert_eq!(rt; fault.code(), code);
         let text = format!(in rt.alloc(); "{fault}")?;
-        assert!(rt; text.as_str() == want);
+        assert_eq!(rt; text.as_str(), message);
     }
     Ok(())
 }

@@ -1,11 +1,24 @@
--- What a clause tells of how serving went.
-use Rattle.std.specs.Prelude.{ℕ, Bool, true, false, List, Result, Ok, Err, codes}
-use Rattle.siploc.specs.declared.serve.Ended.{Ended}
-use Rattle.siploc.specs.declared.serve.Ended.TheVariants.{Quit, EndOfInput}
+-- The faults of serving: their texts, and what a clause says of one of them.
+use Rattle.std.specs.Prelude.{Bool, true, false, Result, Ok, Err, codes}
+use Rattle.siploc.specs.Lines.{Octets}
 use Rattle.siploc.specs.declared.serve.ServeFault.{ServeFault}
 use Rattle.siploc.specs.declared.serve.ServeFault.TheVariants.{Read, Write, TooManyTurns, Memory}
 
--- the reader failed
+-- what programs write on standard error after `fault `
+abbrev pub code_of : ServeFault → Octets
+code_of Read = codes "read"
+code_of Write = codes "write"
+code_of TooManyTurns = codes "turns"
+code_of Memory = codes "memory"
+
+-- what a fault says to a person
+abbrev pub message_of : ServeFault → Octets
+message_of Read = codes "a read failed"
+message_of Write = codes "a write failed, or wrote nothing"
+message_of TooManyTurns = codes "the session is longer than the reads that are allowed"
+message_of Memory = codes "out of memory"
+
+-- a read failed
 abbrev pub is_read_fault : {T : Type 0} → Result T ServeFault → Bool
 is_read_fault (Ok value) = false
 is_read_fault (Err Read) = true
@@ -13,7 +26,7 @@ is_read_fault (Err Write) = false
 is_read_fault (Err TooManyTurns) = false
 is_read_fault (Err Memory) = false
 
--- the writer failed
+-- a write failed
 abbrev pub is_write_fault : {T : Type 0} → Result T ServeFault → Bool
 is_write_fault (Ok value) = false
 is_write_fault (Err Read) = false
@@ -21,7 +34,7 @@ is_write_fault (Err Write) = true
 is_write_fault (Err TooManyTurns) = false
 is_write_fault (Err Memory) = false
 
--- a fact, where the reader failed
+-- a fact, where a read failed
 abbrev pub OnReadFault : {T : Type 0} → Result T ServeFault → Type 0 → Type 0
 OnReadFault (Ok value) fact = Unit {0}
 OnReadFault (Err Read) fact = fact
@@ -36,16 +49,3 @@ OnTooManyTurns (Err Read) fact = Unit {0}
 OnTooManyTurns (Err Write) fact = Unit {0}
 OnTooManyTurns (Err TooManyTurns) fact = fact
 OnTooManyTurns (Err Memory) fact = Unit {0}
-
--- a fact, where the input has no more
-abbrev pub OnEndOfInput : Result Ended ServeFault → Type 0 → Type 0
-OnEndOfInput (Ok Quit) fact = Unit {0}
-OnEndOfInput (Ok EndOfInput) fact = fact
-OnEndOfInput (Err fault) fact = Unit {0}
-
--- how programs name a fault on standard error
-abbrev pub fault_text : ServeFault → List ℕ
-fault_text Read = codes "read"
-fault_text Write = codes "write"
-fault_text TooManyTurns = codes "turns"
-fault_text Memory = codes "memory"

@@ -1,7 +1,7 @@
 use Rattle.std.proofs.Common.{◌≡◌, ◌+◌, ◌≤◌, ◌++◌, drop, vec_capacity}
 use Rattle.std.specs.Io.{StartsWith}
 use Rattle.siploc.specs.ReplyText.{target_lines}
-use Rattle.siploc.proofs.reply.say_targets.Given as goal
+use Rattle.siploc.proofs.reply.write_targets.Given as goal
 
 -- the lines so far, and those of the targets left, are those of all
 abbrev pub invariant-loop-target : goal.invariant-loop-target
