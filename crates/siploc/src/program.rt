@@ -64,22 +64,22 @@ fn serve_streams<R: Input + Print + AllocGlobal>(rt: &R) -> Result<Ended, ServeF
 #[cfg(test)]
 mod tests {
     use super::*;
-    use crate::process::Process;
+    use crate::tests::process::Process;
     use std::test::Fail;
 
     const USAGE: &[u8] =
         b"usage: siploc run [SETTINGS] | check APEX | world [SETTINGS] | serve [SETTINGS]\n";
 
-    // Whether the process ends with this status, and wrote this on its output and error.
+    // Whether the process ends with this status, and with this on its standard output and error.
     fn ends(process: Process<'_>, status: u8, output: &[u8], errors: &[u8]) -> bool {
-        let ended = start(&process);
+        let ended = start(&process) == ExitCode::from(status);
         let written = process.output.into_inner();
-        let told = process.errors.into_inner();
-        ended == ExitCode::from(status) && written.as_slice() == output && told.as_slice() == errors
+        let reported = process.errors.into_inner();
+        ended && written.as_slice() == output && reported.as_slice() == errors
     }
 
     #[test]
-    fn serves_its_standard_streams(rt: HostRuntime) -> Result<(), Fail> {
+    fn run_serves_the_standard_streams(rt: HostRuntime) -> Result<(), Fail> {
         let process = Process::new(
             rt.alloc(),
             &[b"siploc", b"run"],
@@ -94,7 +94,7 @@ mod tests {
     }
 
     #[test]
-    fn tells_wrong_arguments(rt: HostRuntime) -> Result<(), Fail> {
+    fn wrong_arguments_print_the_usage(rt: HostRuntime) -> Result<(), Fail> {
         let calls: [&[&[u8]]; 6] = [
             &[],
             &[b"siploc"],
@@ -111,7 +111,7 @@ mod tests {
     }
 
     #[test]
-    fn tells_faults_of_its_streams(rt: HostRuntime) -> Result<(), Fail> {
+    fn faults_of_the_streams_print_their_code(rt: HostRuntime) -> Result<(), Fail> {
         let mut process = Process::new(rt.alloc(), &[b"siploc", b"run"], b"find x\nfind");
         process.input_fails = true;
         assert!(rt; ends(process, 1, b"err U1\n", b"fault read\n"));

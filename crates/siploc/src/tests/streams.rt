@@ -1,3 +1,4 @@
+// Readers and writers of the tests' own.
 use crate::serve::{ServeFault, serve};
 use crate::session::Session;
 use crate::tapped::Tapped;
@@ -5,7 +6,7 @@ use std::alloc::Global;
 use std::io;
 use std::io::{ErrorKind, Read, Write};
 
-// A text that is read in pieces of `most` octets, and whose read of the number `fails_at`, from 1, fails.
+// A text that is read in pieces of `most` octets. The read of the number `fails_at`, from 1, fails.
 #[derive(Drop)]
 pub struct Pieces<'a> {
     pub rest: &'a [u8],
@@ -34,8 +35,8 @@ pub enum Failing {
     TakesNothing,
 }
 
-// A text that is written in pieces of `most` octets, and whose write of the number `fails_at`, from 1, fails.
-// The first `flushed` octets of it are flushed.
+// A text that is written in pieces of `most` octets. The write of the number `fails_at`, from 1,
+// fails. The first `flushed` octets are flushed.
 #[derive(Drop)]
 pub struct Paper {
     pub text: Vec<u8>,
@@ -92,9 +93,7 @@ pub fn blank(alloc: Global) -> Paper {
 pub fn replies(alloc: Global, input: &[u8]) -> Result<Vec<u8>, ServeFault> {
     let mut reader = Tapped::new(input);
     let mut writer = Tapped::new(Vec::new(alloc));
-    let Ok(mut session) = Session::new(alloc) else {
-        return Err(ServeFault::Memory);
-    };
+    let mut session = Session::new(alloc)?;
     serve(alloc, &mut reader, &mut writer, &mut session)?;
     Ok(writer.into_inner())
 }
