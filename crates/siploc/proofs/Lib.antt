@@ -1,5 +1,6 @@
 pub mod Cutting
 pub mod Replies
 pub mod Turning
-pub mod Fronts
-pub mod Outcomes
+pub mod Exits
+pub mod Rules
+pub mod Prefixes

@@ -1,217 +1,226 @@
--- Lemmas on the replies to lines, which name no command.
+-- Lemmas on the replies to items, for any protocol.
 use Rattle.std.proofs.Common.{◌≡◌, ◌⊎◌, ℕ, ◌<◌, ◌≤◌, List, [], ◌∷◌, ◌++◌, true, false, if◌then◌else◌, ◌==◌, length, take, refl, sym, ap, ◌∙◌, subst, inl, inr, append_assoc, append-nil, zero, suc, lit<, arith}
-use Rattle.std.specs.Prelude.{codes, nat_lt}
 use Rattle.std.proofs.lemmas.List.{take_all, length-take}
-use Rattle.std.proofs.lemmas.Bool.{cases_lt, lt-ltb}
-use Rattle.siploc.specs.Lines.{without_cr}
-use Rattle.siploc.specs.Session.{SessionState, longest_line, command_reply, command_after, reply_of, state_after}
-use Rattle.siploc.specs.Serving.{Answers, Serves}
-use Rattle.siploc.specs.Machine.{lines_from, rest_from, kept_of, last_line, read_lines, AppendsAnswer, AppendsReplies, AppendsSomeReplies, HasNoEnd, EndsFirst}
+use Rattle.std.proofs.lemmas.Bool.{cases_lt}
+use Rattle.siploc.specs.Lines.{Octets, without_cr}
+use Rattle.siploc.specs.Items.{Item, line, end_of_input}
+use Rattle.siploc.specs.Protocol.{Protocol}
+use Rattle.siploc.specs.Replies.{Serves, AppendsReply, AppendsReplies, AppendsFirstReplies}
+use Rattle.siploc.specs.Machine.{items_from, pending_after, kept_prefix, last_items, read_items, EndsNoLine, EndsLine}
 use Rattle.siploc.proofs.Cutting.{kept-append, kept-kept, without_cr-length}
 
--- ---- texts of several lines
+-- what the lemmas need of a protocol: a state that has ended says nothing, and lines that are too
+-- long have the same replies
+pub record IsLineProtocol (p : Protocol) : Type 0 where
+  pub silent : (s : p.State) (item : Item) → p.has_ended s ≡ true → p.MayReply s item [] s
+  pub long : (s u : p.State) (a b text : Octets) → 65536 < length a → 65536 < length b
+      → p.MayReply s (line a) text u → p.MayReply s (line b) text u
 
-pub Serves-one : (s : SessionState) (line text : List ℕ) (u : SessionState) → Answers s line text u → Serves s (line ∷ []) text u
-Serves-one s line text u answer = (text, [], u, answer, (refl, refl), sym (append-nil text))
+-- ---- replies to several items
 
-pub Serves-append : (lines more : List (List ℕ)) (s u v : SessionState) (text others : List ℕ)
-    → Serves s lines text u → Serves u more others v → Serves s (lines ++ more) (text ++ others) v
-Serves-append [] more s u v text others first second =
-    subst (λ t. Serves s more (t ++ others) v) (sym first.0) (subst (λ w. Serves w more others v) first.1 second)
-Serves-append (line ∷ lines) more s u v text others first second = (
-  first.0,
-  first.1 ++ others,
-  first.2,
-  first.3,
-  Serves-append lines more first.2 u v first.1 others first.4 second,
-  ap (λ t. t ++ others) first.5 ∙ append_assoc first.0 first.1 others,
-)
+pub Serves-one : (p : Protocol) (s : p.State) (item : Item) (text : Octets) (u : p.State) → p.MayReply s item text u → Serves p s (item ∷ []) text u
+Serves-one p s item text u reply =
+    record { reply = text; replies = []; between = u; first = reply; others = (refl, refl); joined = sym (append-nil text) }
 
--- a session that is over says nothing
-pub Serves-over : (lines : List (List ℕ)) (s : SessionState) → s.over ≡ true → Serves s lines [] s
-Serves-over [] s over = (refl, refl)
-Serves-over (line ∷ lines) s over = (
-  [],
-  [],
-  s,
-  inl (
-    sym (ap (λ b. if b then [] else (if nat_lt longest_line (length line) then codes "err K2\n" else command_reply s line)) over),
-    sym (ap (λ b. if b then s else (if nat_lt longest_line (length line) then s else command_after s line)) over),
-  ),
-  Serves-over lines s over,
-  refl,
-)
+pub Serves-append : (p : Protocol) (items more : List Item) (s u v : p.State) (text others : Octets)
+    → Serves p s items text u → Serves p u more others v → Serves p s (items ++ more) (text ++ others) v
+Serves-append p [] more s u v text others first second =
+    subst (λ t. Serves p s more (t ++ others) v) (sym first.0) (subst (λ w. Serves p w more others v) first.1 second)
+Serves-append p (item ∷ items) more s u v text others first second =
+    record {
+      reply = first.reply;
+      replies = first.replies ++ others;
+      between = first.between;
+      first = first.first;
+      others = Serves-append p items more first.between u v first.replies others first.others second;
+      joined = ap (λ t. t ++ others) first.joined ∙ append_assoc first.reply first.replies others;
+    }
 
--- ---- lines that have one reply
+-- a state that has ended says nothing
+pub Serves-ended : (p : Protocol) → IsLineProtocol p → (items : List Item) (s : p.State) → p.has_ended s ≡ true → Serves p s items [] s
+Serves-ended p rules [] s ended = (refl, refl)
+Serves-ended p rules (item ∷ items) s ended =
+    record { reply = []; replies = []; between = s; first = rules.silent s item ended; others = Serves-ended p rules items s ended; joined = refl }
 
-abbrev pub LikeLine : List ℕ → List ℕ → Type 0
-LikeLine line other = (s : SessionState) → (reply_of s line ≡ reply_of s other) × (state_after s line ≡ state_after s other)
+-- ---- items that have the same replies
 
-abbrev pub LikeLines : List (List ℕ) → List (List ℕ) → Type 0
-LikeLines [] [] = Unit {0}
-LikeLines [] (other ∷ others) = ⊥
-LikeLines (line ∷ lines) [] = ⊥
-LikeLines (line ∷ lines) (other ∷ others) = LikeLine line other × LikeLines lines others
+abbrev pub AreAlike : Protocol → Item → Item → Type 0
+AreAlike p item other = (s : p.State) (text : Octets) (u : p.State) → p.MayReply s item text u → p.MayReply s other text u
 
-LikeLine-same : (line other : List ℕ) → line ≡ other → LikeLine line other
-LikeLine-same line other same s = (ap (reply_of s) same, ap (state_after s) same)
+abbrev pub AreAllAlike : Protocol → List Item → List Item → Type 0
+AreAllAlike p [] [] = Unit {0}
+AreAllAlike p [] (other ∷ others) = ⊥
+AreAllAlike p (item ∷ items) [] = ⊥
+AreAllAlike p (item ∷ items) (other ∷ others) = AreAlike p item other × AreAllAlike p items others
 
-LikeLines-refl : (lines : List (List ℕ)) → LikeLines lines lines
-LikeLines-refl [] = tt
-LikeLines-refl (line ∷ lines) = (LikeLine-same line line refl, LikeLines-refl lines)
+AreAlike-same : (p : Protocol) (item other : Item) → item ≡ other → AreAlike p item other
+AreAlike-same p item other same s text u reply = let P : Item → Type 0 = λ i. p.MayReply s i text u in subst P same reply
 
-pub LikeLines-split : (done others lines : List (List ℕ)) → LikeLines (done ++ others) lines
-    → (front : List (List ℕ)) × (back : List (List ℕ)) × (lines ≡ front ++ back) × LikeLines done front
-LikeLines-split [] others lines like = ([], lines, refl, tt)
-LikeLines-split (d ∷ done) others [] like = absurd like
-LikeLines-split (d ∷ done) others (line ∷ lines) like =
-    let rest = LikeLines-split done others lines like.1 in
-    (line ∷ rest.0, rest.1, ap (λ l. line ∷ l) rest.2, (like.0, rest.3))
+AreAllAlike-refl : (p : Protocol) (items : List Item) → AreAllAlike p items items
+AreAllAlike-refl p [] = tt
+AreAllAlike-refl p (item ∷ items) = (AreAlike-same p item item refl, AreAllAlike-refl p items)
 
-Answers-like : (s : SessionState) (line other text : List ℕ) (u : SessionState) → LikeLine line other → Answers s line text u → Answers s other text u
-Answers-like s line other text u like (inl answer) = inl (answer.0 ∙ (like s).0, answer.1 ∙ (like s).1)
-Answers-like s line other text u like (inr refused) = inr (refused.0, refused.1, λ none. refused.2 ((like s).0 ∙ none))
+pub AreAllAlike-split : (p : Protocol) (done others items : List Item) → AreAllAlike p (done ++ others) items
+    → (first : List Item) × (rest : List Item) × (items ≡ first ++ rest) × AreAllAlike p done first
+AreAllAlike-split p [] others items alike = ([], items, refl, tt)
+AreAllAlike-split p (d ∷ done) others [] alike = absurd alike
+AreAllAlike-split p (d ∷ done) others (item ∷ items) alike =
+    let rest = AreAllAlike-split p done others items alike.1 in
+    (item ∷ rest.0, rest.1, ap (λ l. item ∷ l) rest.2, (alike.0, rest.3))
 
-pub Serves-like : (lines others : List (List ℕ)) (s : SessionState) (text : List ℕ) (u : SessionState) → LikeLines lines others → Serves s lines text u → Serves s others text u
-Serves-like [] [] s text u like serves = serves
-Serves-like [] (other ∷ others) s text u like serves = absurd like
-Serves-like (line ∷ lines) [] s text u like serves = absurd like
-Serves-like (line ∷ lines) (other ∷ others) s text u like serves =
-    (serves.0, serves.1, serves.2, Answers-like s line other serves.0 serves.2 like.0 serves.3, Serves-like lines others serves.2 serves.1 u like.1 serves.4, serves.5)
+pub Serves-alike : (p : Protocol) (items others : List Item) (s : p.State) (text : Octets) (u : p.State) → AreAllAlike p items others → Serves p s items text u → Serves p s others text u
+Serves-alike p [] [] s text u alike serves = serves
+Serves-alike p [] (other ∷ others) s text u alike serves = absurd alike
+Serves-alike p (item ∷ items) [] s text u alike serves = absurd alike
+Serves-alike p (item ∷ items) (other ∷ others) s text u alike serves =
+    record {
+      reply = serves.reply;
+      replies = serves.replies;
+      between = serves.between;
+      first = alike.0 s serves.reply serves.between serves.first;
+      others = Serves-alike p items others serves.between serves.replies u alike.1 serves.others;
+      joined = serves.joined;
+    }
 
-long_reply : (s : SessionState) (line : List ℕ) → 65536 < length line → reply_of s line ≡ (if s.over then [] else codes "err K2\n")
-long_reply s line long = ap (λ b. if s.over then [] else (if b then codes "err K2\n" else command_reply s line)) (lt-ltb 65536 (length line) long)
+AreAlike-long : (p : Protocol) → IsLineProtocol p → (a b : Octets) → 65536 < length a → 65536 < length b → AreAlike p (line a) (line b)
+AreAlike-long p rules a b long long' s text u reply = rules.long s u a b text long long' reply
 
-long_after : (s : SessionState) (line : List ℕ) → 65536 < length line → state_after s line ≡ (if s.over then s else s)
-long_after s line long = ap (λ b. if s.over then s else (if b then s else command_after s line)) (lt-ltb 65536 (length line) long)
-
-LikeLine-long : (line other : List ℕ) → 65536 < length line → 65536 < length other → LikeLine line other
-LikeLine-long line other long long' s =
-    (long_reply s line long ∙ sym (long_reply s other long'), long_after s line long ∙ sym (long_after s other long'))
-
--- a pending line of which all is kept, and one of which the same is kept, are one, or both are too long whatever follows
-kept_cases : (p q : List ℕ) → kept_of p ≡ kept_of q → (p ≡ q) ⊎ ((65538 ≤ length p) × (65538 ≤ length q))
-kept_cases p q like =
-    let count : length (take 65538 p) ≡ length (take 65538 q) = ap length like in
-    let p_count = length-take 65538 p in
-    let q_count = length-take 65538 q in
-    elim (cases_lt (length p) 65538) as (λ _. (p ≡ q) ⊎ ((65538 ≤ length p) × (65538 ≤ length q))) [
-      | inl short ↦ inl (sym (take_all 65538 p (omega arith)) ∙ like ∙ take_all 65538 q (omega arith))
+-- two pending lines of which the same is kept are one, or both are too long whatever follows
+kept_cases : (a b : Octets) → kept_prefix a ≡ kept_prefix b → (a ≡ b) ⊎ ((65538 ≤ length a) × (65538 ≤ length b))
+kept_cases a b alike =
+    let count : length (take 65538 a) ≡ length (take 65538 b) = ap length alike in
+    let a_count = length-take 65538 a in
+    let b_count = length-take 65538 b in
+    elim (cases_lt (length a) 65538) as (λ _. (a ≡ b) ⊎ ((65538 ≤ length a) × (65538 ≤ length b))) [
+      | inl short ↦ inl (sym (take_all 65538 a (omega arith)) ∙ alike ∙ take_all 65538 b (omega arith))
       | inr long ↦ inr (long, omega arith)
     ]
 
-LikeLine-kept : (p q : List ℕ) → kept_of p ≡ kept_of q → LikeLine p q
-LikeLine-kept p q like =
-    elim (kept_cases p q like) as (λ _. LikeLine p q) [
-      | inl same ↦ LikeLine-same p q same
-      | inr long ↦ LikeLine-long p q (omega arith) (omega arith)
+AreAlike-kept : (p : Protocol) → IsLineProtocol p → (a b : Octets) → kept_prefix a ≡ kept_prefix b → AreAlike p (line a) (line b)
+AreAlike-kept p rules a b alike =
+    elim (kept_cases a b alike) as (λ _. AreAlike p (line a) (line b)) [
+      | inl same ↦ AreAlike-same p (line a) (line b) (ap line same)
+      | inr long ↦ AreAlike-long p rules a b (omega arith) (omega arith)
     ]
 
-LikeLine-kept_cr : (p q : List ℕ) → kept_of p ≡ kept_of q → LikeLine (without_cr p) (without_cr q)
-LikeLine-kept_cr p q like =
-    elim (kept_cases p q like) as (λ _. LikeLine (without_cr p) (without_cr q)) [
-      | inl same ↦ LikeLine-same (without_cr p) (without_cr q) (ap without_cr same)
-      | inr long ↦ LikeLine-long (without_cr p) (without_cr q) (omega (arith, without_cr-length p)) (omega (arith, without_cr-length q))
+AreAlike-kept_cr : (p : Protocol) → IsLineProtocol p → (a b : Octets) → kept_prefix a ≡ kept_prefix b → AreAlike p (line (without_cr a)) (line (without_cr b))
+AreAlike-kept_cr p rules a b alike =
+    elim (kept_cases a b alike) as (λ _. AreAlike p (line (without_cr a)) (line (without_cr b))) [
+      | inl same ↦ AreAlike-same p (line (without_cr a)) (line (without_cr b)) (ap (λ text. line (without_cr text)) same)
+      | inr long ↦ AreAlike-long p rules (without_cr a) (without_cr b) (omega (arith, without_cr-length a)) (omega (arith, without_cr-length b))
     ]
 
-lines_from-like : (octets p q : List ℕ) → kept_of p ≡ kept_of q → LikeLines (lines_from p octets) (lines_from q octets)
-lines_from-like [] p q like = tt
-lines_from-like (c ∷ octets) p q like =
-    elim (c == 10) as (λ v. LikeLines (if v then without_cr p ∷ lines_from [] octets else lines_from (p ++ c ∷ []) octets)
-    (if v then without_cr q ∷ lines_from [] octets else lines_from (q ++ c ∷ []) octets)) [
-      | true ↦ (LikeLine-kept_cr p q like, LikeLines-refl (lines_from [] octets))
-      | false ↦ lines_from-like octets (p ++ c ∷ []) (q ++ c ∷ []) (kept-append p q (c ∷ []) like)
+items_from-alike : (p : Protocol) → IsLineProtocol p → (octets a b : Octets) → kept_prefix a ≡ kept_prefix b → AreAllAlike p (items_from a octets) (items_from b octets)
+items_from-alike p rules [] a b alike = tt
+items_from-alike p rules (c ∷ octets) a b alike =
+    elim (c == 10) as (λ v. AreAllAlike p (if v then line (without_cr a) ∷ items_from [] octets else items_from (a ++ c ∷ []) octets)
+    (if v then line (without_cr b) ∷ items_from [] octets else items_from (b ++ c ∷ []) octets)) [
+      | true ↦ (AreAlike-kept_cr p rules a b alike, AreAllAlike-refl p (items_from [] octets))
+      | false ↦ items_from-alike p rules octets (a ++ c ∷ []) (b ++ c ∷ []) (kept-append a b (c ∷ []) alike)
     ]
 
-some_kept : (n c : ℕ) (q : List ℕ) → 0 < n → [] ≡ take n (c ∷ q) → ⊥
-some_kept zero c q some none = omega arith
-some_kept (suc n) c q some none = cc
+some_kept : (n c : ℕ) (b : Octets) → 0 < n → [] ≡ take n (c ∷ b) → ⊥
+some_kept zero c b some none = omega arith
+some_kept (suc n) c b some none = cc
 
-last_line-like : (p q : List ℕ) → kept_of p ≡ kept_of q → LikeLines (last_line p) (last_line q)
-last_line-like [] [] like = tt
-last_line-like [] (c ∷ q) like = absurd (some_kept 65538 c q (lit< tt) like)
-last_line-like (c ∷ p) [] like = absurd (some_kept 65538 c p (lit< tt) (sym like))
-last_line-like (c ∷ p) (d ∷ q) like = (LikeLine-kept (c ∷ p) (d ∷ q) like, tt)
+last_items-alike : (p : Protocol) → IsLineProtocol p → (a b : Octets) → kept_prefix a ≡ kept_prefix b → AreAllAlike p (last_items a) (last_items b)
+last_items-alike p rules [] [] alike = AreAllAlike-refl p (end_of_input ∷ [])
+last_items-alike p rules [] (c ∷ b) alike = absurd (some_kept 65538 c b (lit< tt) alike)
+last_items-alike p rules (c ∷ a) [] alike = absurd (some_kept 65538 c a (lit< tt) (sym alike))
+last_items-alike p rules (c ∷ a) (d ∷ b) alike = (AreAlike-kept p rules (c ∷ a) (d ∷ b) alike, AreAllAlike-refl p (end_of_input ∷ []))
 
--- what is kept of a pending line tells the replies
-pub read_lines-like : (octets p q : List ℕ) → kept_of p ≡ kept_of q → LikeLines (read_lines p octets) (read_lines q octets)
-read_lines-like [] p q like = last_line-like p q like
-read_lines-like (c ∷ octets) p q like = lines_from-like (c ∷ octets) p q like
+-- the replies depend only on what is kept of a pending line
+pub read_items-alike : (p : Protocol) → IsLineProtocol p → (octets a b : Octets) → kept_prefix a ≡ kept_prefix b → AreAllAlike p (read_items a octets) (read_items b octets)
+read_items-alike p rules [] a b alike = last_items-alike p rules a b alike
+read_items-alike p rules (c ∷ octets) a b alike = items_from-alike p rules (c ∷ octets) a b alike
 
--- ---- replies behind one another in a buffer
+-- ---- replies after one another in a buffer
 
-pub replies_none : (s : SessionState) (old : List ℕ) → AppendsReplies s [] old s old
-replies_none s old = ([], (refl, refl), sym (append-nil old))
+pub replies_none : (p : Protocol) (s : p.State) (old : Octets) → AppendsReplies p s [] old s old
+replies_none p s old = ([], (refl, refl), sym (append-nil old))
 
-pub replies_one : (s : SessionState) (line old : List ℕ) (u : SessionState) (new : List ℕ) → AppendsAnswer s line old u new → AppendsReplies s (line ∷ []) old u new
-replies_one s line old u new answer = (answer.0, Serves-one s line answer.0 u answer.1, answer.2)
+pub replies_one : (p : Protocol) (s : p.State) (item : Item) (old : Octets) (u : p.State) (new : Octets) → AppendsReply p s item old u new → AppendsReplies p s (item ∷ []) old u new
+replies_one p s item old u new reply = (reply.0, Serves-one p s item reply.0 u reply.1, reply.2)
 
--- the reply to a line of which nothing was pending
-pub replies_whole : (s : SessionState) (line piece pending old : List ℕ) (u : SessionState) (new : List ℕ) → line ≡ without_cr piece → pending ≡ []
-    → AppendsAnswer s line old u new → AppendsReplies s (without_cr (pending ++ piece) ∷ []) old u new
-replies_whole s line piece pending old u new is empty answer =
-    let whole : line ≡ without_cr (pending ++ piece) = is ∙ ap (λ (p : List ℕ). without_cr (p ++ piece)) (sym empty) in
-    let P : List ℕ → Type 0 = λ l. AppendsReplies s (l ∷ []) old u new in
-    subst P whole (replies_one s line old u new answer)
-
-pub replies_more : (lines more : List (List ℕ)) (s u v : SessionState) (old mid new : List ℕ)
-    → AppendsReplies s lines old u mid → AppendsReplies u more mid v new → AppendsReplies s (lines ++ more) old v new
-replies_more lines more s u v old mid new first second = (
+pub replies_more : (p : Protocol) (items more : List Item) (s u v : p.State) (old mid new : Octets)
+    → AppendsReplies p s items old u mid → AppendsReplies p u more mid v new → AppendsReplies p s (items ++ more) old v new
+replies_more p items more s u v old mid new first second = (
   first.0 ++ second.0,
-  Serves-append lines more s u v first.0 second.0 first.1 second.1,
+  Serves-append p items more s u v first.0 second.0 first.1 second.1,
   second.2 ∙ ap (λ t. t ++ second.0) first.2 ∙ append_assoc old first.0 second.0,
 )
 
-pub replies_like : (lines others : List (List ℕ)) (s : SessionState) (old : List ℕ) (u : SessionState) (new : List ℕ) → LikeLines lines others
-    → AppendsReplies s lines old u new → AppendsReplies s others old u new
-replies_like lines others s old u new like replies = (replies.0, Serves-like lines others s replies.0 u like replies.1, replies.2)
+-- the reply to a line of which nothing was pending
+pub replies_whole : (p : Protocol) (s : p.State) (text piece pending old : Octets) (u : p.State) (new : Octets) → text ≡ without_cr piece → pending ≡ []
+    → AppendsReply p s (line text) old u new → AppendsReplies p s (line (without_cr (pending ++ piece)) ∷ []) old u new
+replies_whole p s text piece pending old u new is empty reply =
+    let whole : text ≡ without_cr (pending ++ piece) = is ∙ ap (λ (q : Octets). without_cr (q ++ piece)) (sym empty) in
+    let P : Octets → Type 0 = λ l. AppendsReplies p s (line l ∷ []) old u new in
+    subst P whole (replies_one p s (line text) old u new reply)
 
-pub replies_kept : (s : SessionState) (line kept pending old : List ℕ) (u : SessionState) (new : List ℕ) → line ≡ without_cr kept → kept ≡ kept_of pending
-    → AppendsAnswer s line old u new → AppendsReplies s (without_cr pending ∷ []) old u new
-replies_kept s line kept pending old u new stripped is_kept answer =
-    let like : kept_of kept ≡ kept_of pending = ap kept_of is_kept ∙ kept-kept pending in
-    replies_like (without_cr kept ∷ []) (without_cr pending ∷ []) s old u new (LikeLine-kept_cr kept pending like, tt)
-    (replies_one s (without_cr kept) old u new (subst (λ l. AppendsAnswer s l old u new) stripped answer))
+replies_alike : (p : Protocol) (items others : List Item) (s : p.State) (old : Octets) (u : p.State) (new : Octets) → AreAllAlike p items others
+    → AppendsReplies p s items old u new → AppendsReplies p s others old u new
+replies_alike p items others s old u new alike replies = (replies.0, Serves-alike p items others s replies.0 u alike replies.1, replies.2)
+
+-- the reply to a line of which a prefix was kept
+pub replies_kept : (p : Protocol) → IsLineProtocol p → (s : p.State) (text kept pending old : Octets) (u : p.State) (new : Octets) → text ≡ without_cr kept → kept ≡ kept_prefix pending
+    → AppendsReply p s (line text) old u new → AppendsReplies p s (line (without_cr pending) ∷ []) old u new
+replies_kept p rules s text kept pending old u new stripped is_kept reply =
+    let alike : kept_prefix kept ≡ kept_prefix pending = ap kept_prefix is_kept ∙ kept-kept pending in
+    let P : Octets → Type 0 = λ l. AppendsReply p s (line l) old u new in
+    replies_alike p (line (without_cr kept) ∷ []) (line (without_cr pending) ∷ []) s old u new (AreAlike-kept_cr p rules kept pending alike, tt)
+    (replies_one p s (line (without_cr kept)) old u new (subst P stripped reply))
+
+-- the replies to what is left at the end of the input, which has no reply itself
+pub replies_last : (p : Protocol) (s : p.State) (kept old : Octets) (u : p.State) (new : Octets) → (length kept ≡ 0 → ⊥) → p.MayReply u end_of_input [] u
+    → AppendsReply p s (line kept) old u new → AppendsReplies p s (last_items kept) old u new
+replies_last p s [] old u new some silent reply = absurd (some refl)
+replies_last p s (c ∷ kept) old u new some silent reply = (
+  reply.0,
+  record { reply = reply.0; replies = []; between = u; first = reply.1; others = Serves-one p u end_of_input [] u silent; joined = sym (append-nil reply.0) },
+  reply.2,
+)
 
 -- ---- a chunk that is fed
 
--- of the lines of a chunk so many are answered that those of its rest are left
-abbrev pub FedTo : SessionState → List ℕ → List ℕ → List ℕ → SessionState → List ℕ → List ℕ → List ℕ → Type 0
-FedTo before first chunk old now pending rest new =
-    ((done : List (List ℕ)) × (lines_from first chunk ≡ done ++ lines_from pending rest) × AppendsReplies before done old now new)
-    × (rest_from first chunk ≡ rest_from pending rest)
+-- of the items of a chunk so many are served that those of its rest are left
+pub record FedTo (p : Protocol) (before : p.State) (first chunk old : Octets) (now : p.State) (pending rest new : Octets) : Type 0 where
+  pub done : List Item
+  pub split : items_from first chunk ≡ done ++ items_from pending rest
+  pub replies : AppendsReplies p before done old now new
+  pub left : pending_after first chunk ≡ pending_after pending rest
 
-pub fed_none : (before : SessionState) (first chunk old : List ℕ) → FedTo before first chunk old before first chunk old
-fed_none before first chunk old = (([], refl, replies_none before old), refl)
+pub fed_none : (p : Protocol) (before : p.State) (first chunk old : Octets) → FedTo p before first chunk old before first chunk old
+fed_none p before first chunk old = record { done = []; split = refl; replies = replies_none p before old; left = refl }
 
-pub fed_more : (before : SessionState) (first chunk old : List ℕ) (now : SessionState) (pending rest new piece behind : List ℕ) (later : SessionState) (newer : List ℕ)
-    → FedTo before first chunk old now pending rest new → EndsFirst rest piece behind
-    → AppendsReplies now (without_cr (pending ++ piece) ∷ []) new later newer → FedTo before first chunk old later [] behind newer
-fed_more before first chunk old now pending rest new piece behind later newer fed ends replies =
-    let line = without_cr (pending ++ piece) in (
-      (
-        fed.0.0 ++ line ∷ [],
-        fed.0.1 ∙ ap (λ lines. fed.0.0 ++ lines) (ends.0 pending).0 ∙ sym (append_assoc fed.0.0 (line ∷ []) (lines_from [] behind)),
-        replies_more fed.0.0 (line ∷ []) before now later old new newer fed.0.2 replies,
-      ),
-      fed.1 ∙ (ends.0 pending).1,
-    )
+pub fed_more : {p : Protocol} {before : p.State} {first chunk old : Octets} {now : p.State} {pending rest new : Octets} (piece tail : Octets) (later : p.State) (newer : Octets)
+    → FedTo p before first chunk old now pending rest new → EndsLine rest piece tail
+    → AppendsReplies p now (line (without_cr (pending ++ piece)) ∷ []) new later newer → FedTo p before first chunk old later [] tail newer
+fed_more {p} {before} {first} {chunk} {old} {now} {pending} {rest} {new} piece tail later newer fed ends replies =
+    let item = line (without_cr (pending ++ piece)) in
+    record {
+      done = fed.done ++ item ∷ [];
+      split = fed.split ∙ ap (λ items. fed.done ++ items) (ends.0 pending).0 ∙ sym (append_assoc fed.done (item ∷ []) (items_from [] tail));
+      replies = replies_more p fed.done (item ∷ []) before now later old new newer fed.replies replies;
+      left = fed.left ∙ (ends.0 pending).1;
+    }
 
-pub fed_lines : (before : SessionState) (first chunk old : List ℕ) (now : SessionState) (pending rest new : List ℕ)
-    → FedTo before first chunk old now pending rest new → HasNoEnd rest → AppendsReplies before (lines_from first chunk) old now new
-fed_lines before first chunk old now pending rest new fed none =
-    subst (λ lines. AppendsReplies before lines old now new)
-    (sym (append-nil fed.0.0) ∙ ap (λ lines. fed.0.0 ++ lines) (sym (none pending).0) ∙ sym fed.0.1) fed.0.2
+pub fed_items : {p : Protocol} {before : p.State} {first chunk old : Octets} {now : p.State} {pending rest new : Octets}
+    → FedTo p before first chunk old now pending rest new → EndsNoLine rest → AppendsReplies p before (items_from first chunk) old now new
+fed_items {p} {before} {first} {chunk} {old} {now} {pending} {rest} {new} fed none =
+    let P : List Item → Type 0 = λ items. AppendsReplies p before items old now new in
+    subst P (sym (append-nil fed.done) ∙ ap (λ items. fed.done ++ items) (sym (none pending).0) ∙ sym fed.split) fed.replies
 
-pub fed_rest : (before : SessionState) (first chunk old : List ℕ) (now : SessionState) (pending rest new : List ℕ)
-    → FedTo before first chunk old now pending rest new → HasNoEnd rest → kept_of (pending ++ rest) ≡ kept_of (rest_from first chunk)
-fed_rest before first chunk old now pending rest new fed none = ap kept_of (sym (fed.1 ∙ (none pending).1))
+pub fed_rest : {p : Protocol} {before : p.State} {first chunk old : Octets} {now : p.State} {pending rest new : Octets}
+    → FedTo p before first chunk old now pending rest new → EndsNoLine rest → kept_prefix (pending ++ rest) ≡ kept_prefix (pending_after first chunk)
+fed_rest {p} {before} {first} {chunk} {old} {now} {pending} fed none = ap kept_prefix (sym (fed.left ∙ (none pending).1))
 
-pub fed_some : (before : SessionState) (first chunk old : List ℕ) (now : SessionState) (pending rest new : List ℕ) (later : SessionState) (newer : List ℕ)
-    → FedTo before first chunk old now pending rest new → later ≡ now → newer ≡ new → AppendsSomeReplies before (lines_from first chunk) old later newer
-fed_some before first chunk old now pending rest new later newer fed same same_out = (
-  fed.0.0,
-  lines_from pending rest,
-  fed.0.1,
-  subst (λ s. AppendsReplies before fed.0.0 old s newer) (sym same) (subst (λ o. AppendsReplies before fed.0.0 old now o) (sym same_out) fed.0.2),
-)
+pub fed_first : {p : Protocol} {before : p.State} {first chunk old : Octets} {now : p.State} {pending rest new : Octets} (later : p.State) (newer : Octets)
+    → FedTo p before first chunk old now pending rest new → later ≡ now → newer ≡ new → AppendsFirstReplies p before (items_from first chunk) old later newer
+fed_first {p} {before} {first} {chunk} {old} {now} {pending} {rest} {new} later newer fed same same_out =
+    record {
+      done = fed.done;
+      rest = items_from pending rest;
+      split = fed.split;
+      replies = subst (λ s. AppendsReplies p before fed.done old s newer) (sym same) (subst (λ o. AppendsReplies p before fed.done old now o) (sym same_out) fed.replies);
+    }

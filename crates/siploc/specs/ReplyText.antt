@@ -7,35 +7,36 @@ use Rattle.sipl_choice.specs.declared.endpoint.Endpoint.{Endpoint}
 use Rattle.sipl_plans.specs.Reasons.{reason_text}
 use Rattle.sipl_plans.specs.declared.answer.Answer.{Answer}
 use Rattle.sipl_plans.specs.declared.answer.Answer.TheVariants.{Targets, None}
-
--- a number with a space before it
-abbrev pub spaced : ℕ → List ℕ
-spaced n = 32 ∷ decimal n
-
--- words, numbers behind them, and the end of the line
-abbrev pub counted_line : List ℕ → List ℕ → List ℕ
-counted_line words numbers = words ++ flat_map spaced numbers ++ 10 ∷ []
-
--- the reply to a command that is refused
-abbrev pub refusal_line : List ℕ → List ℕ
-refusal_line code = codes "err " ++ code ++ 10 ∷ []
+use Rattle.siploc.specs.Lines.{Octets}
 
 -- a word with a space before it
-abbrev pub spaced_word : List ℕ → List ℕ
-spaced_word word = 32 ∷ word
+abbrev pub word_field : Octets → Octets
+word_field word = 32 ∷ word
+
+-- a number with a space before it
+abbrev pub number_field : ℕ → Octets
+number_field n = 32 ∷ decimal n
+
+-- words, numbers after them, and the end of the line
+abbrev pub counts_line : Octets → List ℕ → Octets
+counts_line words numbers = words ++ flat_map number_field numbers ++ 10 ∷ []
+
+-- the reply to a command that is refused
+abbrev pub refusal_line : Octets → Octets
+refusal_line code = codes "err " ++ code ++ 10 ∷ []
 
 -- the line of a target: its number from 1, its transport, address and port
-abbrev pub target_line : ℕ → Endpoint → List ℕ
+abbrev pub target_line : ℕ → Endpoint → Octets
 target_line number endpoint =
-    codes "target" ++ spaced number ++ spaced_word (transport_text endpoint.transport) ++ spaced_word (text_of_address endpoint.address)
-    ++ spaced endpoint.port ++ 10 ∷ []
+    codes "target" ++ number_field number ++ word_field (transport_text endpoint.transport)
+    ++ word_field (text_of_address endpoint.address) ++ number_field endpoint.port ++ 10 ∷ []
 
 -- the lines of the targets, the first of which has this number
-abbrev pub target_lines : ℕ → List Endpoint → List ℕ
+abbrev pub target_lines : ℕ → List Endpoint → Octets
 target_lines number [] = []
 target_lines number (endpoint ∷ others) = target_line number endpoint ++ target_lines (number + 1) others
 
 -- the reply to a question
-abbrev pub answer_text : Answer → List ℕ
-answer_text (Targets targets) = target_lines 1 targets ++ counted_line (codes "ok find") (length targets ∷ [])
+abbrev pub answer_text : Answer → Octets
+answer_text (Targets targets) = target_lines 1 targets ++ counts_line (codes "ok find") (length targets ∷ [])
 answer_text (None reason) = codes "none " ++ reason_text reason ++ 10 ∷ []

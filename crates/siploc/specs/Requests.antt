@@ -1,45 +1,47 @@
 -- What a line of a session asks for.
-use Rattle.std.specs.Prelude.{ℕ, Bool, false, List, [], ◌∷◌, None, Some, codes, nat_eq, if◌then◌else◌, ◌==◌}
+use Rattle.std.specs.Prelude.{ℕ, Bool, false, List, [], ◌∷◌, None, Some, codes, nat_eq, nat_lt, length, if◌then◌else◌, ◌==◌}
 use lib.Pointwise.{pointwise}
 use Rattle.sipl_records.specs.Fields.{fields_of, trim_start, after_field}
 use Rattle.sipl_records.specs.Numbers.{number_of}
+use Rattle.siploc.specs.Lines.{Octets}
 
--- a command with its fields; a line without fields and a comment ask for nothing
+-- a request with its fields; a line without fields and a comment ask for nothing
 pub data Request : Type 0 where
   nothing : Request
   unknown : Request
-  zone : List ℕ → Request
-  add : List ℕ → Request
-  find : List ℕ → Request
+  too_long : Request
+  zone : Octets → Request
+  add : Octets → Request
+  find : Octets → Request
   quit : Request
 
 -- a comment begins with # as the first octet of its line
-abbrev pub is_comment : List ℕ → Bool
+abbrev pub is_comment : Octets → Bool
 is_comment [] = false
 is_comment (c ∷ line) = c == 35
 
--- `zone APEX COUNT`: so far the count of lines of the zone's text is 0
-abbrev pub zone_request : List (List ℕ) → Request
+-- `zone APEX COUNT`: the count of lines of the zone's text is 0
+abbrev pub zone_request : List Octets → Request
 zone_request (apex ∷ count ∷ []) = elim (number_of count 0) [ Some lines ↦ zone apex | None ↦ unknown ]
 zone_request _ = unknown
 
--- `add RECORD`: the record is the line from the first field behind the command on
-abbrev pub add_request : List ℕ → Request
+-- `add RECORD`: the record is the line from the first field after the command on
+abbrev pub add_request : Octets → Request
 add_request [] = unknown
 add_request (c ∷ text) = add (c ∷ text)
 
 -- `find URI`
-abbrev pub find_request : List (List ℕ) → Request
+abbrev pub find_request : List Octets → Request
 find_request (uri ∷ []) = find uri
 find_request _ = unknown
 
 -- `quit`
-abbrev pub quit_request : List (List ℕ) → Request
+abbrev pub quit_request : List Octets → Request
 quit_request [] = quit
 quit_request _ = unknown
 
--- what the command word asks for, with the fields behind it; the line is looked at for a record
-abbrev pub command_request : List ℕ → List (List ℕ) → List ℕ → Request
+-- what the command word asks for, with the fields after it, and the whole line for a record
+abbrev pub command_request : Octets → List Octets → Octets → Request
 command_request word others line =
     if pointwise nat_eq word (codes "zone") then zone_request others
     else (if pointwise nat_eq word (codes "add") then add_request (trim_start (after_field line))
@@ -47,10 +49,12 @@ command_request word others line =
     else (if pointwise nat_eq word (codes "quit") then quit_request others else unknown)))
 
 -- what the fields of a line ask for
-abbrev pub fields_request : List (List ℕ) → List ℕ → Request
+abbrev pub fields_request : List Octets → Octets → Request
 fields_request [] line = nothing
 fields_request (word ∷ others) line = command_request word others line
 
--- what a line asks for
-abbrev pub request_of : List ℕ → Request
-request_of line = if is_comment line then nothing else fields_request (fields_of line) line
+-- what a line asks for: one of more than 65,536 octets is too long, a comment too
+abbrev pub request_of : Octets → Request
+request_of line =
+    if nat_lt 65536 (length line) then too_long
+    else (if is_comment line then nothing else fields_request (fields_of line) line)

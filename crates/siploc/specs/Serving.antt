@@ -1,16 +1,39 @@
--- A session's text: the replies to the lines of its input, one after another.
-use Rattle.std.specs.Prelude.{◌≡◌, ◌≢◌, ◌⊎◌, ℕ, List, [], ◌∷◌, ◌++◌, codes}
-use Rattle.siploc.specs.Session.{SessionState, reply_of, state_after}
+-- What `serve` promises, for any protocol.
+use Rattle.std.specs.Prelude.{◌≡◌, ℕ, Bool, true, false, ◌+◌, ◌-◌, ◌^◌, ◌≤◌, ◌||◌, ◌↔◌, min, Option, Result, Ok, IfOk, OnOk, OnErr, IsTrue}
+use Rattle.std.specs.Io.KnownBytes.{IsAtEnd}
+use Rattle.siploc.specs.Lines.{Octets}
+use Rattle.siploc.specs.Protocol.{Protocol}
+use Rattle.siploc.specs.Streams.{ServesAll, ServesPrefix, ServesRead}
+use Rattle.siploc.specs.Tapped.{tapped_inner, has_failed, read_count}
+use Rattle.siploc.specs.ServeFault.{is_read_fault, is_write_fault, OnReadFault, OnTooManyTurns}
+use Rattle.siploc.specs.Ended.{OnEndOfInput}
+use Rattle.siploc.specs.declared.serve.Ended.{Ended}
+use Rattle.siploc.specs.declared.serve.Ended.TheVariants.{Quit}
+use Rattle.siploc.specs.declared.serve.ServeFault.{ServeFault}
+use Rattle.siploc.specs.declared.tapped.Tapped.{Tapped}
 
--- One line has its reply. Or a growth of memory was refused: then a line that has a reply is answered so, and changes nothing.
-abbrev pub Answers : SessionState → List ℕ → List ℕ → SessionState → Type 0
-Answers before line text after =
-    ((text ≡ reply_of before line) × (after ≡ state_after before line))
-    ⊎ ((text ≡ codes "err Memory\n") × (after ≡ before) × (reply_of before line ≢ []))
-
--- the lines are answered in turn
-abbrev pub Serves : SessionState → List (List ℕ) → List ℕ → SessionState → Type 0
-Serves before [] text after = (text ≡ []) × (after ≡ before)
-Serves before (line ∷ lines) text after =
-    (reply : List ℕ) × (others : List ℕ) × (between : SessionState)
-    × Answers before line reply between × Serves between lines others after × (text ≡ reply ++ others)
+-- Serving went so, with at most so many reads, from a state, a reader and a writer to others.
+pub record ServesWithin {A B : Type 0} (p : Protocol) (limit : ℕ) (result : Result Ended ServeFault)
+    (remaining : A → Option Octets) (contents : B → Option Octets) (before after : p.State)
+    (reader reader' : Tapped A) (writer writer' : Tapped B) : Type 0 where
+  -- the replies to the whole input, where it came to its end
+  pub served : OnOk result (ServesAll p before (remaining (tapped_inner reader))
+      (contents (tapped_inner writer)) after (contents (tapped_inner writer')))
+  pub quit : IfOk result (λ ended. (ended ≡ Quit) ↔ IsTrue (p.has_ended after))
+  pub end_of_input : OnEndOfInput result (IsAtEnd (remaining (tapped_inner reader')))
+  -- a prefix of the replies to the first items, where it was aborted
+  pub prefix : OnErr result (ServesPrefix p before (remaining (tapped_inner reader))
+      (contents (tapped_inner writer)) after (contents (tapped_inner writer')))
+  -- the replies to all lines that were complete, where it was to read on
+  pub interactive : OnReadFault result (ServesRead p before (remaining (tapped_inner reader))
+      (remaining (tapped_inner reader')) (contents (tapped_inner writer)) after (contents (tapped_inner writer')))
+  pub all_turns : OnTooManyTurns result (ServesRead p before (remaining (tapped_inner reader))
+      (remaining (tapped_inner reader')) (contents (tapped_inner writer)) after (contents (tapped_inner writer')))
+  -- a state that has ended reads no more
+  pub reads_until_ended : OnReadFault result (p.has_ended after ≡ false)
+  pub turns_until_ended : OnTooManyTurns result (p.has_ended after ≡ false)
+  -- which fault it is, and how many reads there were
+  pub reader_failed : has_failed reader' ≡ (has_failed reader || is_read_fault result)
+  pub writer_failed : has_failed writer' ≡ (has_failed writer || is_write_fault result)
+  pub too_many : OnTooManyTurns result (read_count reader' ≡ min (read_count reader + limit) (2 ^ 64 - 1))
+  pub at_most : read_count reader' ≤ read_count reader + limit

@@ -1,5 +1,5 @@
--- What each line of a session does, and its reply.
-use Rattle.std.specs.Prelude.{ℕ, Bool, ◌||◌, true, false, List, [], ◌∷◌, ◌++◌, length, Option, None, Some, Result, Ok, Err, codes, decimal, nat_lt, if◌then◌else◌}
+-- What each item of a session does, and its reply.
+use Rattle.std.specs.Prelude.{◌≡◌, ◌⊎◌, ℕ, Bool, true, false, List, [], ◌∷◌, ◌++◌, length, Option, None, Some, Result, Ok, Err, IsTrue, codes, decimal, if◌then◌else◌}
 use Rattle.sipl_names.specs.NameText.{name_of}
 use Rattle.sipl_names.specs.declared.fault.NameFault.{NameFault}
 use Rattle.sipl_names.specs.FaultCode.{code_of as name_code}
@@ -21,118 +21,147 @@ use Rattle.sipl_zonestore.specs.Store.{Zones, no_zones, load_refusal, after_load
 use Rattle.sipl_zonestore.specs.Changes.{changed_keys}
 use Rattle.sipl_zonestore.specs.FaultCode.{code_of as store_code}
 use Rattle.sipl_zonestore.specs.declared.fault.StoreFault.{StoreFault}
-use Rattle.sipl_zonestore.specs.declared.TheConstants.{MAX_RECORDS}
 use Rattle.sipl_plans.specs.Plan.{plan}
-use Rattle.siploc.specs.Requests.{Request, nothing, unknown, zone, add, find, quit, request_of}
-use Rattle.siploc.specs.ReplyText.{counted_line, refusal_line, answer_text}
+use Rattle.siploc.specs.Lines.{Octets}
+use Rattle.siploc.specs.Items.{Item, line, end_of_input}
+use Rattle.siploc.specs.Protocol.{Protocol}
+use Rattle.siploc.specs.Requests.{Request, nothing, unknown, too_long, zone, add, find, quit, request_of}
+use Rattle.siploc.specs.ReplyText.{counts_line, refusal_line, answer_text}
 
--- what a session has come to: the zones that are loaded, and whether it has ended
+-- the state of a session: the zones that are loaded, and whether it has ended
 pub record SessionState : Type 0 where
   pub zones : Zones
-  pub over : Bool
+  pub ended : Bool
 
 -- a session that has had no line
 abbrev pub new_session : SessionState
-new_session = record { zones = no_zones; over = false }
+new_session = record { zones = no_zones; ended = false }
 
 -- the abilities that questions are answered for
 abbrev pub client : Client
 client = record { preference = Udp ∷ Tcp ∷ []; families = V4 }
 
--- the most octets of a line
-abbrev pub longest_line : ℕ
-longest_line = 65536
+-- the maximum of records in the zones of a session
+abbrev pub max_records : ℕ
+max_records = 1048576
 
--- what a command comes to: its reply, and the zones behind it
+-- the result of a command: its reply, and the state after it
 pub record Outcome : Type 0 where
-  pub reply : List ℕ
-  pub zones : Zones
+  pub reply : Octets
+  pub state : SessionState
+
+-- a reply that changes nothing
+abbrev pub keeps : Octets → SessionState → Outcome
+keeps reply state = record { reply = reply; state = state }
 
 -- a command that is refused changes nothing
-abbrev pub refuses : List ℕ → Zones → Outcome
-refuses code zones = record { reply = refusal_line code; zones = zones }
+abbrev pub refuses : Octets → SessionState → Outcome
+refuses code state = keeps (refusal_line code) state
 
--- a zone is loaded, where this is no refusal of the store
-abbrev pub loaded : Option StoreFault → Zone → Zones → Outcome
-loaded (Some fault) text zones = refuses (store_code fault) zones
-loaded None text zones =
-    record {
-      reply = counted_line (codes "ok zone")
-          (length text.records ∷ text.outside ∷ text.repeated ∷ length (changed_keys zones.records (after_load text zones).records) ∷ []);
-      zones = after_load text zones;
-    }
+-- a reply, with these zones after it
+abbrev pub changes : Octets → Zones → SessionState → Outcome
+changes reply zones state = record { reply = reply; state = record { zones = zones; ended = state.ended } }
 
--- what a zone's text says is loaded; a fault of the text is told with its line
-abbrev pub zone_read : Result Zone ZoneFault → Zones → Outcome
-zone_read (Err fault) zones =
-    record { reply = codes "err zone " ++ decimal fault.line ++ 32 ∷ zone_code fault.cause ++ 10 ∷ []; zones = zones }
-zone_read (Ok text) zones = loaded (load_refusal MAX_RECORDS text zones) text zones
+-- a zone is loaded, where the store does not refuse it
+abbrev pub load_outcome : Option StoreFault → Zone → SessionState → Outcome
+load_outcome (Some fault) text state = refuses (store_code fault) state
+load_outcome None text state =
+    changes
+    (counts_line (codes "ok zone")
+    (length text.records ∷ text.outside ∷ text.repeated
+    ∷ length (changed_keys state.zones.records (after_load text state.zones).records) ∷ []))
+    (after_load text state.zones) state
 
--- the zone of this name is read from a text without lines
-abbrev pub zone_named : Result (List (List ℕ)) NameFault → Zones → Outcome
-zone_named (Err fault) zones = refuses (name_code fault) zones
-zone_named (Ok name) zones = zone_read (zone_of [] name) zones
+-- a zone's text is loaded; a fault in it is reported with its line
+abbrev pub zone_text_outcome : Result Zone ZoneFault → SessionState → Outcome
+zone_text_outcome (Err fault) state =
+    keeps (codes "err zone " ++ decimal fault.line ++ 32 ∷ zone_code fault.cause ++ 10 ∷ []) state
+zone_text_outcome (Ok text) state = load_outcome (load_refusal max_records text state.zones) text state
+
+-- the zone of this apex is read from a text without lines
+abbrev pub apex_outcome : Result (List Octets) NameFault → SessionState → Outcome
+apex_outcome (Err fault) state = refuses (name_code fault) state
+apex_outcome (Ok name) state = zone_text_outcome (zone_of [] name) state
 
 -- `zone APEX 0`: the apex is relative to the root
-abbrev pub zone_outcome : List ℕ → Zones → Outcome
-zone_outcome apex zones = zone_named (name_of apex []) zones
+abbrev pub zone_outcome : Octets → SessionState → Outcome
+zone_outcome apex state = apex_outcome (name_of apex []) state
 
--- a record is added, where this is no refusal of the store
-abbrev pub added : Option StoreFault → Record → Zones → Outcome
-added (Some fault) r zones = refuses (store_code fault) zones
-added None r zones =
-    record {
-      reply = counted_line (codes "ok add") (length (changed_keys zones.records (after_add r zones).records) ∷ []);
-      zones = after_add r zones;
-    }
+-- a record is added, where the store does not refuse it
+abbrev pub insert_outcome : Option StoreFault → Record → SessionState → Outcome
+insert_outcome (Some fault) r state = refuses (store_code fault) state
+insert_outcome None r state =
+    changes
+    (counts_line (codes "ok add")
+    (length (changed_keys state.zones.records (after_add r state.zones).records) ∷ []))
+    (after_add r state.zones) state
 
--- what a record's text says is added
-abbrev pub record_read : Result Record ZoneCause → Zones → Outcome
-record_read (Err cause) zones = refuses (zone_code cause) zones
-record_read (Ok r) zones = added (add_refusal MAX_RECORDS r zones) r zones
+-- the record of a text is added
+abbrev pub record_outcome : Result Record ZoneCause → SessionState → Outcome
+record_outcome (Err cause) state = refuses (zone_code cause) state
+record_outcome (Ok r) state = insert_outcome (add_refusal max_records r state.zones) r state
 
 -- `add RECORD`: names are relative to the root
-abbrev pub add_outcome : List ℕ → Zones → Outcome
-add_outcome text zones = record_read (record_of text []) zones
+abbrev pub add_outcome : Octets → SessionState → Outcome
+add_outcome text state = record_outcome (record_of text []) state
 
--- what a URI asks is answered on the records as they stand
-abbrev pub uri_read : Result Question UriFault → Zones → Outcome
-uri_read (Err fault) zones = refuses (uri_code fault) zones
-uri_read (Ok question) zones = record { reply = answer_text (plan (set_of zones.records) question client); zones = zones }
+-- a question is answered from the records as they are
+abbrev pub question_outcome : Result Question UriFault → SessionState → Outcome
+question_outcome (Err fault) state = refuses (uri_code fault) state
+question_outcome (Ok question) state =
+    keeps (answer_text (plan (set_of state.zones.records) question client)) state
 
 -- `find URI`
-abbrev pub find_outcome : List ℕ → Zones → Outcome
-find_outcome uri zones = uri_read (question_of uri) zones
+abbrev pub find_outcome : Octets → SessionState → Outcome
+find_outcome uri state = question_outcome (question_of uri) state
 
--- what a request comes to
-abbrev pub outcome_of : Request → Zones → Outcome
-outcome_of nothing zones = record { reply = []; zones = zones }
-outcome_of unknown zones = refuses (codes "K1") zones
-outcome_of (zone apex) zones = zone_outcome apex zones
-outcome_of (add text) zones = add_outcome text zones
-outcome_of (find uri) zones = find_outcome uri zones
-outcome_of quit zones = record { reply = codes "ok quit\n"; zones = zones }
+-- the result of a request
+abbrev pub outcome_of : Request → SessionState → Outcome
+outcome_of nothing state = keeps [] state
+outcome_of unknown state = refuses (codes "K1") state
+outcome_of too_long state = refuses (codes "K2") state
+outcome_of (zone apex) state = zone_outcome apex state
+outcome_of (add text) state = add_outcome text state
+outcome_of (find uri) state = find_outcome uri state
+outcome_of quit state =
+    record { reply = codes "ok quit\n"; state = record { zones = state.zones; ended = true } }
 
--- whether a request ends the session
-abbrev pub is_quit : Request → Bool
-is_quit quit = true
-is_quit _ = false
+-- whether a request may run out of memory; the reply to another fits the space that is reserved before it
+abbrev pub allocates : Request → Bool
+allocates nothing = false
+allocates unknown = false
+allocates too_long = false
+allocates (zone apex) = true
+allocates (add text) = true
+allocates (find uri) = true
+allocates quit = false
 
--- the reply to a command
-abbrev pub command_reply : SessionState → List ℕ → List ℕ
-command_reply state line = (outcome_of (request_of line) state.zones).reply
+-- the request of an item: none once the session has ended, and none at the end of the input
+abbrev pub item_request : SessionState → Item → Request
+item_request state (line octets) = if state.ended then nothing else request_of octets
+item_request state end_of_input = nothing
 
--- the state behind a command
-abbrev pub command_after : SessionState → List ℕ → SessionState
-command_after state line =
-    record { zones = (outcome_of (request_of line) state.zones).zones; over = is_quit (request_of line) || state.over }
+-- the reply and the state are those of an outcome
+pub record IsOutcome (outcome : Outcome) (text : Octets) (after : SessionState) : Type 0 where
+  pub reply : text ≡ outcome.reply
+  pub state : after ≡ outcome.state
 
--- the reply to a line: none once the session is over
-abbrev pub reply_of : SessionState → List ℕ → List ℕ
-reply_of state line =
-    if state.over then [] else (if nat_lt longest_line (length line) then codes "err K2\n" else command_reply state line)
+-- an allocation fails: the reply is `err Memory`, and nothing changes
+pub record RunsOut (request : Request) (before : SessionState) (text : Octets) (after : SessionState) : Type 0 where
+  pub may_fail : IsTrue (allocates request)
+  pub reply : text ≡ codes "err Memory\n"
+  pub state : after ≡ before
 
--- the state behind a line
-abbrev pub state_after : SessionState → List ℕ → SessionState
-state_after state line =
-    if state.over then state else (if nat_lt longest_line (length line) then state else command_after state line)
+-- a request has this reply and leaves this state: its outcome's, or those of a failed allocation
+abbrev pub Performs : Request → SessionState → Octets → SessionState → Type 0
+Performs request before text after =
+    IsOutcome (outcome_of request before) text after ⊎ RunsOut request before text after
+
+-- an item may have this reply and leave this state
+abbrev pub MayReply : SessionState → Item → Octets → SessionState → Type 0
+MayReply before item text after = Performs (item_request before item) before text after
+
+-- the protocol of a session
+abbrev pub session_protocol : Protocol
+session_protocol =
+    record { State = SessionState; MayReply = MayReply; has_ended = λ state. state.ended }

@@ -1,33 +1,39 @@
 -- What serving does between a reader and a writer whose octets are known.
-use Rattle.std.specs.Prelude.{◌≡◌, ℕ, List, [], ◌∷◌, ◌++◌, IfSome, Option}
+use Rattle.std.specs.Prelude.{◌≡◌, List, ◌++◌, IfSome, Option}
 use Rattle.std.specs.Io.KnownBytes.{Consumes, Appends}
-use Rattle.sipl_records.specs.Parts.{parts}
-use Rattle.siploc.specs.Lines.{without_cr, lines_of}
-use Rattle.siploc.specs.Session.{SessionState}
-use Rattle.siploc.specs.Serving.{Serves}
+use Rattle.siploc.specs.Lines.{Octets}
+use Rattle.siploc.specs.Items.{Item, items_of, complete_items}
+use Rattle.siploc.specs.Protocol.{Protocol}
+use Rattle.siploc.specs.Replies.{Serves}
 
--- the parts that an LF ends, each without the CR before it
-abbrev pub ended_lines : List (List ℕ) → List (List ℕ)
-ended_lines [] = []
-ended_lines (part ∷ []) = []
-ended_lines (part ∷ next ∷ others) = without_cr part ∷ ended_lines (next ∷ others)
+-- all items of what the reader had left are served, and the writer has their replies
+abbrev pub ServesAll : (p : Protocol) → p.State → Option Octets → Option Octets → p.State
+    → Option Octets → Type 0
+ServesAll p before unread old after new =
+    IfSome unread (λ input. (text : Octets) × Serves p before (items_of input) text after × Appends old new text)
 
--- the lines of an input that are whole whatever follows
-abbrev pub whole_lines : List ℕ → List (List ℕ)
-whole_lines input = ended_lines (parts 10 input)
+-- the first ones of the items are served, and the writer has a prefix of their replies
+pub record ServesFirst (p : Protocol) (before : p.State) (items : List Item) (old : Option Octets)
+    (after : p.State) (new : Option Octets) : Type 0 where
+  pub done : List Item
+  pub rest : List Item
+  pub sent : Octets
+  pub unsent : Octets
+  pub split : items ≡ done ++ rest
+  pub serves : Serves p before done (sent ++ unsent) after
+  pub appended : Appends old new sent
 
--- all lines of what the reader had left are answered, and the writer has their text
-abbrev pub ServesAll : SessionState → Option (List ℕ) → Option (List ℕ) → SessionState → Option (List ℕ) → Type 0
-ServesAll before unread old after new =
-    IfSome unread (λ input. (text : List ℕ) × Serves before (lines_of input) text after × Appends old new text)
+-- the first ones of the items of what the reader had left are served
+abbrev pub ServesPrefix : (p : Protocol) → p.State → Option Octets → Option Octets → p.State
+    → Option Octets → Type 0
+ServesPrefix p before unread old after new =
+    IfSome unread (λ input. ServesFirst p before (items_of input) old after new)
 
--- the first ones of the lines are answered, and the writer has a front of their text
-abbrev pub ServesFront : SessionState → Option (List ℕ) → Option (List ℕ) → SessionState → Option (List ℕ) → Type 0
-ServesFront before unread old after new =
-    IfSome unread (λ input. (done : List (List ℕ)) × (others : List (List ℕ)) × (sent : List ℕ) × (unsent : List ℕ)
-    × (lines_of input ≡ done ++ others) × Serves before done (sent ++ unsent) after × Appends old new sent)
-
--- all lines that were whole in what was read are answered, no other, and the writer has their text
-abbrev pub ServesRead : SessionState → Option (List ℕ) → Option (List ℕ) → Option (List ℕ) → SessionState → Option (List ℕ) → Type 0
-ServesRead before unread left old after new =
-    (got : List ℕ) × (text : List ℕ) × Consumes unread left got × Serves before (whole_lines got) text after × Appends old new text
+-- all lines that were complete in what was read are served, no other, and the writer has their replies
+pub record ServesRead (p : Protocol) (before : p.State) (unread left old : Option Octets)
+    (after : p.State) (new : Option Octets) : Type 0 where
+  pub got : Octets
+  pub text : Octets
+  pub consumed : Consumes unread left got
+  pub serves : Serves p before (complete_items got) text after
+  pub appended : Appends old new text

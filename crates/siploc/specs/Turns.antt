@@ -1,41 +1,65 @@
--- What one turn of serving does: a read, and the replies to the lines that it gave.
-use Rattle.std.specs.Prelude.{◌≡◌, ◌≢◌, ℕ, Bool, true, false, List, [], ◌++◌, Option}
+-- What one turn of serving does: a read, and the replies to the items that it gave.
+use Rattle.std.specs.Prelude.{◌≡◌, ◌≢◌, Bool, true, false, [], ◌++◌, Option}
 use Rattle.std.specs.Io.KnownBytes.{Keeps, Appends, Consumes, IsAtEnd}
-use Rattle.siploc.specs.Session.{SessionState}
-use Rattle.siploc.specs.Serving.{Serves}
-use Rattle.siploc.specs.Machine.{lines_from, rest_from, kept_of, read_lines}
+use Rattle.siploc.specs.Lines.{Octets}
+use Rattle.siploc.specs.Protocol.{Protocol}
+use Rattle.siploc.specs.Replies.{Serves}
+use Rattle.siploc.specs.Machine.{items_from, pending_after, kept_prefix, read_items}
+use Rattle.siploc.specs.Streams.{ServesFirst}
 use Rattle.siploc.specs.declared.serve.ServeFault.{ServeFault}
 use Rattle.siploc.specs.declared.serve.ServeFault.TheVariants.{Read, Write, TooManyTurns, Memory}
 
--- a front of the text is behind what the writer held
-abbrev pub AppendsFront : Option (List ℕ) → Option (List ℕ) → List ℕ → Type 0
-AppendsFront old new text = (sent : List ℕ) × (unsent : List ℕ) × (text ≡ sent ++ unsent) × Appends old new sent
+-- a prefix of the text is appended
+abbrev pub AppendsPrefix : Option Octets → Option Octets → Octets → Type 0
+AppendsPrefix old new text =
+    (sent : Octets) × (unsent : Octets) × (text ≡ sent ++ unsent) × Appends old new sent
 
--- a read gave these octets, where there is more, and none at the end of input
-abbrev pub GivesMore : Bool → List ℕ → Option (List ℕ) → Type 0
-GivesMore true got left = got ≢ []
-GivesMore false got left = (got ≡ []) × IsAtEnd left
+-- a read gives octets where there may be more to read, and none at the end of the input
+abbrev pub EndsWithNone : Bool → Octets → Option Octets → Type 0
+EndsWithNone true got left = got ≢ []
+EndsWithNone false got left = (got ≡ []) × IsAtEnd left
 
--- a turn read something, and all its lines are answered and written
-abbrev pub TurnsOver : Bool → SessionState → List ℕ → Option (List ℕ) → Option (List ℕ) → Option (List ℕ) → SessionState → List ℕ → Option (List ℕ) → Type 0
-TurnsOver more before pending unread left old after kept new =
-    (got : List ℕ) × (text : List ℕ) × Consumes unread left got × GivesMore more got left × Serves before (read_lines pending got) text after × Appends old new text
-    × (got ≢ [] → kept ≡ kept_of (rest_from pending got))
+-- a turn reads once, and all items that the read gave are served and their replies written
+pub record CompletesTurn (p : Protocol) (more : Bool) (before : p.State) (pending : Octets)
+    (unread left old : Option Octets) (after : p.State) (kept : Octets) (new : Option Octets)
+    : Type 0 where
+  pub got : Octets
+  pub text : Octets
+  pub consumed : Consumes unread left got
+  pub ends : EndsWithNone more got left
+  pub serves : Serves p before (read_items pending got) text after
+  pub appended : Appends old new text
+  pub kept_is : got ≢ [] → kept ≡ kept_prefix (pending_after pending got)
 
--- a turn read something, and broke off with a front of its lines answered, and of their text a front written
-abbrev pub BreaksOff : SessionState → List ℕ → Option (List ℕ) → Option (List ℕ) → Option (List ℕ) → SessionState → Option (List ℕ) → Type 0
-BreaksOff before pending unread left old after new =
-    (got : List ℕ) × (done : List (List ℕ)) × (others : List (List ℕ)) × (text : List ℕ) × Consumes unread left got × (got ≡ [] → IsAtEnd left)
-    × (read_lines pending got ≡ done ++ others) × Serves before done text after × AppendsFront old new text
+-- a turn reads once, and is aborted with the first ones of the items served, and a prefix written
+pub record AbortsTurn (p : Protocol) (before : p.State) (pending : Octets)
+    (unread left old : Option Octets) (after : p.State) (new : Option Octets) : Type 0 where
+  pub got : Octets
+  pub consumed : Consumes unread left got
+  pub at_end : got ≡ [] → IsAtEnd left
+  pub first : ServesFirst p before (read_items pending got) old after new
 
--- a turn came to a fault: one of the read leaves all as it was
-abbrev pub TurnFails : ServeFault → SessionState → List ℕ → Option (List ℕ) → Option (List ℕ) → Option (List ℕ) → SessionState → Option (List ℕ) → Type 0
-TurnFails Read before pending unread left old after new = Keeps unread left × (after ≡ before) × Keeps old new
-TurnFails Write before pending unread left old after new = BreaksOff before pending unread left old after new
-TurnFails TooManyTurns before pending unread left old after new = ⊥
-TurnFails Memory before pending unread left old after new = BreaksOff before pending unread left old after new
+-- a read fails: all is as it was
+pub record KeepsAll (p : Protocol) (before : p.State) (unread left old : Option Octets)
+    (after : p.State) (new : Option Octets) : Type 0 where
+  pub reader : Keeps unread left
+  pub state : after ≡ before
+  pub writer : Keeps old new
 
--- so much of the input was read that the session has come here, with all its replies written
-abbrev pub HasServed : SessionState → Option (List ℕ) → Option (List ℕ) → Option (List ℕ) → SessionState → List ℕ → Option (List ℕ) → Type 0
-HasServed before unread left old now kept new =
-    (got : List ℕ) × (text : List ℕ) × Consumes unread left got × Serves before (lines_from [] got) text now × Appends old new text × (kept ≡ kept_of (rest_from [] got))
+-- a turn fails
+abbrev pub FailsTurn : ServeFault → (p : Protocol) → p.State → Octets → Option Octets → Option Octets
+    → Option Octets → p.State → Option Octets → Type 0
+FailsTurn Read p before pending unread left old after new = KeepsAll p before unread left old after new
+FailsTurn Write p before pending unread left old after new = AbortsTurn p before pending unread left old after new
+FailsTurn TooManyTurns p before pending unread left old after new = ⊥
+FailsTurn Memory p before pending unread left old after new = AbortsTurn p before pending unread left old after new
+
+-- what was read so far is served, and all replies written
+pub record HasServed (p : Protocol) (before : p.State) (unread left old : Option Octets)
+    (now : p.State) (kept : Octets) (new : Option Octets) : Type 0 where
+  pub got : Octets
+  pub text : Octets
+  pub consumed : Consumes unread left got
+  pub serves : Serves p before (items_from [] got) text now
+  pub appended : Appends old new text
+  pub kept_is : kept ≡ kept_prefix (pending_after [] got)

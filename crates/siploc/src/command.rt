@@ -6,13 +6,18 @@ ghost use Rattle.siploc.specs.CommandMeaning.{meaning_of};
 
 use sipl_records::{next_field, read_number, trim_start};
 
-/// A command, with its fields as they stand in the line.
+/// The maximum length of a line in octets. A longer one is refused as K2.
+pub const MAX_LINE_LEN: usize = 65_536;
+
+/// A command, with its fields as they are in the line.
 #[derive(Clone, Copy)]
 pub enum Command<'a> {
     /// A line without fields, or a comment.
     Nothing,
-    /// No command, or one whose fields do not fit: K1.
+    /// An unknown command, or one with other fields than it takes: K1.
     Unknown,
+    /// More octets than a line may have: K2.
+    TooLong,
     /// `zone APEX 0`: loads a zone without records.
     Zone(&'a [u8]),
     /// `add RECORD`: adds a record.
@@ -23,10 +28,13 @@ pub enum Command<'a> {
     Quit,
 }
 
-/// Reads the command of a line, which has no line end. Command words are in lower case.
+/// The command of a line, which has no line end. Command words are in lower case.
 pub fn read_command(line: &[u8]) -> Command<'_>
     ensures { meaning_of result ≡ request_of line.now }
 {
+    if line.len() > MAX_LINE_LEN {
+        return Command::TooLong;
+    }
     if line.first() == Some(&b'#') {
         return Command::Nothing;
     }

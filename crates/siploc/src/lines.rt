@@ -1,16 +1,21 @@
 ghost use Rattle.std.specs.Prelude.{◌≡◌, ◌≢◌, ℕ, ◌<◌, ◌≤◌, List, [], ◌∷◌, ◌++◌, length, take, drop, MatchOption, IfOk, OnOk, OnErr};
 ghost use Rattle.siploc.specs.Lines.{without_cr};
-ghost use Rattle.siploc.specs.Machine.{lines_from, rest_from, kept_of, last_line, read_lines, AppendsReplies, AppendsSomeReplies, HasNoEnd, EndsFirst};
+ghost use Rattle.siploc.specs.Items.{Item};
+ghost use Rattle.siploc.specs.Replies.{AppendsReplies, AppendsFirstReplies};
+ghost use Rattle.siploc.specs.Machine.{items_from, pending_after, kept_prefix, last_items, read_items, EndsNoLine, EndsLine};
+ghost use Rattle.siploc.specs.Session.{session_protocol};
 
-use crate::session::{LONGEST_LINE, Session};
+use crate::command::MAX_LINE_LEN;
+use crate::session::Session;
 use std::alloc::{AllocError, Global};
 use std::marker::Model;
 
-// The most octets that are kept of a line. A line of so many is too long, with a CR at its end too.
-const MOST_KEPT: usize = LONGEST_LINE + 2;
+// The maximum number of octets that are kept of a line. A line of so many is too long, with a CR at
+// its end too.
+const MAX_KEPT_LEN: usize = MAX_LINE_LEN + 2;
 
-/// What has come of a line whose end has not: of its octets the first 65,538, which tell all that
-/// its reply depends on.
+/// The octets of a line whose end has not been read: the first 65,538 of them, on which its reply
+/// depends.
 #[derive(Drop)]
 pub struct Pending {
     kept: Vec<u8>,
@@ -27,26 +32,26 @@ impl Model for Pending {
 }
 
 impl Pending {
-    /// Nothing of a line, with the room for all that is ever kept.
+    /// No octets, with space for all that are ever kept.
     pub fn new(alloc: Global) -> Result<Self, AllocError>
         ensures { IfOk result (λ pending. pending ≡ []) }
     {
-        let kept = Vec::with_capacity(alloc, MOST_KEPT)?;
+        let kept = Vec::with_capacity(alloc, MAX_KEPT_LEN)?;
         Ok(Pending { kept })
     }
 }
 
 impl Pending {
-    // Keeps a piece of the line behind what is kept.
+    // Keeps a piece of the line after what is kept.
     fn keep(&mut self, piece: &[u8])
-        ensures { self.new ≡ kept_of (self.old ++ piece.now) }
+        ensures { self.new ≡ kept_prefix (self.old ++ piece.now) }
     {
-        let room = MOST_KEPT - self.kept.len();
-        let count = room.min(piece.len());
+        let space = MAX_KEPT_LEN - self.kept.len();
+        let count = space.min(piece.len());
         self.kept.extend_from_slice(&piece[..count]).unwrap();
     }
 
-    // Answers the line that ends behind the piece.
+    // Processes the line that ends after the piece.
     fn end_line(
         &mut self,
         alloc: Global,
@@ -54,33 +59,37 @@ impl Pending {
         session: &mut Session,
         out: &mut Vec<u8>,
     ) -> Result<(), AllocError>
-        ensures ok { OnOk result (AppendsReplies session.old (without_cr (self.old ++ piece.now) ∷ []) out.old.items session.new out.new.items) }
+        ensures ok { OnOk result (AppendsReplies session_protocol session.old
+            (Item.line (without_cr (self.old ++ piece.now)) ∷ []) out.old.items session.new out.new.items) }
         ensures emptied { OnOk result (self.new ≡ []) }
         ensures err { OnErr result (session.new ≡ session.old) }
         ensures err_out { OnErr result (out.new.items ≡ out.old.items) }
     {
         if self.kept.is_empty() {
-            return session.take_line(alloc, strip_cr(piece), out);
+            return session.process_line(alloc, trim_cr(piece), out);
         }
         self.keep(piece);
-        session.take_line(alloc, strip_cr(&self.kept), out)?;
+        session.process_line(alloc, trim_cr(&self.kept), out)?;
         self.kept.clear();
         Ok(())
     }
 
-    /// Answers what a read gave: each line that ends in it, or at the end of the input, where a read
-    /// gives nothing, what is left, which is a line if it has octets. What stands behind the last
-    /// line end is kept. At an `Err` the room for a reply was refused: the lines before have theirs.
-    pub fn answer(
+    /// Processes what a read gave, and appends the replies: each line that ends in it, or at the end
+    /// of the input, where a read gives nothing, the octets that are left, which are a line if there
+    /// are any. The octets after the last line end are kept. An error says that the space for a reply
+    /// could not be reserved: the lines before have theirs.
+    pub fn process(
         &mut self,
         alloc: Global,
         octets: &[u8],
         session: &mut Session,
         out: &mut Vec<u8>,
     ) -> Result<(), AllocError>
-        ensures ok { OnOk result (AppendsReplies session.old (read_lines self.old octets.now) out.old.items session.new out.new.items) }
-        ensures rest { OnOk result (octets.now ≢ [] → self.new ≡ kept_of (rest_from self.old octets.now)) }
-        ensures err { OnErr result (AppendsSomeReplies session.old (read_lines self.old octets.now) out.old.items session.new out.new.items) }
+        ensures ok { OnOk result (AppendsReplies session_protocol session.old
+            (read_items self.old octets.now) out.old.items session.new out.new.items) }
+        ensures rest { OnOk result (octets.now ≢ [] → self.new ≡ kept_prefix (pending_after self.old octets.now)) }
+        ensures err { OnErr result (AppendsFirstReplies session_protocol session.old
+            (read_items self.old octets.now) out.old.items session.new out.new.items) }
     {
         if octets.is_empty() {
             return self.finish(alloc, session, out);
@@ -88,7 +97,7 @@ impl Pending {
         self.feed(alloc, octets, session, out)
     }
 
-    // Answers each line that ends in a chunk, and keeps what stands behind the last.
+    // Processes each line that ends in a chunk, and keeps the octets after the last.
     fn feed(
         &mut self,
         alloc: Global,
@@ -96,40 +105,42 @@ impl Pending {
         session: &mut Session,
         out: &mut Vec<u8>,
     ) -> Result<(), AllocError>
-        ensures ok { OnOk result (AppendsReplies session.old (lines_from self.old chunk.now) out.old.items session.new out.new.items) }
-        ensures rest { OnOk result (self.new ≡ kept_of (rest_from self.old chunk.now)) }
-        ensures err { OnErr result (AppendsSomeReplies session.old (lines_from self.old chunk.now) out.old.items session.new out.new.items) }
+        ensures ok { OnOk result (AppendsReplies session_protocol session.old
+            (items_from self.old chunk.now) out.old.items session.new out.new.items) }
+        ensures rest { OnOk result (self.new ≡ kept_prefix (pending_after self.old chunk.now)) }
+        ensures err { OnErr result (AppendsFirstReplies session_protocol session.old
+            (items_from self.old chunk.now) out.old.items session.new out.new.items) }
     {
         let mut rest = chunk;
-        while let Some((piece, behind)) = cut(rest) {
+        while let Some((piece, tail)) = split_line(rest) {
             self.end_line(alloc, piece, session, out)?;
-            rest = behind;
+            rest = tail;
         }
         self.keep(rest);
         Ok(())
     }
 
-    // Answers what is left at the end of the input.
+    // Processes the octets that are left at the end of the input.
     fn finish(
         &self,
         alloc: Global,
         session: &mut Session,
         out: &mut Vec<u8>,
     ) -> Result<(), AllocError>
-        ensures ok { OnOk result (AppendsReplies session.old (last_line self.now) out.old.items session.new out.new.items) }
+        ensures ok { OnOk result (AppendsReplies session_protocol session.old (last_items self.now) out.old.items session.new out.new.items) }
         ensures err { OnErr result (session.new ≡ session.old) }
         ensures err_out { OnErr result (out.new.items ≡ out.old.items) }
     {
         if self.kept.is_empty() {
             return Ok(());
         }
-        session.take_line(alloc, &self.kept, out)
+        session.process_line(alloc, &self.kept, out)
     }
 }
 
-// What stands before the first LF, and what stands behind it.
-fn cut(chunk: &[u8]) -> Option<(&[u8], &[u8])>
-    ensures { MatchOption result (HasNoEnd chunk.now) (λ parts. EndsFirst chunk.now parts.0.now parts.1.now) }
+// The octets before the first LF and those after it, where there is one.
+fn split_line(chunk: &[u8]) -> Option<(&[u8], &[u8])>
+    ensures { MatchOption result (EndsNoLine chunk.now) (λ parts. EndsLine chunk.now parts.0.now parts.1.now) }
 {
     for (i, octet) in chunk.iter().enumerate() {
         if *octet == b'\n' {
@@ -140,7 +151,7 @@ fn cut(chunk: &[u8]) -> Option<(&[u8], &[u8])>
 }
 
 // A line without the CR at its end.
-fn strip_cr(line: &[u8]) -> &[u8]
+fn trim_cr(line: &[u8]) -> &[u8]
     ensures { result.now ≡ without_cr line.now }
 {
     let count = line.len();

@@ -3,15 +3,11 @@
 
 mod command;
 mod lines;
-#[cfg(test)]
-mod process;
 mod program;
 mod reply;
 mod serve;
 mod session;
 mod tapped;
-#[cfg(test)]
-mod testing;
 #[cfg(test)]
 mod tests;
 

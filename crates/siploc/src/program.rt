@@ -11,7 +11,7 @@ use std::{env, io};
 const WRONG_ARGUMENTS: u8 = 2;
 
 // Does what the arguments ask for. The status is 0, 1 after a fault, or 2 where the arguments are
-// wrong; then one line on standard error says why.
+// wrong; for 1 and 2 one line on standard error gives the reason.
 pub(crate) fn start<R: Env + Input + Print + Eprint + AllocGlobal>(rt: &R) -> ExitCode {
     match asks_run(rt) {
         Ok(true) => run(rt),
@@ -28,8 +28,8 @@ pub(crate) fn start<R: Env + Input + Print + Eprint + AllocGlobal>(rt: &R) -> Ex
     }
 }
 
-// Whether the arguments are the one word `run`. An error says that one of them is no text, or that
-// there was no memory for them.
+// Whether the arguments are the one word `run`. An error says that one of them is not UTF-8, or that
+// an allocation failed.
 fn asks_run<R: Env + AllocGlobal>(rt: &R) -> io::Result<bool> {
     let mut words = env::args(rt)?;
     let _program = words.next();
@@ -40,12 +40,13 @@ fn asks_run<R: Env + AllocGlobal>(rt: &R) -> io::Result<bool> {
     Ok(asks && words.next().is_none())
 }
 
-// Serves a session, and tells a fault on standard error.
+// Serves a session, and writes a fault's code on standard error.
 fn run<R: Input + Print + Eprint + AllocGlobal>(rt: &R) -> ExitCode {
     match serve_streams(rt) {
         Ok(_) => ExitCode::SUCCESS,
         Err(fault) => {
-            let _ = eprintln!(rt; "fault {fault}");
+            let code = fault.code();
+            let _ = eprintln!(rt; "fault {code}");
             ExitCode::FAILURE
         }
     }
@@ -54,9 +55,7 @@ fn run<R: Input + Print + Eprint + AllocGlobal>(rt: &R) -> ExitCode {
 // Serves a session on standard input and output.
 fn serve_streams<R: Input + Print + AllocGlobal>(rt: &R) -> Result<Ended, ServeFault> {
     let alloc = rt.alloc();
-    let Ok(mut session) = Session::new(alloc) else {
-        return Err(ServeFault::Memory);
-    };
+    let mut session = Session::new(alloc)?;
     let mut reader = Tapped::new(rt.reader());
     let mut writer = Tapped::new(io::writer(rt));
     serve(alloc, &mut reader, &mut writer, &mut session)
@@ -65,22 +64,22 @@ fn serve_streams<R: Input + Print + AllocGlobal>(rt: &R) -> Result<Ended, ServeF
 #[cfg(test)]
 mod tests {
     use super::*;
-    use crate::process::Process;
+    use crate::tests::process::Process;
     use std::test::Fail;
 
     const USAGE: &[u8] =
         b"usage: siploc run [SETTINGS] | check APEX | world [SETTINGS] | serve [SETTINGS]\n";
 
-    // Whether the process ends with this status, and wrote this on its output and error.
+    // Whether the process ends with this status, and with this on its standard output and error.
     fn ends(process: Process<'_>, status: u8, output: &[u8], errors: &[u8]) -> bool {
-        let ended = start(&process);
+        let ended = start(&process) == ExitCode::from(status);
         let written = process.output.into_inner();
-        let told = process.errors.into_inner();
-        ended == ExitCode::from(status) && written.as_slice() == output && told.as_slice() == errors
+        let reported = process.errors.into_inner();
+        ended && written.as_slice() == output && reported.as_slice() == errors
     }
 
     #[test]
-    fn serves_its_standard_streams(rt: HostRuntime) -> Result<(), Fail> {
+    fn run_serves_the_standard_streams(rt: HostRuntime) -> Result<(), Fail> {
         let process = Process::new(
             rt.alloc(),
             &[b"siploc", b"run"],
@@ -95,7 +94,7 @@ mod tests {
     }
 
     #[test]
-    fn tells_wrong_arguments(rt: HostRuntime) -> Result<(), Fail> {
+    fn wrong_arguments_print_the_usage(rt: HostRuntime) -> Result<(), Fail> {
         let calls: [&[&[u8]]; 6] = [
             &[],
             &[b"siploc"],
@@ -112,7 +111,7 @@ mod tests {
     }
 
     #[test]
-    fn tells_faults_of_its_streams(rt: HostRuntime) -> Result<(), Fail> {
+    fn faults_of_the_streams_print_their_code(rt: HostRuntime) -> Result<(), Fail> {
         let mut process = Process::new(rt.alloc(), &[b"siploc", b"run"], b"find x\nfind");
         process.input_fails = true;
         assert!(rt; ends(process, 1, b"err U1\n", b"fault read\n"));

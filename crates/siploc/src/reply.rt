@@ -1,8 +1,8 @@
 // How replies are written.
-ghost use Rattle.std.specs.Prelude.{◌≡◌, ◌+◌, ◌*◌, ◌≤◌, [], ◌∷◌, ◌++◌, length, codes, OnOk, OnErr, vec_len, vec_capacity};
+ghost use Rattle.std.specs.Prelude.{◌≡◌, ◌+◌, ◌*◌, ◌≤◌, [], ◌∷◌, ◌++◌, length, codes, IsOk, OnOk, OnErr, vec_len, vec_capacity};
 ghost use Rattle.std.specs.Io.{StartsWith};
 ghost use Rattle.sipl_records.specs.Addresses.{text_of_address};
-ghost use Rattle.siploc.specs.ReplyText.{answer_text, counted_line, refusal_line, spaced, spaced_word, target_line, target_lines};
+ghost use Rattle.siploc.specs.ReplyText.{answer_text, counts_line, refusal_line, number_field, word_field, target_line, target_lines};
 
 use itoa::Buffer;
 use sipl_choice::Endpoint;
@@ -10,29 +10,29 @@ use sipl_plans::Answer;
 use sipl_records::Address;
 use std::alloc::AllocError;
 
-// The most octets of a number below 2^64, and of the space before it.
-const SPACED_NUMBER: usize = 21;
+// The maximum length in octets of a number below 2^64 with a space before it.
+const MAX_NUMBER_FIELD_LEN: usize = 21;
 
-/// Appends words, numbers with a space before each, and the end of the line, into room that is
-/// there: so it takes no memory.
-pub fn say_counts(out: &mut Vec<u8>, words: &[u8], numbers: &[u64])
-    requires { vec_len out.old + length words.now + SPACED_NUMBER * length numbers.now + 1 ≤ vec_capacity out.old }
-    ensures text { out.new.items ≡ out.old.items ++ counted_line words.now numbers.now }
-    ensures room { vec_capacity out.old ≤ vec_capacity out.new }
+/// Appends words, numbers with a space before each, and the end of the line, to space that is
+/// reserved: it does not allocate.
+pub fn write_counts(out: &mut Vec<u8>, words: &[u8], numbers: &[u64])
+    requires { vec_len out.old + length words.now + MAX_NUMBER_FIELD_LEN * length numbers.now + 1 ≤ vec_capacity out.old }
+    ensures ok { out.new.items ≡ out.old.items ++ counts_line words.now numbers.now }
+    ensures capacity { vec_capacity out.old ≤ vec_capacity out.new }
 {
     out.extend_from_slice(words).unwrap();
     for number in numbers {
-        say_number(out, *number);
+        write_number(out, *number);
     }
     out.push_reserved(b'\n');
 }
 
-// Appends a space and a number.
-fn say_number(out: &mut Vec<u8>, number: u64)
-    requires { vec_len out.old + SPACED_NUMBER ≤ vec_capacity out.old }
-    ensures text { out.new.items ≡ out.old.items ++ spaced number }
-    ensures len { vec_len out.new ≤ vec_len out.old + SPACED_NUMBER }
-    ensures room { vec_capacity out.old ≤ vec_capacity out.new }
+// Appends a space and a number to space that is reserved.
+fn write_number(out: &mut Vec<u8>, number: u64)
+    requires { vec_len out.old + MAX_NUMBER_FIELD_LEN ≤ vec_capacity out.old }
+    ensures ok { out.new.items ≡ out.old.items ++ number_field number }
+    ensures len { vec_len out.new ≤ vec_len out.old + MAX_NUMBER_FIELD_LEN }
+    ensures capacity { vec_capacity out.old ≤ vec_capacity out.new }
 {
     let mut buffer = Buffer::new();
     out.push_reserved(b' ');
@@ -40,58 +40,65 @@ fn say_number(out: &mut Vec<u8>, number: u64)
         .unwrap();
 }
 
-/// Appends the reply to a command that is refused. At an `Err` a part may stand in `out`.
-pub fn say_refusal(out: &mut Vec<u8>, code: &str) -> Result<(), AllocError>
-    ensures text { OnOk result (out.new.items ≡ out.old.items ++ refusal_line code.now) }
-    ensures err { OnErr result (StartsWith out.new.items out.old.items) }
-    ensures room { vec_capacity out.old ≤ vec_capacity out.new }
+/// Appends the reply to a command that is refused. An error leaves `out` as it was.
+pub fn write_refusal(out: &mut Vec<u8>, code: &str) -> Result<(), AllocError>
+    ensures ok { OnOk result (out.new.items ≡ out.old.items ++ refusal_line code.now) }
+    ensures err { OnErr result (out.new.items ≡ out.old.items) }
+    ensures capacity { vec_capacity out.old ≤ vec_capacity out.new }
+    ensures succeeds { vec_len out.old + length (refusal_line code.now) ≤ vec_capacity out.old → IsOk result }
 {
-    out.extend_from_slice(b"err ")?;
-    out.extend_from_slice(code.as_bytes())?;
-    out.push(b'\n')?;
+    write_line(out, b"err ", code.as_bytes())
+}
+
+// Appends a word, a text and the end of the line. An error leaves `out` as it was.
+fn write_line(out: &mut Vec<u8>, word: &[u8], text: &[u8]) -> Result<(), AllocError>
+    ensures ok { OnOk result (out.new.items ≡ out.old.items ++ (word.now ++ text.now ++ 10 ∷ [])) }
+    ensures err { OnErr result (out.new.items ≡ out.old.items) }
+    ensures capacity { vec_capacity out.old ≤ vec_capacity out.new }
+    ensures succeeds { vec_len out.old + length (word.now ++ text.now ++ 10 ∷ []) ≤ vec_capacity out.old → IsOk result }
+{
+    out.reserve(word.len() + text.len() + 1)?;
+    out.extend_from_slice(word).unwrap();
+    out.extend_from_slice(text).unwrap();
+    out.push_reserved(b'\n');
     Ok(())
 }
 
-/// Appends the reply to a question. At an `Err` a part may stand in `out`.
-pub fn say_answer(out: &mut Vec<u8>, answer: &Answer) -> Result<(), AllocError>
-    ensures text { OnOk result (out.new.items ≡ out.old.items ++ answer_text answer.now) }
+/// Appends the reply to a question. An error may leave a part of it in `out`.
+pub fn write_answer(out: &mut Vec<u8>, answer: &Answer) -> Result<(), AllocError>
+    ensures ok { OnOk result (out.new.items ≡ out.old.items ++ answer_text answer.now) }
     ensures err { OnErr result (StartsWith out.new.items out.old.items) }
-    ensures room { vec_capacity out.old ≤ vec_capacity out.new }
+    ensures capacity { vec_capacity out.old ≤ vec_capacity out.new }
 {
     match answer {
-        Answer::Targets(targets) => say_targets(out, targets.as_slice()),
-        Answer::None(reason) => {
-            out.extend_from_slice(b"none ")?;
-            out.extend_from_slice(reason.name().as_bytes())?;
-            out.push(b'\n')?;
-            Ok(())
-        }
+        Answer::Targets(targets) => write_targets(out, targets.as_slice()),
+        Answer::None(reason) => write_line(out, b"none ", reason.name().as_bytes()),
     }
 }
 
 // Appends a line for each target, and the line that counts them.
-fn say_targets(out: &mut Vec<u8>, targets: &[Endpoint]) -> Result<(), AllocError>
-    ensures text { OnOk result (out.new.items
-        ≡ out.old.items ++ (target_lines 1 targets.now ++ counted_line (codes "ok find") (length targets.now ∷ []))) }
+fn write_targets(out: &mut Vec<u8>, targets: &[Endpoint]) -> Result<(), AllocError>
+    ensures ok { OnOk result (out.new.items
+        ≡ out.old.items ++ (target_lines 1 targets.now ++ counts_line (codes "ok find") (length targets.now ∷ []))) }
     ensures err { OnErr result (StartsWith out.new.items out.old.items) }
-    ensures room { vec_capacity out.old ≤ vec_capacity out.new }
+    ensures capacity { vec_capacity out.old ≤ vec_capacity out.new }
 {
     let mut number = 1;
     for target in targets {
-        say_target(out, number, target)?;
+        write_target(out, number, target)?;
         number += 1;
     }
     let words = b"ok find";
-    out.reserve(words.len() + SPACED_NUMBER + 1)?;
-    say_counts(out, words, &[targets.len() as u64]);
+    out.reserve(words.len() + MAX_NUMBER_FIELD_LEN + 1)?;
+    write_counts(out, words, &[targets.len() as u64]);
     Ok(())
 }
 
 // Appends the line of a target.
-fn say_target(out: &mut Vec<u8>, number: u64, target: &Endpoint) -> Result<(), AllocError>
-    ensures text { OnOk result (out.new.items ≡ out.old.items ++ target_line number target.now) }
+fn write_target(out: &mut Vec<u8>, number: u64, target: &Endpoint) -> Result<(), AllocError>
+    ensures ok { OnOk result (out.new.items ≡ out.old.items ++ target_line number target.now) }
     ensures err { OnErr result (StartsWith out.new.items out.old.items) }
-    ensures room { vec_capacity out.old ≤ vec_capacity out.new }
+    ensures capacity { vec_capacity out.old ≤ vec_capacity out.new }
 {
     out.extend_from_slice(b"target")?;
     append_number(out, number)?;
@@ -104,20 +111,20 @@ fn say_target(out: &mut Vec<u8>, number: u64, target: &Endpoint) -> Result<(), A
 
 // Appends a space and a number.
 fn append_number(out: &mut Vec<u8>, number: u64) -> Result<(), AllocError>
-    ensures text { OnOk result (out.new.items ≡ out.old.items ++ spaced number) }
+    ensures ok { OnOk result (out.new.items ≡ out.old.items ++ number_field number) }
     ensures err { OnErr result (out.new.items ≡ out.old.items) }
-    ensures room { vec_capacity out.old ≤ vec_capacity out.new }
+    ensures capacity { vec_capacity out.old ≤ vec_capacity out.new }
 {
-    out.reserve(SPACED_NUMBER)?;
-    say_number(out, number);
+    out.reserve(MAX_NUMBER_FIELD_LEN)?;
+    write_number(out, number);
     Ok(())
 }
 
 // Appends a space and a word.
 fn append_word(out: &mut Vec<u8>, word: &[u8]) -> Result<(), AllocError>
-    ensures text { OnOk result (out.new.items ≡ out.old.items ++ spaced_word word.now) }
+    ensures ok { OnOk result (out.new.items ≡ out.old.items ++ word_field word.now) }
     ensures err { OnErr result (StartsWith out.new.items out.old.items) }
-    ensures room { vec_capacity out.old ≤ vec_capacity out.new }
+    ensures capacity { vec_capacity out.old ≤ vec_capacity out.new }
 {
     out.push(b' ')?;
     out.extend_from_slice(word)
@@ -125,9 +132,9 @@ fn append_word(out: &mut Vec<u8>, word: &[u8]) -> Result<(), AllocError>
 
 // Appends a space and an address.
 fn append_address(out: &mut Vec<u8>, address: Address) -> Result<(), AllocError>
-    ensures text { OnOk result (out.new.items ≡ out.old.items ++ spaced_word (text_of_address address)) }
+    ensures ok { OnOk result (out.new.items ≡ out.old.items ++ word_field (text_of_address address)) }
     ensures err { OnErr result (StartsWith out.new.items out.old.items) }
-    ensures room { vec_capacity out.old ≤ vec_capacity out.new }
+    ensures capacity { vec_capacity out.old ≤ vec_capacity out.new }
 {
     out.push(b' ')?;
     address.write(out)

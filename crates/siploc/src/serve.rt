@@ -1,10 +1,11 @@
-ghost use Rattle.std.specs.Prelude.{◌≡◌, ℕ, ◌+◌, ◌-◌, ◌^◌, ◌≤◌, ◌||◌, ◌↔◌, min, true, false, List, [], is_err, not, IsTrue, IfOk, IfErr, OnOk, OnErr};
+ghost use Rattle.std.specs.Prelude.{◌≡◌, ℕ, ◌+◌, ◌-◌, ◌^◌, ◌||◌, ◌↔◌, min, List, [], is_err, not, IsTrue, IfOk, IfErr};
 ghost use Rattle.std.specs.Bool.{OnTrue, OnFalse};
-ghost use Rattle.std.specs.Io.KnownBytes.{Appends, IsAtEnd};
+ghost use Rattle.std.specs.Io.KnownBytes.{Appends};
 ghost use Rattle.siploc.specs.Tapped.{tapped_inner, has_failed, read_count};
-ghost use Rattle.siploc.specs.Faults.{is_read_fault, is_write_fault, OnReadFault, OnTooManyTurns, OnEndOfInput};
-ghost use Rattle.siploc.specs.Streams.{ServesAll, ServesFront, ServesRead};
-ghost use Rattle.siploc.specs.Turns.{AppendsFront, TurnsOver, TurnFails};
+ghost use Rattle.siploc.specs.ServeFault.{code_of, is_read_fault, is_write_fault};
+ghost use Rattle.siploc.specs.Serving.{ServesWithin};
+ghost use Rattle.siploc.specs.Session.{session_protocol};
+ghost use Rattle.siploc.specs.Turns.{AppendsPrefix, CompletesTurn, FailsTurn};
 
 use crate::lines::Pending;
 use crate::session::Session;
@@ -15,13 +16,13 @@ use std::fmt;
 use std::io::{Read, Write};
 use std::marker::Model;
 
-/// The most reads of one call of [`serve`].
+/// The maximum number of reads of one call of [`serve`].
 pub const MAX_READS: u64 = 1 << 32;
 
-// The most octets of a read.
-const CHUNK: usize = 16 * 1024;
+// The maximum length of a read in octets.
+const CHUNK_LEN: usize = 16 * 1024;
 
-/// How a session came to its end.
+/// How a session ends.
 #[derive(Clone, Copy, Debug, PartialEq, Eq)]
 pub enum Ended {
     /// A command ended it.
@@ -30,67 +31,76 @@ pub enum Ended {
     EndOfInput,
 }
 
-/// Why a session broke off.
+/// Why a session was aborted.
 #[derive(Clone, Copy, Debug, PartialEq, Eq)]
 pub enum ServeFault {
-    /// The reader answered an error.
+    /// The reader returned an error.
     Read,
-    /// The writer answered an error, or took nothing of a text.
+    /// The writer returned an error, or wrote nothing of a text.
     Write,
     /// The reads that are allowed were made, and the session had not ended.
     TooManyTurns,
-    /// A growth of memory was refused where no reply could tell it.
+    /// An allocation failed.
     Memory,
 }
 
-impl fmt::Display for ServeFault {
-    ghost use Rattle.std.specs.Prelude.{Some};
-    ghost use Rattle.siploc.specs.Faults.{fault_text};
-
-    ghost output = { λ fault. Some (fault_text fault) };
-
-    fn fmt<W: fmt::Write>(&self, f: &mut fmt::Formatter<W>) -> fmt::Result {
-        f.write_str(match self {
+impl ServeFault {
+    /// The error's code on standard error, such as `read`.
+    pub fn code(self) -> &'static str
+        ensures { result.now ≡ code_of self }
+    {
+        match self {
             ServeFault::Read => "read",
             ServeFault::Write => "write",
             ServeFault::TooManyTurns => "turns",
             ServeFault::Memory => "memory",
+        }
+    }
+}
+
+impl fmt::Display for ServeFault {
+    ghost use Rattle.std.specs.Prelude.{Some};
+    ghost use Rattle.siploc.specs.ServeFault.{message_of};
+
+    ghost output = { λ fault. Some (message_of fault) };
+
+    fn fmt<W: fmt::Write>(&self, f: &mut fmt::Formatter<W>) -> fmt::Result {
+        f.write_str(match self {
+            ServeFault::Read => "a read failed",
+            ServeFault::Write => "a write failed, or wrote nothing",
+            ServeFault::TooManyTurns => "the session is longer than the reads that are allowed",
+            ServeFault::Memory => "out of memory",
         })
     }
 }
 
 impl Error for ServeFault {}
 
-/// Answers the lines of a reader on a writer: at most [`MAX_READS`] reads, and after each the replies
-/// to all lines that are whole, written and flushed before the next read. Once the session is over it
-/// reads no more. An error of the reader or the writer is a fault at once; what was accepted stands.
+impl From<AllocError> for ServeFault {
+    ghost use Rattle.std.specs.Prelude.{◌≡◌};
+    ghost use Rattle.siploc.specs.declared.serve.ServeFault.TheVariants.{Memory};
+
+    ghost from_gives = { λ _ fault. fault ≡ Memory };
+
+    fn from(_: AllocError) -> ServeFault {
+        ServeFault::Memory
+    }
+}
+
+/// Serves a session: processes the lines of a reader and writes the replies, with at most
+/// [`MAX_READS`] reads.
+///
+/// After each read the replies to all complete lines are written and flushed before the next read.
+/// Once the session has ended it reads no more. An error of the reader or the writer is a fault at
+/// once; what the session has accepted stays.
 pub fn serve<R: Read, W: Write>(
     alloc: Global,
     reader: &mut Tapped<R>,
     writer: &mut Tapped<W>,
     session: &mut Session,
 ) -> Result<Ended, ServeFault>
-    // The text of the whole input, where it came to its end.
-    ensures served { OnOk result (ServesAll session.old (R.remaining (tapped_inner reader.old)) (W.contents (tapped_inner writer.old)) session.new (W.contents (tapped_inner writer.new))) }
-    ensures quit { IfOk result (λ ended. (ended ≡ Ended.Quit) ↔ IsTrue session.new.over) }
-    ensures end_of_input { OnEndOfInput result (IsAtEnd (R.remaining (tapped_inner reader.new))) }
-
-    // The text of the first lines, where it broke off: all that were whole, where it was to read on.
-    ensures front { OnErr result (ServesFront session.old (R.remaining (tapped_inner reader.old)) (W.contents (tapped_inner writer.old)) session.new (W.contents (tapped_inner writer.new))) }
-    ensures interactive { OnReadFault result (ServesRead session.old (R.remaining (tapped_inner reader.old)) (R.remaining (tapped_inner reader.new))
-        (W.contents (tapped_inner writer.old)) session.new (W.contents (tapped_inner writer.new))) }
-    ensures all_turns { OnTooManyTurns result (ServesRead session.old (R.remaining (tapped_inner reader.old)) (R.remaining (tapped_inner reader.new))
-        (W.contents (tapped_inner writer.old)) session.new (W.contents (tapped_inner writer.new))) }
-
-    // A session that is over reads no more.
-    ensures reads_until_over { OnReadFault result (session.new.over ≡ false) }
-    ensures turns_until_over { OnTooManyTurns result (session.new.over ≡ false) }
-
-    // Which fault it is.
-    ensures reader_failed { has_failed reader.new ≡ (has_failed reader.old || is_read_fault result) }
-    ensures writer_failed { has_failed writer.new ≡ (has_failed writer.old || is_write_fault result) }
-    ensures too_many { OnTooManyTurns result (read_count reader.new ≡ min (read_count reader.old + MAX_READS) (2 ^ 64 - 1)) }
-    ensures at_most { read_count reader.new ≤ read_count reader.old + MAX_READS }
+    ensures { ServesWithin session_protocol (2 ^ 32) result R.remaining W.contents
+        session.old session.new reader.old reader.new writer.old writer.new }
 {
     serve_within(alloc, reader, writer, session, MAX_READS)
 }
@@ -101,41 +111,22 @@ pub(crate) fn serve_within<R: Read, W: Write>(
     reader: &mut Tapped<R>,
     writer: &mut Tapped<W>,
     session: &mut Session,
-    turns: u64,
+    limit: u64,
 ) -> Result<Ended, ServeFault>
-    ensures served { OnOk result (ServesAll session.old (R.remaining (tapped_inner reader.old)) (W.contents (tapped_inner writer.old)) session.new (W.contents (tapped_inner writer.new))) }
-    ensures quit { IfOk result (λ ended. (ended ≡ Ended.Quit) ↔ IsTrue session.new.over) }
-    ensures end_of_input { OnEndOfInput result (IsAtEnd (R.remaining (tapped_inner reader.new))) }
-    ensures front { OnErr result (ServesFront session.old (R.remaining (tapped_inner reader.old)) (W.contents (tapped_inner writer.old)) session.new (W.contents (tapped_inner writer.new))) }
-    ensures interactive { OnReadFault result (ServesRead session.old (R.remaining (tapped_inner reader.old)) (R.remaining (tapped_inner reader.new))
-        (W.contents (tapped_inner writer.old)) session.new (W.contents (tapped_inner writer.new))) }
-    ensures all_turns { OnTooManyTurns result (ServesRead session.old (R.remaining (tapped_inner reader.old)) (R.remaining (tapped_inner reader.new))
-        (W.contents (tapped_inner writer.old)) session.new (W.contents (tapped_inner writer.new))) }
-    ensures reads_until_over { OnReadFault result (session.new.over ≡ false) }
-    ensures turns_until_over { OnTooManyTurns result (session.new.over ≡ false) }
-    ensures reader_failed { has_failed reader.new ≡ (has_failed reader.old || is_read_fault result) }
-    ensures writer_failed { has_failed writer.new ≡ (has_failed writer.old || is_write_fault result) }
-    ensures too_many { OnTooManyTurns result (read_count reader.new ≡ min (read_count reader.old + turns) (2 ^ 64 - 1)) }
-    ensures at_most { read_count reader.new ≤ read_count reader.old + turns }
+    ensures { ServesWithin session_protocol limit result R.remaining W.contents
+        session.old session.new reader.old reader.new writer.old writer.new }
 {
-    let mut server = match Server::new(alloc) {
-        Ok(server) => server,
-        Err(_) => return Err(ServeFault::Memory),
-    };
+    let mut server = Server::new(alloc)?;
     let _reads = reader.reads();
-    for _made in 0..turns {
-        if session.is_over() {
+    for _made in 0..limit {
+        if session.has_ended() {
             return Ok(Ended::Quit);
         }
-        let more = match server.turn(alloc, reader, writer, session) {
-            Ok(more) => more,
-            Err(fault) => return Err(fault),
-        };
-        if !more {
+        if !server.turn(alloc, reader, writer, session)? {
             return Ok(end_of(session));
         }
     }
-    if session.is_over() {
+    if session.has_ended() {
         return Ok(Ended::Quit);
     }
     Err(ServeFault::TooManyTurns)
@@ -143,16 +134,16 @@ pub(crate) fn serve_within<R: Read, W: Write>(
 
 // How a session ends whose input has no more.
 fn end_of(session: &Session) -> Ended
-    ensures { (result ≡ Ended.Quit) ↔ IsTrue session.now.over }
+    ensures { (result ≡ Ended.Quit) ↔ IsTrue session.now.ended }
 {
-    if session.is_over() {
+    if session.has_ended() {
         Ended::Quit
     } else {
         Ended::EndOfInput
     }
 }
 
-// What serving keeps from one read to the next.
+// What is kept from one read to the next.
 #[derive(Drop)]
 struct Server {
     pending: Pending,
@@ -176,13 +167,13 @@ impl Server {
     {
         Ok(Server {
             pending: Pending::new(alloc)?,
-            chunk: vec![in alloc; 0; CHUNK]?,
+            chunk: vec![in alloc; 0; CHUNK_LEN]?,
             replies: Vec::new(alloc),
         })
     }
 
-    // Reads once, answers the lines that are whole, and writes the replies. It answers whether there
-    // may be more to read.
+    // Reads once, processes the lines that are complete, and writes the replies. Returns whether
+    // there may be more to read.
     fn turn<R: Read, W: Write>(
         &mut self,
         alloc: Global,
@@ -190,9 +181,11 @@ impl Server {
         writer: &mut Tapped<W>,
         session: &mut Session,
     ) -> Result<bool, ServeFault>
-        ensures ok { IfOk result (λ more. TurnsOver more session.old self.old (R.remaining (tapped_inner reader.old)) (R.remaining (tapped_inner reader.new))
+        ensures ok { IfOk result (λ more. CompletesTurn session_protocol more session.old self.old
+            (R.remaining (tapped_inner reader.old)) (R.remaining (tapped_inner reader.new))
             (W.contents (tapped_inner writer.old)) session.new self.new (W.contents (tapped_inner writer.new))) }
-        ensures err { IfErr result (λ fault. TurnFails fault session.old self.old (R.remaining (tapped_inner reader.old)) (R.remaining (tapped_inner reader.new))
+        ensures err { IfErr result (λ fault. FailsTurn fault session_protocol session.old self.old
+            (R.remaining (tapped_inner reader.old)) (R.remaining (tapped_inner reader.new))
             (W.contents (tapped_inner writer.old)) session.new (W.contents (tapped_inner writer.new))) }
         ensures reader_failed { has_failed reader.new ≡ (has_failed reader.old || is_read_fault result) }
         ensures writer_failed { has_failed writer.new ≡ (has_failed writer.old || is_write_fault result) }
@@ -203,13 +196,13 @@ impl Server {
             Err(_) => return Err(ServeFault::Read),
         };
         self.replies.clear();
-        let answered = self
+        let processed = self
             .pending
-            .answer(alloc, &self.chunk[..count], session, &mut self.replies);
+            .process(alloc, &self.chunk[..count], session, &mut self.replies);
         if !send(writer, &self.replies) {
             return Err(ServeFault::Write);
         }
-        match answered {
+        match processed {
             Ok(()) => {}
             Err(_) => return Err(ServeFault::Memory),
         }
@@ -217,10 +210,10 @@ impl Server {
     }
 }
 
-// Writes all of a text, if it has any, and flushes the writer. It answers whether that went well.
+// Writes all of a text, if it has any, and flushes the writer. Returns whether that succeeded.
 fn send<W: Write>(writer: &mut Tapped<W>, text: &[u8]) -> bool
     ensures sent { OnTrue result (Appends (W.contents (tapped_inner writer.old)) (W.contents (tapped_inner writer.new)) text.now) }
-    ensures front { OnFalse result (AppendsFront (W.contents (tapped_inner writer.old)) (W.contents (tapped_inner writer.new)) text.now) }
+    ensures prefix { OnFalse result (AppendsPrefix (W.contents (tapped_inner writer.old)) (W.contents (tapped_inner writer.new)) text.now) }
     ensures failed { has_failed writer.new ≡ (has_failed writer.old || not result) }
 {
     let mut rest = text;

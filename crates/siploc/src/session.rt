@@ -1,11 +1,12 @@
-ghost use Rattle.std.specs.Prelude.{◌≡◌, ◌≢◌, ◌+◌, ◌≤◌, [], ◌++◌, IfOk, OnOk, OnErr, vec_len, vec_capacity};
+ghost use Rattle.std.specs.Prelude.{◌≡◌, ◌+◌, ◌≤◌, [], ◌++◌, IsTrue, IfOk, OnOk, OnErr, vec_len, vec_capacity};
 ghost use Rattle.std.specs.Io.{StartsWith};
-ghost use Rattle.sipl_zonestore.specs.declared.TheConstants.{MAX_RECORDS};
-ghost use Rattle.siploc.specs.Machine.{AppendsAnswer};
-ghost use Rattle.siploc.specs.Session.{client, new_session, command_reply, command_after, zone_outcome, add_outcome, find_outcome};
+ghost use Rattle.siploc.specs.CommandMeaning.{meaning_of};
+ghost use Rattle.siploc.specs.Items.{Item};
+ghost use Rattle.siploc.specs.Replies.{AppendsReply};
+ghost use Rattle.siploc.specs.Session.{allocates, new_session, session_protocol, outcome_of, zone_outcome, add_outcome, find_outcome};
 
 use crate::command::{Command, read_command};
-use crate::reply::{say_answer, say_counts, say_refusal};
+use crate::reply::{write_answer, write_counts, write_refusal};
 use sipl_choice::{Abilities, Families, Transport};
 use sipl_masterfile::{ZoneCause, ZoneFault, read_record, read_zone};
 use sipl_names::{Name, NameFault};
@@ -15,34 +16,32 @@ use sipl_zonestore::{StoreFault, ZoneStore};
 use std::alloc::{AllocError, Global};
 use std::marker::Model;
 
-/// The most octets of a line. A longer one is refused as K2.
-pub const LONGEST_LINE: usize = 65_536;
+// The maximum length of a short reply in octets. Space for one is reserved before each command.
+const MAX_SHORT_REPLY_LEN: usize = 128;
 
-// The octets that a short reply has at most. The room for one is taken before a line is looked at.
-const SHORT_REPLY: usize = 128;
-
-/// A session: the zones that its commands have loaded, and the abilities that questions are answered for.
+/// A session: the zones that its commands have loaded, and the abilities that questions are
+/// answered for.
 #[derive(Drop)]
 pub struct Session {
     store: ZoneStore,
     abilities: Abilities,
-    over: bool,
+    ended: bool,
 }
 
 impl Model for Session {
     ghost use Rattle.std.specs.Prelude.{◌≡◌};
-    ghost use Rattle.sipl_zonestore.specs.declared.TheConstants.{MAX_RECORDS};
-    ghost use Rattle.siploc.specs.Session.{SessionState, client};
+    ghost use Rattle.siploc.specs.Session.{SessionState, client, max_records};
 
     ghost Value = { SessionState };
 
-    ghost view = { λ s. record { zones = s.store.zones; over = s.over } };
+    ghost view = { λ s. record { zones = s.store.zones; ended = s.ended } };
 
-    ghost invariant = { λ s. (s.abilities ≡ client) × (s.store.most ≡ MAX_RECORDS) };
+    ghost invariant = { λ s. (s.abilities ≡ client) × (s.store.most ≡ max_records) };
 }
 
 impl Session {
-    /// A session that has had no line. Questions are answered for UDP and TCP, in this order, and IPv4.
+    /// A session that has had no line. Questions are answered for UDP and TCP, in this order, and
+    /// IPv4. An error says that an allocation failed.
     pub fn new(alloc: Global) -> Result<Self, AllocError>
         ensures { IfOk result (λ session. session ≡ new_session) }
     {
@@ -51,169 +50,151 @@ impl Session {
         Ok(Session {
             store: ZoneStore::new(alloc),
             abilities,
-            over: false,
+            ended: false,
         })
     }
 
     /// Whether the session has ended. From then on a line has no reply.
-    pub fn is_over(&self) -> bool
-        ensures { result ≡ self.now.over }
+    pub fn has_ended(&self) -> bool
+        ensures { result ≡ self.now.ended }
     {
-        self.over
+        self.ended
     }
 
-    /// Answers a line, which has no line end: its reply goes behind what `out` holds.
-    /// A line for whose command a growth of memory is refused is answered `err Memory` and changes
-    /// nothing. An `Err` says that the room for a short reply was refused: nothing has changed.
-    pub fn take_line(
+    /// Processes a line, which has no line end, and appends its reply to `out`.
+    ///
+    /// Where an allocation fails during a `zone`, an `add` or a `find`, the reply is `err Memory`
+    /// and nothing changes. An error says that the space for a short reply could not be reserved:
+    /// then too nothing has changed.
+    pub fn process_line(
         &mut self,
         alloc: Global,
         line: &[u8],
         out: &mut Vec<u8>,
     ) -> Result<(), AllocError>
-        ensures ok { OnOk result (AppendsAnswer self.old line.now out.old.items self.new out.new.items) }
+        ensures ok { OnOk result (AppendsReply session_protocol self.old (Item.line line.now) out.old.items self.new out.new.items) }
         ensures err { OnErr result (self.new ≡ self.old) }
         ensures err_out { OnErr result (out.new.items ≡ out.old.items) }
     {
-        if self.is_over() {
+        if self.has_ended() {
             return Ok(());
         }
-        out.reserve(SHORT_REPLY)?;
-        if line.len() > LONGEST_LINE {
-            return out.extend_from_slice(b"err K2\n");
-        }
+        out.reserve(MAX_SHORT_REPLY_LEN)?;
         let start = out.len();
-        match self.command(alloc, line, out) {
-            Ok(()) => Ok(()),
-            Err(_) => {
-                out.truncate(start);
-                out.extend_from_slice(b"err Memory\n")
-            }
+        if self.perform(alloc, read_command(line), out).is_ok() {
+            return Ok(());
         }
+        out.truncate(start);
+        write_refusal(out, "Memory")
     }
 
-    // Carries a command out and appends its reply. At an `Err` a growth of memory was refused: what
-    // the session holds is as it was, and `out` may have grown.
-    fn command(&mut self, alloc: Global, line: &[u8], out: &mut Vec<u8>) -> Result<(), AllocError>
-        requires { vec_len out.old + SHORT_REPLY ≤ vec_capacity out.old }
-        ensures reply { OnOk result (out.new.items ≡ out.old.items ++ command_reply self.old line.now) }
-        ensures after { OnOk result (self.new ≡ command_after self.old line.now) }
+    // Carries a command out and appends its reply. An error says that an allocation failed: then the
+    // session is as it was, and `out` may have a part of a reply.
+    fn perform(
+        &mut self,
+        alloc: Global,
+        command: Command<'_>,
+        out: &mut Vec<u8>,
+    ) -> Result<(), AllocError>
+        requires { vec_len out.old + MAX_SHORT_REPLY_LEN ≤ vec_capacity out.old }
+        ensures ok { OnOk result (out.new.items ≡ out.old.items ++ (outcome_of (meaning_of command.entry) self.old).reply) }
+        ensures after { OnOk result (self.new ≡ (outcome_of (meaning_of command.entry) self.old).state) }
         ensures err { OnErr result (self.new ≡ self.old) }
         ensures err_out { OnErr result (StartsWith out.new.items out.old.items) }
-        ensures err_has_reply { OnErr result (command_reply self.old line.now ≢ []) }
-        ensures room { vec_capacity out.old ≤ vec_capacity out.new }
+        ensures allocates { OnErr result (IsTrue (allocates (meaning_of command.entry))) }
+        ensures capacity { vec_capacity out.old ≤ vec_capacity out.new }
     {
-        match read_command(line) {
+        match command {
             Command::Nothing => Ok(()),
-            Command::Unknown => say_refusal(out, "K1"),
-            Command::Zone(apex) => load_zone(alloc, &mut self.store, apex, out),
-            Command::Add(record) => add_record(alloc, &mut self.store, record, out),
-            Command::Find(uri) => find(alloc, &self.store, &self.abilities, uri, out),
+            Command::Unknown => write_refusal(out, "K1"),
+            Command::TooLong => write_refusal(out, "K2"),
+            Command::Zone(apex) => self.load_zone(alloc, apex, out),
+            Command::Add(record) => self.add_record(alloc, record, out),
+            Command::Find(uri) => self.find(alloc, uri, out),
             Command::Quit => {
-                out.extend_from_slice(b"ok quit\n")?;
-                self.over = true;
-                Ok(())
+                self.ended = true;
+                out.extend_from_slice(b"ok quit\n")
             }
         }
     }
-}
 
-// `zone APEX 0`: loads a zone without records.
-fn load_zone(
-    alloc: Global,
-    store: &mut ZoneStore,
-    apex: &[u8],
-    out: &mut Vec<u8>,
-) -> Result<(), AllocError>
-    requires room { vec_len out.old + SHORT_REPLY ≤ vec_capacity out.old }
-    requires limit { store.old.most ≡ MAX_RECORDS }
-    ensures reply { OnOk result (out.new.items ≡ out.old.items ++ (zone_outcome apex.now store.old.zones).reply) }
-    ensures after { OnOk result (store.new.zones ≡ (zone_outcome apex.now store.old.zones).zones) }
-    ensures limit { store.new.most ≡ store.old.most }
-    ensures err { OnErr result (store.new ≡ store.old) }
-    ensures err_out { OnErr result (StartsWith out.new.items out.old.items) }
-    ensures room { vec_capacity out.old ≤ vec_capacity out.new }
-{
-    let apex = match Name::from_text(alloc, apex, &Name::root(alloc)) {
-        Ok(apex) => apex,
-        Err(NameFault::Memory) => return Err(AllocError),
-        Err(fault) => return say_refusal(out, fault.code()),
-    };
-    let text = match read_zone(alloc, &[], &apex) {
-        Ok(text) => text,
-        Err(_) => return Err(AllocError),
-    };
-    match store.load(&text) {
-        Ok(changed) => {
-            let records = text.records().len() as u64;
-            let counts = [
-                records,
-                text.outside(),
-                text.repeated(),
-                changed.len() as u64,
-            ];
-            say_counts(out, b"ok zone", &counts);
-            Ok(())
+    // `zone APEX 0`: loads a zone without records.
+    fn load_zone(&mut self, alloc: Global, apex: &[u8], out: &mut Vec<u8>) -> Result<(), AllocError>
+        requires { vec_len out.old + MAX_SHORT_REPLY_LEN ≤ vec_capacity out.old }
+        ensures ok { OnOk result (out.new.items ≡ out.old.items ++ (zone_outcome apex.now self.old).reply) }
+        ensures after { OnOk result (self.new ≡ (zone_outcome apex.now self.old).state) }
+        ensures err { OnErr result (self.new ≡ self.old) }
+        ensures err_out { OnErr result (StartsWith out.new.items out.old.items) }
+        ensures capacity { vec_capacity out.old ≤ vec_capacity out.new }
+    {
+        let apex = match Name::from_text(alloc, apex, &Name::root(alloc)) {
+            Ok(apex) => apex,
+            Err(NameFault::Memory) => return Err(AllocError),
+            Err(fault) => return write_refusal(out, fault.code()),
+        };
+        let text = match read_zone(alloc, &[], &apex) {
+            Ok(text) => text,
+            Err(_) => return Err(AllocError),
+        };
+        match self.store.load(&text) {
+            Ok(changed) => {
+                let records = text.records().len() as u64;
+                let changed = changed.len() as u64;
+                let counts = [records, text.outside(), text.repeated(), changed];
+                write_counts(out, b"ok zone", &counts);
+                Ok(())
+            }
+            Err(StoreFault::Memory) => Err(AllocError),
+            Err(fault) => write_refusal(out, fault.code()),
         }
-        Err(StoreFault::Memory) => Err(AllocError),
-        Err(fault) => say_refusal(out, fault.code()),
     }
-}
 
-// `add RECORD`: adds a record.
-fn add_record(
-    alloc: Global,
-    store: &mut ZoneStore,
-    text: &[u8],
-    out: &mut Vec<u8>,
-) -> Result<(), AllocError>
-    requires room { vec_len out.old + SHORT_REPLY ≤ vec_capacity out.old }
-    requires limit { store.old.most ≡ MAX_RECORDS }
-    ensures reply { OnOk result (out.new.items ≡ out.old.items ++ (add_outcome text.now store.old.zones).reply) }
-    ensures after { OnOk result (store.new.zones ≡ (add_outcome text.now store.old.zones).zones) }
-    ensures limit { store.new.most ≡ store.old.most }
-    ensures err { OnErr result (store.new ≡ store.old) }
-    ensures err_out { OnErr result (StartsWith out.new.items out.old.items) }
-    ensures room { vec_capacity out.old ≤ vec_capacity out.new }
-{
-    let record = match read_record(alloc, text, &Name::root(alloc)) {
-        Ok(record) => record,
-        Err(
-            ZoneFault {
-                cause: ZoneCause::Memory,
-                ..
-            },
-        ) => return Err(AllocError),
-        Err(fault) => return say_refusal(out, fault.code()),
-    };
-    match store.add(&record) {
-        Ok(changed) => {
-            say_counts(out, b"ok add", &[changed.len() as u64]);
-            Ok(())
+    // `add RECORD`: adds a record.
+    fn add_record(
+        &mut self,
+        alloc: Global,
+        text: &[u8],
+        out: &mut Vec<u8>,
+    ) -> Result<(), AllocError>
+        requires { vec_len out.old + MAX_SHORT_REPLY_LEN ≤ vec_capacity out.old }
+        ensures ok { OnOk result (out.new.items ≡ out.old.items ++ (add_outcome text.now self.old).reply) }
+        ensures after { OnOk result (self.new ≡ (add_outcome text.now self.old).state) }
+        ensures err { OnErr result (self.new ≡ self.old) }
+        ensures err_out { OnErr result (StartsWith out.new.items out.old.items) }
+        ensures capacity { vec_capacity out.old ≤ vec_capacity out.new }
+    {
+        let record = match read_record(alloc, text, &Name::root(alloc)) {
+            Ok(record) => record,
+            Err(
+                ZoneFault {
+                    cause: ZoneCause::Memory,
+                    ..
+                },
+            ) => return Err(AllocError),
+            Err(fault) => return write_refusal(out, fault.code()),
+        };
+        match self.store.add(&record) {
+            Ok(changed) => {
+                write_counts(out, b"ok add", &[changed.len() as u64]);
+                Ok(())
+            }
+            Err(StoreFault::Memory) => Err(AllocError),
+            Err(fault) => write_refusal(out, fault.code()),
         }
-        Err(StoreFault::Memory) => Err(AllocError),
-        Err(fault) => say_refusal(out, fault.code()),
     }
-}
 
-// `find URI`: the targets of a URI, on the records as they stand.
-fn find(
-    alloc: Global,
-    store: &ZoneStore,
-    abilities: &Abilities,
-    uri: &[u8],
-    out: &mut Vec<u8>,
-) -> Result<(), AllocError>
-    requires { abilities.now ≡ client }
-    ensures reply { OnOk result (out.new.items ≡ out.old.items ++ (find_outcome uri.now store.now.zones).reply) }
-    ensures err_out { OnErr result (StartsWith out.new.items out.old.items) }
-    ensures room { vec_capacity out.old ≤ vec_capacity out.new }
-{
-    let question = match Uri::parse(alloc, uri) {
-        Ok(question) => question,
-        Err(UriFault::Memory) => return Err(AllocError),
-        Err(fault) => return say_refusal(out, fault.code()),
-    };
-    let answer = plan_of(alloc, store.records(), &question, abilities)?;
-    say_answer(out, &answer)
+    // `find URI`: the targets of a URI, from the records as they are.
+    fn find(&self, alloc: Global, uri: &[u8], out: &mut Vec<u8>) -> Result<(), AllocError>
+        ensures ok { OnOk result (out.new.items ≡ out.old.items ++ (find_outcome uri.now self.now).reply) }
+        ensures err { OnErr result (StartsWith out.new.items out.old.items) }
+        ensures capacity { vec_capacity out.old ≤ vec_capacity out.new }
+    {
+        let question = match Uri::parse(alloc, uri) {
+            Ok(question) => question,
+            Err(UriFault::Memory) => return Err(AllocError),
+            Err(fault) => return write_refusal(out, fault.code()),
+        };
+        let answer = plan_of(alloc, self.store.records(), &question, &self.abilities)?;
+        write_answer(out, &answer)
+    }
 }

@@ -5,7 +5,7 @@ ghost use Rattle.siploc.specs.Tapped.{tapped_inner, has_failed, read_count, writ
 
 use std::io::{Read, Result, Write};
 
-/// A reader or a writer that tells whether a call of it has failed, and counts the reads.
+/// A reader or a writer that records whether a call of it has failed, and counts the reads.
 #[derive(Drop)]
 pub struct Tapped<T> {
     inner: T,
@@ -14,7 +14,7 @@ pub struct Tapped<T> {
 }
 
 impl<T> Tapped<T> {
-    /// Wraps a reader or a writer of which no call has failed.
+    /// Wraps a reader or a writer. No call of it has failed yet.
     pub fn new(inner: T) -> Self
         ensures inner { tapped_inner result ≡ inner }
         ensures failed { has_failed result ≡ false }
@@ -27,21 +27,21 @@ impl<T> Tapped<T> {
         }
     }
 
-    /// Whether a call has answered an error, or a write of a text that is not empty took nothing.
+    /// Whether a call has returned an error, or a write of a text that is not empty wrote nothing.
     pub fn failed(&self) -> bool
         ensures { result ≡ has_failed self.now }
     {
         self.failed
     }
 
-    /// How many reads were made, up to the greatest `u64`.
+    /// The number of reads, at most the greatest `u64`.
     pub fn reads(&self) -> u64
         ensures { result ≡ read_count self.now }
     {
         self.reads
     }
 
-    /// Gives back what was wrapped.
+    /// Returns what was wrapped.
     pub fn into_inner(self) -> T
         ensures { result ≡ tapped_inner self }
     {

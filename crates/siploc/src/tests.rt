@@ -1,8 +1,14 @@
+use crate::command::MAX_LINE_LEN;
+// Sessions over streams of the tests' own.
+pub mod process;
+mod streams;
+
+use self::streams::{Failing, Paper, Pieces, blank, replies, whole};
 use crate::serve::{Ended, MAX_READS, ServeFault, serve, serve_within};
-use crate::session::{LONGEST_LINE, Session};
+use crate::session::Session;
 use crate::tapped::Tapped;
-use crate::testing::{Failing, Paper, Pieces, blank, replies, whole};
 use std::alloc::{AllocError, Global};
+use std::io::{ErrorKind, Read, Write};
 use std::test::Fail;
 
 // Three commands, and the reply to each.
@@ -23,7 +29,7 @@ fn replies_within(octets: u64) -> &'static [u8] {
     }
 }
 
-// A line of so many octets and what ends it, and a command behind it.
+// A line of so many octets and its end, and a command after it.
 fn long_line(alloc: Global, count: usize, end: &[u8]) -> Result<Vec<u8>, AllocError> {
     let mut line = vec![in alloc; b'x'; count]?;
     line.extend_from_slice(end)?;
@@ -32,7 +38,7 @@ fn long_line(alloc: Global, count: usize, end: &[u8]) -> Result<Vec<u8>, AllocEr
 }
 
 #[test]
-fn finds_what_was_added(rt: HostRuntime) -> Result<(), Fail> {
+fn find_lists_what_was_added(rt: HostRuntime) -> Result<(), Fail> {
     let text = replies(
         rt.alloc(),
         b"zone example.com. 0
@@ -62,7 +68,7 @@ ok zone 0 0 0 1
 }
 
 #[test]
-fn answers_in_the_order_of_addition(rt: HostRuntime) -> Result<(), Fail> {
+fn find_lists_addresses_in_the_order_of_addition(rt: HostRuntime) -> Result<(), Fail> {
     let text = replies(
         rt.alloc(),
         b"zone e. 0\nadd A.E. A 192.0.2.2\nadd a.e. a 192.0.2.1\nfind SIP:a.E.:1\nfind sip:192.0.2.9:5060\nquit",
@@ -75,7 +81,7 @@ target 1 udp 192.0.2.9 5060\nok find 1\nok quit\n";
 }
 
 #[test]
-fn lines_are_cut_and_answered(rt: HostRuntime) -> Result<(), Fail> {
+fn each_line_has_its_reply(rt: HostRuntime) -> Result<(), Fail> {
     for (input, want) in [
         (b"".as_slice(), b"".as_slice()),
         (b"\n", b""),
@@ -108,7 +114,7 @@ fn lines_are_cut_and_answered(rt: HostRuntime) -> Result<(), Fail> {
 }
 
 #[test]
-fn faults_of_fields_are_told(rt: HostRuntime) -> Result<(), Fail> {
+fn invalid_fields_are_reported_by_their_code(rt: HostRuntime) -> Result<(), Fail> {
     for (input, want) in [
         (b"zone a..b 0\n".as_slice(), b"err N1\n".as_slice()),
         (b"zone a\\25 0\n", b"err N4\n"),
@@ -172,7 +178,7 @@ fn a_full_set_is_refused(rt: HostRuntime) -> Result<(), Fail> {
 }
 
 #[test]
-fn each_octet_in_each_place_is_answered(rt: HostRuntime) -> Result<(), Fail> {
+fn every_octet_is_accepted_in_a_line(rt: HostRuntime) -> Result<(), Fail> {
     for octet in 0..=255u8 {
         let first = replies(rt.alloc(), &[octet, b'z', b'\n', b'q'])?;
         let want = if octet == b'#' {
@@ -194,14 +200,14 @@ fn each_octet_in_each_place_is_answered(rt: HostRuntime) -> Result<(), Fail> {
 fn long_lines_are_refused_and_skipped(rt: HostRuntime) -> Result<(), Fail> {
     for (count, end, want) in [
         (
-            LONGEST_LINE,
+            MAX_LINE_LEN,
             b"\n".as_slice(),
             b"err K1\nerr U1\n".as_slice(),
         ),
-        (LONGEST_LINE + 1, b"\n", b"err K2\nerr U1\n"),
-        (LONGEST_LINE, b"\r\n", b"err K1\nerr U1\n"),
-        (LONGEST_LINE + 1, b"\r\n", b"err K2\nerr U1\n"),
-        (3 * LONGEST_LINE, b"\r\n", b"err K2\nerr U1\n"),
+        (MAX_LINE_LEN + 1, b"\n", b"err K2\nerr U1\n"),
+        (MAX_LINE_LEN, b"\r\n", b"err K1\nerr U1\n"),
+        (MAX_LINE_LEN + 1, b"\r\n", b"err K2\nerr U1\n"),
+        (3 * MAX_LINE_LEN, b"\r\n", b"err K2\nerr U1\n"),
     ] {
         let input = long_line(rt.alloc(), count, end)?;
         let text = replies(rt.alloc(), &input)?;
@@ -211,7 +217,7 @@ fn long_lines_are_refused_and_skipped(rt: HostRuntime) -> Result<(), Fail> {
 }
 
 #[test]
-fn a_million_lines_are_answered(rt: HostRuntime) -> Result<(), Fail> {
+fn a_million_lines_have_a_reply_each(rt: HostRuntime) -> Result<(), Fail> {
     let alloc = rt.alloc();
     let mut input = Vec::new(alloc);
     let mut want = Vec::new(alloc);
@@ -224,7 +230,7 @@ fn a_million_lines_are_answered(rt: HostRuntime) -> Result<(), Fail> {
 }
 
 #[test]
-fn pieces_make_no_difference(rt: HostRuntime) -> Result<(), Fail> {
+fn replies_do_not_depend_on_the_sizes_of_reads_and_writes(rt: HostRuntime) -> Result<(), Fail> {
     for most in 1..50 {
         let mut reader = Tapped::new(Pieces {
             rest: INPUT,
@@ -270,7 +276,7 @@ fn a_failing_read_is_a_fault(rt: HostRuntime) -> Result<(), Fail> {
 }
 
 #[test]
-fn what_was_accepted_stands_after_a_fault(rt: HostRuntime) -> Result<(), Fail> {
+fn session_keeps_accepted_commands_after_a_fault(rt: HostRuntime) -> Result<(), Fail> {
     for (fails_at, want) in [
         (29, b"none NoAddress\n".as_slice()),
         (30, b"target 1 udp 1.2.3.4 7\nok find 1\n"),
@@ -351,22 +357,56 @@ fn quit_reads_no_more(rt: HostRuntime) -> Result<(), Fail> {
     let mut writer = Tapped::new(blank(rt.alloc()));
     let mut session = Session::new(rt.alloc())?;
     let ended = serve(rt.alloc(), &mut reader, &mut writer, &mut session);
-    assert!(rt; ended == Ok(Ended::Quit) && session.is_over() && reader.reads() == 1);
+    assert!(rt; ended == Ok(Ended::Quit) && session.has_ended() && reader.reads() == 1);
     assert!(rt; writer.into_inner().text.as_slice() == b"ok quit\n".as_slice());
     Ok(())
 }
 
 #[test]
-fn faults_have_words(rt: HostRuntime) -> Result<(), Fail> {
+fn faults_have_codes_and_messages(rt: HostRuntime) -> Result<(), Fail> {
     let faults = [
-        (ServeFault::Read, "read"),
-        (ServeFault::Write, "write"),
-        (ServeFault::TooManyTurns, "turns"),
-        (ServeFault::Memory, "memory"),
+        (ServeFault::Read, "read", "a read failed"),
+        (
+            ServeFault::Write,
+            "write",
+            "a write failed, or wrote nothing",
+        ),
+        (
+            ServeFault::TooManyTurns,
+            "turns",
+            "the session is longer than the reads that are allowed",
+        ),
+        (ServeFault::Memory, "memory", "out of memory"),
     ];
-    for (fault, want) in faults {
+    for (fault, code, message) in faults {
+        assert_eq!(rt; fault.code(), code);
         let text = format!(in rt.alloc(); "{fault}")?;
-        assert!(rt; text.as_str() == want);
+        assert_eq!(rt; text.as_str(), message);
+    }
+    Ok(())
+}
+
+#[test]
+fn tapped_passes_errors_through_and_invents_none(rt: HostRuntime) -> Result<(), Fail> {
+    let mut reader = Tapped::new(Pieces {
+        rest: INPUT,
+        most: 4,
+        fails_at: 20,
+        calls: 0,
+    });
+    let mut chunk = [0; 16];
+    for number in 1..20 {
+        let outcome = reader.read(&mut chunk);
+        assert!(rt; outcome.is_ok() && !reader.failed() && reader.reads() == number);
+    }
+    let outcome = reader.read(&mut chunk);
+    assert!(rt; outcome.map_err(|error| error.kind()) == Err(ErrorKind::BrokenPipe));
+    assert!(rt; reader.failed() && reader.reads() == 20);
+
+    let mut writer = Tapped::new(blank(rt.alloc()));
+    for _ in 0..20 {
+        assert!(rt; writer.write(b"text").is_ok() && writer.write(b"").is_ok());
+        assert!(rt; writer.flush().is_ok() && !writer.failed());
     }
     Ok(())
 }

@@ -1,0 +1,18 @@
+use Rattle.std.proofs.Common.{◌≡◌, ◌∙◌, ap, length, refl, inl, subst, vec_len, arith, rules}
+use Rattle.std.proofs.lemmas.Result.{on_ok_weaker}
+use Rattle.siploc.specs.Lines.{Octets}
+use Rattle.siploc.specs.Items.{line}
+use Rattle.siploc.specs.Replies.{AppendsReply}
+use Rattle.siploc.specs.Session.{session_protocol}
+use Rattle.siploc.proofs.Replies.{replies_last}
+use Rattle.siploc.proofs.lines.Pending.finish.Goals as goal
+
+pub returns-clause-ok : goal.returns-clause-ok
+returns-clause-ok c =
+    let some : vec_len c.self.inside.kept ≡ 0 → ⊥ = search rules in
+    let same : c.deref.result.now ≡ c.args.self.now = c.deref.ensures.value ∙ c.self.view_is in
+    let P : Octets → Type 0 = λ octets. AppendsReply session_protocol c.args.session.now (line octets) c.args.out.now.items c.process_line.new.self c.process_line.new.out.items in
+    on_ok_weaker c.process_line.result
+    (λ reply. replies_last session_protocol c.args.session.now c.args.self.now c.args.out.now.items c.process_line.new.self c.process_line.new.out.items
+    (λ none. some (omega (arith, c.self.inside.kept.ok.0, ap length c.self.view_is))) (inl record { reply = refl; state = refl }) (subst P same reply))
+    c.process_line.ensures.ok
