@@ -1,7 +1,7 @@
 -- The causes of faults in master files: their codes and messages, and the cause that a fault in a
 -- name is.
 use Rattle.std.specs.Prelude.{ℕ, List, ◌++◌, codes}
-use Rattle.sipl_names.specs.FaultCode.{message_of as name_message}
+use Rattle.sipl_names.specs.NameFault.{message_of as name_message}
 use Rattle.sipl_names.specs.declared.fault.NameFault.{NameFault}
 use Rattle.sipl_names.specs.declared.fault.NameFault.TheVariants.{EmptyLabel, LabelTooLong, NameTooLong, BadEscape, Memory as name_memory}
 use Rattle.sipl_masterfile.specs.declared.fault.ZoneCause.{ZoneCause}

@@ -2,13 +2,12 @@
 use Rattle.std.specs.Prelude.{◌≡◌, ◌⊎◌, ℕ, Bool, true, false, List, [], ◌∷◌, ◌++◌, length, Option, None, Some, Result, Ok, Err, IsTrue, codes, decimal, if◌then◌else◌}
 use Rattle.sipl_names.specs.NameText.{name_of}
 use Rattle.sipl_names.specs.declared.fault.NameFault.{NameFault}
-use Rattle.sipl_names.specs.FaultCode.{code_of as name_code}
+use Rattle.sipl_names.specs.NameFault.{code_of as name_code}
 use Rattle.sipl_records.specs.Sets.{set_of}
 use Rattle.sipl_records.specs.declared.record.Record.{Record}
 use Rattle.sipl_masterfile.specs.Zones.{Zone, zone_of}
 use Rattle.sipl_masterfile.specs.RecordText.{record_of}
-use Rattle.sipl_masterfile.specs.FaultCode.{code_of as zone_code}
-use Rattle.sipl_masterfile.specs.declared.fault.ZoneCause.{ZoneCause}
+use Rattle.sipl_masterfile.specs.ZoneFault.{code_of as zone_code}
 use Rattle.sipl_masterfile.specs.declared.fault.ZoneFault.{ZoneFault}
 use Rattle.sipl_choice.specs.Abilities.{Client}
 use Rattle.sipl_choice.specs.declared.families.Families.TheVariants.{V4}
@@ -16,10 +15,10 @@ use Rattle.sipl_choice.specs.declared.transport.Transport.TheVariants.{Udp, Tcp}
 use Rattle.sipl_uri.specs.Uris.{question_of}
 use Rattle.sipl_uri.specs.declared.fault.UriFault.{UriFault}
 use Rattle.sipl_uri.specs.declared.question.Question.{Question}
-use Rattle.sipl_uri.specs.FaultCode.{code_of as uri_code}
+use Rattle.sipl_uri.specs.UriFault.{code_of as uri_code}
 use Rattle.sipl_zonestore.specs.Store.{Zones, no_zones, load_refusal, after_load, add_refusal, after_add}
 use Rattle.sipl_zonestore.specs.Changes.{changed_keys}
-use Rattle.sipl_zonestore.specs.FaultCode.{code_of as store_code}
+use Rattle.sipl_zonestore.specs.StoreFault.{code_of as store_code}
 use Rattle.sipl_zonestore.specs.declared.fault.StoreFault.{StoreFault}
 use Rattle.sipl_plans.specs.Plan.{plan}
 use Rattle.siploc.specs.Lines.{Octets}
@@ -75,7 +74,7 @@ load_outcome None text state =
 -- a zone's text is loaded; a fault in it is reported with its line
 abbrev pub zone_text_outcome : Result Zone ZoneFault → SessionState → Outcome
 zone_text_outcome (Err fault) state =
-    keeps (codes "err zone " ++ decimal fault.line ++ 32 ∷ zone_code fault.cause ++ 10 ∷ []) state
+    keeps (codes "err zone " ++ decimal fault.line ++ 32 ∷ zone_code fault ++ 10 ∷ []) state
 zone_text_outcome (Ok text) state = load_outcome (load_refusal max_records text state.zones) text state
 
 -- the zone of this apex is read from a text without lines
@@ -97,8 +96,8 @@ insert_outcome None r state =
     (after_add r state.zones) state
 
 -- the record of a text is added
-abbrev pub record_outcome : Result Record ZoneCause → SessionState → Outcome
-record_outcome (Err cause) state = refuses (zone_code cause) state
+abbrev pub record_outcome : Result Record ZoneFault → SessionState → Outcome
+record_outcome (Err fault) state = refuses (zone_code fault) state
 record_outcome (Ok r) state = insert_outcome (add_refusal max_records r state.zones) r state
 
 -- `add RECORD`: names are relative to the root

@@ -36,7 +36,7 @@ impl Model for Session {
 
     ghost view = { λ s. record { zones = s.store.zones; ended = s.ended } };
 
-    ghost invariant = { λ s. (s.abilities ≡ client) × (s.store.most ≡ max_records) };
+    ghost invariant = { λ s. (s.abilities ≡ client) × (s.store.max_records ≡ max_records) };
 }
 
 impl Session {
