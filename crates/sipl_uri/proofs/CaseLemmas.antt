@@ -9,7 +9,7 @@ use Rattle.std.proofs.lemmas.Bool.{cases_Bool, and_left, and_right, cond-false}
 use Rattle.std.proofs.lemmas.Bool.Decides.{nat_tests}
 use Rattle.std.proofs.lemmas.List.{length-map, map-append}
 use Rattle.sipl_names.specs.Labels.{label_fault}
-use Rattle.sipl_names.specs.NameText.{Symbol, octet, dot, no_escape, symbols, labels_from, Read, followed_by, ended, completed, name_of}
+use Rattle.sipl_names.specs.NameText.{Symbol, octet, dot, bad_escape, symbols, labels_from, Read, prepend_label, prepend_checked_label, relative_to, name_of}
 use Rattle.sipl_records.specs.declared.address.Address.TheVariants.{V4}
 use Rattle.sipl_records.specs.Addresses.{group_of, four_groups, address_of}
 use Rattle.sipl_records.specs.Numbers.{number_of}
@@ -83,7 +83,7 @@ address_of-lower text =
 abbrev symbol_lower : Symbol → Symbol
 symbol_lower (octet c) = octet (to_ascii_lowercase c)
 symbol_lower dot = dot
-symbol_lower no_escape = no_escape
+symbol_lower bad_escape = bad_escape
 
 one_symbol-lower : (b : Bool) (c : ℕ) (rest : List Symbol) → (if b then dot else octet (to_ascii_lowercase c)) ∷ map symbol_lower rest ≡ map symbol_lower ((if b then dot else octet c) ∷ rest)
 one_symbol-lower true c rest = refl
@@ -98,30 +98,30 @@ symbols-lower (c ∷ text) all =
     ∙ ((λ i. (if test_lower (λ d. nat_eq d 46) refl c i then dot else octet (to_ascii_lowercase c)) ∷ symbols-lower text parts.1 i)
     ∙ (one_symbol-lower (nat_eq c 46) c (symbols 0 text) ∙ ap (λ all. map symbol_lower all) (sym (symbols-plain c text plain))))
 
-followed_by-lower : (label : List ℕ) (rest : Read) → followed_by (str_to_ascii_lowercase label) rest ≡ followed_by label rest
-followed_by-lower label (Ok r) = λ i. Ok (lower-lower label i ∷ r.0, r.1)
-followed_by-lower label (Err fault) = refl
+prepend_label-lower : (label : List ℕ) (rest : Read) → prepend_label (str_to_ascii_lowercase label) rest ≡ prepend_label label rest
+prepend_label-lower label (Ok r) = λ i. Ok (lower-lower label i ∷ r.0, r.1)
+prepend_label-lower label (Err fault) = refl
 
 label_fault-lower : (label : List ℕ) → label_fault (str_to_ascii_lowercase label) ≡ label_fault label
 label_fault-lower label = rw (length-map label to_ascii_lowercase) refl
 
-ended-lower : (label : List ℕ) (rest : Read) → ended (str_to_ascii_lowercase label) rest ≡ ended label rest
-ended-lower label rest = λ i. elim (label_fault-lower label i) as (λ _. Read) [ Some fault ↦ Err fault | None ↦ followed_by-lower label rest i ]
+prepend_checked_label-lower : (label : List ℕ) (rest : Read) → prepend_checked_label (str_to_ascii_lowercase label) rest ≡ prepend_checked_label label rest
+prepend_checked_label-lower label rest = λ i. elim (label_fault-lower label i) as (λ _. Read) [ Some fault ↦ Err fault | None ↦ prepend_label-lower label rest i ]
 
 -- the labels that symbols in lower case spell
 labels_from-lower : (spelled : List Symbol) (label : List ℕ) → labels_from (str_to_ascii_lowercase label) (map symbol_lower spelled) ≡ labels_from label spelled
-labels_from-lower [] label = ended-lower label (Ok ([], false))
+labels_from-lower [] label = prepend_checked_label-lower label (Ok ([], false))
 labels_from-lower (octet c ∷ rest) label =
     ap (λ l. labels_from l (map symbol_lower rest)) (sym (map-append to_ascii_lowercase label (c ∷ []))) ∙ labels_from-lower rest (label ++ c ∷ [])
-labels_from-lower (no_escape ∷ rest) label = refl
-labels_from-lower (dot ∷ []) label = ended-lower label (Ok ([], true))
+labels_from-lower (bad_escape ∷ rest) label = refl
+labels_from-lower (dot ∷ []) label = prepend_checked_label-lower label (Ok ([], true))
 labels_from-lower (dot ∷ next ∷ rest) label =
-    ended-lower label (labels_from [] (map symbol_lower (next ∷ rest))) ∙ ap (λ r. ended label r) (labels_from-lower (next ∷ rest) [])
+    prepend_checked_label-lower label (labels_from [] (map symbol_lower (next ∷ rest))) ∙ ap (λ r. prepend_checked_label label r) (labels_from-lower (next ∷ rest) [])
 
 name_of-lower : (text : List ℕ) → list_all is_host_octet text ≡ true → name_of (str_to_ascii_lowercase text) [] ≡ name_of text []
 name_of-lower text all =
     let same : labels_from [] (symbols 0 (str_to_ascii_lowercase text)) ≡ labels_from [] (symbols 0 text) = ap (λ s. labels_from [] s) (symbols-lower text all) ∙ labels_from-lower (symbols 0 text) [] in
-    λ i. if is_octet-lower 64 refl text i then Ok [] else (if is_octet-lower 46 refl text i then Ok [] else completed [] (same i))
+    λ i. if is_octet-lower 64 refl text i then Ok [] else (if is_octet-lower 46 refl text i then Ok [] else relative_to [] (same i))
 
 -- a hostname in lower case
 hostname_of-lower : (text : List ℕ) → hostname_of (str_to_ascii_lowercase text) ≡ hostname_of text

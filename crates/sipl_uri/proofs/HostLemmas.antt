@@ -10,7 +10,7 @@ use Rattle.std.proofs.lemmas.Option.{cond_some}
 use Rattle.sipl_names.specs.declared.fault.NameFault.{NameFault}
 use Rattle.sipl_names.specs.declared.fault.NameFault.TheVariants.{NameTooLong}
 use Rattle.sipl_names.specs.Labels.{label_fault}
-use Rattle.sipl_names.specs.NameText.{Symbol, octet, dot, no_escape, symbols, labels_from, Read, followed_by, completed, name_of}
+use Rattle.sipl_names.specs.NameText.{Symbol, octet, dot, bad_escape, symbols, labels_from, Read, prepend_label, relative_to, name_of}
 use Rattle.sipl_records.specs.declared.address.Address.{Address}
 use Rattle.sipl_records.specs.Addresses.{address_of}
 use Rattle.sipl_records.specs.Parts.{split_once}
@@ -29,7 +29,7 @@ abbrev pub HostSymbols : List Symbol → Type 0
 HostSymbols [] = Unit {0}
 HostSymbols (octet c ∷ rest) = (is_label_octet c ≡ true) × HostSymbols rest
 HostSymbols (dot ∷ rest) = HostSymbols rest
-HostSymbols (no_escape ∷ rest) = ⊥
+HostSymbols (bad_escape ∷ rest) = ⊥
 
 -- each label is written with these octets
 abbrev pub AreLabels : List (List ℕ) → Type 0
@@ -65,7 +65,7 @@ symbols_are (c ∷ text) all =
     let parts : (is_host_octet c ≡ true) × (list_all is_host_octet text ≡ true) = both (is_host_octet c) (list_all is_host_octet text) all in
     subst HostSymbols (sym (symbols-plain c text (no_backslash c parts.0))) (one_symbol c (symbols 0 text) parts.0 (symbols_are text parts.1))
 
-followed_are : (label : List ℕ) (rest : Read) (read : List (List ℕ) × Bool) → list_all is_label_octet label ≡ true → ((r : List (List ℕ) × Bool) → rest ≡ Ok r → AreLabels r.0) → followed_by label rest ≡ Ok read → AreLabels read.0
+followed_are : (label : List ℕ) (rest : Read) (read : List (List ℕ) × Bool) → list_all is_label_octet label ≡ true → ((r : List (List ℕ) × Bool) → rest ≡ Ok r → AreLabels r.0) → prepend_label label rest ≡ Ok read → AreLabels read.0
 followed_are label (Ok r) read good each e =
     let same : (str_to_ascii_lowercase label ∷ r.0, r.1) ≡ read = cc in
     subst (λ (x : List (List ℕ) × Bool). AreLabels x.0) same (and_from _ _ (list_all-lower is_label_octet refl label ∙ good) (each r refl))
@@ -83,7 +83,7 @@ labels_are : (spelled : List Symbol) (label : List ℕ) (read : List (List ℕ) 
 labels_are [] label read hosted good e = followed_are label (Ok ([], false)) read good (last_are false) (faultless (label_fault label) _ read e)
 labels_are (octet c ∷ rest) label read hosted good e =
     labels_are rest (label ++ c ∷ []) read hosted.1 (list_all-append is_label_octet label (c ∷ []) ∙ and_from _ _ good (and_from _ _ hosted.0 refl)) e
-labels_are (no_escape ∷ rest) label read hosted good e = absurd hosted
+labels_are (bad_escape ∷ rest) label read hosted good e = absurd hosted
 labels_are (dot ∷ []) label read hosted good e = followed_are label (Ok ([], true)) read good (last_are true) (faultless (label_fault label) _ read e)
 labels_are (dot ∷ next ∷ rest) label read hosted good e =
     followed_are label (labels_from [] (next ∷ rest)) read good (λ r q. labels_are (next ∷ rest) [] r hosted refl q) (faultless (label_fault label) _ read e)
@@ -96,7 +96,7 @@ from_root : (b : Bool) (labels : List (List ℕ)) → (if b then labels else lab
 from_root true labels = refl
 from_root false labels = append-nil labels
 
-completed_are : (read : Read) (labels : List (List ℕ)) → ((r : List (List ℕ) × Bool) → read ≡ Ok r → AreLabels r.0) → completed [] read ≡ Ok labels → AreLabels labels
+completed_are : (read : Read) (labels : List (List ℕ)) → ((r : List (List ℕ) × Bool) → read ≡ Ok r → AreLabels r.0) → relative_to [] read ≡ Ok labels → AreLabels labels
 completed_are (Ok r) labels each e =
     let same : r.0 ≡ labels = sym (from_root r.1 r.0) ∙ short_enough _ _ labels e in
     subst AreLabels same (each r refl)
