@@ -86,7 +86,7 @@ impl Name {
     }
 
     /// The name with these labels prepended, in lower case. The fault of the first that is not a
-    /// label (N1, N2) comes before that of the whole, a wire form of more than 255 octets (N3).
+    /// label (N1, N2) comes before that of a wire form of more than 255 octets (N3).
     pub fn prefixed(&self, alloc: Global, labels: &[&[u8]]) -> Result<Self, NameFault>
         ensures made { IfOk result
             (λ name. prefixed_of (octets_of labels.now) self.now ≡ Ok name) }
