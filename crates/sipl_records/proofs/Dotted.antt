@@ -66,7 +66,7 @@ next_group n end start begun tail old new dotted one wrote =
 
 -- four groups written from the last one on, over dots
 pub groups_written : (a b c d first second third fourth : ℕ) (t0 t1 t2 t3 t4 : List ℕ) → a < 256 → b < 256 → c < 256 → d < 256 → length t0 ≡ 15 → IsDotted 15 [] t0 → Writes d 15 fourth t0 t1 → Writes c (fourth - 1) third t1 t2 → Writes b (third - 1) second t2 t3 → Writes a (second - 1) first t3 t4 → take (15 - first) (drop first t4) ≡ decimal a ++ 46 ∷ decimal b ++ 46 ∷ decimal c ++ 46 ∷ decimal d
-groups_written a b c d first second third fourth t0 t1 t2 t3 t4 small_a small_b small_c small_d room dots wrote_d wrote_c wrote_b wrote_a =
+groups_written a b c d first second third fourth t0 t1 t2 t3 t4 small_a small_b small_c small_d whole_buffer dots wrote_d wrote_c wrote_b wrote_a =
     let three_d : length (decimal d) ≤ 3 = octet_digits d small_d in
     let three_c : length (decimal c) ≤ 3 = octet_digits c small_c in
     let three_b : length (decimal b) ≤ 3 = octet_digits b small_b in
@@ -74,11 +74,11 @@ groups_written a b c d first second third fourth t0 t1 t2 t3 t4 small_a small_b 
     let dotted_c = next_group c (fourth - 1) third fourth (decimal d ++ []) t1 t2 dotted_d (omega arith) wrote_c in
     let dotted_b = next_group b (third - 1) second third (decimal c ++ 46 ∷ (decimal d ++ [])) t2 t3 dotted_c (omega arith) wrote_b in
     let dotted_a = next_group a (second - 1) first second (decimal b ++ 46 ∷ (decimal c ++ 46 ∷ (decimal d ++ []))) t3 t4 dotted_b (omega arith) wrote_a in
-    let size : length t4 ≡ 15 = wrote_a.length ∙ wrote_b.length ∙ wrote_c.length ∙ wrote_d.length ∙ room in
+    let size : length t4 ≡ 15 = wrote_a.length ∙ wrote_b.length ∙ wrote_c.length ∙ wrote_d.length ∙ whole_buffer in
     let whole : take (15 - first) (drop first t4) ≡ drop first t4 = subst (λ n. take (n - first) (drop first t4) ≡ drop first t4) size (rest_whole t4 first) in
     whole ∙ dotted_a.back ∙ simp (append_assoc, append-nil)
 
--- what is appended where the call answers Ok
+-- what is appended where the call returns Ok
 pub appended : {E : Type 0} (r : Result (Unit {0}) E) (old added text : List ℕ) → added ≡ text → OnOk r ((if is_ok r then old ++ added else old) ≡ old ++ text)
 appended (Ok u) old added text same = ap (λ t. old ++ t) same
 appended (Err e) old added text same = tt

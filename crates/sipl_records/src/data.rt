@@ -4,7 +4,7 @@ ghost use Rattle.sipl_records.specs.Sets.{has_kind, has_same_kind, kind_of};
 use crate::kind::Kind;
 use std::alloc::{AllocError, Global};
 
-/// What a record says of its owner.
+/// The data of a record: what it states about its owner (RFC 1035, 3.2.1).
 #[derive(Debug, PartialEq, Eq, Drop)]
 pub enum Data {
     /// An IPv4 address (RFC 1035, 3.4.1), its first octet the highest of the number.

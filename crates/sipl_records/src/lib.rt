@@ -1,5 +1,5 @@
-//! Resource records: owners, data, kinds, and the sets that they form; and the readers of addresses,
-//! numbers and fields that the text formats share.
+//! Resource records: owners, data, kinds, and the sets that they form; and what the text formats
+//! share: addresses, numbers, fields, and a text split at a separator.
 #![tactic(auto)]
 
 mod address;

@@ -29,7 +29,7 @@ mod tests {
     use super::*;
 
     #[test]
-    fn read_number_accepts_digits_alone(rt: HostRuntime) {
+    fn read_number_accepts_digits_only(rt: HostRuntime) {
         for (text, want) in [
             ("0", Some(0)),
             ("007", Some(7)),
