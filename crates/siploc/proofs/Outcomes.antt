@@ -3,7 +3,6 @@ use Rattle.std.proofs.Common.{◌≡◌, ◌≢◌, ℕ, List, [], ◌∷◌, Op
 use Rattle.sipl_names.specs.declared.fault.NameFault.{NameFault}
 use Rattle.sipl_names.specs.NameText.{name_of}
 use Rattle.sipl_records.specs.declared.record.Record.{Record}
-use Rattle.sipl_masterfile.specs.declared.fault.ZoneCause.{ZoneCause}
 use Rattle.sipl_masterfile.specs.declared.fault.ZoneFault.{ZoneFault}
 use Rattle.sipl_masterfile.specs.Zones.{Zone, zone_of}
 use Rattle.sipl_masterfile.specs.RecordText.{record_of}
@@ -38,8 +37,8 @@ added-replies : (refusal : Option StoreFault) (r : Record) (zones : Zones) → (
 added-replies (Some fault) r zones = λ e. cc
 added-replies None r zones = λ e. cc
 
-record_read-replies : (read : Result Record ZoneCause) (zones : Zones) → (record_read read zones).reply ≢ []
-record_read-replies (Err cause) zones = λ e. cc
+record_read-replies : (read : Result Record ZoneFault) (zones : Zones) → (record_read read zones).reply ≢ []
+record_read-replies (Err fault) zones = λ e. cc
 record_read-replies (Ok r) zones = added-replies (add_refusal MAX_RECORDS r zones) r zones
 
 pub add_outcome-replies : (text : List ℕ) (zones : Zones) → (add_outcome text zones).reply ≢ []

@@ -7,8 +7,7 @@ use Rattle.sipl_records.specs.Sets.{set_of}
 use Rattle.sipl_records.specs.declared.record.Record.{Record}
 use Rattle.sipl_masterfile.specs.Zones.{Zone, zone_of}
 use Rattle.sipl_masterfile.specs.RecordText.{record_of}
-use Rattle.sipl_masterfile.specs.FaultCode.{code_of as zone_code}
-use Rattle.sipl_masterfile.specs.declared.fault.ZoneCause.{ZoneCause}
+use Rattle.sipl_masterfile.specs.ZoneFault.{code_of as zone_code}
 use Rattle.sipl_masterfile.specs.declared.fault.ZoneFault.{ZoneFault}
 use Rattle.sipl_choice.specs.Abilities.{Client}
 use Rattle.sipl_choice.specs.declared.families.Families.TheVariants.{V4}
@@ -19,7 +18,7 @@ use Rattle.sipl_uri.specs.declared.question.Question.{Question}
 use Rattle.sipl_uri.specs.FaultCode.{code_of as uri_code}
 use Rattle.sipl_zonestore.specs.Store.{Zones, no_zones, load_refusal, after_load, add_refusal, after_add}
 use Rattle.sipl_zonestore.specs.Changes.{changed_keys}
-use Rattle.sipl_zonestore.specs.FaultCode.{code_of as store_code}
+use Rattle.sipl_zonestore.specs.StoreFault.{code_of as store_code}
 use Rattle.sipl_zonestore.specs.declared.fault.StoreFault.{StoreFault}
 use Rattle.sipl_zonestore.specs.declared.TheConstants.{MAX_RECORDS}
 use Rattle.sipl_plans.specs.Plan.{plan}
@@ -65,7 +64,7 @@ loaded None text zones =
 -- what a zone's text says is loaded; a fault of the text is told with its line
 abbrev pub zone_read : Result Zone ZoneFault → Zones → Outcome
 zone_read (Err fault) zones =
-    record { reply = codes "err zone " ++ decimal fault.line ++ 32 ∷ zone_code fault.cause ++ 10 ∷ []; zones = zones }
+    record { reply = codes "err zone " ++ decimal fault.line ++ 32 ∷ zone_code fault ++ 10 ∷ []; zones = zones }
 zone_read (Ok text) zones = loaded (load_refusal MAX_RECORDS text zones) text zones
 
 -- the zone of this name is read from a text without lines
@@ -87,8 +86,8 @@ added None r zones =
     }
 
 -- what a record's text says is added
-abbrev pub record_read : Result Record ZoneCause → Zones → Outcome
-record_read (Err cause) zones = refuses (zone_code cause) zones
+abbrev pub record_read : Result Record ZoneFault → Zones → Outcome
+record_read (Err fault) zones = refuses (zone_code fault) zones
 record_read (Ok r) zones = added (add_refusal MAX_RECORDS r zones) r zones
 
 -- `add RECORD`: names are relative to the root

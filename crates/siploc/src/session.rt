@@ -38,7 +38,7 @@ impl Model for Session {
 
     ghost view = { λ s. record { zones = s.store.zones; over = s.over } };
 
-    ghost invariant = { λ s. (s.abilities ≡ client) × (s.store.most ≡ MAX_RECORDS) };
+    ghost invariant = { λ s. (s.abilities ≡ client) × (s.store.max_records ≡ MAX_RECORDS) };
 }
 
 impl Session {
@@ -126,10 +126,10 @@ fn load_zone(
     out: &mut Vec<u8>,
 ) -> Result<(), AllocError>
     requires room { vec_len out.old + SHORT_REPLY ≤ vec_capacity out.old }
-    requires limit { store.old.most ≡ MAX_RECORDS }
+    requires limit { store.old.max_records ≡ MAX_RECORDS }
     ensures reply { OnOk result (out.new.items ≡ out.old.items ++ (zone_outcome apex.now store.old.zones).reply) }
     ensures after { OnOk result (store.new.zones ≡ (zone_outcome apex.now store.old.zones).zones) }
-    ensures limit { store.new.most ≡ store.old.most }
+    ensures limit { store.new.max_records ≡ store.old.max_records }
     ensures err { OnErr result (store.new ≡ store.old) }
     ensures err_out { OnErr result (StartsWith out.new.items out.old.items) }
     ensures room { vec_capacity out.old ≤ vec_capacity out.new }
@@ -168,10 +168,10 @@ fn add_record(
     out: &mut Vec<u8>,
 ) -> Result<(), AllocError>
     requires room { vec_len out.old + SHORT_REPLY ≤ vec_capacity out.old }
-    requires limit { store.old.most ≡ MAX_RECORDS }
+    requires limit { store.old.max_records ≡ MAX_RECORDS }
     ensures reply { OnOk result (out.new.items ≡ out.old.items ++ (add_outcome text.now store.old.zones).reply) }
     ensures after { OnOk result (store.new.zones ≡ (add_outcome text.now store.old.zones).zones) }
-    ensures limit { store.new.most ≡ store.old.most }
+    ensures limit { store.new.max_records ≡ store.old.max_records }
     ensures err { OnErr result (store.new ≡ store.old) }
     ensures err_out { OnErr result (StartsWith out.new.items out.old.items) }
     ensures room { vec_capacity out.old ≤ vec_capacity out.new }
