@@ -18,8 +18,8 @@ pub record FailoverRun : Type 0 where
   -- the client transaction of the last attempt
   pub transaction : Transaction
 
--- an event: a response to an attempt, with its status code and the seconds of its Retry-After field;
--- an error of the running attempt's transport; a tick of the clock
+-- an event: a response to an attempt, with its status code and the seconds of its Retry-After
+-- field; an error of the running attempt's transport; a tick of the clock
 pub data Event : Type 0 where
   Received : (attempt code : ℕ) (retry_after : Option ℕ) → Event
   TransportFailed : Event

@@ -13,7 +13,8 @@ pub(crate) fn write_branch(base: u64, attempt: u32, out: &mut Vec<u8>) -> Result
     ensures ok { OnOk result (out.new.items ≡ out.old.items ++ branch_of base attempt) }
     ensures err { OnErr result (out.new.items ≡ out.old.items) }
     ensures capacity { vec_capacity out.old ≤ vec_capacity out.new }
-    ensures succeeds { vec_len out.old + length (branch_of base attempt) ≤ vec_capacity out.old → IsOk result }
+    ensures succeeds { vec_len out.old + length (branch_of base attempt) ≤ vec_capacity out.old →
+        IsOk result }
 {
     let mut buffer = Buffer::new();
     let attempt = buffer.format(attempt).as_bytes();

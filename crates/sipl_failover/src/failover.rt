@@ -94,8 +94,8 @@ impl Failover {
     ///
     /// # Errors
     ///
-    /// X2 if the status code is not within 100 to 699, then F3 if no such attempt was sent, and then
-    /// F2 if the failover has ended and the response is not acknowledged.
+    /// X2 if the status code is not within 100 to 699, then F3 if no such attempt was sent, and
+    /// then F2 if the failover has ended and the response is not acknowledged.
     pub fn receive(
         &mut self,
         attempt: u32,
@@ -307,8 +307,9 @@ impl Failover {
         }
     }
 
-    // Goes on from the running attempt, which failed: its endpoint is held for so many milliseconds,
-    // if any, and the next target is tried. Where there is none, the user gets this status code.
+    // Goes on from the running attempt, which failed: its endpoint is held for so many
+    // milliseconds, if any, and the next target is tried. Where there is none, the user gets this
+    // status code.
     fn fail_over(&mut self, hold: Option<u64>, code: u16, steps: &mut Steps)
         requires { length steps.old ≤ 1 }
         ensures next { self.new ≡ (after_failure self.old hold code).run }

@@ -1,0 +1,3 @@
+pub mod EventLemmas
+pub mod RunLemmas
+pub mod BranchLemmas
