@@ -7,6 +7,7 @@ ghost use Rattle.siploc.specs.Session.{session_protocol};
 
 use crate::command::MAX_LINE_LEN;
 use crate::session::Session;
+use memchr::memchr;
 use std::alloc::{AllocError, Global};
 use std::marker::Model;
 
@@ -142,12 +143,8 @@ impl Pending {
 fn split_line(chunk: &[u8]) -> Option<(&[u8], &[u8])>
     ensures { MatchOption result (EndsNoLine chunk.now) (λ parts. EndsLine chunk.now parts.0.now parts.1.now) }
 {
-    for (i, octet) in chunk.iter().enumerate() {
-        if *octet == b'\n' {
-            return Some((&chunk[..i], &chunk[i + 1..]));
-        }
-    }
-    None
+    let end = memchr(b'\n', chunk)?;
+    Some((&chunk[..end], &chunk[end + 1..]))
 }
 
 // A line without the CR at its end.

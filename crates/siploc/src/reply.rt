@@ -34,8 +34,12 @@ fn write_number(out: &mut Vec<u8>, number: u64)
     ensures len { vec_len out.new ≤ vec_len out.old + MAX_NUMBER_FIELD_LEN }
     ensures capacity { vec_capacity out.old ≤ vec_capacity out.new }
 {
-    let mut buffer = Buffer::new();
     out.push_reserved(b' ');
+    if number < 10 {
+        out.push_reserved(b'0' + number as u8);
+        return;
+    }
+    let mut buffer = Buffer::new();
     out.extend_from_slice(buffer.format(number).as_bytes())
         .unwrap();
 }
