@@ -1,5 +1,5 @@
 -- Lemmas on the cutting of an input into lines, in one piece and in many.
-use Rattle.std.proofs.Common.{◌≡◌, ℕ, ◌+◌, ◌-◌, ◌<◌, ◌≤◌, List, [], ◌∷◌, ◌++◌, true, false, if◌then◌else◌, ◌==◌, length, get_or, take, drop, refl, sym, ap, ◌∙◌, inl, inr, append_assoc, append-nil, zero, suc, eq-eqb, ne_eqb, arith}
+use Rattle.std.proofs.Common.{◌≡◌, ℕ, ◌+◌, ◌-◌, ◌<◌, ◌≤◌, List, [], ◌∷◌, ◌++◌, true, false, if◌then◌else◌, ◌==◌, length, get_or, take, drop, refl, sym, ap, subst, ◌∙◌, inl, inr, append_assoc, append-nil, zero, suc, eq-eqb, ne_eqb, arith}
 use Rattle.std.proofs.lemmas.List.{drop_more, take_more, take_all, take-take, take-append-drop, drop_all, take_at, take-append-le, length-take-le, length-append}
 use Rattle.std.proofs.lemmas.Bool.{cases_lt}
 use Rattle.std.proofs.Math.Seq.{take-append-add}
@@ -135,6 +135,14 @@ passed_more octets i below other passed pending =
           ∙ at_other c (List ℕ) (pending_after [] (drop (i + 1) octets)) (pending_after ((pending ++ take i octets) ++ c ∷ []) (drop (i + 1) octets)) (ne_eqb c 10 other)
           ∙ ap (λ p. pending_after p (drop (i + 1) octets)) joined,
     )
+
+-- the search has passed so many octets, and none of them is an LF
+pub passed_to : (octets : List ℕ) (n : ℕ) → n ≤ length octets → ((i : ℕ) → i < n → get_or octets i 0 ≡ 10 → ⊥) → PassedTo octets n
+passed_to octets zero within none = passed_none octets
+passed_to octets (suc n) within none =
+    let next : n + 1 ≡ suc n = omega arith in
+    subst (PassedTo octets) next
+    (passed_more octets n (omega arith) (none n (omega arith)) (passed_to octets n (omega arith) (λ i below. none i (omega arith))))
 
 pub passed_found : (octets : List ℕ) (i : ℕ) → i < length octets → get_or octets i 0 ≡ 10 → PassedTo octets i → EndsLine octets (take i octets) (drop (i + 1) octets)
 passed_found octets i below end passed =

@@ -19,7 +19,7 @@ lines_among ([] ∷ []) = []
 lines_among ((c ∷ part) ∷ []) = (c ∷ part) ∷ []
 lines_among (part ∷ next ∷ parts) = without_cr part ∷ lines_among (next ∷ parts)
 
--- the lines of an input: those that LFs end, and then the octets after the last LF, if there are any
+-- the lines of an input: those that LFs end, and the octets after the last LF, if there are any
 abbrev pub lines_of : Octets → List Octets
 lines_of input = lines_among (parts 10 input)
 

@@ -1,4 +1,4 @@
--- The machine that the code follows: what is pending of a line, and the items that each octet gives.
+-- The machine that the code follows: what is pending of a line, and the items of each octet.
 use Rattle.std.specs.Prelude.{◌≡◌, ℕ, List, [], ◌∷◌, ◌++◌, if◌then◌else◌, ◌==◌, ◌<◌, length, take}
 use Rattle.siploc.specs.Lines.{Octets, without_cr}
 use Rattle.siploc.specs.Items.{Item, line, end_of_input}
@@ -7,7 +7,8 @@ use Rattle.siploc.specs.Items.{Item, line, end_of_input}
 abbrev pub items_from : Octets → Octets → List Item
 items_from pending [] = []
 items_from pending (c ∷ octets) =
-    if c == 10 then line (without_cr pending) ∷ items_from [] octets else items_from (pending ++ c ∷ []) octets
+    if c == 10 then line (without_cr pending) ∷ items_from [] octets
+    else items_from (pending ++ c ∷ []) octets
 
 -- what is pending after the octets
 abbrev pub pending_after : Octets → Octets → Octets
@@ -32,11 +33,13 @@ read_items pending (c ∷ octets) = items_from pending (c ∷ octets)
 -- no line ends in the octets
 abbrev pub EndsNoLine : Octets → Type 0
 EndsNoLine octets =
-    (pending : Octets) → (items_from pending octets ≡ []) × (pending_after pending octets ≡ pending ++ octets)
+    (pending : Octets) → (items_from pending octets ≡ [])
+    × (pending_after pending octets ≡ pending ++ octets)
 
 -- the first line that ends in the octets ends after this piece, and the rest is shorter
 abbrev pub EndsLine : Octets → Octets → Octets → Type 0
 EndsLine octets piece rest =
-    ((pending : Octets) → (items_from pending octets ≡ line (without_cr (pending ++ piece)) ∷ items_from [] rest)
+    ((pending : Octets)
+    → (items_from pending octets ≡ line (without_cr (pending ++ piece)) ∷ items_from [] rest)
     × (pending_after pending octets ≡ pending_after [] rest))
     × (length rest < length octets)

@@ -27,7 +27,8 @@ AppendsReply p before item old after new =
     (text : Octets) × p.MayReply before item text after × (new ≡ old ++ text)
 
 -- the items are served, and their replies appended
-abbrev pub AppendsReplies : (p : Protocol) → p.State → List Item → Octets → p.State → Octets → Type 0
+abbrev pub AppendsReplies : (p : Protocol) → p.State → List Item → Octets → p.State → Octets
+    → Type 0
 AppendsReplies p before items old after new =
     (text : Octets) × Serves p before items text after × (new ≡ old ++ text)
 

@@ -34,9 +34,11 @@ target_line number endpoint =
 -- the lines of the targets, the first of which has this number
 abbrev pub target_lines : ℕ → List Endpoint → Octets
 target_lines number [] = []
-target_lines number (endpoint ∷ others) = target_line number endpoint ++ target_lines (number + 1) others
+target_lines number (endpoint ∷ others) =
+    target_line number endpoint ++ target_lines (number + 1) others
 
 -- the reply to a question
 abbrev pub answer_text : Answer → Octets
-answer_text (Targets targets) = target_lines 1 targets ++ counts_line (codes "ok find") (length targets ∷ [])
+answer_text (Targets targets) =
+    target_lines 1 targets ++ counts_line (codes "ok find") (length targets ∷ [])
 answer_text (None reason) = codes "none " ++ reason_text reason ++ 10 ∷ []

@@ -22,7 +22,8 @@ is_comment (c ∷ line) = c == 35
 
 -- `zone APEX COUNT`: the count of lines of the zone's text is 0
 abbrev pub zone_request : List Octets → Request
-zone_request (apex ∷ count ∷ []) = elim (number_of count 0) [ Some lines ↦ zone apex | None ↦ unknown ]
+zone_request (apex ∷ count ∷ []) =
+    elim (number_of count 0) [ Some lines ↦ zone apex | None ↦ unknown ]
 zone_request _ = unknown
 
 -- `add RECORD`: the record is the line from the first field after the command on

@@ -26,7 +26,8 @@ pub record ServesWithin {A B : Type 0} (p : Protocol) (limit : ℕ) (result : Re
       (contents (tapped_inner writer)) after (contents (tapped_inner writer')))
   -- the replies to all lines that were complete, where it was to read on
   pub interactive : OnReadFault result (ServesRead p before (remaining (tapped_inner reader))
-      (remaining (tapped_inner reader')) (contents (tapped_inner writer)) after (contents (tapped_inner writer')))
+      (remaining (tapped_inner reader')) (contents (tapped_inner writer)) after
+      (contents (tapped_inner writer')))
   pub all_turns : OnTooManyTurns result (ServesRead p before (remaining (tapped_inner reader))
       (remaining (tapped_inner reader')) (contents (tapped_inner writer)) after (contents (tapped_inner writer')))
   -- a state that has ended reads no more
@@ -35,5 +36,6 @@ pub record ServesWithin {A B : Type 0} (p : Protocol) (limit : ℕ) (result : Re
   -- which fault it is, and how many reads there were
   pub reader_failed : has_failed reader' ≡ (has_failed reader || is_read_fault result)
   pub writer_failed : has_failed writer' ≡ (has_failed writer || is_write_fault result)
-  pub too_many : OnTooManyTurns result (read_count reader' ≡ min (read_count reader + limit) (2 ^ 64 - 1))
+  pub too_many : OnTooManyTurns result
+      (read_count reader' ≡ min (read_count reader + limit) (2 ^ 64 - 1))
   pub at_most : read_count reader' ≤ read_count reader + limit

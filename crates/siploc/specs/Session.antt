@@ -36,7 +36,7 @@ pub record SessionState : Type 0 where
 abbrev pub new_session : SessionState
 new_session = record { zones = no_zones; ended = false }
 
--- the abilities that questions are answered for
+-- the abilities of the client that asks
 abbrev pub client : Client
 client = record { preference = Udp ∷ Tcp ∷ []; families = V4 }
 
@@ -59,7 +59,8 @@ refuses code state = keeps (refusal_line code) state
 
 -- a reply, with these zones after it
 abbrev pub changes : Octets → Zones → SessionState → Outcome
-changes reply zones state = record { reply = reply; state = record { zones = zones; ended = state.ended } }
+changes reply zones state =
+    record { reply = reply; state = record { zones = zones; ended = state.ended } }
 
 -- a zone is loaded, where the store does not refuse it
 abbrev pub load_outcome : Option StoreFault → Zone → SessionState → Outcome
@@ -75,7 +76,8 @@ load_outcome None text state =
 abbrev pub zone_text_outcome : Result Zone ZoneFault → SessionState → Outcome
 zone_text_outcome (Err fault) state =
     keeps (codes "err zone " ++ decimal fault.line ++ 32 ∷ zone_code fault ++ 10 ∷ []) state
-zone_text_outcome (Ok text) state = load_outcome (load_refusal max_records text state.zones) text state
+zone_text_outcome (Ok text) state =
+    load_outcome (load_refusal max_records text state.zones) text state
 
 -- the zone of this apex is read from a text without lines
 abbrev pub apex_outcome : Result (List Octets) NameFault → SessionState → Outcome
@@ -104,7 +106,7 @@ record_outcome (Ok r) state = insert_outcome (add_refusal max_records r state.zo
 abbrev pub add_outcome : Octets → SessionState → Outcome
 add_outcome text state = record_outcome (record_of text []) state
 
--- a question is answered from the records as they are
+-- the plan of a question, from the records as they are
 abbrev pub question_outcome : Result Question UriFault → SessionState → Outcome
 question_outcome (Err fault) state = refuses (uri_code fault) state
 question_outcome (Ok question) state =
@@ -125,7 +127,8 @@ outcome_of (find uri) state = find_outcome uri state
 outcome_of quit state =
     record { reply = codes "ok quit\n"; state = record { zones = state.zones; ended = true } }
 
--- whether a request may run out of memory; the reply to another fits the space that is reserved before it
+-- whether a request may run out of memory; the others' replies fit the space that is reserved
+-- before them
 abbrev pub allocates : Request → Bool
 allocates nothing = false
 allocates unknown = false
@@ -146,7 +149,8 @@ pub record IsOutcome (outcome : Outcome) (text : Octets) (after : SessionState) 
   pub state : after ≡ outcome.state
 
 -- an allocation fails: the reply is `err Memory`, and nothing changes
-pub record RunsOut (request : Request) (before : SessionState) (text : Octets) (after : SessionState) : Type 0 where
+pub record RunsOut (request : Request) (before : SessionState) (text : Octets)
+    (after : SessionState) : Type 0 where
   pub may_fail : IsTrue (allocates request)
   pub reply : text ≡ codes "err Memory\n"
   pub state : after ≡ before

@@ -10,7 +10,8 @@ use Rattle.siploc.specs.Replies.{Serves}
 abbrev pub ServesAll : (p : Protocol) → p.State → Option Octets → Option Octets → p.State
     → Option Octets → Type 0
 ServesAll p before unread old after new =
-    IfSome unread (λ input. (text : Octets) × Serves p before (items_of input) text after × Appends old new text)
+    IfSome unread
+    (λ input. (text : Octets) × Serves p before (items_of input) text after × Appends old new text)
 
 -- the first ones of the items are served, and the writer has a prefix of their replies
 pub record ServesFirst (p : Protocol) (before : p.State) (items : List Item) (old : Option Octets)
@@ -29,7 +30,7 @@ abbrev pub ServesPrefix : (p : Protocol) → p.State → Option Octets → Optio
 ServesPrefix p before unread old after new =
     IfSome unread (λ input. ServesFirst p before (items_of input) old after new)
 
--- all lines that were complete in what was read are served, no other, and the writer has their replies
+-- all lines that were complete in what was read are served, no other, and their replies written
 pub record ServesRead (p : Protocol) (before : p.State) (unread left old : Option Octets)
     (after : p.State) (new : Option Octets) : Type 0 where
   pub got : Octets

@@ -47,14 +47,17 @@ pub record KeepsAll (p : Protocol) (before : p.State) (unread left old : Option 
   pub writer : Keeps old new
 
 -- a turn fails
-abbrev pub FailsTurn : ServeFault → (p : Protocol) → p.State → Octets → Option Octets → Option Octets
-    → Option Octets → p.State → Option Octets → Type 0
-FailsTurn Read p before pending unread left old after new = KeepsAll p before unread left old after new
-FailsTurn Write p before pending unread left old after new = AbortsTurn p before pending unread left old after new
+abbrev pub FailsTurn : ServeFault → (p : Protocol) → p.State → Octets → Option Octets
+    → Option Octets → Option Octets → p.State → Option Octets → Type 0
+FailsTurn Read p before pending unread left old after new =
+    KeepsAll p before unread left old after new
+FailsTurn Write p before pending unread left old after new =
+    AbortsTurn p before pending unread left old after new
 FailsTurn TooManyTurns p before pending unread left old after new = ⊥
-FailsTurn Memory p before pending unread left old after new = AbortsTurn p before pending unread left old after new
+FailsTurn Memory p before pending unread left old after new =
+    AbortsTurn p before pending unread left old after new
 
--- what was read so far is served, and all replies written
+-- all that was read is served, and all replies written
 pub record HasServed (p : Protocol) (before : p.State) (unread left old : Option Octets)
     (now : p.State) (kept : Octets) (new : Option Octets) : Type 0 where
   pub got : Octets

@@ -41,16 +41,12 @@ pub fn read_command(line: &[u8]) -> Command<'_>
     let Some((word, rest)) = next_field(line) else {
         return Command::Nothing;
     };
-    if word == b"zone".as_slice() {
-        zone_command(rest)
-    } else if word == b"add".as_slice() {
-        add_command(trim_start(rest))
-    } else if word == b"find".as_slice() {
-        find_command(rest)
-    } else if word == b"quit".as_slice() {
-        quit_command(rest)
-    } else {
-        Command::Unknown
+    match word {
+        b"zone" => zone_command(rest),
+        b"add" => add_command(trim_start(rest)),
+        b"find" => find_command(rest),
+        b"quit" => quit_command(rest),
+        _ => Command::Unknown,
     }
 }
 

@@ -7,6 +7,7 @@ ghost use Rattle.siploc.specs.Session.{session_protocol};
 
 use crate::command::MAX_LINE_LEN;
 use crate::session::Session;
+use memchr::memchr;
 use std::alloc::{AllocError, Global};
 use std::marker::Model;
 
@@ -60,7 +61,8 @@ impl Pending {
         out: &mut Vec<u8>,
     ) -> Result<(), AllocError>
         ensures ok { OnOk result (AppendsReplies session_protocol session.old
-            (Item.line (without_cr (self.old ++ piece.now)) ∷ []) out.old.items session.new out.new.items) }
+            (Item.line (without_cr (self.old ++ piece.now)) ∷ [])
+            out.old.items session.new out.new.items) }
         ensures emptied { OnOk result (self.new ≡ []) }
         ensures err { OnErr result (session.new ≡ session.old) }
         ensures err_out { OnErr result (out.new.items ≡ out.old.items) }
@@ -74,10 +76,10 @@ impl Pending {
         Ok(())
     }
 
-    /// Processes what a read gave, and appends the replies: each line that ends in it, or at the end
-    /// of the input, where a read gives nothing, the octets that are left, which are a line if there
-    /// are any. The octets after the last line end are kept. An error says that the space for a reply
-    /// could not be reserved: the lines before have theirs.
+    /// Processes what a read gave, and appends the replies: each line that ends in it, or at the
+    /// end of the input, where a read gives nothing, the octets that are left, which are a line if
+    /// there are any. The octets after the last line end are kept. An error says that the space for
+    /// a reply could not be reserved: the lines before have theirs.
     pub fn process(
         &mut self,
         alloc: Global,
@@ -87,7 +89,8 @@ impl Pending {
     ) -> Result<(), AllocError>
         ensures ok { OnOk result (AppendsReplies session_protocol session.old
             (read_items self.old octets.now) out.old.items session.new out.new.items) }
-        ensures rest { OnOk result (octets.now ≢ [] → self.new ≡ kept_prefix (pending_after self.old octets.now)) }
+        ensures rest { OnOk result (octets.now ≢ []
+            → self.new ≡ kept_prefix (pending_after self.old octets.now)) }
         ensures err { OnErr result (AppendsFirstReplies session_protocol session.old
             (read_items self.old octets.now) out.old.items session.new out.new.items) }
     {
@@ -127,7 +130,8 @@ impl Pending {
         session: &mut Session,
         out: &mut Vec<u8>,
     ) -> Result<(), AllocError>
-        ensures ok { OnOk result (AppendsReplies session_protocol session.old (last_items self.now) out.old.items session.new out.new.items) }
+        ensures ok { OnOk result (AppendsReplies session_protocol session.old
+            (last_items self.now) out.old.items session.new out.new.items) }
         ensures err { OnErr result (session.new ≡ session.old) }
         ensures err_out { OnErr result (out.new.items ≡ out.old.items) }
     {
@@ -140,14 +144,11 @@ impl Pending {
 
 // The octets before the first LF and those after it, where there is one.
 fn split_line(chunk: &[u8]) -> Option<(&[u8], &[u8])>
-    ensures { MatchOption result (EndsNoLine chunk.now) (λ parts. EndsLine chunk.now parts.0.now parts.1.now) }
+    ensures { MatchOption result (EndsNoLine chunk.now)
+        (λ parts. EndsLine chunk.now parts.0.now parts.1.now) }
 {
-    for (i, octet) in chunk.iter().enumerate() {
-        if *octet == b'\n' {
-            return Some((&chunk[..i], &chunk[i + 1..]));
-        }
-    }
-    None
+    let end = memchr(b'\n', chunk)?;
+    Some((&chunk[..end], &chunk[end + 1..]))
 }
 
 // A line without the CR at its end.

@@ -28,8 +28,8 @@ pub(crate) fn start<R: Env + Input + Print + Eprint + AllocGlobal>(rt: &R) -> Ex
     }
 }
 
-// Whether the arguments are the one word `run`. An error says that one of them is not UTF-8, or that
-// an allocation failed.
+// Whether the arguments are the one word `run`. An error says that one of them is not UTF-8, or
+// that an allocation failed.
 fn asks_run<R: Env + AllocGlobal>(rt: &R) -> io::Result<bool> {
     let mut words = env::args(rt)?;
     let _program = words.next();

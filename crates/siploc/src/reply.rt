@@ -16,7 +16,8 @@ const MAX_NUMBER_FIELD_LEN: usize = 21;
 /// Appends words, numbers with a space before each, and the end of the line, to space that is
 /// reserved: it does not allocate.
 pub fn write_counts(out: &mut Vec<u8>, words: &[u8], numbers: &[u64])
-    requires { vec_len out.old + length words.now + MAX_NUMBER_FIELD_LEN * length numbers.now + 1 ≤ vec_capacity out.old }
+    requires { vec_len out.old + length words.now + MAX_NUMBER_FIELD_LEN * length numbers.now + 1
+        ≤ vec_capacity out.old }
     ensures ok { out.new.items ≡ out.old.items ++ counts_line words.now numbers.now }
     ensures capacity { vec_capacity out.old ≤ vec_capacity out.new }
 {
@@ -34,8 +35,12 @@ fn write_number(out: &mut Vec<u8>, number: u64)
     ensures len { vec_len out.new ≤ vec_len out.old + MAX_NUMBER_FIELD_LEN }
     ensures capacity { vec_capacity out.old ≤ vec_capacity out.new }
 {
-    let mut buffer = Buffer::new();
     out.push_reserved(b' ');
+    if number < 10 {
+        out.push_reserved(b'0' + number as u8);
+        return;
+    }
+    let mut buffer = Buffer::new();
     out.extend_from_slice(buffer.format(number).as_bytes())
         .unwrap();
 }
@@ -45,7 +50,8 @@ pub fn write_refusal(out: &mut Vec<u8>, code: &str) -> Result<(), AllocError>
     ensures ok { OnOk result (out.new.items ≡ out.old.items ++ refusal_line code.now) }
     ensures err { OnErr result (out.new.items ≡ out.old.items) }
     ensures capacity { vec_capacity out.old ≤ vec_capacity out.new }
-    ensures succeeds { vec_len out.old + length (refusal_line code.now) ≤ vec_capacity out.old → IsOk result }
+    ensures succeeds { vec_len out.old + length (refusal_line code.now) ≤ vec_capacity out.old
+        → IsOk result }
 {
     write_line(out, b"err ", code.as_bytes())
 }
@@ -55,7 +61,8 @@ fn write_line(out: &mut Vec<u8>, word: &[u8], text: &[u8]) -> Result<(), AllocEr
     ensures ok { OnOk result (out.new.items ≡ out.old.items ++ (word.now ++ text.now ++ 10 ∷ [])) }
     ensures err { OnErr result (out.new.items ≡ out.old.items) }
     ensures capacity { vec_capacity out.old ≤ vec_capacity out.new }
-    ensures succeeds { vec_len out.old + length (word.now ++ text.now ++ 10 ∷ []) ≤ vec_capacity out.old → IsOk result }
+    ensures succeeds { vec_len out.old + length (word.now ++ text.now ++ 10 ∷ [])
+        ≤ vec_capacity out.old → IsOk result }
 {
     out.reserve(word.len() + text.len() + 1)?;
     out.extend_from_slice(word).unwrap();
@@ -79,7 +86,8 @@ pub fn write_answer(out: &mut Vec<u8>, answer: &Answer) -> Result<(), AllocError
 // Appends a line for each target, and the line that counts them.
 fn write_targets(out: &mut Vec<u8>, targets: &[Endpoint]) -> Result<(), AllocError>
     ensures ok { OnOk result (out.new.items
-        ≡ out.old.items ++ (target_lines 1 targets.now ++ counts_line (codes "ok find") (length targets.now ∷ []))) }
+        ≡ out.old.items ++ (target_lines 1 targets.now
+        ++ counts_line (codes "ok find") (length targets.now ∷ []))) }
     ensures err { OnErr result (StartsWith out.new.items out.old.items) }
     ensures capacity { vec_capacity out.old ≤ vec_capacity out.new }
 {
@@ -132,7 +140,8 @@ fn append_word(out: &mut Vec<u8>, word: &[u8]) -> Result<(), AllocError>
 
 // Appends a space and an address.
 fn append_address(out: &mut Vec<u8>, address: Address) -> Result<(), AllocError>
-    ensures ok { OnOk result (out.new.items ≡ out.old.items ++ word_field (text_of_address address)) }
+    ensures ok { OnOk result
+        (out.new.items ≡ out.old.items ++ word_field (text_of_address address)) }
     ensures err { OnErr result (StartsWith out.new.items out.old.items) }
     ensures capacity { vec_capacity out.old ≤ vec_capacity out.new }
 {

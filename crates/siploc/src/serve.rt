@@ -183,12 +183,16 @@ impl Server {
     ) -> Result<bool, ServeFault>
         ensures ok { IfOk result (λ more. CompletesTurn session_protocol more session.old self.old
             (R.remaining (tapped_inner reader.old)) (R.remaining (tapped_inner reader.new))
-            (W.contents (tapped_inner writer.old)) session.new self.new (W.contents (tapped_inner writer.new))) }
+            (W.contents (tapped_inner writer.old)) session.new self.new
+            (W.contents (tapped_inner writer.new))) }
         ensures err { IfErr result (λ fault. FailsTurn fault session_protocol session.old self.old
             (R.remaining (tapped_inner reader.old)) (R.remaining (tapped_inner reader.new))
-            (W.contents (tapped_inner writer.old)) session.new (W.contents (tapped_inner writer.new))) }
-        ensures reader_failed { has_failed reader.new ≡ (has_failed reader.old || is_read_fault result) }
-        ensures writer_failed { has_failed writer.new ≡ (has_failed writer.old || is_write_fault result) }
+            (W.contents (tapped_inner writer.old)) session.new
+            (W.contents (tapped_inner writer.new))) }
+        ensures reader_failed { has_failed reader.new
+            ≡ (has_failed reader.old || is_read_fault result) }
+        ensures writer_failed { has_failed writer.new
+            ≡ (has_failed writer.old || is_write_fault result) }
         ensures counted { read_count reader.new ≡ min (read_count reader.old + 1) (2 ^ 64 - 1) }
     {
         let count = match reader.read(&mut self.chunk) {
@@ -212,8 +216,10 @@ impl Server {
 
 // Writes all of a text, if it has any, and flushes the writer. Returns whether that succeeded.
 fn send<W: Write>(writer: &mut Tapped<W>, text: &[u8]) -> bool
-    ensures sent { OnTrue result (Appends (W.contents (tapped_inner writer.old)) (W.contents (tapped_inner writer.new)) text.now) }
-    ensures prefix { OnFalse result (AppendsPrefix (W.contents (tapped_inner writer.old)) (W.contents (tapped_inner writer.new)) text.now) }
+    ensures sent { OnTrue result (Appends (W.contents (tapped_inner writer.old))
+        (W.contents (tapped_inner writer.new)) text.now) }
+    ensures prefix { OnFalse result (AppendsPrefix (W.contents (tapped_inner writer.old))
+        (W.contents (tapped_inner writer.new)) text.now) }
     ensures failed { has_failed writer.new ≡ (has_failed writer.old || not result) }
 {
     let mut rest = text;

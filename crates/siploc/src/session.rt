@@ -19,8 +19,7 @@ use std::marker::Model;
 // The maximum length of a short reply in octets. Space for one is reserved before each command.
 const MAX_SHORT_REPLY_LEN: usize = 128;
 
-/// A session: the zones that its commands have loaded, and the abilities that questions are
-/// answered for.
+/// A session: the zones that its commands have loaded, and the abilities of the client that asks.
 #[derive(Drop)]
 pub struct Session {
     store: ZoneStore,
@@ -40,8 +39,8 @@ impl Model for Session {
 }
 
 impl Session {
-    /// A session that has had no line. Questions are answered for UDP and TCP, in this order, and
-    /// IPv4. An error says that an allocation failed.
+    /// A session that has had no line, for a client of UDP and TCP, in this order, and IPv4. An
+    /// error says that an allocation failed.
     pub fn new(alloc: Global) -> Result<Self, AllocError>
         ensures { IfOk result (λ session. session ≡ new_session) }
     {
@@ -72,7 +71,8 @@ impl Session {
         line: &[u8],
         out: &mut Vec<u8>,
     ) -> Result<(), AllocError>
-        ensures ok { OnOk result (AppendsReply session_protocol self.old (Item.line line.now) out.old.items self.new out.new.items) }
+        ensures ok { OnOk result (AppendsReply session_protocol self.old (Item.line line.now)
+            out.old.items self.new out.new.items) }
         ensures err { OnErr result (self.new ≡ self.old) }
         ensures err_out { OnErr result (out.new.items ≡ out.old.items) }
     {
@@ -88,8 +88,8 @@ impl Session {
         write_refusal(out, "Memory")
     }
 
-    // Carries a command out and appends its reply. An error says that an allocation failed: then the
-    // session is as it was, and `out` may have a part of a reply.
+    // Carries a command out and appends its reply. An error says that an allocation failed: then
+    // the session is as it was, and `out` may have a part of a reply.
     fn perform(
         &mut self,
         alloc: Global,
@@ -97,8 +97,10 @@ impl Session {
         out: &mut Vec<u8>,
     ) -> Result<(), AllocError>
         requires { vec_len out.old + MAX_SHORT_REPLY_LEN ≤ vec_capacity out.old }
-        ensures ok { OnOk result (out.new.items ≡ out.old.items ++ (outcome_of (meaning_of command.entry) self.old).reply) }
-        ensures after { OnOk result (self.new ≡ (outcome_of (meaning_of command.entry) self.old).state) }
+        ensures ok { OnOk result (out.new.items
+            ≡ out.old.items ++ (outcome_of (meaning_of command.entry) self.old).reply) }
+        ensures after { OnOk result
+            (self.new ≡ (outcome_of (meaning_of command.entry) self.old).state) }
         ensures err { OnErr result (self.new ≡ self.old) }
         ensures err_out { OnErr result (StartsWith out.new.items out.old.items) }
         ensures allocates { OnErr result (IsTrue (allocates (meaning_of command.entry))) }
@@ -121,7 +123,8 @@ impl Session {
     // `zone APEX 0`: loads a zone without records.
     fn load_zone(&mut self, alloc: Global, apex: &[u8], out: &mut Vec<u8>) -> Result<(), AllocError>
         requires { vec_len out.old + MAX_SHORT_REPLY_LEN ≤ vec_capacity out.old }
-        ensures ok { OnOk result (out.new.items ≡ out.old.items ++ (zone_outcome apex.now self.old).reply) }
+        ensures ok { OnOk result
+            (out.new.items ≡ out.old.items ++ (zone_outcome apex.now self.old).reply) }
         ensures after { OnOk result (self.new ≡ (zone_outcome apex.now self.old).state) }
         ensures err { OnErr result (self.new ≡ self.old) }
         ensures err_out { OnErr result (StartsWith out.new.items out.old.items) }
@@ -157,7 +160,8 @@ impl Session {
         out: &mut Vec<u8>,
     ) -> Result<(), AllocError>
         requires { vec_len out.old + MAX_SHORT_REPLY_LEN ≤ vec_capacity out.old }
-        ensures ok { OnOk result (out.new.items ≡ out.old.items ++ (add_outcome text.now self.old).reply) }
+        ensures ok { OnOk result
+            (out.new.items ≡ out.old.items ++ (add_outcome text.now self.old).reply) }
         ensures after { OnOk result (self.new ≡ (add_outcome text.now self.old).state) }
         ensures err { OnErr result (self.new ≡ self.old) }
         ensures err_out { OnErr result (StartsWith out.new.items out.old.items) }
@@ -185,7 +189,8 @@ impl Session {
 
     // `find URI`: the targets of a URI, from the records as they are.
     fn find(&self, alloc: Global, uri: &[u8], out: &mut Vec<u8>) -> Result<(), AllocError>
-        ensures ok { OnOk result (out.new.items ≡ out.old.items ++ (find_outcome uri.now self.now).reply) }
+        ensures ok { OnOk result
+            (out.new.items ≡ out.old.items ++ (find_outcome uri.now self.now).reply) }
         ensures err { OnErr result (StartsWith out.new.items out.old.items) }
         ensures capacity { vec_capacity out.old ≤ vec_capacity out.new }
     {

@@ -54,7 +54,8 @@ impl<R: Read> Read for Tapped<R> {
 
     fn read(&mut self, buf: &mut [u8]) -> Result<usize>
         ensures bound { ReadsAtMost result buf.new }
-        ensures bytes { ReadConsumes (R.remaining (tapped_inner self.old)) (R.remaining (tapped_inner self.new)) result buf.new }
+        ensures bytes { ReadConsumes (R.remaining (tapped_inner self.old))
+            (R.remaining (tapped_inner self.new)) result buf.new }
         ensures failed { has_failed self.new ≡ (has_failed self.old || is_err result) }
         ensures counted { read_count self.new ≡ min (read_count self.old + 1) (2 ^ 64 - 1) }
     {
@@ -70,7 +71,8 @@ impl<W: Write> Write for Tapped<W> {
 
     fn write(&mut self, buf: &[u8]) -> Result<usize>
         ensures bound { WritesAtMost result buf.now }
-        ensures bytes { WriteAppends (W.contents (tapped_inner self.old)) (W.contents (tapped_inner self.new)) result buf.now }
+        ensures bytes { WriteAppends (W.contents (tapped_inner self.old))
+            (W.contents (tapped_inner self.new)) result buf.now }
         ensures failed { has_failed self.new ≡ (has_failed self.old || write_fails result buf.now) }
         ensures counted { read_count self.new ≡ read_count self.old }
     {
@@ -84,7 +86,8 @@ impl<W: Write> Write for Tapped<W> {
     }
 
     fn flush(&mut self) -> Result<()>
-        ensures bytes { Keeps (W.contents (tapped_inner self.old)) (W.contents (tapped_inner self.new)) }
+        ensures bytes { Keeps (W.contents (tapped_inner self.old))
+            (W.contents (tapped_inner self.new)) }
         ensures failed { has_failed self.new ≡ (has_failed self.old || is_err result) }
         ensures counted { read_count self.new ≡ read_count self.old }
     {

@@ -71,10 +71,11 @@ ok zone 0 0 0 1
 fn find_lists_addresses_in_the_order_of_addition(rt: HostRuntime) -> Result<(), Fail> {
     let text = replies(
         rt.alloc(),
-        b"zone e. 0\nadd A.E. A 192.0.2.2\nadd a.e. a 192.0.2.1\nfind SIP:a.E.:1\nfind sip:192.0.2.9:5060\nquit",
+        b"zone e. 0\nadd A.E. A 192.0.2.2\nadd a.e. a 192.0.2.1\nfind SIP:a.E.:1
+find sip:192.0.2.9:5060\nquit",
     )?;
-    let want =
-        b"ok zone 0 0 0 0\nok add 1\nok add 1\ntarget 1 udp 192.0.2.2 1\ntarget 2 udp 192.0.2.1 1\nok find 2
+    let want = b"ok zone 0 0 0 0\nok add 1\nok add 1\ntarget 1 udp 192.0.2.2 1
+target 2 udp 192.0.2.1 1\nok find 2
 target 1 udp 192.0.2.9 5060\nok find 1\nok quit\n";
     assert!(rt; text.as_slice() == want.as_slice());
     Ok(())

@@ -1,21 +1,23 @@
-use Rattle.std.proofs.Common.{◌+◌, take, sym, subst}
+use Rattle.std.proofs.Common.{◌≡◌, ℕ, ◌+◌, ◌<◌, take, length, get_or, sym, subst, eq-eqb, arith}
 use Rattle.std.proofs.lemmas.List.{take_rest}
+use Rattle.std.proofs.lemmas.Bool.{eqb-true}
 use Rattle.siploc.specs.Machine.{EndsLine}
-use Rattle.siploc.proofs.Cutting.{passed_none, passed_more, passed_found, passed_all}
+use Rattle.siploc.proofs.Cutting.{passed_to, passed_found, passed_all}
 use Rattle.siploc.proofs.lines.split_line.Goals as goal
 
-pub loop-i-init : goal.loop-i-init
-loop-i-init c = passed_none c.args.chunk.now
-
-pub loop-i-preserved : goal.loop-i-preserved
-loop-i-preserved c = passed_more c.args.chunk.now c.loop-i.i c.loop-i-test.true c.if-octet-eq10.false c.loop-i.invariant
-
-pub returns-then-octet-eq10 : goal.returns-then-octet-eq10
-returns-then-octet-eq10 c =
+pub returns-in_err-end : goal.returns-in_err-end
+returns-in_err-end c =
     let chunk = c.args.chunk.now in
-    let i = c.loop-i.i in
-    subst (λ tail. EndsLine chunk (take i chunk) tail) (sym (take_rest chunk (i + 1)))
-    (passed_found chunk i c.loop-i-test.true c.if-octet-eq10.true c.loop-i.invariant)
+    rw c.from_residual.ensures
+    (passed_all chunk (length chunk) (omega arith)
+    (passed_to chunk (length chunk) (omega arith) (λ i below end. c.in_err-end.ensures i (omega arith) below (eq-eqb (get_or chunk i 0) 10 end))))
 
 pub returns : goal.returns
-returns c = passed_all c.args.chunk.now c.loop-i.i c.loop-i-test.false c.loop-i.invariant
+returns c =
+    let chunk = c.args.chunk.now in
+    let end = c.in_ok-end.end in
+    let first = c.in_ok-end.ensures in
+    let within : end < length chunk = first.0.high in
+    subst (λ tail. EndsLine chunk (take end chunk) tail) (sym (take_rest chunk (end + 1)))
+    (passed_found chunk end within (eqb-true (get_or chunk end 0) 10 first.1)
+    (passed_to chunk end (omega arith) (λ i below lf. first.0.before i (omega arith) below (eq-eqb (get_or chunk i 0) 10 lf))))
