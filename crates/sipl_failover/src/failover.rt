@@ -16,7 +16,7 @@ use sipl_tx::{ClientTx, Kind, Report, State};
 use std::marker::Model;
 
 /// How long an endpoint is held after a timeout or an error of its transport, in milliseconds.
-pub const HOLD: u64 = 30_000;
+const HOLD: u64 = 30_000;
 
 /// The failover of one request over its targets (RFC 3263, 4.3).
 ///
