@@ -1,16 +1,14 @@
 -- The outcome of one event, by cases of the rules.
-use Rattle.std.proofs.Common.{◌≡◌, ◌≢◌, ℕ, ◌+◌, ◌-◌, ◌*◌, ◌≤◌, ◌<◌, true, false, not, Option, Some, None, is_some, option_to_list, List, [], ◌∷◌, ◌++◌, filter, length, slice_get, arith, IsTrue, refl, sym, ◌∙◌}
-use Rattle.std.specs.List.{AllByRecursion, count_by}
+use Rattle.std.proofs.Common.{◌≡◌, ◌≢◌, ℕ, ◌+◌, ◌-◌, ◌*◌, ◌≤◌, ◌<◌, true, false, Option, Some, None, is_some, option_to_list, List, [], ◌∷◌, filter, length, slice_get, arith}
+use Rattle.std.specs.List.{AllByRecursion}
 use Rattle.std.proofs.lemmas.Bool.Decides.{nat_tests}
-use Rattle.std.proofs.lemmas.Grind.{common_steps}
 use Rattle.sipl_choice.specs.declared.endpoint.Endpoint.{Endpoint}
 use Rattle.sipl_tx.specs.Transaction.{first_state}
-use Rattle.sipl_failover.specs.declared.step.Step.{Step}
 use Rattle.sipl_failover.specs.declared.step.Step.TheVariants.{Send, Hold, Deliver, Exhausted}
 use Rattle.sipl_failover.specs.FailoverRun.{FailoverRun, Event, has_ended}
 use Rattle.sipl_failover.specs.FailoverRun.Event.{Received, TransportFailed, Ticked}
 use Rattle.sipl_failover.specs.Rules.{is_running}
-use Rattle.sipl_failover.specs.Runs.{step, IsFailure, TimesOutUnanswered, IsAck, is_send, is_hold, is_exhausted, is_final, is_last, contacted}
+use Rattle.sipl_failover.specs.Runs.{step, IsAck, is_send, is_hold, is_exhausted, is_final, is_last, contacted}
 
 -- ---- the run
 

@@ -1,18 +1,16 @@
 -- Laws over lists of events, by induction.
-use Rattle.std.proofs.Common.{◌≡◌, ◌≢◌, ℕ, zero, suc, ◌+◌, ◌-◌, ◌≤◌, ◌<◌, Bool, true, false, ◌⊎◌, inl, inr, Option, Some, None, is_some, List, [], ◌∷◌, ◌++◌, filter, filter_map, take, length, slice_get, get_or, refl, sym, ap, ◌∙◌, arith, append_assoc, length-append}
-use Rattle.std.specs.List.{All, AllByRecursion}
-use Rattle.std.proofs.lemmas.Bool.Decides.{nat_tests}
-use Rattle.std.proofs.lemmas.Grind.{common_steps}
+use Rattle.std.proofs.Common.{◌≡◌, ◌≢◌, ℕ, ◌+◌, ◌-◌, ◌≤◌, ◌<◌, Bool, true, ◌⊎◌, inl, inr, Option, Some, None, is_some, List, [], ◌∷◌, ◌++◌, filter, take, length, slice_get, refl, ◌∙◌, arith, append_assoc}
+use Rattle.std.specs.List.{All}
 use Rattle.std.proofs.lemmas.List.{append-nil, take_more}
 use Rattle.std.proofs.lemmas.List.Elements.{All-nil, All-append, All-from_recursion, filter-append, filter_map-append}
 use Rattle.std.proofs.lemmas.Option.{slice_get_within, get_or_from_slice_get, slice_get_cases}
 use Rattle.sipl_choice.specs.declared.endpoint.Endpoint.{Endpoint}
 use Rattle.sipl_tx.specs.Transaction.{first_state}
 use Rattle.sipl_failover.specs.declared.step.Step.{Step}
-use Rattle.sipl_failover.specs.declared.step.Step.TheVariants.{Send, Exhausted}
+use Rattle.sipl_failover.specs.declared.step.Step.TheVariants.{Send}
 use Rattle.sipl_failover.specs.FailoverRun.{FailoverRun, Event, has_ended}
 use Rattle.sipl_failover.specs.Runs.{step, run_after, steps_of, IsAck, is_send, is_exhausted, is_final, contacted, contacted_target}
-use Rattle.sipl_failover.proofs.EventLemmas.{same_targets, ended_stays, ended_acks, none_sent_stays, none_sent_contacts, send_has_target, send_is_next, send_moves, send_contacts, attempt_grows, provisional_stays_known, exhausted_ends, exhausted_once, exhausted_not_after_end, final_ends, final_once, final_not_after_end}
+use Rattle.sipl_failover.proofs.EventLemmas.{same_targets, ended_stays, ended_acks, none_sent_stays, none_sent_contacts, send_has_target, send_moves, send_contacts, attempt_grows, provisional_stays_known, exhausted_ends, exhausted_once, exhausted_not_after_end, final_ends, final_once, final_not_after_end}
 
 -- ---- after the end
 

@@ -4,7 +4,7 @@ use Rattle.std.specs.List.{filter_map}
 use Rattle.sipl_choice.specs.declared.endpoint.Endpoint.{Endpoint}
 use Rattle.sipl_tx.specs.Transaction.{Transaction, first_state}
 use Rattle.sipl_failover.specs.declared.step.Step.{Step}
-use Rattle.sipl_failover.specs.declared.step.Step.TheVariants.{Send, Resend, Ack, Hold, Deliver, Exhausted}
+use Rattle.sipl_failover.specs.declared.step.Step.TheVariants.{Send, Ack, Hold, Deliver, Exhausted}
 use Rattle.sipl_failover.specs.declared.fault.FailoverFault.{FailoverFault}
 use Rattle.sipl_failover.specs.FailoverRun.{FailoverRun, Event, has_ended}
 use Rattle.sipl_failover.specs.FailoverRun.Event.{Received, TransportFailed, Ticked}

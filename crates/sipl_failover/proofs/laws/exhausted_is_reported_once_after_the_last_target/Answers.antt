@@ -1,4 +1,4 @@
-use Rattle.std.proofs.Common.{◌≡◌, ◌≢◌, ◌≤◌, List, [], ◌∷◌, filter, length}
+use Rattle.std.proofs.Common.{◌≡◌, ◌≢◌, ◌≤◌, [], ◌∷◌, filter, length}
 use Rattle.std.proofs.lemmas.Option.{slice_get_past}
 use Rattle.sipl_failover.specs.declared.step.Step.TheVariants.{Deliver, Exhausted}
 use Rattle.sipl_failover.specs.FailoverRun.{FailoverRun, Event}

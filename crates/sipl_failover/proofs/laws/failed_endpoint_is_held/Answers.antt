@@ -1,4 +1,4 @@
-use Rattle.std.proofs.Common.{◌≡◌, ◌≢◌, List, [], filter, refl}
+use Rattle.std.proofs.Common.{◌≢◌, [], filter, refl}
 use Rattle.sipl_failover.specs.FailoverRun.{FailoverRun, Event}
 use Rattle.sipl_failover.specs.FailoverRun.Event.{Received, TransportFailed, Ticked}
 use Rattle.sipl_failover.specs.Runs.{step, is_hold, IsFailure}

@@ -1,5 +1,4 @@
-use Rattle.std.proofs.Common.{◌≡◌, ℕ, List, [], length, filter, ap, arith}
-use Rattle.sipl_failover.specs.Runs.{step, is_final}
+use Rattle.std.proofs.Common.{length, ap, arith}
 use Rattle.sipl_failover.proofs.EventLemmas.{end_is_final, final_ends}
 use Rattle.sipl_failover.proofs.RunLemmas.{final_once_over}
 use Rattle.sipl_failover.proofs.laws.final_response_is_delivered_at_the_end.Goals as goal

@@ -1,4 +1,4 @@
-use Rattle.std.proofs.Common.{◌≡◌, ◌≢◌, ◌+◌, ◌≤◌, ◌<◌, List, [], ◌∷◌, filter, length, slice_get, Some, arith}
+use Rattle.std.proofs.Common.{◌≡◌, ◌≢◌, ◌+◌, ◌≤◌, ◌<◌, [], ◌∷◌, filter, length}
 use Rattle.sipl_failover.specs.declared.step.Step.TheVariants.{Send}
 use Rattle.sipl_failover.specs.FailoverRun.{FailoverRun, Event}
 use Rattle.sipl_failover.specs.FailoverRun.Event.{Received, TransportFailed, Ticked}
