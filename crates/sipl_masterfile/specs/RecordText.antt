@@ -3,6 +3,7 @@ use Rattle.std.specs.Prelude.{ℕ, Bool, true, false, ◌||◌, List, [], ◌∷
 use Rattle.std.specs.List.{list_any}
 use Rattle.std.specs.Str.{str_to_ascii_lowercase}
 use lib.Pointwise.{pointwise}
+use Rattle.sipl_names.specs.Labels.{Octets, Labels}
 use Rattle.sipl_names.specs.NameText.{name_of}
 use Rattle.sipl_records.specs.Addresses.{address_of}
 use Rattle.sipl_records.specs.Fields.{fields_of, is_wsp}
@@ -46,12 +47,12 @@ abbrev pub address_data : Address → Data
 address_data (V4 n) = Address4 n
 
 -- the data, where no further field follows
-abbrev pub data_at_end : Data → List (List ℕ) → Result Data ZoneCause
+abbrev pub data_at_end : Data → List Octets → Result Data ZoneCause
 data_at_end value [] = Ok value
 data_at_end value (other ∷ others) = Err MissingField
 
 -- RFC 1035, 3.4.1: the data of type `A` are an address, and no field after it
-abbrev pub address_data_of : List (List ℕ) → Result Data ZoneCause
+abbrev pub address_data_of : List Octets → Result Data ZoneCause
 address_data_of [] = Err MissingField
 address_data_of (text ∷ others) = elim (address_of text) [
   | None ↦ Err BadAddress
@@ -59,19 +60,19 @@ address_data_of (text ∷ others) = elim (address_of text) [
 ]
 
 -- the type, `A` in either case, and its data
-abbrev pub data_of : List (List ℕ) → Result Data ZoneCause
+abbrev pub data_of : List Octets → Result Data ZoneCause
 data_of [] = Err MissingField
 data_of (type ∷ others) =
     if pointwise nat_eq (str_to_ascii_lowercase type) (codes "a") then address_data_of others
     else Err MissingField
 
 -- the record of an owner and its data
-abbrev pub with_owner : List (List ℕ) → Result Data ZoneCause → Result Record ZoneCause
+abbrev pub with_owner : Labels → Result Data ZoneCause → Result Record ZoneCause
 with_owner owner (Ok value) = Ok (record { owner = owner; value = value })
 with_owner owner (Err cause) = Err cause
 
 -- the record of a line's fields: the owner, the type and its data, read from left to right
-abbrev pub record_of_fields : List (List ℕ) → List (List ℕ) → Result Record ZoneCause
+abbrev pub record_of_fields : List Octets → Labels → Result Record ZoneCause
 record_of_fields [] origin = Err MissingField
 record_of_fields (owner ∷ others) origin = elim (name_of owner origin) [
   | Ok name ↦ with_owner name (data_of others)
@@ -79,7 +80,7 @@ record_of_fields (owner ∷ others) origin = elim (name_of owner origin) [
 ]
 
 -- the record of a line, or its first cause
-abbrev pub record_or_cause : List ℕ → List (List ℕ) → Result Record ZoneCause
+abbrev pub record_or_cause : Octets → Labels → Result Record ZoneCause
 record_or_cause line origin =
     if is_unsupported line then Err MissingField else record_of_fields (fields_of line) origin
 
@@ -89,5 +90,5 @@ in_first_line (Ok r) = Ok r
 in_first_line (Err cause) = Err (record { line = 1; cause = cause })
 
 -- the record of a text of one line, or its first fault
-abbrev pub record_of : List ℕ → List (List ℕ) → Result Record ZoneFault
+abbrev pub record_of : Octets → Labels → Result Record ZoneFault
 record_of line origin = in_first_line (record_or_cause line origin)

@@ -1,7 +1,7 @@
 -- The zone of a master file (RFC 1035, 5.1); entries are not supported yet.
 use Rattle.std.specs.Prelude.{◌≡◌, ℕ, ◌+◌, Bool, true, false, not, ◌||◌, List, [], ◌∷◌, Option, None, Some, Result, Ok, Err, count_by, nat_le, if◌then◌else◌, ◌==◌}
 use Rattle.std.specs.List.{list_any, list_all}
-use Rattle.sipl_names.specs.Labels.{is_within}
+use Rattle.sipl_names.specs.Labels.{Octets, Labels, is_within}
 use Rattle.sipl_records.specs.Parts.{parts, split_once}
 use Rattle.sipl_records.specs.Sets.{same_record, shares_set}
 use Rattle.sipl_records.specs.declared.record.Record.{Record}
@@ -11,7 +11,7 @@ use Rattle.sipl_masterfile.specs.declared.fault.ZoneCause.TheVariants.{MissingFi
 -- what callers see of a zone's text: its apex, its records, and how many records were left out,
 -- since their owner is outside the apex or since they are repeated
 pub record Zone : Type 0 where
-  pub apex : List (List ℕ)
+  pub apex : Labels
   pub records : List Record
   pub outside : ℕ
   pub repeated : ℕ
@@ -41,14 +41,14 @@ abbrev pub has_entry : List ℕ → Bool
 has_entry line = list_any (λ c. not (is_blank c)) (split_once 59 line).0
 
 -- the number of the first line that has an entry, where the first of these lines has this number
-abbrev pub first_entry : ℕ → List (List ℕ) → Option ℕ
+abbrev pub first_entry : ℕ → List Octets → Option ℕ
 first_entry number [] = None
 first_entry number (line ∷ lines) =
     if has_entry line then Some number else first_entry (number + 1) lines
 
 -- the zone of a text without entries; the first entry is a fault at its line, as long as entries
 -- are not supported
-abbrev pub zone_of : List ℕ → List (List ℕ) → Result Zone ZoneFault
+abbrev pub zone_of : Octets → Labels → Result Zone ZoneFault
 zone_of text apex =
     elim (first_entry 1 (parts 10 text)) [
       | Some number ↦ Err (record { line = number; cause = MissingField })

@@ -1,5 +1,6 @@
 -- The fields of a line, separated by spaces and tabs.
 use Rattle.std.specs.Prelude.{ℕ, Bool, ◌||◌, List, [], ◌∷◌, if◌then◌else◌, ◌==◌}
+use Rattle.sipl_names.specs.Labels.{Octets}
 
 -- RFC 5234, B.1: WSP, a space or a tab
 abbrev pub is_wsp : ℕ → Bool
@@ -25,12 +26,12 @@ abbrev pub after_field : List ℕ → List ℕ
 after_field line = from_wsp (trim_start line)
 
 -- the octet prepended to the first of the line's fields, or a field of its own before white space
-abbrev pub prepend_octet : ℕ → List ℕ → List (List ℕ) → List (List ℕ)
+abbrev pub prepend_octet : ℕ → Octets → List Octets → List Octets
 prepend_octet c [] fields = (c ∷ []) ∷ fields
 prepend_octet c (next ∷ line) [] = (c ∷ []) ∷ []
 prepend_octet c (next ∷ line) (field ∷ fields) = if is_wsp next then (c ∷ []) ∷ field ∷ fields else (c ∷ field) ∷ fields
 
 -- the longest runs of octets that are not white space, in order
-abbrev pub fields_of : List ℕ → List (List ℕ)
+abbrev pub fields_of : Octets → List Octets
 fields_of [] = []
 fields_of (c ∷ line) = if is_wsp c then fields_of line else prepend_octet c line (fields_of line)

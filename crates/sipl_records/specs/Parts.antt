@@ -1,13 +1,14 @@
 -- A text split at the octets that separate its parts.
 use Rattle.std.specs.Prelude.{ℕ, List, [], ◌∷◌, Option, None, Some, if◌then◌else◌, ◌==◌}
+use Rattle.sipl_names.specs.Labels.{Octets}
 
 -- the octet prepended to the first part
-abbrev pub prepend_to_first : ℕ → List (List ℕ) → List (List ℕ)
+abbrev pub prepend_to_first : ℕ → List Octets → List Octets
 prepend_to_first c [] = (c ∷ []) ∷ []
 prepend_to_first c (part ∷ others) = (c ∷ part) ∷ others
 
 -- the parts between the separators, one more than there are separators
-abbrev pub parts : ℕ → List ℕ → List (List ℕ)
+abbrev pub parts : ℕ → Octets → List Octets
 parts separator [] = [] ∷ []
 parts separator (c ∷ text) = if c == separator then [] ∷ parts separator text else prepend_to_first c (parts separator text)
 

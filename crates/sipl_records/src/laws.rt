@@ -4,6 +4,7 @@ ghost use Rattle.std.specs.Prelude.{◌≡◌, ◌↔◌, ◌==◌, nat_lt, ℕ,
 ghost use Rattle.std.specs.Bool.{Decides};
 ghost use Rattle.std.specs.Cmp.{IsEquivalence};
 ghost use Rattle.std.specs.List.{IsDistinct, list_any, position_or_len, slice_split};
+ghost use Rattle.sipl_names.specs.Labels.{Labels};
 ghost use Rattle.sipl_records.specs.declared.record.Record.{Record};
 ghost use Rattle.sipl_records.specs.declared.record.Key.{Key};
 ghost use Rattle.sipl_records.specs.declared.address.Address.{Address};
@@ -79,7 +80,7 @@ pub fn set_of_filter()
     ensures dropped { (p : Record → Bool) (key : Key)
         → ((r : Record) → has_key key r ≡ true → p r ≡ false)
         → (records : List Record) → set_of (filter p records) key ≡ [] }
-    ensures by_owner { (p : List (List ℕ) → Bool) (records : List Record) (key : Key)
+    ensures by_owner { (p : Labels → Bool) (records : List Record) (key : Key)
         → set_of (filter (λ r. p r.owner) records) key
         ≡ (if p key.name then set_of records key else []) }
 {}

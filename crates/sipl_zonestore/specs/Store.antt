@@ -1,7 +1,7 @@
 -- The store: which zones are loaded, and the records in the order of their addition.
 use Rattle.std.specs.Prelude.{ℕ, Bool, ◌&&◌, ◌||◌, not, List, [], ◌∷◌, ◌++◌, length, filter, count_by, Option, None, Some, nat_lt, nat_le, if◌then◌else◌}
 use Rattle.std.specs.List.{list_any}
-use Rattle.sipl_names.specs.Labels.{same_name, is_within}
+use Rattle.sipl_names.specs.Labels.{Labels, same_name, is_within}
 use Rattle.sipl_records.specs.Sets.{same_record, shares_set}
 use Rattle.sipl_records.specs.declared.record.Record.{Record}
 use Rattle.sipl_masterfile.specs.Zones.{Zone}
@@ -10,7 +10,7 @@ use Rattle.sipl_zonestore.specs.declared.fault.StoreFault.TheVariants.{Overlap, 
 
 -- the apexes of the loaded zones, and all records, each in the order of addition
 pub record Zones : Type 0 where
-  pub apexes : List (List (List ℕ))
+  pub apexes : List Labels
   pub records : List Record
 
 -- what callers see of a store: its zones, and the maximum of its records
@@ -23,19 +23,19 @@ abbrev pub no_zones : Zones
 no_zones = record { apexes = []; records = [] }
 
 -- whether one of the two names is strictly below the other
-abbrev pub overlaps : List (List ℕ) → List (List ℕ) → Bool
+abbrev pub overlaps : Labels → Labels → Bool
 overlaps a b = (is_within a b || is_within b a) && not (same_name a b)
 
 -- whether the owner is within a loaded zone
-abbrev pub is_covered : List (List (List ℕ)) → List (List ℕ) → Bool
+abbrev pub is_covered : List Labels → Labels → Bool
 is_covered apexes owner = list_any (λ apex. is_within owner apex) apexes
 
 -- the records whose owners are outside the zone
-abbrev pub records_outside : List (List ℕ) → List Record → List Record
+abbrev pub records_outside : Labels → List Record → List Record
 records_outside apex records = filter (λ r. not (is_within r.owner apex)) records
 
 -- the records whose owners are within the zone
-abbrev pub records_within : List (List ℕ) → List Record → List Record
+abbrev pub records_within : Labels → List Record → List Record
 records_within apex records = filter (λ r. is_within r.owner apex) records
 
 -- the records once a zone is loaded: those of its text replace those within its apex, and are last
@@ -43,7 +43,7 @@ abbrev pub records_after_load : Zone → List Record → List Record
 records_after_load zone records = records_outside zone.apex records ++ zone.records
 
 -- the apexes once a zone is loaded: a new one is last
-abbrev pub apexes_after_load : List (List ℕ) → List (List (List ℕ)) → List (List (List ℕ))
+abbrev pub apexes_after_load : Labels → List Labels → List Labels
 apexes_after_load apex apexes =
     if list_any (same_name apex) apexes then apexes else apexes ++ apex ∷ []
 

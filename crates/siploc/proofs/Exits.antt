@@ -2,7 +2,7 @@
 use Rattle.std.proofs.Common.{◌≡◌, ℕ, ◌+◌, ◌-◌, ◌^◌, ◌<◌, ◌≤◌, ◌||◌, [], Bool, true, false, Ok, Err, refl, sym, ap, ◌∙◌, subst, min, arith}
 use Rattle.std.specs.Prelude.{Option, Result, IsTrue, ◌↔◌}
 use Rattle.std.proofs.Math.Bool.{or-false}
-use Rattle.siploc.specs.Lines.{Octets}
+use Rattle.sipl_names.specs.Labels.{Octets}
 use Rattle.siploc.specs.Protocol.{Protocol}
 use Rattle.siploc.specs.Tapped.{tapped_inner, has_failed, read_count}
 use Rattle.siploc.specs.Turns.{CompletesTurn, FailsTurn, HasServed}

@@ -2,7 +2,8 @@
 use Rattle.std.proofs.Common.{◌≡◌, ◌⊎◌, ℕ, ◌<◌, ◌≤◌, List, [], ◌∷◌, ◌++◌, true, false, if◌then◌else◌, ◌==◌, length, take, refl, sym, ap, ◌∙◌, subst, inl, inr, append_assoc, append-nil, zero, suc, lit<, arith}
 use Rattle.std.proofs.lemmas.List.{take_all, length-take}
 use Rattle.std.proofs.lemmas.Bool.{cases_lt}
-use Rattle.siploc.specs.Lines.{Octets, without_cr}
+use Rattle.sipl_names.specs.Labels.{Octets}
+use Rattle.siploc.specs.Lines.{without_cr}
 use Rattle.siploc.specs.Items.{Item, line, end_of_input}
 use Rattle.siploc.specs.Protocol.{Protocol}
 use Rattle.siploc.specs.Replies.{Serves, AppendsReply, AppendsReplies, AppendsFirstReplies}

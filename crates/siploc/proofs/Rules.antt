@@ -5,7 +5,7 @@ use Rattle.sipl_records.specs.Fields.{fields_of}
 use Rattle.sipl_uri.specs.declared.fault.UriFault.{UriFault}
 use Rattle.sipl_uri.specs.declared.question.Question.{Question}
 use Rattle.sipl_uri.specs.Uris.{question_of}
-use Rattle.siploc.specs.Lines.{Octets}
+use Rattle.sipl_names.specs.Labels.{Octets}
 use Rattle.siploc.specs.Items.{Item, line, end_of_input}
 use Rattle.siploc.specs.Requests.{Request, nothing, too_long, is_comment, fields_request, request_of}
 use Rattle.siploc.specs.Session.{SessionState, Performs, MayReply, session_protocol, question_outcome, find_outcome}

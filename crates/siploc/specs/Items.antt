@@ -1,6 +1,7 @@
 -- What a session is given, one item after another: the lines of its input, and then the end of it.
 use Rattle.std.specs.Prelude.{List, [], ◌∷◌, ◌++◌}
-use Rattle.siploc.specs.Lines.{Octets, lines_of, complete_lines}
+use Rattle.sipl_names.specs.Labels.{Octets}
+use Rattle.siploc.specs.Lines.{lines_of, complete_lines}
 
 -- a line, without its line end, or the end of the input
 pub data Item : Type 0 where

@@ -1,10 +1,7 @@
 -- A session's input, cut into lines.
 use Rattle.std.specs.Prelude.{ℕ, List, [], ◌∷◌, if◌then◌else◌, ◌==◌}
+use Rattle.sipl_names.specs.Labels.{Octets}
 use Rattle.sipl_records.specs.Parts.{parts}
-
--- a text
-abbrev pub Octets : Type 0
-Octets = List ℕ
 
 -- a line that an LF ends, without the CR before the LF
 abbrev pub without_cr : Octets → Octets

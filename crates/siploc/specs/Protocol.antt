@@ -1,6 +1,6 @@
 -- What a line server serves, whatever its commands are.
 use Rattle.std.specs.Prelude.{Bool}
-use Rattle.siploc.specs.Lines.{Octets}
+use Rattle.sipl_names.specs.Labels.{Octets}
 use Rattle.siploc.specs.Items.{Item}
 
 -- a protocol: what is kept from one item to the next, which reply an item may have and which state

@@ -1,6 +1,6 @@
 -- The replies to items, one after another.
 use Rattle.std.specs.Prelude.{◌≡◌, List, [], ◌∷◌, ◌++◌}
-use Rattle.siploc.specs.Lines.{Octets}
+use Rattle.sipl_names.specs.Labels.{Octets}
 use Rattle.siploc.specs.Items.{Item}
 use Rattle.siploc.specs.Protocol.{Protocol}
 

@@ -3,7 +3,7 @@ use Rattle.std.specs.Prelude.{ℕ, Bool, false, List, [], ◌∷◌, None, Some,
 use lib.Pointwise.{pointwise}
 use Rattle.sipl_records.specs.Fields.{fields_of, trim_start, after_field}
 use Rattle.sipl_records.specs.Numbers.{number_of}
-use Rattle.siploc.specs.Lines.{Octets}
+use Rattle.sipl_names.specs.Labels.{Octets}
 
 -- a request with its fields; a line without fields and a comment ask for nothing
 pub data Request : Type 0 where

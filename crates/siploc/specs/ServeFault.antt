@@ -1,6 +1,6 @@
 -- The faults of serving: their texts, and what a clause says of one of them.
 use Rattle.std.specs.Prelude.{Bool, true, false, Result, Ok, Err, codes}
-use Rattle.siploc.specs.Lines.{Octets}
+use Rattle.sipl_names.specs.Labels.{Octets}
 use Rattle.siploc.specs.declared.serve.ServeFault.{ServeFault}
 use Rattle.siploc.specs.declared.serve.ServeFault.TheVariants.{Read, Write, TooManyTurns, Memory}
 

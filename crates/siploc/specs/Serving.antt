@@ -1,7 +1,7 @@
 -- What `serve` promises, for any protocol.
 use Rattle.std.specs.Prelude.{◌≡◌, ℕ, Bool, true, false, ◌+◌, ◌-◌, ◌^◌, ◌≤◌, ◌||◌, ◌↔◌, min, Option, Result, Ok, IfOk, OnOk, OnErr, IsTrue}
 use Rattle.std.specs.Io.KnownBytes.{IsAtEnd}
-use Rattle.siploc.specs.Lines.{Octets}
+use Rattle.sipl_names.specs.Labels.{Octets}
 use Rattle.siploc.specs.Protocol.{Protocol}
 use Rattle.siploc.specs.Streams.{ServesAll, ServesPrefix, ServesRead}
 use Rattle.siploc.specs.Tapped.{tapped_inner, has_failed, read_count}

@@ -21,7 +21,7 @@ use Rattle.sipl_zonestore.specs.Changes.{changed_keys}
 use Rattle.sipl_zonestore.specs.StoreFault.{code_of as store_code}
 use Rattle.sipl_zonestore.specs.declared.fault.StoreFault.{StoreFault}
 use Rattle.sipl_plans.specs.Plan.{plan}
-use Rattle.siploc.specs.Lines.{Octets}
+use Rattle.sipl_names.specs.Labels.{Octets}
 use Rattle.siploc.specs.Items.{Item, line, end_of_input}
 use Rattle.siploc.specs.Protocol.{Protocol}
 use Rattle.siploc.specs.Requests.{Request, nothing, unknown, too_long, zone, add, find, quit, request_of}

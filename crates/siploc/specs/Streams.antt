@@ -1,7 +1,7 @@
 -- What serving does between a reader and a writer whose octets are known.
 use Rattle.std.specs.Prelude.{◌≡◌, List, ◌++◌, IfSome, Option}
 use Rattle.std.specs.Io.KnownBytes.{Consumes, Appends}
-use Rattle.siploc.specs.Lines.{Octets}
+use Rattle.sipl_names.specs.Labels.{Octets}
 use Rattle.siploc.specs.Items.{Item, items_of, complete_items}
 use Rattle.siploc.specs.Protocol.{Protocol}
 use Rattle.siploc.specs.Replies.{Serves}

@@ -1,7 +1,7 @@
 -- What one turn of serving does: a read, and the replies to the items that it gave.
 use Rattle.std.specs.Prelude.{◌≡◌, ◌≢◌, Bool, true, false, [], ◌++◌, Option}
 use Rattle.std.specs.Io.KnownBytes.{Keeps, Appends, Consumes, IsAtEnd}
-use Rattle.siploc.specs.Lines.{Octets}
+use Rattle.sipl_names.specs.Labels.{Octets}
 use Rattle.siploc.specs.Protocol.{Protocol}
 use Rattle.siploc.specs.Replies.{Serves}
 use Rattle.siploc.specs.Machine.{items_from, pending_after, kept_prefix, read_items}

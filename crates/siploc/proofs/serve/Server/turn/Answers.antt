@@ -1,7 +1,7 @@
 use Rattle.std.proofs.Common.{◌≡◌, ◌≤◌, ◌<◌, List, ℕ, length, take, refl, subst, arith}
 use Rattle.std.specs.Prelude.{nat_lt}
 use Rattle.std.specs.Io.KnownBytes.{Appends}
-use Rattle.siploc.specs.Lines.{Octets}
+use Rattle.sipl_names.specs.Labels.{Octets}
 use Rattle.siploc.specs.Machine.{read_items}
 use Rattle.siploc.specs.Session.{session_protocol}
 use Rattle.siploc.specs.Tapped.{tapped_inner}
