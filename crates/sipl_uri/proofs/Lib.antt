@@ -1,4 +1,1 @@
-pub mod Agreement
-pub mod LowerCase
-pub mod HostLemmas
-pub mod CaseLemmas
+pub mod Same

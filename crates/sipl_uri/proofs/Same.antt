@@ -1,4 +1,4 @@
--- What `==` tests of targets and of questions.
+-- `==` of targets and of questions is true exactly where they are equal.
 use Rattle.std.specs.Prelude.{◌≡◌, Bool, true, false, Option, Some, None}
 use Rattle.std.specs.Bool.{Decides}
 use Rattle.std.specs.Option.{option_eq}
@@ -15,7 +15,7 @@ use Rattle.sipl_uri.specs.declared.question.Question.{Question}
 use Rattle.sipl_uri.specs.contracts.question.TargetPartialEq.TheImpl.{eq-value as target_eq}
 use Rattle.sipl_uri.specs.contracts.question.QuestionPartialEq.TheImpl.{eq-value as question_eq}
 
--- `==` of two targets answers true exactly where they are equal
+-- `==` of two targets
 pub same_target_decides : (a b : Target) → Decides (target_eq.it a b) (a ≡ b)
 same_target_decides (Numeric (V4 m)) (Numeric (V4 n)) = Decides-like _ (λ e. ap (λ k. Numeric (V4 k)) e) (λ e. cc) (Decides-eqb m n)
 same_target_decides (Domain m) (Domain n) = Decides-like _ (λ e. ap (λ k. Domain k) e) (λ e. cc) (same_name_decides m n)
@@ -37,7 +37,7 @@ same_option_decides each (Some a) (Some b) = Decides-like _ (λ e. ap (λ x. Som
 same_transport_decides : (a b : Transport) → Decides (transport_eq.it a b) (a ≡ b)
 same_transport_decides a b = search rules
 
--- `==` of two questions answers true exactly where they are equal
+-- `==` of two questions
 pub same_question_decides : (a b : Question) → Decides (question_eq.it a b) (a ≡ b)
 same_question_decides a b =
     Decides-like _
