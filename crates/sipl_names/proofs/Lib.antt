@@ -1,3 +1,4 @@
+pub mod SameName
 pub mod Lowercase
 pub mod Wires
 pub mod Within
@@ -6,3 +7,4 @@ pub mod Completes
 pub mod Prefixes
 pub mod RoundTrip
 pub mod TextLength
+pub mod Printing

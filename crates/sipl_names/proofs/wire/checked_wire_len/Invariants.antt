@@ -1,7 +1,7 @@
 use Rattle.std.proofs.Common.{◌≡◌, ◌-◌, ◌^◌, min, length, take, drop}
 use Rattle.sipl_names.specs.Labels.{wire_of, first_label_fault}
 use Rattle.sipl_names.specs.LabelSlices.{octets_of}
-use Rattle.sipl_names.proofs.wire.checked_len.Given as goal
+use Rattle.sipl_names.proofs.wire.checked_wire_len.Given as goal
 
 abbrev pub invariant-loop-label : goal.invariant-loop-label
 invariant-loop-label l = record {

@@ -1,9 +1,9 @@
--- The codes and the messages of refusals.
+-- The codes and the messages of faults.
 use Rattle.std.specs.Prelude.{ℕ, List, codes}
 use Rattle.sipl_names.specs.declared.fault.NameFault.{NameFault}
 use Rattle.sipl_names.specs.declared.fault.NameFault.TheVariants.{EmptyLabel, LabelTooLong, NameTooLong, BadEscape, Memory}
 
--- how a fault is written in replies
+-- the fault's code in replies
 abbrev pub code_of : NameFault → List ℕ
 code_of EmptyLabel = codes "N1"
 code_of LabelTooLong = codes "N2"
@@ -11,7 +11,7 @@ code_of NameTooLong = codes "N3"
 code_of BadEscape = codes "N4"
 code_of Memory = codes "Memory"
 
--- what a fault says to a person
+-- the fault's message to a person
 abbrev pub message_of : NameFault → List ℕ
 message_of EmptyLabel = codes "a label is empty"
 message_of LabelTooLong = codes "a label has more than 63 octets"
