@@ -1,5 +1,5 @@
--- The grammar of SIP URIs (RFC 3261, 25.1): which text asks which question.
---     SIP-URI  = "sip:" host [ ":" port ]        user information, parameters and headers are not supported yet
+-- The grammar of SIP URIs (RFC 3261, 25.1): which text asks which question. These of its rules are supported yet:
+--     SIP-URI  = "sip:" host [ ":" port ]
 --     host     = hostname / IPv4address
 --     hostname = *( domainlabel "." ) toplabel [ "." ]
 --     port     = 1*DIGIT
@@ -18,7 +18,7 @@ use Rattle.sipl_uri.specs.Uris.{is_label_octet, is_uri_octet, begins_with_letter
 abbrev pub IsOptional : Octets → Octets → Type 0
 IsOptional part text = (text ≡ part) ⊎ (text ≡ [])
 
--- domainlabel: 1 to 63 octets (RFC 1035, 2.3.4), which are letters, digits, hyphens and, as no RFC has it, underscores
+-- domainlabel: 1 to 63 octets (RFC 1035, 2.3.4); as an extension, hyphens may be at its ends, and underscores in it
 pub record IsDomainLabel (label : Octets) : Type 0 where
   pub nonempty : 0 < length label
   pub short : length label ≤ 63
@@ -74,7 +74,7 @@ abbrev pub IsScheme : Octets → Bool → Type 0
 IsScheme text false = str_to_ascii_lowercase text ≡ codes "sip"
 IsScheme text true = ⊥
 
--- SIP-URI: no octet is one that a URI can't have
+-- SIP-URI
 pub record IsUri (text : Octets) (question : Question) : Type 0 where
   pub scheme : Octets
   pub host : Octets

@@ -1,5 +1,5 @@
 -- SIP URIs of the form `sip:HOST:PORT` (RFC 3261, 19.1.1): the question that a text asks, or its first fault.
-use Rattle.std.specs.Prelude.{ℕ, Bool, false, not, ◌||◌, ◌&&◌, List, [], ◌∷◌, Option, None, Some, Result, Ok, Err, option_map, codes, nat_eq, if◌then◌else◌, ◌==◌}
+use Rattle.std.specs.Prelude.{ℕ, Bool, false, not, ◌||◌, ◌&&◌, [], ◌∷◌, Option, None, Some, Result, Ok, Err, option_map, codes, nat_eq, if◌then◌else◌, ◌==◌}
 use Rattle.std.specs.Option.{option_and_then}
 use Rattle.std.specs.List.{list_all, list_any}
 use Rattle.std.specs.Str.{str_to_ascii_lowercase}

@@ -32,11 +32,10 @@ fn read_hostname(alloc: Global, text: &[u8]) -> Result<Name, UriFault>
         return Err(UriFault::Host);
     }
     let root = Name::root(alloc);
-    let name = match Name::from_text(alloc, text, &root) {
-        Ok(name) => name,
-        Err(NameFault::Memory) => return Err(UriFault::Memory),
-        Err(_) => return Err(UriFault::Host),
-    };
+    let name = Name::from_text(alloc, text, &root).map_err(|fault| match fault {
+        NameFault::Memory => UriFault::Memory,
+        _ => UriFault::Host,
+    })?;
     if !has_alphabetic_top(&name) {
         return Err(UriFault::Host);
     }
