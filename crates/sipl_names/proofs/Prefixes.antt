@@ -1,4 +1,4 @@
--- Names with labels put in front.
+-- Names with labels prepended.
 use Rattle.std.proofs.Common.{◌≡◌, ℕ, ◌+◌, ◌-◌, ◌^◌, ◌<◌, ◌≤◌, min, [], ◌∷◌, ◌++◌, None, Ok, Err, length, map, refl, sym, ap, ◌∙◌, subst, arith, length-append}
 use Rattle.std.proofs.lemmas.List.Concat.{flat_map-append}
 use Rattle.std.specs.List.{AllByRecursion}
@@ -8,7 +8,7 @@ use Rattle.sipl_names.specs.Labels.{Octets, Labels, length_prefixed, wire_of, wi
 use Rattle.sipl_names.specs.Wire.{IsNameWire, labels_of_wire}
 use Rattle.sipl_names.proofs.Wires.{labels_at, name_at}
 use Rattle.sipl_names.proofs.Lowercase.{length-lowered}
-use Rattle.sipl_names.proofs.Completes.{labels_append, name_within_limit-short, name_within_limit-long}
+use Rattle.sipl_names.proofs.Denotes.{labels_append, name_within_limit-short, name_within_limit-long}
 
 -- lower case changes no length
 length-lowered_wire : (labels : Labels) → length (wire_of (map str_to_ascii_lowercase labels)) ≡ length (wire_of labels)
@@ -37,5 +37,5 @@ prefix_made labels name own full n none each is seen counts short made =
     let all : Labels = map str_to_ascii_lowercase labels ++ name in
     let wires : full ≡ wire_of all = made ∙ sym (prefix_wire labels name own is seen) in
     let fits : wire_length all ≤ 255 = omega (arith, prefix_length labels name own is seen) in
-    let whole = labels_append (map str_to_ascii_lowercase labels) name each (subst (AllByRecursion IsLabel) seen is.name.each) in
-    (name_at full all wires (record { each = whole; short = fits }), faultless_prefix labels name none ∙ name_within_limit-short all fits ∙ ap (λ ls. Ok ls) (sym (labels_at full all wires)))
+    let all_labels = labels_append (map str_to_ascii_lowercase labels) name each (subst (AllByRecursion IsLabel) seen is.name.each) in
+    (name_at full all wires (record { each = all_labels; short = fits }), faultless_prefix labels name none ∙ name_within_limit-short all fits ∙ ap (λ ls. Ok ls) (sym (labels_at full all wires)))

@@ -36,9 +36,9 @@ prepend_labels-err : (done : Labels) (fault : NameFault) → prepend_labels done
 prepend_labels-err [] fault = refl
 prepend_labels-err (label ∷ done) fault = ap (prepend label) (prepend_labels-err done fault)
 
-prepend_labels-ok : (done labels : Labels) (whole : Bool) → prepend_labels done (Ok (labels, whole)) ≡ Ok (done ++ labels, whole)
-prepend_labels-ok [] labels whole = refl
-prepend_labels-ok (label ∷ done) labels whole = ap (prepend label) (prepend_labels-ok done labels whole)
+prepend_labels-ok : (done labels : Labels) (absolute : Bool) → prepend_labels done (Ok (labels, absolute)) ≡ Ok (done ++ labels, absolute)
+prepend_labels-ok [] labels absolute = refl
+prepend_labels-ok (label ∷ done) labels absolute = ap (prepend label) (prepend_labels-ok done labels absolute)
 
 -- a text that goes on has a symbol
 HasSymbol : List Symbol → Type 0
@@ -159,15 +159,15 @@ read_dot text rest wire start (c ∷ tail) ended_wire n r next more is counts wi
       reads = r.reads ∙ ap (λ ss. prepend_labels r.done (labels_from r.label ss)) next ∙ ap (prepend_labels r.done) (labels_from-dot r.label (c ∷ tail) ∙ prepend_checked_label-none r.label (read_after_dot (c ∷ tail)) faultless) ∙ sym (prepend_labels-push r.done lowered (read_after_dot (c ∷ tail)));
     }
 
-last_label : (text rest wire : Octets) (start : ℕ) (ended_wire : Octets) (n : ℕ) (whole : Bool) (r : IsReadTo text rest wire start) → labels_from r.label (symbols 0 rest) ≡ prepend_checked_label r.label (Ok ([], whole)) → label_fault (drop (start + 1) wire) ≡ None → n ≡ length wire → ended_wire ≡ set wire start (n - (start + 1)) → Spells text ended_wire whole
-last_label text rest wire start ended_wire n whole r ends is counts wires =
+last_label : (text rest wire : Octets) (start : ℕ) (ended_wire : Octets) (n : ℕ) (absolute : Bool) (r : IsReadTo text rest wire start) → labels_from r.label (symbols 0 rest) ≡ prepend_checked_label r.label (Ok ([], absolute)) → label_fault (drop (start + 1) wire) ≡ None → n ≡ length wire → ended_wire ≡ set wire start (n - (start + 1)) → Spells text ended_wire absolute
+last_label text rest wire start ended_wire n absolute r ends is counts wires =
     let lowered : Octets = str_to_ascii_lowercase r.label in
     let labels : Labels = r.done ++ lowered ∷ [] in
     let faultless : label_fault r.label ≡ None = sym (fault_so_far text rest wire start r) ∙ is in
     let closes : ended_wire ≡ wire_of labels = wires ∙ closed text rest wire start r n counts in
     let spelled = labels_at ended_wire labels closes in
     record {
-      read = r.reads ∙ ap (prepend_labels r.done) (ends ∙ prepend_checked_label-none r.label (Ok ([], whole)) faultless) ∙ prepend_labels-ok r.done (lowered ∷ []) whole ∙ ap (λ ls. Ok (ls, whole)) (sym spelled);
+      read = r.reads ∙ ap (prepend_labels r.done) (ends ∙ prepend_checked_label-none r.label (Ok ([], absolute)) faultless) ∙ prepend_labels-ok r.done (lowered ∷ []) absolute ∙ ap (λ ls. Ok (ls, absolute)) (sym spelled);
       exact = wire_at ended_wire labels closes;
       each = subst (AllByRecursion IsLabel) (sym spelled) (labels_push r.done lowered r.each (lowered_label r.label faultless r.octets));
     }

@@ -9,7 +9,7 @@ use Rattle.sipl_names.specs.Labels.{Octets, Labels, IsLabel, IsName, label_fault
 use Rattle.sipl_names.specs.NameText.{Symbol, octet, dot, bad_escape, symbols, labels_from, relative_to, name_of}
 use Rattle.sipl_names.specs.NamePrint.{is_special, printed_octet, printed_label, text_of}
 use Rattle.sipl_names.proofs.ReadText.{prepend, read_after_dot, labels_from-dot, prepend_checked_label-none}
-use Rattle.sipl_names.proofs.Completes.{name_within_limit-short, other_text}
+use Rattle.sipl_names.proofs.Denotes.{name_within_limit-short, other_text}
 
 plain_octet : (c : ℕ) (rest : Octets) → (c == 92) ≡ false → (c == 46) ≡ false → symbols 0 (c ∷ rest) ≡ octet c ∷ symbols 0 rest
 plain_octet c rest slash point = rw (slash, point) refl
@@ -75,7 +75,7 @@ labels_from-octets begun [] rest = ap (λ l. labels_from l rest) (sym (append-ni
 labels_from-octets begun (c ∷ label) rest =
     labels_from-octets (begun ++ c ∷ []) label rest ∙ ap (λ l. labels_from l rest) (append_assoc begun (c ∷ []) label)
 
--- a printed label reads back, and what is behind it follows
+-- a printed label reads back, and what is after it follows
 printed_label_reads : (label rest : Octets) → AllByRecursion (λ octet. octet < 256) label → labels_from [] (symbols 0 (printed_label label ++ rest)) ≡ labels_from label (dot ∷ symbols 0 rest)
 printed_label_reads label rest all =
     ap (λ t. labels_from [] (symbols 0 t)) (append_assoc (flat_map printed_octet label) (46 ∷ []) rest) ∙ ap (labels_from []) (printed_octets_read label (46 ∷ rest) all) ∙ labels_from-octets [] label (dot ∷ symbols 0 rest)
@@ -123,7 +123,7 @@ not_single [] c long = absurd (omega arith)
 not_single (x ∷ []) c long = absurd (omega arith)
 not_single (x ∷ y ∷ text) c long = and_false (nat_eq x c)
 
--- the text of a name says that name
+-- the text of a name denotes that name
 pub name_of-text_of : (labels origin : Labels) → IsName labels → name_of (text_of labels) origin ≡ Ok labels
 name_of-text_of [] origin is = refl
 name_of-text_of (label ∷ labels) origin is =

@@ -1,4 +1,4 @@
--- A wire form and its labels tell one another.
+-- A wire form and its labels determine one another.
 use Rattle.std.proofs.Common.{◌≡◌, ℕ, suc, zero, ◌≤◌, List, [], ◌∷◌, ◌++◌, length, take, drop, refl, sym, ap, ◌∙◌, subst, arith, length-append, nat_eq, ◌+◌, ◌<◌, get_or}
 use Rattle.std.proofs.lemmas.List.{take_at, drop_at, length-take, at_drop_more}
 use Rattle.std.specs.Borrow.{Bor}
@@ -9,13 +9,13 @@ use Rattle.sipl_names.specs.Labels.{Octets, Labels, wire_of, IsName, same_name}
 use Rattle.sipl_names.proofs.SameName.{same_name_decides}
 use Rattle.sipl_names.specs.Wire.{first_labels, labels_of_wire, IsWire, IsNameWire}
 
-first_labels-wire_of : (most : ℕ) (labels : Labels) → length (wire_of labels) ≤ most → first_labels most (wire_of labels) ≡ labels
+first_labels-wire_of : (left : ℕ) (labels : Labels) → length (wire_of labels) ≤ left → first_labels left (wire_of labels) ≡ labels
 first_labels-wire_of zero [] fits = refl
-first_labels-wire_of (suc most) [] fits = refl
+first_labels-wire_of (suc left) [] fits = refl
 first_labels-wire_of zero (label ∷ labels) fits = absurd (omega arith)
-first_labels-wire_of (suc most) (label ∷ labels) fits =
-    let rest : length (wire_of labels) ≤ most = omega (arith, length-append label (wire_of labels)) in
-    rw (take_at label (wire_of labels) (length label) refl, drop_at label (wire_of labels) (length label) refl, first_labels-wire_of most labels rest)
+first_labels-wire_of (suc left) (label ∷ labels) fits =
+    let rest : length (wire_of labels) ≤ left = omega (arith, length-append label (wire_of labels)) in
+    rw (take_at label (wire_of labels) (length label) refl, drop_at label (wire_of labels) (length label) refl, first_labels-wire_of left labels rest)
 
 -- the labels of their own wire form
 pub labels_of_wire-wire_of : (labels : Labels) → labels_of_wire (wire_of labels) ≡ labels
@@ -44,7 +44,7 @@ same_name-wires a b =
 pub compared_wires : (u w : Octets) → IsWire u → IsWire w → pointwise nat_eq u w ≡ same_name (labels_of_wire u) (labels_of_wire w)
 compared_wires u w e f = (λ i. pointwise nat_eq (e i) (f i)) ∙ same_name-wires (labels_of_wire u) (labels_of_wire w)
 
--- the first label of a wire form, and those behind it
+-- the first label of a wire form, and the others
 pub split_wire : (count : ℕ) (rest : Octets) → IsWire (count ∷ rest) → (count ≤ length rest) × IsWire (drop count rest) × (labels_of_wire (count ∷ rest) ≡ take count rest ∷ labels_of_wire (drop count rest))
 split_wire count rest exact =
     let label : Octets = take count rest in

@@ -6,12 +6,12 @@ use Rattle.sipl_names.proofs.SameName.{same_name_decides}
 use Rattle.sipl_names.specs.Wire.{labels_of_wire, IsWire}
 use Rattle.sipl_names.proofs.Wires.{compared_wires}
 
--- the label next to the root, or the one found so far where none is behind it
-abbrev pub top_label_or : Option (Octets) → Labels → Option (Octets)
+-- the label next to the root, or this one where there are no further labels
+abbrev pub top_label_or : Option Octets → Labels → Option Octets
 top_label_or found [] = found
 top_label_or found (label ∷ labels) = top_label_of (label ∷ labels)
 
-pub top_label_or-cons : (found : Option (Octets)) (label : Octets) (labels : Labels) → top_label_or found (label ∷ labels) ≡ top_label_or (Some label) labels
+pub top_label_or-cons : (found : Option Octets) (label : Octets) (labels : Labels) → top_label_or found (label ∷ labels) ≡ top_label_or (Some label) labels
 top_label_or-cons found label [] = refl
 top_label_or-cons found label (next ∷ labels) = refl
 
@@ -52,10 +52,10 @@ is_within-as_long (label ∷ labels) apex short =
     or_false _ _ (is_within-shorter labels apex (omega (arith, longer label labels)))
 
 -- the last labels of a name within the apex are those of the apex
-within_suffix : (labels apex : Labels) → is_within labels apex ≡ true → (front : Labels) × (labels ≡ front ++ apex)
+within_suffix : (labels apex : Labels) → is_within labels apex ≡ true → (first : Labels) × (labels ≡ first ++ apex)
 within_suffix [] apex within = ([], (same_name_decides [] apex).0 within)
 within_suffix (label ∷ labels) apex within =
-    elim (same_name (label ∷ labels) apex) as (λ same. same_name (label ∷ labels) apex ≡ same → (front : Labels) × (label ∷ labels ≡ front ++ apex)) [
+    elim (same_name (label ∷ labels) apex) as (λ same. same_name (label ∷ labels) apex ≡ same → (first : Labels) × (label ∷ labels ≡ first ++ apex)) [
       | true ↦ λ e. ([], (same_name_decides (label ∷ labels) apex).0 e)
       | false ↦ λ e. let rest = within_suffix labels apex (rw e at within) in (label ∷ rest.0, ap (λ ls. label ∷ ls) rest.1)
     ] refl
@@ -68,11 +68,11 @@ same_within : (labels : Labels) → is_within labels labels ≡ true
 same_within [] = refl
 same_within (label ∷ labels) = rw ((same_name_decides (label ∷ labels) (label ∷ labels)).1 refl) refl
 
-suffix_within : (front apex : Labels) → is_within (front ++ apex) apex ≡ true
+suffix_within : (first apex : Labels) → is_within (first ++ apex) apex ≡ true
 suffix_within [] apex = same_within apex
-suffix_within (label ∷ front) apex = or_true _ _ (suffix_within front apex)
+suffix_within (label ∷ first) apex = or_true _ _ (suffix_within first apex)
 
-pub is_within-suffix : (labels apex : Labels) → IsTrue (is_within labels apex) ↔ ((front : Labels) × (labels ≡ front ++ apex))
+pub is_within-suffix : (labels apex : Labels) → IsTrue (is_within labels apex) ↔ ((first : Labels) × (labels ≡ first ++ apex))
 is_within-suffix labels apex =
     (within_suffix labels apex, λ some. subst (λ ls. is_within ls apex ≡ true) (sym some.1) (suffix_within some.0 apex))
 

@@ -67,7 +67,7 @@ first_label_fault (label ∷ labels) = elim (label_fault label) [ Some fault ↦
 abbrev pub name_within_limit : Labels → Result Labels NameFault
 name_within_limit labels = if nat_lt 255 (wire_length labels) then Err NameTooLong else Ok labels
 
--- the name with these labels prepended, in lower case; faults of labels come before that of the whole
+-- the name with these labels prepended, in lower case; faults of labels come before that of the length
 abbrev pub prefixed_of : Labels → Labels → Result Labels NameFault
 prefixed_of labels name =
     elim (first_label_fault labels) [

@@ -1,4 +1,5 @@
-//! Domain names: their text in master files, their wire form, and their order below one another.
+//! Domain names (RFC 1034, RFC 1035): their text in master files, their wire form, and which names
+//! are within which.
 #![tactic(auto)]
 
 mod escape;
@@ -13,13 +14,13 @@ pub use escape::read_escape;
 pub use fault::NameFault;
 pub use name::Name;
 
-/// The most octets of a label (RFC 1035, 2.3.4).
+/// The maximum number of octets of a label (RFC 1035, 2.3.4).
 pub const MAX_LABEL_LEN: usize = 63;
 
-/// The most octets of a name's wire form, with the octet of the root (RFC 1035, 2.3.4).
+/// The maximum number of octets of a name's wire form, with that of the root (RFC 1035, 2.3.4).
 pub const MAX_NAME_LEN: usize = 255;
 
-/// The maximum number of octets of a name's text, as `Name::write` prints it.
+/// The maximum number of octets of a name's text, as `Name::write` appends it.
 pub const MAX_NAME_TEXT_LEN: usize = 1004;
 
 #[cfg(test)]

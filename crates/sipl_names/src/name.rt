@@ -12,7 +12,7 @@ ghost use lib.Pointwise.{pointwise_decides, bytes_decides};
 
 use crate::MAX_NAME_LEN;
 use crate::fault::NameFault;
-use crate::print::{text_len, write_text};
+use crate::print::{reserve_text, write_text};
 use crate::text::read_labels;
 use crate::wire::{checked_wire_len, push_labels, split_label};
 use std::alloc::{AllocError, Global};
@@ -86,7 +86,7 @@ impl Name {
     }
 
     /// The name with these labels prepended, in lower case. The fault of the first that is not a
-    /// label (N1, N2) comes before that of the whole, a wire form of more than 255 octets (N3).
+    /// label (N1, N2) comes before that of a wire form of more than 255 octets (N3).
     pub fn prefixed(&self, alloc: Global, labels: &[&[u8]]) -> Result<Self, NameFault>
         ensures made { IfOk result
             (λ name. prefixed_of (octets_of labels.now) self.now ≡ Ok name) }
@@ -116,7 +116,7 @@ impl Name {
         ensures succeeds { vec_len out.old + length (text_of self.now) ≤ vec_capacity out.old
             → IsOk result }
     {
-        out.reserve(text_len(&self.wire))?;
+        reserve_text(out, &self.wire)?;
         write_text(out, &self.wire);
         Ok(())
     }

@@ -1,12 +1,31 @@
 // How a name is printed (RFC 1035, 5.1).
-ghost use Rattle.std.specs.Prelude.{◌≡◌, ◌+◌, ◌≤◌, ◌<◌, ◌++◌, length, vec_len, vec_capacity};
+ghost use Rattle.std.specs.Prelude.{◌≡◌, ◌+◌, ◌≤◌, ◌<◌, ◌++◌, length, IsOk, OnOk, vec_len, vec_capacity};
 ghost use Rattle.sipl_names.specs.NamePrint.{is_special, printed_octet, printed_label, text_of};
 ghost use Rattle.sipl_names.specs.Wire.{IsWire, IsNameWire, labels_of_wire};
 
+use crate::MAX_NAME_TEXT_LEN;
 use crate::wire::split_label;
+use std::alloc::AllocError;
+
+// Reserves space for the text of the labels. Its octets are counted only where a longer text would
+// not fit.
+pub(crate) fn reserve_text(out: &mut Vec<u8>, wire: &[u8]) -> Result<(), AllocError>
+    requires { IsNameWire wire.now }
+    ensures items { out.new.items ≡ out.old.items }
+    ensures reserved { OnOk result
+        (vec_len out.new + length (text_of (labels_of_wire wire.now)) ≤ vec_capacity out.new) }
+    ensures capacity { vec_capacity out.old ≤ vec_capacity out.new }
+    ensures succeeds { vec_len out.old + length (text_of (labels_of_wire wire.now))
+        ≤ vec_capacity out.old → IsOk result }
+{
+    if out.capacity() - out.len() >= MAX_NAME_TEXT_LEN {
+        return Ok(());
+    }
+    out.reserve(text_len(wire))
+}
 
 // How many octets the text of the labels has.
-pub(crate) fn text_len(wire: &[u8]) -> usize
+fn text_len(wire: &[u8]) -> usize
     requires { IsNameWire wire.now }
     ensures { result ≡ length (text_of (labels_of_wire wire.now)) }
 {

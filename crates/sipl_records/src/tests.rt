@@ -11,7 +11,7 @@ use std::alloc::Global;
 use std::test::Fail;
 
 // Compares two records. Its contract is that `==` tells equal records from others.
-#[tactic(auto, using(sipl_names::specs::SameName::same_name_decides))]
+#[tactic(auto, using(sipl_names::proofs::SameName::same_name_decides))]
 fn same_record(a: &Record, b: &Record) -> bool
     ensures { IsTrue result ↔ (a.now ≡ b.now) }
 {
@@ -19,7 +19,7 @@ fn same_record(a: &Record, b: &Record) -> bool
 }
 
 // Compares two keys. Its contract is that `==` tells equal keys from others.
-#[tactic(auto, using(sipl_names::specs::SameName::same_name_decides))]
+#[tactic(auto, using(sipl_names::proofs::SameName::same_name_decides))]
 fn same_key(a: &Key, b: &Key) -> bool
     ensures { IsTrue result ↔ (a.now ≡ b.now) }
 {

@@ -3,7 +3,7 @@ use lib.Pointwise.{pointwise}
 use Rattle.sipl_names.specs.Wire.{IsNameWire, labels_of_wire}
 use Rattle.sipl_names.specs.NameText.{name_of}
 use Rattle.sipl_names.specs.Reading.{Spells}
-use Rattle.sipl_names.proofs.Completes.{IsSpelled, whole_spelled, relative_spelled, spelled_name}
+use Rattle.sipl_names.proofs.Denotes.{IsSpelled, absolute_spelled, relative_spelled, spelled_name}
 use Rattle.sipl_names.proofs.name.Name.from_text.Goals as goal
 use Rattle.sipl_names.proofs.name.Name.from_text.Goals.{then-not-is_absolute+in_ok-extend_from_slice, else-not-is_absolute, After-len}
 
@@ -16,7 +16,7 @@ spelled c =
       | then-not-is_absolute+in_ok-extend_from_slice w ↦
           relative_spelled _ _ read c.origin.inside.wire.items _ not_at not_dot (subst (Spells c.args.text.now read) w.if-not-is_absolute.true c.in_ok-is_absolute.ensures.read) c.origin.invariant c.origin.view_is (ap (λ v. v.items) w.wire-is ∙ w.in_ok-extend_from_slice.ensures.items ∙ ap (λ s. read ++ s) w.deref.ensures.value)
       | else-not-is_absolute w ↦
-          whole_spelled _ _ read _ not_at not_dot (subst (Spells c.args.text.now read) w.if-not-is_absolute.false c.in_ok-is_absolute.ensures.read) (ap (λ v. v.items) w.wire-is)
+          absolute_spelled _ _ read _ not_at not_dot (subst (Spells c.args.text.now read) w.if-not-is_absolute.false c.in_ok-is_absolute.ensures.read) (ap (λ v. v.items) w.wire-is)
     ]
 
 named : (c : After-len) → c.len.result < 255 → IsNameWire c.if-not-is_absolute.wire.items × (name_of c.args.text.now c.args.origin.now ≡ Ok (labels_of_wire c.if-not-is_absolute.wire.items))
