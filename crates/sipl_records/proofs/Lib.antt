@@ -1,10 +1,12 @@
 pub mod Filters
 pub mod Unique
 pub mod Sets
-pub mod Cuts
+pub mod Same
+pub mod Keys
+pub mod Parts
 pub mod Groups
 pub mod Dotted
 pub mod RoundTrip
-pub mod CutLemmas
-pub mod NumberLemmas
-pub mod FieldLemmas
+pub mod Splitting
+pub mod Numbers
+pub mod Fields

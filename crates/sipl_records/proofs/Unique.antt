@@ -97,7 +97,7 @@ find-unique same laws (a ∷ xs) =
 at_front : {A : Type 0} (same : A → A → Bool) → IsEquivalence same → (a : A) (xs : List A) (x : A) → same a x ≡ false → position_or_len (same a) (a ∷ xs) < position_or_len (same x) (a ∷ xs)
 at_front same laws a xs x other = rw (laws.refl a, laws.symm x a ∙ other) (omega arith)
 
--- and the others keep their order behind it
+-- and the others keep their order after it
 one_later : {A : Type 0} (same : A → A → Bool) → IsEquivalence same → (a : A) (xs : List A) (x y : A) → not (same a x) ≡ true → not (same a y) ≡ true → position_or_len (same x) xs < position_or_len (same y) xs → position_or_len (same x) (a ∷ xs) < position_or_len (same y) (a ∷ xs)
 one_later same laws a xs x y other_x other_y below =
     rw (laws.symm x a ∙ is_other (same a x) other_x, laws.symm y a ∙ is_other (same a y) other_y) (omega arith)

@@ -1,4 +1,4 @@
--- `==` answers true exactly where the values are equal: for records and keys.
+-- `==` is true exactly where the values are equal: for records and keys.
 use Rattle.std.specs.Prelude.{◌≡◌}
 use Rattle.std.specs.Bool.{Decides}
 use Rattle.std.proofs.Common.{rules}
