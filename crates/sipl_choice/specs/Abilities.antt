@@ -1,4 +1,4 @@
--- What a client can do (RFC 3263, 4.1): its transports in the order of preference, and its families of addresses.
+-- What a client can do (RFC 3263, 4.1): its transports in the order of preference, and its families.
 use Rattle.std.specs.Prelude.{Bool, true, false, ◌||◌, ◌&&◌, List, [], ◌∷◌, Option, None, Some, if◌then◌else◌}
 use Rattle.std.specs.List.{list_any}
 use lib.Pointwise.{pointwise}
@@ -26,12 +26,14 @@ repeats_transport (transport ∷ others) = supports others transport || repeats_
 -- why the list is invalid as an order of preference
 abbrev pub abilities_fault : List Transport → Option AbilitiesFault
 abilities_fault [] = Some EmptyAbilities
-abilities_fault (transport ∷ others) = if repeats_transport (transport ∷ others) then Some RepeatedTransport else None
+abilities_fault (transport ∷ others) =
+    if repeats_transport (transport ∷ others) then Some RepeatedTransport else None
 
 -- whether two choices of families are the same
 abbrev pub same_families : Families → Families → Bool
 same_families V4 V4 = true
 
--- whether two clients have the same abilities: the same transports in the same order, and the same families
+-- whether two clients have the same transports in the same order, and the same families
 abbrev pub same_client : Client → Client → Bool
-same_client a b = pointwise same_transport a.preference b.preference && same_families a.families b.families
+same_client a b =
+    pointwise same_transport a.preference b.preference && same_families a.families b.families

@@ -6,4 +6,5 @@ use Rattle.sipl_choice.specs.declared.endpoint.Endpoint.{Endpoint}
 
 -- whether two endpoints are the same
 abbrev pub same_endpoint : Endpoint → Endpoint → Bool
-same_endpoint a b = same_transport a.transport b.transport && same_address a.address b.address && a.port == b.port
+same_endpoint a b =
+    same_transport a.transport b.transport && same_address a.address b.address && a.port == b.port

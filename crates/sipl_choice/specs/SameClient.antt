@@ -26,7 +26,8 @@ same_client_decides a b =
     Decides-like _
     (λ e i. record { preference = e.0 i; families = e.1 i })
     (λ e. (ap (λ x. x.preference) e, ap (λ x. x.families) e))
-    (Decides-and _ _ (pointwise_decides same_transport_decides a.preference b.preference) (same_families_decides a.families b.families))
+    (Decides-and _ _ (pointwise_decides same_transport_decides a.preference b.preference)
+    (same_families_decides a.families b.families))
 
 pub same_client-equivalence : IsEquivalence same_client
 same_client-equivalence = decided same_client same_client_decides

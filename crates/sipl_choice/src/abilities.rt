@@ -25,7 +25,10 @@ impl Model for Abilities {
 
     ghost Value = { Client };
 
-    ghost view = { λ client. record { preference = client.preference.items; families = client.families } };
+    ghost view = { λ client. record {
+      preference = client.preference.items;
+      families = client.families;
+    } };
 
     ghost invariant = { λ client. abilities_fault client.preference.items ≡ None };
 }

@@ -30,10 +30,11 @@ abbrev pub targets_or_no_address : List Endpoint → Answer
 targets_or_no_address [] = None NoAddress
 targets_or_no_address (endpoint ∷ others) = Targets (endpoint ∷ others)
 
--- RFC 3263, 4.2: the endpoints of the servers in their order, each once, or the reason that there are none
+-- RFC 3263, 4.2: the endpoints of the servers in their order, each once, or the reason for none
 abbrev pub draw : Layout → Answer
 draw (Refused reason) = None reason
-draw (Servers transport servers) = targets_or_no_address (unique same_endpoint (flat_map (endpoints_of transport) servers))
+draw (Servers transport servers) =
+    targets_or_no_address (unique same_endpoint (flat_map (endpoints_of transport) servers))
 
 -- the answer to a question, from what is known of the records
 abbrev pub plan : Look → Question → Client → Answer

@@ -1,4 +1,4 @@
--- Where a request is sent: the transport, and the servers with their addresses (RFC 3263, 4.1 and 4.2).
+-- Where a request is sent: the transport, and the servers with their addresses (RFC 3263, 4).
 use Rattle.std.specs.Prelude.{ℕ, Bool, true, false, List, [], ◌∷◌, None, Some, if◌then◌else◌}
 use Rattle.sipl_names.specs.Labels.{Labels}
 use Rattle.sipl_records.specs.declared.address.Address.{Address}
@@ -45,15 +45,19 @@ addresses look name V4 = addresses_in (answer look name Address4)
 
 -- RFC 3263, 4.1: the transport that the URI gives, else UDP for `sip` and TLS for `sips`
 abbrev pub transport_of : Question → Transport
-transport_of question = elim question.transport [ Some transport ↦ transport | None ↦ (if question.secure then Tls else Udp) ]
+transport_of question = elim question.transport [
+  | Some transport ↦ transport
+  | None ↦ if question.secure then Tls else Udp
+]
 
 -- RFC 3263, 4.2: the port that the URI gives, else that of the transport
 abbrev pub port_of : Question → Transport → ℕ
 port_of question transport = elim question.port [ Some port ↦ port | None ↦ default_port transport ]
 
--- RFC 3263, 4.1: the route over a transport that the client supports, else that there is no transport
+-- RFC 3263, 4.1: the route over a transport that the client supports, else `NoTransport`
 abbrev pub route_over : Client → Transport → Layout → Layout
-route_over client transport layout = if supports client.preference transport then layout else Refused NoTransport
+route_over client transport layout =
+    if supports client.preference transport then layout else Refused NoTransport
 
 -- these addresses at one port are the only server
 abbrev pub sole_source : ℕ → List Address → List Source
@@ -64,16 +68,21 @@ abbrev pub target_addresses : Look → Target → Families → List Address
 target_addresses look (Numeric address) families = address ∷ []
 target_addresses look (Domain name) families = addresses look name families
 
--- RFC 3263, 4.1 and 4.2: whether the target's own addresses are used: it is numeric, or a port is given
+-- RFC 3263, 4: whether the target's own addresses are used: it is numeric, or a port is given
 abbrev pub is_direct : Question → Bool
-is_direct question = elim question.target [ Numeric address ↦ true | Domain name ↦ elim question.port [ Some port ↦ true | None ↦ false ] ]
+is_direct question = elim question.target [
+  | Numeric address ↦ true
+  | Domain name ↦ elim question.port [ Some port ↦ true | None ↦ false ]
+]
 
 -- the target's own addresses, over one transport
 abbrev pub direct_layout : Look → Question → Client → Transport → Layout
 direct_layout look question client transport =
-    Servers transport (sole_source (port_of question transport) (target_addresses look question.target client.families))
+    let found = target_addresses look question.target client.families in
+    Servers transport (sole_source (port_of question transport) found)
 
--- RFC 3263, 4.1 and 4.2: the route of a question whose target's own addresses are used; others are not supported yet
+-- RFC 3263, 4: the route over the target's own addresses; other questions are not supported yet
 abbrev pub route : Look → Question → Client → Layout
 route look question client =
-    route_over client (transport_of question) (direct_layout look question client (transport_of question))
+    let transport = transport_of question in
+    route_over client transport (direct_layout look question client transport)

@@ -28,8 +28,8 @@ pub fn plan_of(
     draw(alloc, &layout)
 }
 
-// Where requests are sent (RFC 3263, 4.1 and 4.2): to the target's own addresses, over the transport
-// and at the port that the question gives or implies.
+// Where requests are sent (RFC 3263, 4.1 and 4.2): to the target's own addresses, over the
+// transport and at the port that the question gives or implies.
 fn route_of(
     alloc: Global,
     records: &[Record],

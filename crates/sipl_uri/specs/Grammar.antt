@@ -1,4 +1,4 @@
--- The grammar of SIP URIs (RFC 3261, 25.1): which text asks which question. These of its rules are supported yet:
+-- The grammar of SIP URIs (RFC 3261, 25.1): which text asks which question. The rules supported now:
 --     SIP-URI  = "sip:" host [ ":" port ]
 --     host     = hostname / IPv4address
 --     hostname = *( domainlabel "." ) toplabel [ "." ]
@@ -18,7 +18,8 @@ use Rattle.sipl_uri.specs.Uris.{is_label_octet, is_uri_octet, begins_with_letter
 abbrev pub IsOptional : Octets → Octets → Type 0
 IsOptional part text = (text ≡ part) ⊎ (text ≡ [])
 
--- domainlabel: 1 to 63 octets (RFC 1035, 2.3.4); as an extension, hyphens may be at its ends, and underscores in it
+-- domainlabel: 1 to 63 octets (RFC 1035, 2.3.4). As an extension, hyphens may be at its ends, and
+-- underscores in it
 pub record IsDomainLabel (label : Octets) : Type 0 where
   pub nonempty : 0 < length label
   pub short : length label ≤ 63
@@ -33,7 +34,7 @@ pub record IsTopLabel (label : Octets) : Type 0 where
 abbrev pub dotted : Octets → Octets
 dotted label = label ++ codes "."
 
--- hostname: its labels are those of an absolute name of at most 255 octets (RFC 1035, 2.3.4), in lower case
+-- hostname: the labels of an absolute name of at most 255 octets (RFC 1035, 2.3.4), in lower case
 pub record IsHostname (text : Octets) (labels : Labels) : Type 0 where
   pub domains : List Octets
   pub top : Octets

@@ -10,8 +10,8 @@ use std::fmt;
 pub enum UriFault {
     /// U1: the scheme is not `sip`.
     Scheme,
-    /// U7: an octet that is not allowed in a URI, or one of `@`, `;` and `?`, which are not supported
-    /// yet.
+    /// U7: an octet that is not allowed in a URI, or one of `@`, `;` and `?`, which are not
+    /// supported yet.
     Characters,
     /// U2: the host is neither an address nor a hostname.
     Host,

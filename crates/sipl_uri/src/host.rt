@@ -26,7 +26,8 @@ pub(crate) fn read_host(alloc: Global, text: &[u8]) -> Result<Target, UriFault>
 fn read_hostname(alloc: Global, text: &[u8]) -> Result<Name, UriFault>
     ensures read { IfOk result (λ name. hostname_of text.now ≡ Some name) }
     ensures cause { IfErr result (λ fault. fault ≢ UriFault.Memory → fault ≡ UriFault.Host) }
-    ensures refused { IfErr result (λ fault. fault ≢ UriFault.Memory → hostname_of text.now ≡ None) }
+    ensures refused { IfErr result
+        (λ fault. fault ≢ UriFault.Memory → hostname_of text.now ≡ None) }
 {
     if !has_hostname_octets(text) {
         return Err(UriFault::Host);

@@ -7,5 +7,6 @@ ghost use Rattle.sipl_uri.specs.Grammar.{IsUri};
 
 /// A text asks a question exactly where the grammar relates them (RFC 3261, 25.1).
 pub fn questions_match_the_grammar()
-    ensures { (text : Octets) (question : Question) → (question_of text ≡ Ok question) ↔ IsUri text question }
+    ensures { (text : Octets) (question : Question) →
+        (question_of text ≡ Ok question) ↔ IsUri text question }
 {}

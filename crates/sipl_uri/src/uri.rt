@@ -13,14 +13,14 @@ use std::alloc::Global;
 pub struct Uri;
 
 impl Uri {
-    /// Reads a URI and returns the question that it asks: its scheme is `sip` in either case, its host
-    /// an IPv4 address or a hostname, which is an absolute name, its port a number from 1 to 65,535.
-    /// Which text asks which question is the grammar of RFC 3261, 25.1
+    /// Reads a URI and returns the question that it asks: its scheme is `sip` in either case, its
+    /// host an IPv4 address or a hostname, which is an absolute name, its port a number from 1 to
+    /// 65,535. Which text asks which question is the grammar of RFC 3261, 25.1
     /// ([`crate::laws::questions_match_the_grammar`]).
     ///
-    /// The fault is the first of these: another scheme, or none (U1); an octet that is not allowed in a
-    /// URI, or one of `@`, `;` and `?`, which are not supported yet (U7); a host that is neither an
-    /// address nor a hostname (U2); no port, or an invalid one (U3).
+    /// The fault is the first of these: another scheme, or none (U1); an octet that is not allowed
+    /// in a URI, or one of `@`, `;` and `?`, which are not supported yet (U7); a host that is
+    /// neither an address nor a hostname (U2); no port, or an invalid one (U3).
     pub fn parse(alloc: Global, bytes: &[u8]) -> Result<Question, UriFault>
         ensures read { IfOk result (λ question. question_of bytes.now ≡ Ok question) }
         ensures refused { IfErr result
