@@ -8,7 +8,7 @@ use Rattle.sipl_failover.specs.declared.step.Step.TheVariants.{Send, Hold, Deliv
 use Rattle.sipl_failover.specs.FailoverRun.{FailoverRun, Event, has_ended}
 use Rattle.sipl_failover.specs.FailoverRun.Event.{Received, TransportFailed, Ticked}
 use Rattle.sipl_failover.specs.Rules.{is_running}
-use Rattle.sipl_failover.specs.Runs.{step, IsAck, is_send, is_hold, is_exhausted, is_final, is_last, contacted}
+use Rattle.sipl_failover.specs.Runs.{step, IsAck, is_send, is_hold, is_exhausted, is_final, is_final_or_exhausted, contacted}
 
 -- ---- the run
 
@@ -159,15 +159,15 @@ exhausted_late run moment some = grind (arith, nat_tests)
 
 -- ---- a failure without a target left
 
-pub code_exhausts : (run : FailoverRun) (attempt code : ℕ) (retry_after : Option ℕ) → 1 ≤ run.attempt → is_running run attempt ≡ true → code ≡ 503 → slice_get run.targets run.attempt ≡ None → filter is_last (step run (Received attempt code retry_after)).steps ≡ Deliver 500 ∷ Exhausted ∷ []
+pub code_exhausts : (run : FailoverRun) (attempt code : ℕ) (retry_after : Option ℕ) → 1 ≤ run.attempt → is_running run attempt ≡ true → code ≡ 503 → slice_get run.targets run.attempt ≡ None → filter is_final_or_exhausted (step run (Received attempt code retry_after)).steps ≡ Deliver 500 ∷ Exhausted ∷ []
 unfolding step
 code_exhausts run attempt code retry_after sent running is_503 none = grind (arith, nat_tests)
 
-pub broken_exhausts : (run : FailoverRun) → has_ended run ≡ false → slice_get run.targets run.attempt ≡ None → filter is_last (step run TransportFailed).steps ≡ Deliver 500 ∷ Exhausted ∷ []
+pub broken_exhausts : (run : FailoverRun) → has_ended run ≡ false → slice_get run.targets run.attempt ≡ None → filter is_final_or_exhausted (step run TransportFailed).steps ≡ Deliver 500 ∷ Exhausted ∷ []
 unfolding step
 broken_exhausts run running none = grind (arith, nat_tests)
 
-pub unanswered_exhausts : (run : FailoverRun) (moment : ℕ) → run.transaction.state ≡ first_state run.transaction.kind → run.transaction.moment ≤ moment → run.transaction.since + 32000 ≤ moment → slice_get run.targets run.attempt ≡ None → filter is_last (step run (Ticked moment)).steps ≡ Deliver 408 ∷ Exhausted ∷ []
+pub unanswered_exhausts : (run : FailoverRun) (moment : ℕ) → run.transaction.state ≡ first_state run.transaction.kind → run.transaction.moment ≤ moment → run.transaction.since + 32000 ≤ moment → slice_get run.targets run.attempt ≡ None → filter is_final_or_exhausted (step run (Ticked moment)).steps ≡ Deliver 408 ∷ Exhausted ∷ []
 unfolding step
 unanswered_exhausts run moment no_response in_order late none = grind (arith, nat_tests)
 

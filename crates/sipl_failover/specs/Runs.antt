@@ -64,8 +64,8 @@ is_final (Deliver code) = nat_le 200 code
 is_final _ = false
 
 -- what the user gets where no target is left: a final response, and that all targets have failed
-abbrev pub is_last : Step → Bool
-is_last step = is_final step || is_exhausted step
+abbrev pub is_final_or_exhausted : Step → Bool
+is_final_or_exhausted step = is_final step || is_exhausted step
 
 -- the step is an ACK
 abbrev pub IsAck : Step → Type 0

@@ -12,7 +12,7 @@ ghost use Rattle.sipl_failover.specs.FailoverRun.{FailoverRun, Event, new_run, h
 ghost use Rattle.sipl_failover.specs.FailoverRun.Event.{Received, TransportFailed, Ticked};
 ghost use Rattle.sipl_failover.specs.Rules.{is_running};
 ghost use Rattle.sipl_failover.specs.Branch.{branch_of};
-ghost use Rattle.sipl_failover.specs.Runs.{step, run_after, steps_of, IsFailure, IsAck, is_send, is_hold, is_exhausted, is_final, is_last, contacted, failure_code};
+ghost use Rattle.sipl_failover.specs.Runs.{step, run_after, steps_of, IsFailure, IsAck, is_send, is_hold, is_exhausted, is_final, is_final_or_exhausted, contacted, failure_code};
 
 /// The request goes to the next target exactly where the running attempt fails and a target is left
 /// (RFC 3263, 4.3): after a 503, an error of its transport, or a timeout without any response.
@@ -60,7 +60,8 @@ pub fn exhausted_is_reported_once_after_the_last_target()
         IsFailure run event × (length run.targets ≤ run.attempt) }
     ensures always { (run : FailoverRun) (event : Event) →
         1 ≤ run.attempt → IsFailure run event → length run.targets ≤ run.attempt →
-        filter is_last (step run event).steps ≡ Deliver (failure_code event) ∷ Exhausted ∷ [] }
+        filter is_final_or_exhausted (step run event).steps
+        ≡ Deliver (failure_code event) ∷ Exhausted ∷ [] }
 {}
 
 /// The user gets at most one final response, and gets it at the call that ends the failover.
