@@ -5,3 +5,6 @@ pub mod RoundTrip
 pub mod CutLemmas
 pub mod NumberLemmas
 pub mod FieldLemmas
+pub mod Ipv6Groups
+pub mod Ipv6Numbers
+pub mod Ipv6Texts

@@ -6,3 +6,4 @@ pub mod Kinds
 pub mod Sets
 pub mod Same
 pub use Rattle.sipl_names.specs.Labels
+pub mod Ipv6

@@ -4,6 +4,7 @@
 
 mod address;
 mod address4;
+mod address6;
 mod cut;
 mod data;
 mod fault;
