@@ -30,7 +30,7 @@ counted-full number len group None full = refl
 counted-full number len group (Some groups) full = let past : nat_le (len + suc (length groups)) 8 ≡ false = lt-leb _ _ (omega arith) in rw past refl
 
 -- a part that others follow
-groups_of-more : (ipv4 : Bool) (part : List ℕ) (others : List (List ℕ)) → 1 ≤ length others → groups_of ipv4 (part ∷ others) ≡ with_group (hex_group_of part) (groups_of ipv4 others)
+pub groups_of-more : (ipv4 : Bool) (part : List ℕ) (others : List (List ℕ)) → 1 ≤ length others → groups_of ipv4 (part ∷ others) ≡ with_group (hex_group_of part) (groups_of ipv4 others)
 groups_of-more ipv4 part [] some = absurd (omega arith)
 groups_of-more ipv4 part (next ∷ others) some = refl
 
@@ -60,7 +60,7 @@ pub counted-last : (ipv4 : Bool) (number len : ℕ) (text : List ℕ) → parts 
 counted-last ipv4 number len text alone = rw alone refl
 
 -- the groups of a text that is not empty
-groups_of_text-some : (ipv4 : Bool) (text : List ℕ) → 0 < length text → groups_of_text ipv4 text ≡ groups_of ipv4 (parts 58 text)
+pub groups_of_text-some : (ipv4 : Bool) (text : List ℕ) → 0 < length text → groups_of_text ipv4 text ≡ groups_of ipv4 (parts 58 text)
 groups_of_text-some ipv4 [] some = absurd (omega arith)
 groups_of_text-some ipv4 (c ∷ text) some = refl
 
@@ -117,7 +117,7 @@ split_at_zeros-here [] some here = absurd (omega arith)
 split_at_zeros-here (c ∷ text) some here = rw here refl
 
 -- and one that does not
-split_at_zeros-next : (c : ℕ) (text : List ℕ) → starts_with nat_eq (c ∷ text) (58 ∷ 58 ∷ []) ≡ false → split_at_zeros (c ∷ text) ≡ (c ∷ (split_at_zeros text).0, (split_at_zeros text).1)
+pub split_at_zeros-next : (c : ℕ) (text : List ℕ) → starts_with nat_eq (c ∷ text) (58 ∷ 58 ∷ []) ≡ false → split_at_zeros (c ∷ text) ≡ (c ∷ (split_at_zeros text).0, (split_at_zeros text).1)
 split_at_zeros-next c text other = rw other refl
 
 -- what a loop over the places of a text knows where no `::` was found yet

@@ -8,3 +8,4 @@ pub mod FieldLemmas
 pub mod Ipv6Groups
 pub mod Ipv6Numbers
 pub mod Ipv6Texts
+pub mod Ipv6Reads

@@ -7,3 +7,4 @@ pub mod Sets
 pub mod Same
 pub use Rattle.sipl_names.specs.Labels
 pub mod Ipv6
+pub mod Ipv6Grammar

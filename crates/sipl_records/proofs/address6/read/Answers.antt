@@ -22,4 +22,4 @@ returns-in_ok-read_groups-in-Some-2 c =
     let r = c.in_ok-read_groups-in-Some-2 in
     let after : Some c.in-Some.right.now ≡ (split_at_zeros c.args.text.now).1 = ap option_copied (sym c.in-Some.is) ∙ c.split_at_zeros.ensures.after in
     rw (← c.split_at_zeros.ensures.before, ← after)
-    (c.number_around_zeros-in-Some.ensures ∙ joined (groups_of_text false c.split_at_zeros.result.0.now) (groups_of_text true c.in-Some.right.now) l.field-0.number l.field-0.len r.field-0.number r.field-0.len l.ensures.read r.ensures.read)
+    (c.number_around_zeros.ensures ∙ joined (groups_of_text false c.split_at_zeros.result.0.now) (groups_of_text true c.in-Some.right.now) l.field-0.number l.field-0.len r.field-0.number r.field-0.len l.ensures.read r.ensures.read)
