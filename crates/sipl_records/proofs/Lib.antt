@@ -9,3 +9,5 @@ pub mod Ipv6Groups
 pub mod Ipv6Numbers
 pub mod Ipv6Texts
 pub mod Ipv6Reads
+pub mod Ipv6Sound
+pub mod Ipv6Prints

@@ -1,10 +1,11 @@
 //! IPv6 addresses in text (RFC 4291, 2.2).
-ghost use Rattle.std.specs.Prelude.{◌≡◌, ℕ, ◌+◌, ◌-◌, ◌*◌, ◌<◌, ◌≤◌, ◌^◌, ◌++◌, ◌∷◌, [], length, take, map, Some, None, IfSome, IfNone, OnOk, OnErr, IsOk, MatchOption, option_map, vec_capacity, vec_len, position, nat_le, if◌then◌else◌, ◌==◌};
+ghost use Rattle.std.specs.Prelude.{◌≡◌, ◌↔◌, ℕ, List, ◌+◌, ◌-◌, ◌*◌, ◌<◌, ◌≤◌, ◌^◌, ◌++◌, ◌∷◌, [], length, take, map, Some, None, IfSome, IfNone, OnOk, OnErr, IsOk, MatchOption, option_map, vec_capacity, vec_len, position, nat_le, if◌then◌else◌, ◌==◌};
 ghost use Rattle.std.specs.Char.{digit_char};
 ghost use Rattle.std.specs.Option.{option_copied};
 ghost use Rattle.std.specs.Net.Text.{hex, leading_zero_digits};
 ghost use Rattle.sipl_records.specs.Parts.{parts};
 ghost use Rattle.sipl_records.specs.Ipv6.{hex_group_of, groups_of_text, last_groups_of, split_at_zeros, address6_of_text, groups_of_number, text_of_address6, counted_after, IsBounded, IsPushed};
+ghost use Rattle.sipl_records.specs.Ipv6Grammar.{IsAddress6Text};
 
 use crate::address4;
 use std::alloc::AllocError;
@@ -226,5 +227,221 @@ fn hex_digit(value: u16) -> u8
         b'0' + value as u8
     } else {
         b'a' + (value - 10) as u8
+    }
+}
+
+/// A text is read as a number exactly where the grammar (RFC 4291, 2.2) relates the two.
+pub fn reading_ipv6_follows_the_grammar()
+    ensures { (text : List ℕ) (number : ℕ) →
+        (address6_of_text text ≡ Some number) ↔ IsAddress6Text text number }
+{}
+
+/// A printed IPv6 address reads back to itself.
+pub fn printing_ipv6_reads_back()
+    ensures { (n : ℕ) → n < 2 ^ 128 → address6_of_text (text_of_address6 n) ≡ Some n }
+{}
+
+/// A printed IPv6 address has at most 39 octets.
+pub fn ipv6_texts_are_short()
+    ensures { (n : ℕ) → length (text_of_address6 n) ≤ 39 }
+{}
+
+#[cfg(test)]
+mod tests {
+    use super::*;
+    use std::test::Fail;
+
+    // The number of these groups, the first one the highest.
+    fn number_of(groups: [u16; 8]) -> u128 {
+        let [a, b, c, d, e, f, g, h] = groups;
+        let high = u128::from(a) << 112 | u128::from(b) << 96 | u128::from(c) << 80;
+        let middle = u128::from(d) << 64 | u128::from(e) << 48 | u128::from(f) << 32;
+        high | middle | u128::from(g) << 16 | u128::from(h)
+    }
+
+    // The value of a hexadecimal digit.
+    fn hex_value(octet: u8) -> Option<u16> {
+        match octet {
+            b'0'..=b'9' => Some(u16::from(octet - b'0')),
+            b'a'..=b'f' => Some(u16::from(octet - b'a') + 10),
+            b'A'..=b'F' => Some(u16::from(octet - b'A') + 10),
+            _ => None,
+        }
+    }
+
+    // The value of a decimal digit.
+    fn decimal_value(octet: u8) -> Option<u16> {
+        octet.is_ascii_digit().then_some(u16::from(octet % 16))
+    }
+
+    #[test]
+    fn reads_addresses(rt: HostRuntime) {
+        let rows: [(&[u8], [u16; 8]); 20] = [
+            (b"2001:db8::1", [0x2001, 0xdb8, 0, 0, 0, 0, 0, 1]),
+            (b"2001:DB8::1", [0x2001, 0xdb8, 0, 0, 0, 0, 0, 1]),
+            (b"::", [0; 8]),
+            (b"0:0:0:0:0:0:0:0", [0; 8]),
+            (b"::1", [0, 0, 0, 0, 0, 0, 0, 1]),
+            (b"1::", [1, 0, 0, 0, 0, 0, 0, 0]),
+            (b"1:2:3:4:5:6:7:8", [1, 2, 3, 4, 5, 6, 7, 8]),
+            (b"1:2:3:4:5:6:7::", [1, 2, 3, 4, 5, 6, 7, 0]),
+            (b"::2:3:4:5:6:7:8", [0, 2, 3, 4, 5, 6, 7, 8]),
+            (b"1:2:3::5:6:7:8", [1, 2, 3, 0, 5, 6, 7, 8]),
+            (b"1:2::7:8", [1, 2, 0, 0, 0, 0, 7, 8]),
+            (b"::ffff:192.0.2.1", [0, 0, 0, 0, 0, 0xffff, 0xc000, 0x201]),
+            (b"::192.0.2.1", [0, 0, 0, 0, 0, 0, 0xc000, 0x201]),
+            (b"1::192.000.02.1", [1, 0, 0, 0, 0, 0, 0xc000, 0x201]),
+            (b"1:2:3:4:5:6:192.0.2.1", [1, 2, 3, 4, 5, 6, 0xc000, 0x201]),
+            (
+                b"1:2:3:4:5::255.255.255.255",
+                [1, 2, 3, 4, 5, 0, 0xffff, 0xffff],
+            ),
+            (
+                b"0001:00a:000:0:1234:ABCD:ef0:0",
+                [1, 10, 0, 0, 0x1234, 0xabcd, 0xef0, 0],
+            ),
+            (b"ffff:ffff:ffff:ffff:ffff:ffff:ffff:ffff", [0xffff; 8]),
+            (
+                b"FFFF:FFFF:FFFF:FFFF:FFFF:FFFF:255.255.255.255",
+                [0xffff; 8],
+            ),
+            (b"8000::", [0x8000, 0, 0, 0, 0, 0, 0, 0]),
+        ];
+        for (row, (text, groups)) in rows.into_iter().enumerate() {
+            assert_eq!(rt; read(text), Some(number_of(groups)), "row {row}");
+        }
+    }
+
+    #[test]
+    fn refuses_other_texts(rt: HostRuntime) {
+        let texts: [&[u8]; 32] = [
+            b"1:2:3:4:5:6:7:8::",
+            b"::1:2:3:4:5:6:7:8",
+            b"1:2:3:4::5:6:7:8",
+            b"::1::",
+            b"1::2::3",
+            b":1",
+            b"1:",
+            b":",
+            b"12345::",
+            b"::12345",
+            b"1:2:3:4:5:6:7",
+            b"1:2:3:4:5:6:7:",
+            b":1:2:3:4:5:6:7",
+            b":1:2:3:4:5:6:7:8",
+            b"1:2:3:4:5:6:7:8:9",
+            b"1:2:3:4:5:6:7:8:",
+            b":::",
+            b"::::",
+            b"192.0.2.1",
+            b"",
+            b"1:2:3:4:5:6:7:192.0.2.1",
+            b"1:2:3:4:5:192.0.2.1",
+            b"1:2:3:4:5:6::192.0.2.1",
+            b"::192.0.2.1:1",
+            b"192.0.2.1::",
+            b"::192.0.2",
+            b"::256.0.2.1",
+            b"::1.2.3.0004",
+            b"::g",
+            b"[::1]",
+            b"::1%0",
+            b" ::1",
+        ];
+        for (row, text) in texts.into_iter().enumerate() {
+            assert_eq!(rt; read(text), None, "row {row}");
+        }
+    }
+
+    // What `1:2:3:4:5:6:7:8` with this octet at this place stands for: digits are at the even
+    // places, and colons at the odd ones. A colon in place of the first or the last digit makes `::`.
+    fn eight_with(place: usize, octet: u8) -> Option<u128> {
+        let mut groups = [1, 2, 3, 4, 5, 6, 7, 8];
+        if place % 2 == 0 {
+            let makes_zeros = octet == b':' && (place == 0 || place == 14);
+            groups[place / 2] = if makes_zeros { 0 } else { hex_value(octet)? };
+            Some(number_of(groups))
+        } else {
+            (octet == b':').then_some(number_of(groups))
+        }
+    }
+
+    #[test]
+    fn reads_each_octet_at_each_place_of_eight_groups(rt: HostRuntime) {
+        for place in 0..15usize {
+            for octet in 0..=255u8 {
+                let mut text = *b"1:2:3:4:5:6:7:8";
+                text[place] = octet;
+                assert_eq!(rt; read(&text), eight_with(place, octet), "{octet} at {place}");
+            }
+        }
+    }
+
+    // What `1::2` with this octet at this place stands for.
+    fn zeros_with(place: usize, octet: u8) -> Option<u128> {
+        match place {
+            0 => Some(number_of([hex_value(octet)?, 0, 0, 0, 0, 0, 0, 2])),
+            3 => Some(number_of([1, 0, 0, 0, 0, 0, 0, hex_value(octet)?])),
+            _ => (octet == b':').then_some(number_of([1, 0, 0, 0, 0, 0, 0, 2])),
+        }
+    }
+
+    #[test]
+    fn reads_each_octet_at_each_place_around_zeros(rt: HostRuntime) {
+        for place in 0..4usize {
+            for octet in 0..=255u8 {
+                let mut text = *b"1::2";
+                text[place] = octet;
+                assert_eq!(rt; read(&text), zeros_with(place, octet), "{octet} at {place}");
+            }
+        }
+    }
+
+    // What `::1.2.3.4` with this octet at this place stands for: its digits are decimal.
+    fn ipv4_with(place: usize, octet: u8) -> Option<u128> {
+        let mut octets = [1, 2, 3, 4];
+        match place {
+            0 | 1 => (octet == b':').then_some(())?,
+            2 | 4 | 6 | 8 => octets[place / 2 - 1] = decimal_value(octet)?,
+            _ => (octet == b'.').then_some(())?,
+        }
+        let [a, b, c, d] = octets;
+        Some(number_of([0, 0, 0, 0, 0, 0, a << 8 | b, c << 8 | d]))
+    }
+
+    #[test]
+    fn reads_each_octet_at_each_place_of_an_ipv4_text(rt: HostRuntime) {
+        for place in 0..9usize {
+            for octet in 0..=255u8 {
+                let mut text = *b"::1.2.3.4";
+                text[place] = octet;
+                assert_eq!(rt; read(&text), ipv4_with(place, octet), "{octet} at {place}");
+            }
+        }
+    }
+
+    #[test]
+    fn writes_addresses(rt: HostRuntime) -> Result<(), Fail> {
+        let rows: [([u16; 8], &[u8]); 5] = [
+            ([0; 8], b"0:0:0:0:0:0:0:0"),
+            ([0xffff; 8], b"ffff:ffff:ffff:ffff:ffff:ffff:ffff:ffff"),
+            ([0x2001, 0xdb8, 0, 0, 0, 0, 0, 1], b"2001:db8:0:0:0:0:0:1"),
+            (
+                [1, 0x23, 0x456, 0x789a, 0xbcde, 0xf, 0x10, 0x100],
+                b"1:23:456:789a:bcde:f:10:100",
+            ),
+            (
+                [0, 0, 0, 0, 0, 0xffff, 0xc000, 0x201],
+                b"0:0:0:0:0:ffff:c000:201",
+            ),
+        ];
+        for (row, (groups, text)) in rows.into_iter().enumerate() {
+            let mut out = Vec::from_slice(rt.alloc(), b"at ")?;
+            write(number_of(groups), &mut out)?;
+            assert_eq!(rt; &out[..3], b"at ".as_slice(), "row {row}");
+            assert_eq!(rt; &out[3..], text, "row {row}");
+            assert_eq!(rt; read(text), Some(number_of(groups)), "row {row}");
+        }
+        Ok(())
     }
 }
