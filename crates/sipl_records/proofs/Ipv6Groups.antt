@@ -1,20 +1,19 @@
 -- Groups of IPv6 addresses, as they are read from the left.
-use Rattle.std.proofs.Common.{◌≡◌, ℕ, ◌+◌, ◌*◌, ◌-◌, ◌^◌, ◌<◌, ◌≤◌, suc, zero, Bool, true, false, ◌&&◌, List, [], ◌∷◌, ◌++◌, length, map, Option, None, Some, get_or, take, drop, replicate, refl, sym, ap, ◌∙◌, arith, add-one, nat_eq, nat_le, if◌then◌else◌, lit≤}
+use Rattle.std.proofs.Common.{◌≡◌, ℕ, ◌+◌, ◌*◌, ◌-◌, ◌^◌, ◌<◌, ◌≤◌, suc, Bool, true, false, List, [], ◌∷◌, ◌++◌, length, Option, None, Some, get_or, take, drop, refl, sym, ap, ◌∙◌, arith, add-one, nat_eq, nat_le, lit≤}
 use Rattle.std.proofs.Math.Nat.{pow-le-pow_right}
-use Rattle.std.specs.Prelude.{option_map, option_and_then}
 use Rattle.std.specs.Char.{is_digit, digit_value}
-use Rattle.std.specs.Int.Digits.{number_from_digits, number_from_digits_after}
-use Rattle.std.specs.List.{position, list_all, starts_with}
+use Rattle.std.specs.List.{list_all, starts_with}
 use Rattle.std.specs.Str.Parse.{digits_value}
-use Rattle.std.proofs.lemmas.Bool.{cases_lt, eqb-false, lt-leb, le-leb, leb-true, and_left, and_right, and_from, cond-false, cond-true}
+use Rattle.std.proofs.lemmas.Bool.{eqb-false, lt-leb, le-leb, and_right, and_from, cond-false}
 use Rattle.std.proofs.lemmas.Bool.Decides.{nat_tests}
 use Rattle.std.proofs.lemmas.Int.Digits.{digits_value_more}
 use Rattle.std.proofs.lemmas.List.{take_more, take_all, drop_more, drop-drop, length-drop, append_assoc, append-nil}
 use Rattle.std.proofs.lemmas.List.Recursion.{and_fails_at, and_push}
 use native.Mathlib.Nat.{pow-suc}
-use Rattle.sipl_records.specs.Ipv6.{hex_group_of, groups_of, groups_of_text, last_groups_of, with_group, split_at_zeros, counted_after, with_zeros, eight, number_of_groups, IsBounded, IsPushed}
+use Rattle.sipl_records.specs.Ipv6.{hex_group_of, groups_of, groups_of_text, last_groups_of, with_group, split_at_zeros}
+use Rattle.sipl_records.specs.Ipv6Counts.{counted_after, IsPushed}
 use Rattle.sipl_records.specs.Parts.{parts}
-use Rattle.sipl_records.proofs.Cuts.{parts-Some, parts-None, length-parts}
+use Rattle.sipl_records.proofs.Cuts.{length-parts}
 use Rattle.sipl_records.proofs.Groups.{rest_whole}
 
 -- a group among others, counted after those before it

@@ -2,13 +2,14 @@
 use Rattle.std.proofs.Common.{◌≡◌, ℕ, ◌+◌, ◌*◌, ◌-◌, ◌^◌, ◌<◌, ◌≤◌, suc, zero, Bool, true, false, List, [], ◌∷◌, ◌++◌, length, Option, None, Some, replicate, refl, sym, ap, ◌∙◌, arith, nat_le, ◌==◌, if◌then◌else◌, lit≤, inl, inr}
 use Rattle.std.proofs.Math.Nat.{pow-le-pow_right, pow-suc, mul_assoc}
 use Rattle.std.specs.Prelude.{option_map, option_and_then}
-use Rattle.std.specs.Int.Digits.{number_from_digits, number_from_digits_after}
+use Rattle.std.specs.Int.Digits.{number_from_digits_after}
 use Rattle.std.proofs.lemmas.Bool.{cases_Bool, leb-true, leb-false, lt-leb}
 use Rattle.std.proofs.lemmas.Int.Digits.{number_after_append}
 use Rattle.std.proofs.lemmas.List.{length-append, length-replicate, append_assoc}
 use Rattle.std.proofs.lemmas.Nat.{pow-add, mul-add-lt}
 use Rattle.std.proofs.lemmas.Option.{cond_some}
-use Rattle.sipl_records.specs.Ipv6.{counted_after, eight, with_zeros, number_of_groups}
+use Rattle.sipl_records.specs.Ipv6.{eight_groups, with_zeros, number_of_groups}
+use Rattle.sipl_records.specs.Ipv6Counts.{counted_after}
 
 -- one place more
 pub place_more : (place : ℕ) → 65536 ^ (place + 1) ≡ 65536 ^ place * 65536
@@ -81,7 +82,7 @@ joined (Some left) (Some right) n len n' len' is is' =
     joined_lists left right n len n' len' (ap (λ p. p.0) first.1) count (ap (λ p. p.0) second.1) count'
 
 -- groups without `::`, as they were counted
-pub whole : (groups : Option (List ℕ)) (n len : ℕ) → Some (n, len) ≡ counted_after 0 0 groups → (if len == 8 then Some n else None) ≡ option_map number_of_groups (option_and_then eight groups)
+pub whole : (groups : Option (List ℕ)) (n len : ℕ) → Some (n, len) ≡ counted_after 0 0 groups → (if len == 8 then Some n else None) ≡ option_map number_of_groups (option_and_then eight_groups groups)
 whole None n len is = absurd cc
 whole (Some groups) n len is =
     let counts = cond_some (nat_le (0 + length groups) 8) (number_of_groups groups, 0 + length groups) (n, len) (sym is) in

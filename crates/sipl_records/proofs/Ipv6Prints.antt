@@ -1,7 +1,7 @@
 -- A printed IPv6 address is a text of the grammar, and has at most 39 octets.
-use Rattle.std.proofs.Common.{◌≡◌, ℕ, ◌+◌, ◌*◌, ◌-◌, ◌/◌, ◌%◌, ◌^◌, ◌<◌, ◌≤◌, Bool, true, false, List, [], ◌∷◌, ◌++◌, length, drop, flat_map, Some, refl, sym, ap, ◌∙◌, arith, inl, inr}
+use Rattle.std.proofs.Common.{◌≡◌, ℕ, ◌*◌, ◌/◌, ◌%◌, ◌^◌, ◌<◌, ◌≤◌, true, List, [], ◌∷◌, length, flat_map, Some, refl, sym, arith, inl, inr}
 use Rattle.std.specs.Char.{digit_value, digit_char}
-use Rattle.std.specs.Net.Text.{hex, groups_text, leading_zero_digits}
+use Rattle.std.specs.Net.Text.{hex, groups_text}
 use Rattle.std.proofs.lemmas.Bool.{cases_lt, le-leb, lt-leb}
 use Rattle.std.proofs.lemmas.Bool.Decides.{nat_tests}
 use Rattle.std.proofs.lemmas.List.{length-append, length-drop}

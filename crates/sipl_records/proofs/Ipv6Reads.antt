@@ -1,8 +1,8 @@
 -- A text of the grammar is read as what it stands for.
-use Rattle.std.proofs.Common.{◌≡◌, ◌≢◌, ℕ, ◌+◌, ◌*◌, ◌-◌, ◌/◌, ◌%◌, ◌^◌, ◌<◌, ◌≤◌, suc, zero, Bool, true, false, List, [], ◌∷◌, ◌++◌, length, map, Option, None, Some, take, drop, replicate, refl, sym, ap, ◌∙◌, arith, nat_eq, nat_le, inl, inr, if◌then◌else◌}
-use Rattle.std.specs.Prelude.{option_map, option_and_then, ◌&&◌, is_some}
+use Rattle.std.proofs.Common.{◌≡◌, ℕ, ◌+◌, ◌<◌, Bool, true, false, List, [], ◌∷◌, ◌++◌, length, map, Option, None, Some, refl, sym, ap, ◌∙◌, arith, nat_eq, nat_le, inl, inr, if◌then◌else◌}
+use Rattle.std.specs.Prelude.{option_map, ◌&&◌, is_some}
 use Rattle.std.specs.Char.{is_digit, digit_value, is_ascii_digit}
-use Rattle.std.specs.List.{list_all, starts_with}
+use Rattle.std.specs.List.{list_all}
 use Rattle.std.specs.Str.{all_ascii_digits}
 use Rattle.std.specs.Str.Parse.{AllDigits, digits_value}
 use Rattle.std.proofs.Math.Bool.{and-false}
@@ -11,8 +11,8 @@ use Rattle.std.proofs.lemmas.Bool.Decides.{nat_tests}
 use Rattle.std.proofs.lemmas.List.{append_assoc, append-nil, length-append}
 use Rattle.std.proofs.lemmas.Option.{cond_some, none-some}
 use Rattle.sipl_records.specs.Addresses.{group_of, four_groups, number_of_text}
-use Rattle.sipl_records.specs.Ipv6.{hex_group_of, last_groups_of, ipv4_groups_of, groups_of, groups_of_text, with_group, split_at_zeros, groups_around, groups6_of_text, address6_of_text, with_zeros, eight, number_of_groups}
-use Rattle.sipl_records.specs.Ipv6Grammar.{IsHexGroup, IsIpv4Groups, IsGroupsAfter, IsGroups, IsFull, IsElided, IsAddress6Groups, IsAddress6Text}
+use Rattle.sipl_records.specs.Ipv6.{hex_group_of, last_groups_of, groups_of, groups_of_text, split_at_zeros, groups_around, groups6_of_text, address6_of_text, number_of_groups}
+use Rattle.sipl_records.specs.Ipv6Grammar.{IsHexGroup, IsIpv4Groups, IsGroupsAfter, IsGroups, IsAddress6Groups, IsAddress6Text}
 use Rattle.sipl_records.specs.Parts.{parts, prepend_to_first}
 use Rattle.sipl_records.proofs.Cuts.{length-parts}
 use Rattle.sipl_records.proofs.Ipv6Groups.{groups_of-more, groups_of_text-some, split_at_zeros-next}

@@ -1,6 +1,6 @@
 -- What is read as an IPv6 address is a text of the grammar.
-use Rattle.std.proofs.Common.{◌≡◌, ℕ, ◌+◌, ◌-◌, ◌/◌, ◌%◌, ◌<◌, ◌≤◌, Bool, true, false, List, [], ◌∷◌, ◌++◌, length, Option, None, Some, drop, take, replicate, refl, sym, ap, ◌∙◌, subst, arith, nat_eq, nat_le, inl, inr, ◌⊎◌}
-use Rattle.std.specs.Prelude.{option_map, option_and_then, ◌&&◌}
+use Rattle.std.proofs.Common.{◌≡◌, ℕ, ◌+◌, ◌-◌, ◌/◌, ◌%◌, ◌≤◌, Bool, true, false, List, [], ◌∷◌, ◌++◌, length, Option, None, Some, drop, replicate, refl, sym, ap, ◌∙◌, subst, arith, nat_eq, nat_le, inl, inr}
+use Rattle.std.specs.Prelude.{option_and_then, ◌&&◌}
 use Rattle.std.specs.List.{starts_with, join_with_byte}
 use Rattle.std.proofs.lemmas.Bool.{cases_Bool, and_parts, eqb-true, leb-true, false≢true}
 use Rattle.std.proofs.Math.Bool.{and-false}
@@ -8,8 +8,8 @@ use Rattle.std.proofs.lemmas.List.{append-nil}
 use Rattle.std.proofs.lemmas.Option.{cond_some, none-some, same_Some}
 use Rattle.std.proofs.NetLemmas.Options.{map_some, and_then_some}
 use Rattle.sipl_records.specs.Addresses.{number_of_text}
-use Rattle.sipl_records.specs.Ipv6.{hex_group_of, last_groups_of, ipv4_groups_of, groups_of, groups_of_text, with_group, split_at_zeros, groups_around, groups6_of_text, address6_of_text, with_zeros, eight, number_of_groups}
-use Rattle.sipl_records.specs.Ipv6Grammar.{IsHexGroup, IsIpv4Groups, IsGroupsAfter, IsGroups, IsFull, IsElided, IsAddress6Groups, IsAddress6Text}
+use Rattle.sipl_records.specs.Ipv6.{hex_group_of, last_groups_of, groups_of, groups_of_text, with_group, split_at_zeros, groups_around, groups6_of_text, address6_of_text, with_zeros, eight_groups, number_of_groups}
+use Rattle.sipl_records.specs.Ipv6Grammar.{IsGroupsAfter, IsGroups, IsAddress6Groups, IsAddress6Text}
 use Rattle.sipl_records.specs.Parts.{parts, prepend_to_first}
 use Rattle.sipl_records.proofs.Cuts.{length-parts}
 use Rattle.sipl_records.proofs.Ipv6Reads.{hex_group_of-sound}
@@ -91,7 +91,7 @@ rejoined-split (c ∷ text) =
 
 around_sound : (left : List ℕ) (right : Option (List ℕ)) (groups : List ℕ) → groups_around left right ≡ Some groups → IsAddress6Groups (rejoined left right) groups
 around_sound left None groups e =
-    and_then_some eight (groups_of_text true left) groups e λ all read kept.
+    and_then_some eight_groups (groups_of_text true left) groups e λ all read kept.
     let (count, is) = cond_some (nat_eq (length all) 8) all groups kept in
     subst (λ gs. IsAddress6Groups left gs) is (inl (record { written = groups_of_text-sound true left all read; eight = eqb-true _ _ count }))
 around_sound left (Some right) groups e =

@@ -1,5 +1,6 @@
--- The grammar of IPv6 addresses in text (RFC 4291, 2.2): each text beside the number that it stands for.
-use Rattle.std.specs.Prelude.{◌≡◌, ◌⊎◌, ℕ, ◌+◌, ◌-◌, ◌≤◌, ◌/◌, ◌%◌, Bool, true, false, List, [], ◌∷◌, ◌++◌, length, replicate, Option, Some, codes, IsTrue}
+-- The grammar of IPv6 addresses in text (RFC 4291, 2.2): each text beside the number that it
+-- stands for.
+use Rattle.std.specs.Prelude.{◌≡◌, ◌⊎◌, ℕ, ◌+◌, ◌-◌, ◌≤◌, ◌/◌, ◌%◌, Bool, true, false, List, [], ◌∷◌, ◌++◌, length, replicate, Some, codes, IsTrue}
 use Rattle.std.specs.Str.Parse.{IsNumeral, digits_value}
 use Rattle.sipl_records.specs.Addresses.{number_of_text}
 use Rattle.sipl_records.specs.Ipv6.{number_of_groups}

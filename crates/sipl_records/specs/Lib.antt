@@ -7,4 +7,5 @@ pub mod Sets
 pub mod Same
 pub use Rattle.sipl_names.specs.Labels
 pub mod Ipv6
+pub mod Ipv6Counts
 pub mod Ipv6Grammar

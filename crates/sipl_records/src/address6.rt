@@ -4,7 +4,8 @@ ghost use Rattle.std.specs.Char.{digit_char};
 ghost use Rattle.std.specs.Option.{option_copied};
 ghost use Rattle.std.specs.Net.Text.{hex, leading_zero_digits};
 ghost use Rattle.sipl_records.specs.Parts.{parts};
-ghost use Rattle.sipl_records.specs.Ipv6.{hex_group_of, groups_of_text, last_groups_of, split_at_zeros, address6_of_text, groups_of_number, text_of_address6, counted_after, IsBounded, IsPushed};
+ghost use Rattle.sipl_records.specs.Ipv6.{hex_group_of, groups_of_text, last_groups_of, split_at_zeros, address6_of_text, groups_of_number, text_of_address6};
+ghost use Rattle.sipl_records.specs.Ipv6Counts.{counted_after, IsBounded, IsPushed};
 ghost use Rattle.sipl_records.specs.Ipv6Grammar.{IsAddress6Text};
 
 use crate::address4;
@@ -45,9 +46,10 @@ fn split_at_zeros(text: &[u8]) -> (&[u8], Option<&[u8]>)
     (text, None)
 }
 
-// The groups of a text, of which the last two may be written as an IPv4 address where it is allowed.
+// The groups of a text. Where it is allowed, the last two may be written as an IPv4 address.
 fn read_groups(text: &[u8], ipv4: bool) -> Option<Groups>
-    ensures read { option_map (λ g. (g.number, g.len)) result ≡ counted_after 0 0 (groups_of_text ipv4 text.now) }
+    ensures read { option_map (λ g. (g.number, g.len)) result
+        ≡ counted_after 0 0 (groups_of_text ipv4 text.now) }
     ensures bounded { IfSome result (λ g. IsBounded g.number g.len) }
 {
     let mut groups = Groups { number: 0, len: 0 };
@@ -354,10 +356,10 @@ mod tests {
     }
 
     // What `1:2:3:4:5:6:7:8` with this octet at this place stands for: digits are at the even
-    // places, and colons at the odd ones. A colon in place of the first or the last digit makes `::`.
+    // places, and colons at the odd ones. A colon for the first or the last digit makes `::`.
     fn eight_with(place: usize, octet: u8) -> Option<u128> {
         let mut groups = [1, 2, 3, 4, 5, 6, 7, 8];
-        if place % 2 == 0 {
+        if place < 16 && place % 2 == 0 {
             let makes_zeros = octet == b':' && (place == 0 || place == 14);
             groups[place / 2] = if makes_zeros { 0 } else { hex_value(octet)? };
             Some(number_of(groups))

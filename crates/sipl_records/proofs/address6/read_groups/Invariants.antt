@@ -1,5 +1,5 @@
 use Rattle.std.proofs.Common.{◌≡◌, length}
-use Rattle.sipl_records.specs.Ipv6.{IsBounded}
+use Rattle.sipl_records.specs.Ipv6Counts.{IsBounded}
 use Rattle.sipl_records.proofs.Ipv6Groups.{counted}
 use Rattle.sipl_records.proofs.address6.read_groups.Given as goal
 

@@ -1,4 +1,4 @@
-use Rattle.std.proofs.Common.{◌≡◌, ◌∷◌, ◌++◌, ◌+◌, take, drop, set, get_or, refl, ap, ◌∙◌, arith}
+use Rattle.std.proofs.Common.{◌++◌, ◌+◌, take, drop, set, get_or, refl, ap, ◌∙◌, arith}
 use Rattle.std.specs.Net.Text.{hex}
 use Rattle.sipl_records.specs.Ipv6.{groups_of_number}
 use Rattle.sipl_records.proofs.Ipv6Texts.{next_group_written}

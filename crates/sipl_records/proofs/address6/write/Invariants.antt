@@ -1,4 +1,4 @@
-use Rattle.std.proofs.Common.{◌≡◌, ℕ, ◌+◌, ◌*◌, ◌≤◌, ◌∷◌, take, drop, get_or, length}
+use Rattle.std.proofs.Common.{◌≡◌, ◌+◌, ◌*◌, ◌≤◌, take, length}
 use Rattle.std.specs.Net.Text.{groups_text}
 use Rattle.sipl_records.specs.Ipv6.{groups_of_number}
 use Rattle.sipl_records.proofs.address6.write.Given as goal
