@@ -1,8 +1,11 @@
 -- A text of groups that is written from its end, over dots.
-use Rattle.std.proofs.Common.{◌≡◌, ℕ, ◌+◌, ◌-◌, ◌<◌, ◌≤◌, suc, List, [], ◌∷◌, ◌++◌, length, get_or, take, drop, sym, ap, ◌∙◌, arith, decimal, drop-cons, subst, append_assoc, append-nil, Result, Ok, Err, is_ok, if◌then◌else◌}
+use Rattle.std.proofs.Common.{◌≡◌, ℕ, ◌+◌, ◌-◌, ◌/◌, ◌%◌, ◌^◌, length-append, ◌<◌, ◌≤◌, suc, List, [], ◌∷◌, ◌++◌, length, get_or, take, drop, sym, ap, ◌∙◌, arith, decimal, drop-cons, subst, append_assoc, append-nil, Result, Ok, Err, is_ok, if◌then◌else◌}
 use Rattle.std.specs.Prelude.{OnOk}
 use lib.ListN.{replicate}
 use Rattle.std.proofs.lemmas.Fmt.{length-decimal-le}
+use Rattle.sipl_records.specs.declared.address.Address.{Address}
+use Rattle.sipl_records.specs.declared.address.Address.TheVariants.{V4}
+use Rattle.sipl_records.specs.Addresses.{text_of_number, text_of_address, IsAddress}
 use Rattle.sipl_records.proofs.Groups.{rest_whole}
 use Rattle.std.proofs.lemmas.List.{take-take, take-replicate, get_or-take, get_or-replicate}
 
@@ -10,7 +13,18 @@ use Rattle.std.proofs.lemmas.List.{take-take, take-replicate, get_or-take, get_o
 pub octet_digits : (n : ℕ) → n < 256 → length (decimal n) ≤ 3
 octet_digits n small = length-decimal-le 3 n (omega arith) (omega arith) (omega arith)
 
--- dots in front of the end, and this text from there on
+length-four : (a b c d : List ℕ) → length a ≤ 3 → length b ≤ 3 → length c ≤ 3 → length d ≤ 3 → length (a ++ 46 ∷ b ++ 46 ∷ c ++ 46 ∷ d) ≤ 15
+length-four a b c d three_a three_b three_c three_d = simp length-append (omega arith)
+
+-- four octets and three dots
+pub length-text_of_number : (n : ℕ) → n < 2 ^ 32 → length (text_of_number n) ≤ 15
+length-text_of_number n small =
+    length-four (decimal (n / 16777216)) (decimal (n / 65536 % 256)) (decimal (n / 256 % 256)) (decimal (n % 256)) (octet_digits (n / 16777216) (omega arith)) (octet_digits (n / 65536 % 256) (omega arith)) (octet_digits (n / 256 % 256) (omega arith)) (octet_digits (n % 256) (omega arith))
+
+pub length-text_of_address : (address : Address) → IsAddress address → length (text_of_address address) ≤ 15
+length-text_of_address (V4 n) small = length-text_of_number n small
+
+-- dots before the end, and this text from there on
 pub record IsDotted (end : ℕ) (tail text : List ℕ) : Type 0 where
   pub front : take end text ≡ replicate end 46
   pub back : drop end text ≡ tail
@@ -52,7 +66,7 @@ next_group n end start begun tail old new dotted one wrote =
 
 -- four groups written from the last one on, over dots
 pub groups_written : (a b c d first second third fourth : ℕ) (t0 t1 t2 t3 t4 : List ℕ) → a < 256 → b < 256 → c < 256 → d < 256 → length t0 ≡ 15 → IsDotted 15 [] t0 → Writes d 15 fourth t0 t1 → Writes c (fourth - 1) third t1 t2 → Writes b (third - 1) second t2 t3 → Writes a (second - 1) first t3 t4 → take (15 - first) (drop first t4) ≡ decimal a ++ 46 ∷ decimal b ++ 46 ∷ decimal c ++ 46 ∷ decimal d
-groups_written a b c d first second third fourth t0 t1 t2 t3 t4 small_a small_b small_c small_d room dots wrote_d wrote_c wrote_b wrote_a =
+groups_written a b c d first second third fourth t0 t1 t2 t3 t4 small_a small_b small_c small_d whole_buffer dots wrote_d wrote_c wrote_b wrote_a =
     let three_d : length (decimal d) ≤ 3 = octet_digits d small_d in
     let three_c : length (decimal c) ≤ 3 = octet_digits c small_c in
     let three_b : length (decimal b) ≤ 3 = octet_digits b small_b in
@@ -60,11 +74,11 @@ groups_written a b c d first second third fourth t0 t1 t2 t3 t4 small_a small_b 
     let dotted_c = next_group c (fourth - 1) third fourth (decimal d ++ []) t1 t2 dotted_d (omega arith) wrote_c in
     let dotted_b = next_group b (third - 1) second third (decimal c ++ 46 ∷ (decimal d ++ [])) t2 t3 dotted_c (omega arith) wrote_b in
     let dotted_a = next_group a (second - 1) first second (decimal b ++ 46 ∷ (decimal c ++ 46 ∷ (decimal d ++ []))) t3 t4 dotted_b (omega arith) wrote_a in
-    let size : length t4 ≡ 15 = wrote_a.length ∙ wrote_b.length ∙ wrote_c.length ∙ wrote_d.length ∙ room in
+    let size : length t4 ≡ 15 = wrote_a.length ∙ wrote_b.length ∙ wrote_c.length ∙ wrote_d.length ∙ whole_buffer in
     let whole : take (15 - first) (drop first t4) ≡ drop first t4 = subst (λ n. take (n - first) (drop first t4) ≡ drop first t4) size (rest_whole t4 first) in
     whole ∙ dotted_a.back ∙ simp (append_assoc, append-nil)
 
--- what is appended where the call answers Ok
+-- what is appended where the call returns Ok
 pub appended : {E : Type 0} (r : Result (Unit {0}) E) (old added text : List ℕ) → added ≡ text → OnOk r ((if is_ok r then old ++ added else old) ≡ old ++ text)
 appended (Ok u) old added text same = ap (λ t. old ++ t) same
 appended (Err e) old added text same = tt

@@ -13,7 +13,7 @@ use native.Mathlib.Nat.{pow-suc}
 use Rattle.sipl_records.specs.Ipv6.{hex_group_of, groups_of, groups_of_text, last_groups_of, with_group, split_at_zeros}
 use Rattle.sipl_records.specs.Ipv6Counts.{counted_after, IsPushed}
 use Rattle.sipl_records.specs.Parts.{parts}
-use Rattle.sipl_records.proofs.Cuts.{length-parts}
+use Rattle.sipl_records.proofs.Parts.{length-parts}
 use Rattle.sipl_records.proofs.Groups.{rest_whole}
 
 -- a group among others, counted after those before it

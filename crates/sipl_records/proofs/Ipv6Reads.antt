@@ -14,7 +14,7 @@ use Rattle.sipl_records.specs.Addresses.{group_of, four_groups, number_of_text}
 use Rattle.sipl_records.specs.Ipv6.{hex_group_of, last_groups_of, groups_of, groups_of_text, split_at_zeros, groups_around, groups6_of_text, address6_of_text, number_of_groups}
 use Rattle.sipl_records.specs.Ipv6Grammar.{IsHexGroup, IsIpv4Groups, IsGroupsAfter, IsGroups, IsAddress6Groups, IsAddress6Text}
 use Rattle.sipl_records.specs.Parts.{parts, prepend_to_first}
-use Rattle.sipl_records.proofs.Cuts.{length-parts}
+use Rattle.sipl_records.proofs.Parts.{length-parts}
 use Rattle.sipl_records.proofs.Ipv6Groups.{groups_of-more, groups_of_text-some, split_at_zeros-next}
 
 -- an octet is not among those of a text

@@ -11,7 +11,7 @@ use Rattle.sipl_records.specs.Addresses.{number_of_text}
 use Rattle.sipl_records.specs.Ipv6.{hex_group_of, last_groups_of, groups_of, groups_of_text, with_group, split_at_zeros, groups_around, groups6_of_text, address6_of_text, with_zeros, eight_groups, number_of_groups}
 use Rattle.sipl_records.specs.Ipv6Grammar.{IsGroupsAfter, IsGroups, IsAddress6Groups, IsAddress6Text}
 use Rattle.sipl_records.specs.Parts.{parts, prepend_to_first}
-use Rattle.sipl_records.proofs.Cuts.{length-parts}
+use Rattle.sipl_records.proofs.Parts.{length-parts}
 use Rattle.sipl_records.proofs.Ipv6Reads.{hex_group_of-sound}
 
 -- parts joined by their separator

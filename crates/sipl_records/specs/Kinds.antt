@@ -3,10 +3,10 @@ use Rattle.std.specs.Prelude.{ℕ, List, codes}
 use Rattle.sipl_records.specs.declared.kind.Kind.{Kind}
 use Rattle.sipl_records.specs.declared.kind.Kind.TheVariants.{Address4, Address6, Alias, Service, Pointer}
 
--- how a master file names a record's type
-abbrev pub kind_text : Kind → List ℕ
-kind_text Address4 = codes "A"
-kind_text Address6 = codes "AAAA"
-kind_text Alias = codes "CNAME"
-kind_text Service = codes "SRV"
-kind_text Pointer = codes "NAPTR"
+-- the mnemonic of a record's type
+abbrev pub text_of_kind : Kind → List ℕ
+text_of_kind Address4 = codes "A"
+text_of_kind Address6 = codes "AAAA"
+text_of_kind Alias = codes "CNAME"
+text_of_kind Service = codes "SRV"
+text_of_kind Pointer = codes "NAPTR"

@@ -1,10 +1,11 @@
+pub mod Unique
 pub mod Parts
 pub mod Numbers
 pub mod Fields
 pub mod Addresses
+pub mod AddressFault
 pub mod Kinds
 pub mod Sets
-pub mod Same
 pub use Rattle.sipl_names.specs.Labels
 pub mod Ipv6
 pub mod Ipv6Counts

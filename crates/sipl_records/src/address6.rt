@@ -1,5 +1,5 @@
 //! IPv6 addresses in text (RFC 4291, 2.2).
-ghost use Rattle.std.specs.Prelude.{◌≡◌, ◌↔◌, ℕ, List, ◌+◌, ◌-◌, ◌*◌, ◌<◌, ◌≤◌, ◌^◌, ◌++◌, ◌∷◌, [], length, take, map, Some, None, IfSome, IfNone, OnOk, OnErr, IsOk, MatchOption, option_map, vec_capacity, vec_len, position, nat_le, if◌then◌else◌, ◌==◌};
+ghost use Rattle.std.specs.Prelude.{◌≡◌, ◌↔◌, ℕ, List, ◌+◌, ◌-◌, ◌*◌, ◌<◌, ◌≤◌, ◌^◌, ◌++◌, ◌∷◌, [], length, take, map, Some, None, IfSome, IfNone, OnOk, OnErr, IsOk, MatchOption, option_map, vec_capacity, vec_len, nat_le, if◌then◌else◌, ◌==◌};
 ghost use Rattle.std.specs.Char.{digit_char};
 ghost use Rattle.std.specs.Option.{option_copied};
 ghost use Rattle.std.specs.Net.Text.{hex, leading_zero_digits};
@@ -9,6 +9,7 @@ ghost use Rattle.sipl_records.specs.Ipv6Counts.{counted_after, IsBounded, IsPush
 ghost use Rattle.sipl_records.specs.Ipv6Grammar.{IsAddress6Text};
 
 use crate::address4;
+use crate::split::split_once;
 use std::alloc::AllocError;
 
 // Octets of the longest text, eight groups of four digits.
@@ -64,21 +65,14 @@ fn read_groups(text: &[u8], ipv4: bool) -> Option<Groups>
     groups.push_last(rest, ipv4)
 }
 
-// The part that the first colon ends, and the text after the colon.
+// The part before the first colon, and the text after it.
 fn part_before_colon(text: &[u8]) -> Option<(&[u8], &[u8])>
     ensures parts { MatchOption result (parts 58 text.now ≡ text.now ∷ []) (λ cut.
         parts 58 text.now ≡ cut.0.now ∷ parts 58 cut.1.now) }
     ensures shorter { IfSome result (λ cut. length cut.1.now < length text.now) }
 {
-    let colon = first_colon(text)?;
-    Some((&text[..colon], &text[colon + 1..]))
-}
-
-// Where the first colon is.
-fn first_colon(text: &[u8]) -> Option<usize>
-    ensures { result ≡ position (λ octet. octet == 58) text.now }
-{
-    text.iter().position(|octet| *octet == b':')
+    let (part, rest) = split_once(text, b':');
+    Some((part, rest?))
 }
 
 // The number of one to four hexadecimal digits.

@@ -1,10 +1,10 @@
 ghost use Rattle.std.specs.Prelude.{◌≡◌, IfOk};
-ghost use Rattle.sipl_records.specs.Sets.{has_kind, kind_of, same_kind};
+ghost use Rattle.sipl_records.specs.Sets.{has_kind, has_same_kind, kind_of};
 
 use crate::kind::Kind;
 use std::alloc::{AllocError, Global};
 
-/// What a record says of its owner.
+/// The data of a record: what it states about its owner (RFC 1035, 3.2.1).
 #[derive(Debug, PartialEq, Eq, Drop)]
 pub enum Data {
     /// An IPv4 address (RFC 1035, 3.4.1), its first octet the highest of the number.
@@ -12,7 +12,7 @@ pub enum Data {
 }
 
 impl Data {
-    /// The kind of set that the data stand in; `None` for data that stand in none.
+    /// The kind of the set that the data are in; `None` for data that are in no set.
     pub fn kind(&self) -> Option<Kind>
         ensures { result ≡ kind_of self.now }
     {
@@ -28,13 +28,11 @@ impl Data {
         self.kind() == Some(kind)
     }
 
-    /// Whether the two are of one kind.
+    /// Whether the two are of one kind. Data that are in no set are of none.
     pub fn has_same_kind(&self, other: &Data) -> bool
-        ensures { result ≡ same_kind self.now other.now }
+        ensures { result ≡ has_same_kind self.now other.now }
     {
-        match (self, other) {
-            (Data::Address4(_), Data::Address4(_)) => true,
-        }
+        self.kind().is_some_and(|kind| other.has_kind(kind))
     }
 
     /// A copy of the data.

@@ -1,12 +1,15 @@
 ghost use Rattle.std.specs.Prelude.{◌≡◌, ◌<◌, ◌∷◌, ◌++◌, [], length, MatchOption, IfSome};
 ghost use Rattle.sipl_records.specs.Fields.{fields_of, trim_start, after_field, before_wsp, from_wsp, is_wsp};
 
-/// Takes the first field off a line whose fields are parted by spaces and tabs: the field, and
-/// the line behind it. `None` where the line has no field.
+use memchr::memchr2;
+
+/// Takes the first field off a line whose fields are separated by spaces and tabs: the field, and
+/// the rest of the line after it. `None` where the line has no field.
 pub fn next_field(line: &[u8]) -> Option<(&[u8], &[u8])>
-    ensures fields { MatchOption result (fields_of line.now ≡ []) (λ next. fields_of line.now ≡ next.0.now ∷ fields_of next.1.now) }
-    ensures behind { IfSome result (λ next. next.1.now ≡ after_field line.now) }
-    ensures parts { IfSome result (λ next. trim_start line.now ≡ next.0.now ++ next.1.now) }
+    ensures fields { MatchOption result (fields_of line.now ≡ [])
+        (λ next. fields_of line.now ≡ next.0.now ∷ fields_of next.1.now) }
+    ensures after { IfSome result (λ next. next.1.now ≡ after_field line.now) }
+    ensures whole { IfSome result (λ next. trim_start line.now ≡ next.0.now ++ next.1.now) }
     ensures shorter { IfSome result (λ next. length next.1.now < length line.now) }
 {
     let line = trim_start(line);
@@ -16,29 +19,26 @@ pub fn next_field(line: &[u8]) -> Option<(&[u8], &[u8])>
     Some(split_at_wsp(line))
 }
 
-/// The line from its first octet that is neither a space nor a tab.
+/// The line without the spaces and tabs at its start.
 pub fn trim_start(line: &[u8]) -> &[u8]
     ensures { result.now ≡ trim_start line.now }
 {
     let mut rest = line;
-    while let [octet, others @ ..] = rest {
+    while let [octet, tail @ ..] = rest {
         if !is_wsp(*octet) {
             break;
         }
-        rest = others;
+        rest = tail;
     }
     rest
 }
 
-// The octets before the first gap, and the line from it on.
+// The octets before the first space or tab, and the line from there on.
 fn split_at_wsp(line: &[u8]) -> (&[u8], &[u8])
-    ensures front { result.0.now ≡ before_wsp line.now }
-    ensures back { result.1.now ≡ from_wsp line.now }
+    ensures before { result.0.now ≡ before_wsp line.now }
+    ensures from { result.1.now ≡ from_wsp line.now }
 {
-    let end = line
-        .iter()
-        .position(|octet| is_wsp(*octet))
-        .unwrap_or(line.len());
+    let end = memchr2(b' ', b'\t', line).unwrap_or(line.len());
     line.split_at(end)
 }
 
@@ -54,7 +54,7 @@ mod tests {
     use super::*;
 
     #[test]
-    fn takes_fields_in_order(rt: HostRuntime) {
+    fn next_field_takes_fields_in_order(rt: HostRuntime) {
         let mut line: &[u8] = b" a\tbc  d ";
         for (want, left) in [("a", "\tbc  d "), ("bc", "  d "), ("d", " ")] {
             let Some((field, rest)) = next_field(line) else {
@@ -68,13 +68,13 @@ mod tests {
     }
 
     #[test]
-    fn finds_no_field_among_gaps(rt: HostRuntime) {
+    fn next_field_finds_none_in_white_space(rt: HostRuntime) {
         assert!(rt; next_field(b"").is_none());
         assert!(rt; next_field(b" \t ").is_none());
     }
 
     #[test]
-    fn trims_the_gaps_in_front(rt: HostRuntime) {
+    fn trim_start_removes_spaces_and_tabs_only(rt: HostRuntime) {
         for (line, want) in [
             ("", ""),
             ("a b ", "a b "),

@@ -18,17 +18,17 @@ pub enum Kind {
 /// Prints the kind's mnemonic in master files, such as `AAAA` (RFC 1035, 5.1).
 impl fmt::Display for Kind {
     ghost use Rattle.std.specs.Prelude.{Some};
-    ghost use Rattle.sipl_records.specs.Kinds.{kind_text};
+    ghost use Rattle.sipl_records.specs.Kinds.{text_of_kind};
 
-    ghost output = { λ kind. Some (kind_text kind) };
+    ghost output = { λ kind. Some (text_of_kind kind) };
 
     fn fmt<W: fmt::Write>(&self, f: &mut fmt::Formatter<W>) -> fmt::Result {
-        match self {
-            Kind::Address4 => write!(f, "A"),
-            Kind::Address6 => write!(f, "AAAA"),
-            Kind::Alias => write!(f, "CNAME"),
-            Kind::Service => write!(f, "SRV"),
-            Kind::Pointer => write!(f, "NAPTR"),
-        }
+        f.write_str(match self {
+            Kind::Address4 => "A",
+            Kind::Address6 => "AAAA",
+            Kind::Alias => "CNAME",
+            Kind::Service => "SRV",
+            Kind::Pointer => "NAPTR",
+        })
     }
 }

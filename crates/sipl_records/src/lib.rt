@@ -1,23 +1,23 @@
-//! Resource records: owners, data, kinds, and the sets that they form; and the readers of addresses,
-//! numbers and fields that the text formats share.
+//! Resource records: owners, data, kinds, and the sets that they form; and what the text formats
+//! share: addresses, numbers, fields, and a text split at a separator.
 #![tactic(auto)]
 
 mod address;
 mod address4;
 mod address6;
-mod cut;
 mod data;
 mod fault;
 mod field;
 mod kind;
+pub mod laws;
 mod number;
 mod record;
 mod sequence;
+mod split;
 #[cfg(test)]
 mod tests;
 
-pub use address::{Address, printing_addresses_reads_back};
-pub use cut::split_once;
+pub use address::{Address, MAX_ADDRESS_TEXT_LEN};
 pub use data::Data;
 pub use fault::AddressFault;
 pub use field::{is_wsp, next_field, trim_start};
@@ -25,3 +25,4 @@ pub use kind::Kind;
 pub use number::read_number;
 pub use record::{Key, MAX_SET_LEN, Record};
 pub use sequence::Sequence;
+pub use split::split_once;

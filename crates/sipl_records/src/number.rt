@@ -1,10 +1,10 @@
 ghost use Rattle.std.specs.Prelude.{◌≡◌};
 ghost use Rattle.sipl_records.specs.Numbers.{number_of};
 
-/// Reads a plain decimal number of one or more digits. `None` where another octet stands among
-/// them, where there is none, and where the number is greater than `most`.
-pub fn read_number(text: &[u8], most: u64) -> Option<u64>
-    ensures { result ≡ number_of text.now most }
+/// Reads a decimal number of one or more digits. `None` where the text is empty, where it has an
+/// octet that is not a digit, and where the number is greater than `max`.
+pub fn read_number(text: &[u8], max: u64) -> Option<u64>
+    ensures { result ≡ number_of text.now max }
 {
     if text.is_empty() {
         return None;
@@ -17,7 +17,7 @@ pub fn read_number(text: &[u8], most: u64) -> Option<u64>
         value = value
             .checked_mul(10)?
             .checked_add(u64::from(*octet - b'0'))?;
-        if value > most {
+        if value > max {
             return None;
         }
     }
@@ -29,7 +29,7 @@ mod tests {
     use super::*;
 
     #[test]
-    fn reads_numbers(rt: HostRuntime) {
+    fn read_number_accepts_digits_only(rt: HostRuntime) {
         for (text, want) in [
             ("0", Some(0)),
             ("007", Some(7)),
@@ -48,7 +48,7 @@ mod tests {
     }
 
     #[test]
-    fn keeps_limits(rt: HostRuntime) {
+    fn read_number_refuses_what_is_over_the_maximum(rt: HostRuntime) {
         assert_eq!(rt; read_number(b"65535", 65_535), Some(65_535));
         assert_eq!(rt; read_number(b"65536", 65_535), None);
         assert_eq!(rt; read_number(b"0065535", 65_535), Some(65_535));

@@ -6,7 +6,7 @@ use crate::kind::Kind;
 use sipl_names::Name;
 use std::alloc::{AllocError, Global};
 
-/// The most records of a set.
+/// The maximum number of records in a set.
 pub const MAX_SET_LEN: usize = 32;
 
 /// A resource record (RFC 1035, 3.2.1), without its class and TTL.
@@ -17,21 +17,21 @@ pub struct Record {
 }
 
 impl Record {
-    /// Whether the record belongs to the set that the key finds (RFC 2181, 5).
+    /// Whether the record is in the key's set: it has that owner and kind (RFC 2181, 5).
     pub fn has_key(&self, key: &Key) -> bool
         ensures { result ≡ has_key key.now self.now }
     {
         self.owner == key.name && self.value.has_kind(key.kind)
     }
 
-    /// Whether the two records stand in one set: equal owners, and data of one kind.
+    /// Whether the two records are in one set: equal owners, and data of one kind.
     pub fn shares_set(&self, other: &Record) -> bool
         ensures { result ≡ shares_set self.now other.now }
     {
         self.owner == other.owner && self.value.has_same_kind(&other.value)
     }
 
-    /// The key of the set that the record stands in; `None` where it stands in none.
+    /// The key of the set that the record is in; `None` where it is in no set.
     pub fn key(&self, alloc: Global) -> Result<Option<Key>, AllocError>
         ensures { IfOk result (λ key. key ≡ key_of self.now) }
     {
@@ -52,7 +52,7 @@ impl Record {
     }
 }
 
-/// What a record set is found by: an owner and a kind.
+/// The owner and the kind of a record set (RFC 2181, 5).
 #[derive(Debug, PartialEq, Eq, Hash, Drop)]
 pub struct Key {
     pub name: Name,

@@ -1,8 +1,10 @@
 ghost use Rattle.std.specs.Prelude.{◌≡◌, [], length, IsTrue, ◌↔◌};
+ghost use Rattle.std.specs.Slice.Iter.{iter_rest};
 
 use std::marker::Model;
+use std::slice::Iter;
 
-/// Values in order. It is made from a `Vec` and gives it back, and contracts see it as a list.
+/// Values in order, made from a `Vec` and turned back into it. Contracts see it as a list.
 #[derive(Debug, Drop)]
 pub struct Sequence<T> {
     items: Vec<T>,
@@ -17,14 +19,14 @@ impl<T> Model for Sequence<T> {
 }
 
 impl<T> Sequence<T> {
-    /// The values of a `Vec`, in its order. It takes no memory.
+    /// The values of a `Vec`, in its order. It does not allocate.
     pub fn from_vec(items: Vec<T>) -> Self
         ensures { result ≡ items.items }
     {
         Sequence { items }
     }
 
-    /// The values as a `Vec`. It takes no memory.
+    /// The values as a `Vec`. It does not allocate.
     pub fn into_vec(self) -> Vec<T>
         ensures { result.items ≡ self }
     {
@@ -38,7 +40,14 @@ impl<T> Sequence<T> {
         &self.items
     }
 
-    /// How many values there are.
+    /// The values one after another, in their order.
+    pub fn iter(&self) -> Iter<'_, T>
+        ensures { iter_rest result ≡ self.now }
+    {
+        self.items.iter()
+    }
+
+    /// The number of values.
     pub fn len(&self) -> usize
         ensures { result ≡ length self.now }
     {

@@ -10,7 +10,7 @@ use sipl_names::Name;
 use std::alloc::Global;
 use std::test::Fail;
 
-// Compares two records. Its contract is that `==` tells equal records from others.
+// Compares two records: `==` is true exactly where they are equal.
 #[tactic(auto, using(sipl_names::specs::SameName::same_name_decides))]
 fn same_record(a: &Record, b: &Record) -> bool
     ensures { IsTrue result ↔ (a.now ≡ b.now) }
@@ -18,7 +18,7 @@ fn same_record(a: &Record, b: &Record) -> bool
     a == b
 }
 
-// Compares two keys. Its contract is that `==` tells equal keys from others.
+// Compares two keys: `==` is true exactly where they are equal.
 #[tactic(auto, using(sipl_names::specs::SameName::same_name_decides))]
 fn same_key(a: &Key, b: &Key) -> bool
     ensures { IsTrue result ↔ (a.now ≡ b.now) }
@@ -26,30 +26,30 @@ fn same_key(a: &Key, b: &Key) -> bool
     a == b
 }
 
-// Whether a record is among others. Its contract is that `contains` finds equal records.
-#[tactic(auto, using(crate::specs::Same::same_record_decides))]
+// Searches for a record: `contains` is true exactly where an equal one is there.
+#[tactic(auto, using(crate::proofs::Same::same_record_decides))]
 fn is_among(records: &[Record], wanted: &Record) -> bool
     ensures { IsTrue result ↔ Contains records.now wanted.now }
 {
     records.contains(wanted)
 }
 
-// Whether a key is among others. Its contract is that `contains` finds equal keys.
-#[tactic(auto, using(crate::specs::Same::same_key_decides))]
+// Searches for a key: `contains` is true exactly where an equal one is there.
+#[tactic(auto, using(crate::proofs::Same::same_key_decides))]
 fn is_key_among(keys: &[Key], key: &Key) -> bool
     ensures { IsTrue result ↔ Contains keys.now key.now }
 {
     keys.contains(key)
 }
 
-// Compares two data. Its contract is that `==` tells equal data from others.
+// Compares two data: `==` is true exactly where they are equal.
 fn same_data(a: &Data, b: &Data) -> bool
     ensures { IsTrue result ↔ (a.now ≡ b.now) }
 {
     a == b
 }
 
-// Compares two addresses. Its contract is that `==` tells equal addresses from others.
+// Compares two addresses: `==` is true exactly where they are equal.
 fn same_address(a: &Address, b: &Address) -> bool
     ensures { IsTrue result ↔ (a.now ≡ b.now) }
 {
@@ -75,7 +75,7 @@ fn key(alloc: Global, name: &[u8], kind: Kind) -> Result<Key, Fail> {
 }
 
 #[test]
-fn reads_and_writes_addresses(rt: HostRuntime) -> Result<(), Fail> {
+fn address_reads_and_prints_its_text(rt: HostRuntime) -> Result<(), Fail> {
     let rows: [(&[u8], u32); 4] = [
         (b"0.0.0.0", 0),
         (b"255.255.255.255", 0xFFFF_FFFF),
@@ -95,13 +95,13 @@ fn reads_and_writes_addresses(rt: HostRuntime) -> Result<(), Fail> {
 }
 
 #[test]
-fn reads_leading_zeros(rt: HostRuntime) {
+fn address_allows_leading_zeros(rt: HostRuntime) {
     let address = Address::from_text(b"192.0.02.001");
     assert_eq!(rt; address, Ok(Address::V4(0xC000_0201)));
 }
 
 #[test]
-fn refuses_other_texts(rt: HostRuntime) {
+fn address_refuses_other_texts(rt: HostRuntime) {
     let texts: [&[u8]; 14] = [
         b"256.1.1.1",
         b"1.2.3.256",
@@ -127,7 +127,8 @@ fn refuses_other_texts(rt: HostRuntime) {
     }
 }
 
-// What `1.2.3.4` says with this octet at this place: the digits stand at the even places, the dots at the odd ones.
+// The address of `1.2.3.4` with this octet at this index: digits are at even indices, dots at odd
+// ones.
 fn address_with(place: usize, octet: u8) -> Result<Address, AddressFault> {
     let is_dot_place = place % 2 == 1;
     let is_read = if is_dot_place {
@@ -153,7 +154,7 @@ fn address_with(place: usize, octet: u8) -> Result<Address, AddressFault> {
 }
 
 #[test]
-fn reads_each_octet_at_each_place(rt: HostRuntime) {
+fn address_accepts_digits_and_dots_in_their_places_only(rt: HostRuntime) {
     for place in 0..7usize {
         for octet in 0..=255u8 {
             let mut text = *b"1.2.3.4";
@@ -168,7 +169,7 @@ fn reads_each_octet_at_each_place(rt: HostRuntime) {
 }
 
 #[test]
-fn names_its_fault(rt: HostRuntime) -> Result<(), Fail> {
+fn address_fault_has_its_code_and_message(rt: HostRuntime) -> Result<(), Fail> {
     let fault = AddressFault::BadAddress;
     assert_eq!(rt; fault.code(), "A1");
     let text = fault.to_string(rt.alloc())?;
@@ -177,7 +178,7 @@ fn names_its_fault(rt: HostRuntime) -> Result<(), Fail> {
 }
 
 #[test]
-fn prints_kinds(rt: HostRuntime) -> Result<(), Fail> {
+fn kind_prints_its_mnemonic(rt: HostRuntime) -> Result<(), Fail> {
     let rows = [
         (Kind::Address4, "A"),
         (Kind::Address6, "AAAA"),
@@ -193,7 +194,7 @@ fn prints_kinds(rt: HostRuntime) -> Result<(), Fail> {
 }
 
 #[test]
-fn tells_the_records_of_a_key(rt: HostRuntime) -> Result<(), Fail> {
+fn record_has_the_key_of_its_owner_and_kind(rt: HostRuntime) -> Result<(), Fail> {
     let alloc = rt.alloc();
     let mut records = Vec::new(alloc);
     records.push(record(alloc, b"www.example.com.", 0xC000_0201)?)?;
@@ -215,7 +216,7 @@ fn tells_the_records_of_a_key(rt: HostRuntime) -> Result<(), Fail> {
 }
 
 #[test]
-fn tells_the_kind_of_data(rt: HostRuntime) {
+fn data_have_one_kind(rt: HostRuntime) {
     let data = Data::Address4(0xC000_0201);
     assert!(rt; data.has_kind(Kind::Address4));
     for kind in [Kind::Address6, Kind::Alias, Kind::Service, Kind::Pointer] {
@@ -224,7 +225,7 @@ fn tells_the_kind_of_data(rt: HostRuntime) {
 }
 
 #[test]
-fn copies_and_compares(rt: HostRuntime) -> Result<(), Fail> {
+fn copies_equal_their_originals(rt: HostRuntime) -> Result<(), Fail> {
     let alloc = rt.alloc();
     let www = record(alloc, b"www.example.com.", 0xC000_0201)?;
     assert!(rt; same_record(&www.dup(alloc)?, &www));
@@ -250,7 +251,7 @@ fn copies_and_compares(rt: HostRuntime) -> Result<(), Fail> {
 }
 
 #[test]
-fn gives_the_key_of_a_record(rt: HostRuntime) -> Result<(), Fail> {
+fn records_of_one_set_have_one_key(rt: HostRuntime) -> Result<(), Fail> {
     let alloc = rt.alloc();
     let www = record(alloc, b"www.example.com.", 0xC000_0201)?;
     let like = record(alloc, b"WWW.example.com.", 0xC000_0202)?;
@@ -265,10 +266,11 @@ fn gives_the_key_of_a_record(rt: HostRuntime) -> Result<(), Fail> {
 }
 
 #[test]
-fn keeps_values_in_order(rt: HostRuntime) -> Result<(), Fail> {
+fn sequence_keeps_values_in_order(rt: HostRuntime) -> Result<(), Fail> {
     let sequence = Sequence::from_vec(vec![in rt.alloc(); 3u8, 1, 2]?);
     assert!(rt; sequence.len() == 3 && !sequence.is_empty());
     assert_eq!(rt; sequence.as_slice(), [3u8, 1, 2].as_slice());
+    assert_eq!(rt; sequence.iter().copied().max(), Some(3));
     assert_eq!(rt; sequence.into_vec().as_slice(), [3u8, 1, 2].as_slice());
     assert!(rt; Sequence::<u8>::from_vec(Vec::new(rt.alloc())).is_empty());
     Ok(())

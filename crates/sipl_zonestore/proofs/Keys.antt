@@ -13,19 +13,19 @@ use Rattle.sipl_records.specs.declared.kind.Kind.TheVariants.{Address4, Address6
 use Rattle.sipl_records.specs.declared.record.Record.{Record}
 use Rattle.sipl_records.specs.declared.record.Key.{Key}
 use Rattle.sipl_records.specs.contracts.record.KeyPartialEq.TheImpl.{eq-value}
-use Rattle.sipl_records.specs.Sets.{has_kind, has_key, kind_of, kinds_match, same_key, key_of}
+use Rattle.sipl_records.specs.Sets.{has_kind, has_key, kind_of, same_kind, same_key, key_of}
 
-pub kinds_match-Decides : (a b : Kind) → Decides (kinds_match a b) (a ≡ b)
-kinds_match-Decides Address4 Address4 = (λ _. refl, λ _. refl)
-kinds_match-Decides Address6 Address6 = (λ _. refl, λ _. refl)
-kinds_match-Decides Alias Alias = (λ _. refl, λ _. refl)
-kinds_match-Decides Service Service = (λ _. refl, λ _. refl)
-kinds_match-Decides Pointer Pointer = (λ _. refl, λ _. refl)
-kinds_match-Decides _ _ = (λ h. cc, λ h. cc)
+pub same_kind-Decides : (a b : Kind) → Decides (same_kind a b) (a ≡ b)
+same_kind-Decides Address4 Address4 = (λ _. refl, λ _. refl)
+same_kind-Decides Address6 Address6 = (λ _. refl, λ _. refl)
+same_kind-Decides Alias Alias = (λ _. refl, λ _. refl)
+same_kind-Decides Service Service = (λ _. refl, λ _. refl)
+same_kind-Decides Pointer Pointer = (λ _. refl, λ _. refl)
+same_kind-Decides _ _ = (λ h. cc, λ h. cc)
 
 pub same_key-Decides : (a b : Key) → Decides (same_key a b) (a ≡ b)
 same_key-Decides a b =
-    Decides-like (same_key a b) (λ both. λ i. record { name = both.0 i; kind = both.1 i }) (λ e. (ap (λ (key : Key). key.name) e, ap (λ (key : Key). key.kind) e)) (Decides-and (same_name a.name b.name) (kinds_match a.kind b.kind) (same_name_decides a.name b.name) (kinds_match-Decides a.kind b.kind))
+    Decides-like (same_key a b) (λ both. λ i. record { name = both.0 i; kind = both.1 i }) (λ e. (ap (λ (key : Key). key.name) e, ap (λ (key : Key). key.kind) e)) (Decides-and (same_name a.name b.name) (same_kind a.kind b.kind) (same_name_decides a.name b.name) (same_kind-Decides a.kind b.kind))
 
 pub same_key-refl : (a : Key) → same_key a a ≡ true
 same_key-refl a = (same_key-Decides a a).1 refl
@@ -42,7 +42,7 @@ is_key key (Some own) = same_key own key
 -- whether the kind is the one, if there is one
 abbrev pub is_kind : Kind → Option Kind → Bool
 is_kind kind None = false
-is_kind kind (Some own) = kinds_match own kind
+is_kind kind (Some own) = same_kind own kind
 
 of_kind : (kind : Kind) (value : Data) → has_kind kind value ≡ is_kind kind (kind_of value)
 of_kind Address4 (data_address4 n) = refl

@@ -1,10 +1,11 @@
-use Rattle.std.proofs.Common.{◌≡◌, ◌/◌, ◌%◌, ◌-◌, ◌<◌, ◌^◌, arith, take, drop, replicate, [], refl, lit≤}
+use Rattle.std.proofs.Common.{◌≡◌, ◌/◌, ◌%◌, ◌-◌, ◌<◌, ◌^◌, arith, ap, take, drop, replicate, length, [], refl, lit≤}
 use Rattle.sipl_records.specs.Addresses.{text_of_number}
-use Rattle.sipl_records.proofs.Dotted.{IsDotted, Writes, groups_written, appended}
+use Rattle.sipl_records.proofs.Dotted.{IsDotted, Writes, groups_written, appended, length-text_of_number}
 use Rattle.sipl_records.proofs.address4.write.Goals as goal
 
-pub returns-clause-ok : goal.returns-clause-ok
-returns-clause-ok c =
+-- what is appended is the number's text
+text : (c : goal.After-extend_from_slice) → take (15 - c.write_digits-first.result) (drop c.write_digits-first.result c.write_digits-first.new.buf) ≡ text_of_number c.from-number.result
+text c =
     let n = c.from-number.result in
     let fourth : Writes (n % 256) 15 c.write_digits-fourth.result (replicate 15 46) c.write_digits-fourth.new.buf =
     record { begins = c.write_digits-fourth.ensures.start; digits = c.write_digits-fourth.ensures.written; before = c.write_digits-fourth.ensures.before; length = c.write_digits-fourth.auto.buf } in
@@ -16,6 +17,16 @@ returns-clause-ok c =
     record { begins = c.write_digits-first.ensures.start; digits = c.write_digits-first.ensures.written; before = c.write_digits-first.ensures.before; length = c.write_digits-first.auto.buf } in
     let small : n < 2 ^ 32 = omega (arith, c.from-number.ensures, c.ranges.number.fits) in
     let dots : IsDotted 15 [] (replicate 15 46) = record { front = refl; back = refl; within = lit≤ tt } in
-    let text : take (15 - c.write_digits-first.result) (drop c.write_digits-first.result c.write_digits-first.new.buf) ≡ text_of_number n =
-    groups_written (n / 16777216) (n / 65536 % 256) (n / 256 % 256) (n % 256) c.write_digits-first.result c.write_digits-second.result c.write_digits-third.result c.write_digits-fourth.result (replicate 15 46) c.write_digits-fourth.new.buf c.write_digits-third.new.buf c.write_digits-second.new.buf c.write_digits-first.new.buf (omega arith) (omega arith) (omega arith) (omega arith) refl dots fourth third second first in
-    rw (c.extend_from_slice.ensures.items, ← c.from-number.ensures) (appended c.extend_from_slice.result c.args.out.now.items _ _ text)
+    groups_written (n / 16777216) (n / 65536 % 256) (n / 256 % 256) (n % 256) c.write_digits-first.result c.write_digits-second.result c.write_digits-third.result c.write_digits-fourth.result (replicate 15 46) c.write_digits-fourth.new.buf c.write_digits-third.new.buf c.write_digits-second.new.buf c.write_digits-first.new.buf (omega arith) (omega arith) (omega arith) (omega arith) refl dots fourth third second first
+
+pub returns-clause-ok : goal.returns-clause-ok
+returns-clause-ok c =
+    rw (c.extend_from_slice.ensures.items, ← c.from-number.ensures) (appended c.extend_from_slice.result c.args.out.now.items _ _ (text c))
+
+pub returns-clause-succeeds : goal.returns-clause-succeeds
+returns-clause-succeeds c = λ holds.
+    let whole = ap length (text c) in
+    c.extend_from_slice.ensures.succeeds (rw whole (rw c.from-number.ensures holds))
+
+pub returns-clause-short : goal.returns-clause-short
+returns-clause-short c = length-text_of_number c.args.number c.ranges.number.fits

@@ -1,11 +1,14 @@
-use Rattle.std.proofs.Common.{◌+◌, sym}
-use Rattle.sipl_records.proofs.Cuts.{parts-Some, parts-None}
-use Rattle.sipl_records.proofs.Groups.{rest_whole}
+use Rattle.std.proofs.Common.{◌≡◌, Some, None, ap, sym, ◌∙◌, ◌∷◌}
+use Rattle.std.specs.Option.{option_copied}
+use Rattle.sipl_records.specs.Parts.{parts, split_once}
+use Rattle.sipl_records.proofs.Parts.{parts-Some, parts-None}
 use Rattle.sipl_records.proofs.address6.part_before_colon.Goals as goal
 
-pub returns-in_err-colon-clause-parts : goal.returns-in_err-colon-clause-parts
-returns-in_err-colon-clause-parts c = rw c.from_residual.ensures (parts-None 58 c.args.text.now (sym c.in_err-colon.ensures))
+pub returns-in_err-rest-clause-parts : goal.returns-in_err-rest-clause-parts
+returns-in_err-rest-clause-parts c =
+    rw c.from_residual.ensures (parts-None 58 c.args.text.now (sym c.split_once.ensures.after ∙ ap option_copied c.in_err-rest.was))
 
 pub returns-clause-parts : goal.returns-clause-parts
 returns-clause-parts c =
-    rw (rest_whole c.args.text.now (c.in_ok-colon.colon + 1)) (parts-Some 58 c.args.text.now c.in_ok-colon.colon (sym c.in_ok-colon.ensures))
+    let found : (split_once 58 c.args.text.now).1 ≡ Some c.in_ok-rest.field-0.now = sym c.split_once.ensures.after ∙ ap option_copied c.in_ok-rest.was in
+    parts-Some 58 c.args.text.now c.in_ok-rest.field-0.now found ∙ ap (λ part. part ∷ parts 58 c.in_ok-rest.field-0.now) (sym c.split_once.ensures.before)

@@ -2,7 +2,7 @@ use Rattle.std.proofs.Common.{◌≡◌, ◌<◌, [], length, ap, sym, ◌∙◌
 use Rattle.std.proofs.lemmas.Bool.{eqb-true, eqb-false}
 use Rattle.std.proofs.lemmas.List.{nil_from_length}
 use Rattle.sipl_records.specs.Fields.{fields_of, trim_start, before_wsp, from_wsp}
-use Rattle.sipl_records.proofs.FieldLemmas.{fields_of-trim_start, fields_of-cut, length-after_field-lt, before_wsp-append}
+use Rattle.sipl_records.proofs.Fields.{fields_of-trim_start, fields_of-first, length-after_field-lt, before_wsp-append}
 use Rattle.sipl_records.proofs.field.next_field.Goals as goal
 
 some_left : (c : goal.After-split_at_wsp) → 0 < length (trim_start c.args.line.now)
@@ -11,11 +11,11 @@ some_left c =
     let same = ap length c.trim_start-line.ensures in
     omega arith
 
-front_is : (c : goal.After-split_at_wsp) → c.split_at_wsp.result.0.now ≡ before_wsp (trim_start c.args.line.now)
-front_is c = c.split_at_wsp.ensures.front ∙ ap before_wsp c.trim_start-line.ensures
+field_is : (c : goal.After-split_at_wsp) → c.split_at_wsp.result.0.now ≡ before_wsp (trim_start c.args.line.now)
+field_is c = c.split_at_wsp.ensures.before ∙ ap before_wsp c.trim_start-line.ensures
 
-back_is : (c : goal.After-split_at_wsp) → c.split_at_wsp.result.1.now ≡ from_wsp (trim_start c.args.line.now)
-back_is c = c.split_at_wsp.ensures.back ∙ ap from_wsp c.trim_start-line.ensures
+rest_is : (c : goal.After-split_at_wsp) → c.split_at_wsp.result.1.now ≡ from_wsp (trim_start c.args.line.now)
+rest_is c = c.split_at_wsp.ensures.from ∙ ap from_wsp c.trim_start-line.ensures
 
 pub returns-then-is_empty-clause-fields : goal.returns-then-is_empty-clause-fields
 returns-then-is_empty-clause-fields c =
@@ -23,10 +23,10 @@ returns-then-is_empty-clause-fields c =
     sym (fields_of-trim_start c.args.line.now) ∙ ap fields_of none
 
 pub returns-clause-fields : goal.returns-clause-fields
-returns-clause-fields c = rw (front_is c, back_is c) (fields_of-cut c.args.line.now (some_left c))
+returns-clause-fields c = rw (field_is c, rest_is c) (fields_of-first c.args.line.now (some_left c))
 
-pub returns-clause-parts : goal.returns-clause-parts
-returns-clause-parts c = rw (front_is c, back_is c) (sym (before_wsp-append (trim_start c.args.line.now)))
+pub returns-clause-whole : goal.returns-clause-whole
+returns-clause-whole c = rw (field_is c, rest_is c) (sym (before_wsp-append (trim_start c.args.line.now)))
 
 pub returns-clause-shorter : goal.returns-clause-shorter
-returns-clause-shorter c = rw (back_is c) (length-after_field-lt c.args.line.now (some_left c))
+returns-clause-shorter c = rw (rest_is c) (length-after_field-lt c.args.line.now (some_left c))

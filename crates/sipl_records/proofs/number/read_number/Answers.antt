@@ -1,7 +1,7 @@
 use Rattle.std.proofs.Common.{get_or, sym, ◌∙◌, arith}
 use Rattle.std.proofs.lemmas.Int.Digits.{digits_value_more}
 use Rattle.std.proofs.lemmas.Str.{digit_value_digit}
-use Rattle.sipl_records.proofs.NumberLemmas.{number_of-no_digit, number_of-too_great, all_ascii_digits_more}
+use Rattle.sipl_records.proofs.Numbers.{number_of-no_digit, number_of-too_great, all_ascii_digits_more}
 use Rattle.sipl_records.proofs.number.read_number.Goals as goal
 
 pub returns-then-not-is_ascii_digit : goal.returns-then-not-is_ascii_digit
@@ -15,8 +15,8 @@ returns-in_err-value c =
     let digit = digit_value_digit (get_or c.args.text.now c.loop-octet.octet-index 0) (c.if-not-is_ascii_digit.ensures.cases) in
     c.from_residual-in_err-value.ensures ∙ sym (number_of-too_great c.args.text.now c.loop-octet.octet-index c.loop-octet.value _ c.loop-octet-test.true c.loop-octet.invariant.so_far (omega (arith, c.in_err-value.ensures, c.in_ok-checked_mul.ensures.1)))
 
-pub returns-then-value-most : goal.returns-then-value-most
-returns-then-value-most c =
+pub returns-then-value-max : goal.returns-then-value-max
+returns-then-value-max c =
     let digit = digit_value_digit (get_or c.args.text.now c.loop-octet.octet-index 0) (c.if-not-is_ascii_digit.ensures.cases) in
     sym (number_of-too_great c.args.text.now c.loop-octet.octet-index c.loop-octet.value _ c.loop-octet-test.true c.loop-octet.invariant.so_far (omega (arith, c.in_ok-value.ensures.1, c.in_ok-checked_mul.ensures.1)))
 

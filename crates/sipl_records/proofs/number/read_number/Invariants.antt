@@ -7,5 +7,5 @@ abbrev pub invariant-loop-octet : goal.invariant-loop-octet
 invariant-loop-octet l = record {
   digits : all_ascii_digits (take l.octet-index l.text) ≡ true;
   so_far : l.value ≡ digits_value 10 (take l.octet-index l.text);
-  within : l.value ≤ l.most;
+  within : l.value ≤ l.max;
 }

@@ -1,5 +1,0 @@
-use Rattle.sipl_records.proofs.RoundTrip.{address_of-text}
-use Rattle.sipl_records.proofs.address.printing_addresses_reads_back.Goals as goal
-
-pub returns : goal.returns
-returns c = address_of-text
