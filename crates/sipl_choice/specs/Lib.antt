@@ -1,3 +1,5 @@
 pub mod Transports
+pub mod Endpoints
+pub mod AbilitiesFault
 pub mod Abilities
-pub use Rattle.sipl_records.specs.Addresses
+pub mod SameClient

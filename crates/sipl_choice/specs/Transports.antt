@@ -2,23 +2,22 @@
 use Rattle.std.specs.Prelude.{ℕ, Bool, true, false, List, codes}
 use Rattle.sipl_choice.specs.declared.transport.Transport.{Transport}
 use Rattle.sipl_choice.specs.declared.transport.Transport.TheVariants.{Udp, Tcp, Tls, Sctp}
-use Rattle.sipl_choice.specs.declared.transport.TheConstants.{SIP_PORT, SIPS_PORT}
 
 -- RFC 3261, 19.1.2: 5061 for TLS, else 5060
 abbrev pub default_port : Transport → ℕ
-default_port Udp = SIP_PORT
-default_port Tcp = SIP_PORT
-default_port Tls = SIPS_PORT
-default_port Sctp = SIP_PORT
+default_port Udp = 5060
+default_port Tcp = 5060
+default_port Tls = 5061
+default_port Sctp = 5060
 
--- how a transport is printed
+-- RFC 3261, 19.1.1: the transport's name in URIs, and in replies
 abbrev pub transport_text : Transport → List ℕ
 transport_text Udp = codes "udp"
 transport_text Tcp = codes "tcp"
 transport_text Tls = codes "tls"
 transport_text Sctp = codes "sctp"
 
--- whether two transports are one
+-- whether two transports are the same
 abbrev pub same_transport : Transport → Transport → Bool
 same_transport Udp Udp = true
 same_transport Tcp Tcp = true

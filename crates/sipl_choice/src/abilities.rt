@@ -1,6 +1,8 @@
 ghost use Rattle.std.specs.Prelude.{◌≡◌, None, IfOk};
 ghost use Rattle.std.specs.Result.{result_err};
-ghost use Rattle.sipl_choice.specs.Abilities.{abilities_fault, repeats_transport as repeats, supports as is_supported};
+ghost use Rattle.std.specs.Cmp.{partial_equiv_from_equiv};
+ghost use Rattle.sipl_choice.specs.Abilities.{abilities_fault, repeats_transport, same_client, supports};
+ghost use Rattle.sipl_choice.specs.SameClient.{same_client-equivalence};
 
 use crate::families::Families;
 use crate::fault::AbilitiesFault;
@@ -8,9 +10,9 @@ use crate::transport::Transport;
 use std::alloc::{AllocError, Global};
 use std::marker::Model;
 
-/// What a client can do (RFC 3263, 4.1 and 4.2): the transports that it has, in the order in which
-/// it prefers them, and the families of addresses that it uses. It has at least one transport, and
-/// none twice.
+/// What a client can do (RFC 3263, 4.1 and 4.2): the transports that it supports, in the order in
+/// which it prefers them, and the families of addresses that it uses. It supports at least one
+/// transport, and lists none twice.
 #[derive(Debug, Drop)]
 pub struct Abilities {
     preference: Vec<Transport>,
@@ -29,10 +31,11 @@ impl Model for Abilities {
 }
 
 impl Abilities {
-    /// The abilities of a client with these transports, in the order in which it prefers them. C1
-    /// where there is none, C2 where one of them stands there twice. It takes no memory.
+    /// The abilities of a client that supports these transports, in the order in which it prefers
+    /// them. C1 where there is none, C2 where one of them is listed twice. Does not allocate.
     pub fn new(preference: Vec<Transport>, families: Families) -> Result<Self, AbilitiesFault>
-        ensures made { IfOk result (λ abilities. (abilities.preference ≡ preference.items) × (abilities.families ≡ families)) }
+        ensures preference { IfOk result (λ abilities. abilities.preference ≡ preference.items) }
+        ensures families { IfOk result (λ abilities. abilities.families ≡ families) }
         ensures refused { abilities_fault preference.items ≡ result_err result }
     {
         if preference.is_empty() {
@@ -47,7 +50,7 @@ impl Abilities {
         })
     }
 
-    /// The transports that the client has, in the order in which it prefers them.
+    /// The transports that the client supports, in the order in which it prefers them.
     pub fn preference(&self) -> &[Transport]
         ensures value { result.now ≡ self.now.preference }
         ensures valid { abilities_fault self.now.preference ≡ None }
@@ -62,14 +65,14 @@ impl Abilities {
         self.families
     }
 
-    /// Whether the client has this transport.
+    /// Whether the client supports this transport.
     pub fn supports(&self, transport: Transport) -> bool
-        ensures { result ≡ is_supported self.now.preference transport }
+        ensures { result ≡ supports self.now.preference transport }
     {
-        is_among(&self.preference, transport)
+        self.preference().contains(&transport)
     }
 
-    /// A copy. Only a refused growth of memory is an error.
+    /// A copy. The only error is an allocation failure.
     pub fn dup(&self, alloc: Global) -> Result<Self, AllocError>
         ensures { IfOk result (λ copy. copy ≡ self.now) }
     {
@@ -81,19 +84,27 @@ impl Abilities {
     }
 }
 
-fn is_among(transports: &[Transport], transport: Transport) -> bool
-    ensures { result ≡ is_supported transports.now transport }
-{
-    transports.contains(&transport)
+impl PartialEq for Abilities {
+    ghost eq = { same_client };
+
+    ghost laws = { partial_equiv_from_equiv same_client-equivalence };
+
+    fn eq(&self, other: &Abilities) -> bool {
+        self.preference == other.preference && self.families == other.families
+    }
 }
 
-// Whether one of the transports stands there twice.
+impl Eq for Abilities {
+    ghost laws = { same_client-equivalence };
+}
+
+// Whether a transport is in the list twice.
 fn repeats_transport(transports: &[Transport]) -> bool
-    ensures { result ≡ repeats transports.now }
+    ensures { result ≡ repeats_transport transports.now }
 {
     let mut rest = transports;
     while let [transport, others @ ..] = rest {
-        if is_among(others, *transport) {
+        if others.contains(transport) {
             return true;
         }
         rest = others;
@@ -108,13 +119,13 @@ mod tests {
     use std::test::Fail;
 
     #[test]
-    fn refuses_an_empty_list(rt: HostRuntime) {
+    fn new_refuses_an_empty_list(rt: HostRuntime) {
         let client = Abilities::new(Vec::new(rt.alloc()), Families::V4);
         assert_eq!(rt; client.err(), Some(AbilitiesFault::EmptyAbilities));
     }
 
     #[test]
-    fn refuses_a_transport_that_stands_there_twice(rt: HostRuntime) -> Result<(), Fail> {
+    fn new_refuses_a_transport_listed_twice(rt: HostRuntime) -> Result<(), Fail> {
         for transports in [[Udp, Udp, Tcp], [Udp, Tcp, Udp], [Sctp, Tls, Tls]] {
             let client = Abilities::new(Vec::from_slice(rt.alloc(), &transports)?, Families::V4);
             assert_eq!(rt; client.err(), Some(AbilitiesFault::RepeatedTransport));
@@ -123,20 +134,31 @@ mod tests {
     }
 
     #[test]
-    fn keeps_the_order_of_preference(rt: HostRuntime) -> Result<(), Fail> {
+    fn abilities_keep_the_order_of_preference(rt: HostRuntime) -> Result<(), Fail> {
         let client = Abilities::new(Vec::from_slice(rt.alloc(), &[Udp, Tcp])?, Families::V4)?;
         assert_eq!(rt; client.preference(), [Udp, Tcp].as_slice());
         assert_eq!(rt; client.families(), Families::V4);
         assert!(rt; client.supports(Tcp));
         assert!(rt; !client.supports(Tls));
         let copy = client.dup(rt.alloc())?;
+        assert!(rt; copy == client);
         assert_eq!(rt; copy.preference(), [Udp, Tcp].as_slice());
         assert_eq!(rt; copy.families(), Families::V4);
         Ok(())
     }
 
     #[test]
-    fn takes_each_transport_once(rt: HostRuntime) -> Result<(), Fail> {
+    fn equality_sees_the_order_of_preference(rt: HostRuntime) -> Result<(), Fail> {
+        let client = Abilities::new(Vec::from_slice(rt.alloc(), &[Udp, Tcp])?, Families::V4)?;
+        for transports in [[Udp, Tls].as_slice(), &[Tcp, Udp], &[Udp], &[Udp, Tcp, Tls]] {
+            let other = Abilities::new(Vec::from_slice(rt.alloc(), transports)?, Families::V4)?;
+            assert!(rt; other != client);
+        }
+        Ok(())
+    }
+
+    #[test]
+    fn new_accepts_each_transport_once(rt: HostRuntime) -> Result<(), Fail> {
         let client = Abilities::new(
             Vec::from_slice(rt.alloc(), &[Sctp, Tls, Tcp, Udp])?,
             Families::V4,

@@ -1,6 +1,6 @@
-/// The families of addresses that a client uses, in the order in which it asks for them.
+/// The families of addresses that a client uses, in the order in which it looks them up.
 #[derive(Clone, Copy, Debug, PartialEq, Eq, Hash)]
 pub enum Families {
-    /// IPv4 alone.
+    /// Only IPv4.
     V4,
 }

@@ -1,22 +1,22 @@
 ghost use Rattle.std.specs.Prelude.{◌≡◌};
-ghost use Rattle.sipl_choice.specs.Abilities.{code_of};
+ghost use Rattle.sipl_choice.specs.AbilitiesFault.{code_of};
 
 use std::error::Error;
 use std::fmt;
 
-/// Why a list of transports is no list of preference.
+/// Why a list of transports is invalid as a client's preference.
 #[derive(Clone, Copy, Debug, PartialEq, Eq, Hash)]
 pub enum AbilitiesFault {
     /// C1: the list is empty.
     EmptyAbilities,
-    /// C2: a transport stands in it twice.
+    /// C2: a transport is listed twice.
     RepeatedTransport,
 }
 
 impl AbilitiesFault {
-    /// The code by which programs print the fault.
-    pub fn code(&self) -> &'static str
-        ensures { result.now ≡ code_of self.now }
+    /// The error's code in replies, `C1` or `C2`.
+    pub fn code(self) -> &'static str
+        ensures { result.now ≡ code_of self }
     {
         match self {
             AbilitiesFault::EmptyAbilities => "C1",
@@ -27,18 +27,15 @@ impl AbilitiesFault {
 
 impl fmt::Display for AbilitiesFault {
     ghost use Rattle.std.specs.Prelude.{Some};
-    ghost use Rattle.sipl_choice.specs.Abilities.{message_of};
+    ghost use Rattle.sipl_choice.specs.AbilitiesFault.{message_of};
 
     ghost output = { λ fault. Some (message_of fault) };
 
     fn fmt<W: fmt::Write>(&self, f: &mut fmt::Formatter<W>) -> fmt::Result {
-        match self {
-            AbilitiesFault::EmptyAbilities => write!(f, "a client without a transport"),
-            AbilitiesFault::RepeatedTransport => write!(
-                f,
-                "a transport that stands in the preference twice"
-            ),
-        }
+        f.write_str(match self {
+            AbilitiesFault::EmptyAbilities => "the client has no transport",
+            AbilitiesFault::RepeatedTransport => "a transport is listed twice",
+        })
     }
 }
 
@@ -50,16 +47,22 @@ mod tests {
     use std::test::Fail;
 
     #[test]
-    fn has_codes_and_words(rt: HostRuntime) -> Result<(), Fail> {
-        assert_eq!(rt; AbilitiesFault::EmptyAbilities.code(), "C1");
-        assert_eq!(rt; AbilitiesFault::RepeatedTransport.code(), "C2");
-        let words = AbilitiesFault::EmptyAbilities.to_string(rt.alloc())?;
-        assert_eq!(rt; words.as_str(), "a client without a transport");
-        let words = AbilitiesFault::RepeatedTransport.to_string(rt.alloc())?;
-        assert_eq!(rt;
-            words.as_str(),
-            "a transport that stands in the preference twice"
-        );
+    fn faults_have_codes_and_messages(rt: HostRuntime) -> Result<(), Fail> {
+        for (fault, code, message) in [
+            (
+                AbilitiesFault::EmptyAbilities,
+                "C1",
+                "the client has no transport",
+            ),
+            (
+                AbilitiesFault::RepeatedTransport,
+                "C2",
+                "a transport is listed twice",
+            ),
+        ] {
+            assert_eq!(rt; fault.code(), code);
+            assert_eq!(rt; fault.to_string(rt.alloc())?.as_str(), message);
+        }
         Ok(())
     }
 }

@@ -1,4 +1,5 @@
-//! What a client chooses from: transports, endpoints, families of addresses and abilities.
+//! What a client chooses from (RFC 3263, 4): transports, endpoints, families of addresses, and the
+//! abilities of a client.
 #![tactic(auto)]
 
 mod abilities;

@@ -1,5 +1,5 @@
 ghost use Rattle.std.specs.Prelude.{◌≡◌, Some};
-ghost use Rattle.sipl_choice.specs.Transports.{default_port as port_of, transport_text};
+ghost use Rattle.sipl_choice.specs.Transports.{default_port, transport_text};
 
 use std::fmt;
 
@@ -21,7 +21,7 @@ pub enum Transport {
 
 /// The port where none is given: 5061 for TLS, else 5060 (RFC 3261, 19.1.2).
 pub fn default_port(transport: Transport) -> u16
-    ensures { result ≡ port_of transport }
+    ensures { result ≡ default_port transport }
 {
     match transport {
         Transport::Tls => SIPS_PORT,
@@ -57,7 +57,7 @@ mod tests {
     use std::test::Fail;
 
     #[test]
-    fn has_ports_and_names(rt: HostRuntime) -> Result<(), Fail> {
+    fn transports_have_ports_and_names(rt: HostRuntime) -> Result<(), Fail> {
         for (transport, name, port) in [
             (Transport::Udp, "udp", 5060),
             (Transport::Tcp, "tcp", 5060),

@@ -1,6 +1,6 @@
 -- The codes and the messages of refusals, and the cause that a fault in a name is.
 use Rattle.std.specs.Prelude.{ℕ, List, ◌++◌, codes, decimal}
-use Rattle.sipl_names.specs.FaultCode.{message_of as name_message}
+use Rattle.sipl_names.specs.NameFault.{message_of as name_message}
 use Rattle.sipl_names.specs.declared.fault.NameFault.{NameFault}
 use Rattle.sipl_names.specs.declared.fault.NameFault.TheVariants.{EmptyLabel, LabelTooLong, NameTooLong, BadEscape, Memory as name_memory}
 use Rattle.sipl_masterfile.specs.declared.fault.ZoneCause.{ZoneCause}

@@ -1,7 +1,10 @@
+pub mod SameName
 pub mod Lowercase
 pub mod Wires
 pub mod Within
 pub mod ReadText
-pub mod Completes
+pub mod Denotes
 pub mod Prefixes
 pub mod RoundTrip
+pub mod TextLength
+pub mod Printing

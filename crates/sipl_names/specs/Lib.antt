@@ -1,10 +1,8 @@
-pub mod FaultCode
+pub mod NameFault
 pub mod Labels
 pub mod Wire
-pub mod SameName
 pub mod Escapes
 pub mod NameText
 pub mod NamePrint
 pub mod Reading
-pub mod Extends
 pub mod LabelSlices

@@ -1,56 +1,56 @@
--- What a name's text in a master file says (RFC 1035, 5.1).
-use Rattle.std.specs.Prelude.{ℕ, suc, zero, Bool, true, false, List, [], ◌∷◌, ◌++◌, None, Some, Result, Ok, Err, nat_eq, if◌then◌else◌, ◌==◌}
+-- Which name a text in a master file denotes (RFC 1035, 5.1).
+use Rattle.std.specs.Prelude.{ℕ, suc, zero, Bool, true, false, List, [], ◌∷◌, ◌++◌, None, Some, Result, Ok, Err, nat_eq, if◌then◌else◌, ◌==◌, codes}
 use Rattle.std.specs.Str.{str_to_ascii_lowercase}
 use lib.Pointwise.{pointwise}
 use Rattle.sipl_names.specs.declared.fault.NameFault.{NameFault}
 use Rattle.sipl_names.specs.declared.fault.NameFault.TheVariants.{BadEscape}
-use Rattle.sipl_names.specs.Labels.{label_fault, limited}
-use Rattle.sipl_names.specs.Escapes.{escape_of}
+use Rattle.sipl_names.specs.Labels.{Octets, Labels, label_fault, name_within_limit}
+use Rattle.sipl_names.specs.Escapes.{backslash, full_stop, escape_of}
 
--- what a text is made of: octets of labels, the dots between them, and escapes that are none
+-- what a text is made of: octets of labels, dots between labels, and backslashes that begin no escape
 pub data Symbol : Type 0 where
   octet : ℕ → Symbol
   dot : Symbol
-  no_escape : Symbol
+  bad_escape : Symbol
 
--- An octet stands for itself, a dot for the end of a label, and a backslash with what follows it for an octet.
--- The first number is how many octets belong to an escape that was read already.
-abbrev pub symbols : ℕ → List ℕ → List Symbol
-symbols spelled [] = []
-symbols (suc spelled) (c ∷ text) = symbols spelled text
+-- An octet denotes itself, a dot ends a label, and a backslash and what follows it denote an octet.
+-- The number is how many octets at the text's beginning belong to an escape before it.
+abbrev pub symbols : ℕ → Octets → List Symbol
+symbols escaped [] = []
+symbols (suc escaped) (c ∷ text) = symbols escaped text
 symbols zero (c ∷ text) =
-    if c == 92
-    then elim (escape_of text) [ Some escape ↦ octet escape.0 ∷ symbols escape.1 text | None ↦ no_escape ∷ [] ]
-    else (if c == 46 then dot else octet c) ∷ symbols 0 text
+    if c == backslash
+    then elim (escape_of text) [ Some escape ↦ octet escape.0 ∷ symbols escape.1 text | None ↦ bad_escape ∷ [] ]
+    else (if c == full_stop then dot else octet c) ∷ symbols 0 text
 
--- The labels, and whether a dot ends the text.
+-- the labels of a text, and whether the name is absolute: a dot ends it
 abbrev pub Read : Type 0
-Read = Result (List (List ℕ) × Bool) NameFault
+Read = Result (Labels × Bool) NameFault
 
--- a label before the others, in lower case
-abbrev pub followed_by : List ℕ → Read → Read
-followed_by label (Ok labels) = Ok (str_to_ascii_lowercase label ∷ labels.0, labels.1)
-followed_by label (Err fault) = Err fault
+-- a label prepended to those that follow, in lower case
+abbrev pub prepend_label : Octets → Read → Read
+prepend_label label (Ok read) = Ok (str_to_ascii_lowercase label ∷ read.0, read.1)
+prepend_label label (Err fault) = Err fault
 
--- A label that ends here, and what follows. Its own fault comes before those that follow.
-abbrev pub ended : List ℕ → Read → Read
-ended label rest = elim (label_fault label) [ Some fault ↦ Err fault | None ↦ followed_by label rest ]
+-- a label that ends here, prepended to those that follow: its own fault comes before theirs
+abbrev pub prepend_checked_label : Octets → Read → Read
+prepend_checked_label label read = elim (label_fault label) [ Some fault ↦ Err fault | None ↦ prepend_label label read ]
 
--- The labels that the symbols spell, the first of which has begun with these octets.
-abbrev pub labels_from : List ℕ → List Symbol → Read
-labels_from label [] = ended label (Ok ([], false))
+-- the labels that the symbols spell, the first of which has begun with these octets
+abbrev pub labels_from : Octets → List Symbol → Read
+labels_from label [] = prepend_checked_label label (Ok ([], false))
 labels_from label (octet c ∷ rest) = labels_from (label ++ c ∷ []) rest
-labels_from label (no_escape ∷ rest) = Err BadEscape
-labels_from label (dot ∷ []) = ended label (Ok ([], true))
-labels_from label (dot ∷ next ∷ rest) = ended label (labels_from [] (next ∷ rest))
+labels_from label (bad_escape ∷ rest) = Err BadEscape
+labels_from label (dot ∷ []) = prepend_checked_label label (Ok ([], true))
+labels_from label (dot ∷ next ∷ rest) = prepend_checked_label label (labels_from [] (next ∷ rest))
 
--- A text that ends with a dot is a whole name. Any other is followed by the origin.
-abbrev pub completed : List (List ℕ) → Read → Result (List (List ℕ)) NameFault
-completed origin (Ok labels) = limited (if labels.1 then labels.0 else labels.0 ++ origin)
-completed origin (Err fault) = Err fault
+-- an absolute name is complete, any other is relative to the origin
+abbrev pub relative_to : Labels → Read → Result Labels NameFault
+relative_to origin (Ok read) = name_within_limit (if read.1 then read.0 else read.0 ++ origin)
+relative_to origin (Err fault) = Err fault
 
--- the name that a text says, or the first fault: `@` is the origin, `.` the root
-abbrev pub name_of : List ℕ → List (List ℕ) → Result (List (List ℕ)) NameFault
+-- the name that a text denotes, or the first fault: `@` is the origin, `.` the root
+abbrev pub name_of : Octets → Labels → Result Labels NameFault
 name_of text origin =
-    if pointwise nat_eq text (64 ∷ []) then Ok origin
-    else (if pointwise nat_eq text (46 ∷ []) then Ok [] else completed origin (labels_from [] (symbols 0 text)))
+    if pointwise nat_eq text (codes "@") then Ok origin
+    else (if pointwise nat_eq text (codes ".") then Ok [] else relative_to origin (labels_from [] (symbols 0 text)))

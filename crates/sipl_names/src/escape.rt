@@ -1,9 +1,9 @@
 ghost use Rattle.std.specs.Prelude.{◌≡◌, ◌<◌, ◌≤◌, length, IfSome};
 ghost use Rattle.sipl_names.specs.Escapes.{escape_of, decimal_escape};
 
-/// What follows a backslash (RFC 1035, 5.1): the octet that it stands for, and how many octets
-/// spell it. Three digits up to 255 stand for that octet, an octet that is no digit for itself.
-/// None where neither follows.
+/// Reads what follows a backslash (RFC 1035, 5.1): the octet that the escape denotes, and how many
+/// octets of the text it takes. Three digits up to 255 denote the octet of that number, and an
+/// octet that is not a digit denotes itself. None where neither follows.
 pub fn read_escape(text: &[u8]) -> Option<(u8, usize)>
     ensures value { result ≡ escape_of text.now }
     ensures some { IfSome result (λ escape. 0 < escape.1) }
@@ -17,7 +17,7 @@ pub fn read_escape(text: &[u8]) -> Option<(u8, usize)>
     }
 }
 
-// The octet that three digits stand for.
+// The octet that three digits denote.
 fn read_decimal(text: &[u8]) -> Option<(u8, usize)>
     ensures value { result ≡ decimal_escape text.now }
     ensures within { IfSome result (λ escape. (escape.1 ≡ 3) × (3 ≤ length text.now)) }

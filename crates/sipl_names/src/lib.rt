@@ -1,8 +1,10 @@
-//! Domain names: their text in master files, their wire form, and their order below one another.
+//! Domain names (RFC 1034, RFC 1035): their text in master files, their wire form, and which names
+//! are within which.
 #![tactic(auto)]
 
 mod escape;
 mod fault;
+pub mod laws;
 mod name;
 mod print;
 mod text;
@@ -11,13 +13,15 @@ mod wire;
 pub use escape::read_escape;
 pub use fault::NameFault;
 pub use name::Name;
-pub use print::printing_reads_back;
 
-/// The most octets of a label (RFC 1035, 2.3.4).
+/// The maximum number of octets of a label (RFC 1035, 2.3.4).
 pub const MAX_LABEL_LEN: usize = 63;
 
-/// The most octets of a name's wire form, with the octet of the root (RFC 1035, 2.3.4).
+/// The maximum number of octets of a name's wire form, with that of the root (RFC 1035, 2.3.4).
 pub const MAX_NAME_LEN: usize = 255;
+
+/// The maximum number of octets of a name's text, as `Name::write` appends it.
+pub const MAX_NAME_TEXT_LEN: usize = 1004;
 
 #[cfg(test)]
 mod tests;

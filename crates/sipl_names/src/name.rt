@@ -1,19 +1,20 @@
-ghost use Rattle.std.specs.Prelude.{◌≡◌, ◌≢◌, ◌↔◌, ◌++◌, [], List, ℕ, IsTrue, IfOk, IfErr, IfSome, OnOk, OnErr};
+ghost use Rattle.std.specs.Prelude.{◌≡◌, ◌≢◌, ◌↔◌, ◌+◌, ◌≤◌, [], ◌++◌, length, IsTrue, IsOk, IfOk, IfErr, IfSome, OnOk, OnErr, vec_len, vec_capacity};
 ghost use Rattle.std.specs.Option.{option_copied};
-ghost use Rattle.std.specs.Cmp as laws_of;
+ghost use Rattle.std.specs.Cmp.{partial_equiv_from_equiv};
 ghost use Rattle.std.specs.Cmp.Lexicographic.{lists_equiv, nat_list_eq_equiv};
-ghost use Rattle.std.specs.Hash as fed;
-ghost use Rattle.sipl_names.specs.Labels.{IsName, wire_length, wire_of, same_name, is_within, parent_of, prefixed_of, top_label_of};
+ghost use Rattle.sipl_names.specs.Labels.{Labels, IsName, wire_length, same_name, is_within, parent_of, prefixed_of, top_label_of};
 ghost use Rattle.sipl_names.specs.LabelSlices.{octets_of};
 ghost use Rattle.sipl_names.specs.NamePrint.{text_of};
 ghost use Rattle.sipl_names.specs.NameText.{name_of};
-ghost use Rattle.sipl_names.specs.SameName.{same_wires};
+ghost use Rattle.sipl_names.specs.Wire.{hash_writes};
+ghost use Rattle.std.proofs.Common.{ap};
+ghost use lib.Pointwise.{pointwise_decides, bytes_decides};
 
 use crate::MAX_NAME_LEN;
 use crate::fault::NameFault;
-use crate::print::append_text;
-use crate::text::{Labels, read_labels};
-use crate::wire::{checked_len, push_labels, split_label};
+use crate::print::{reserve_text, write_text};
+use crate::text::read_labels;
+use crate::wire::{checked_wire_len, push_labels, split_label};
 use std::alloc::{AllocError, Global};
 use std::hash::{Hash, Hasher};
 use std::marker::Model;
@@ -23,15 +24,15 @@ use std::marker::Model;
 /// so names are compared without case (RFC 4343, 3).
 #[derive(Debug, Drop)]
 pub struct Name {
-    // The wire form, without the octet of the root: so the root takes no memory.
+    // The wire form, without the octet of the root: so the root does not allocate.
     wire: Vec<u8>,
 }
 
 impl Model for Name {
-    ghost use Rattle.std.specs.Prelude.{List, ℕ};
+    ghost use Rattle.sipl_names.specs.Labels.{Labels};
     ghost use Rattle.sipl_names.specs.Wire.{labels_of_wire, IsNameWire};
 
-    ghost Value = { List (List ℕ) };
+    ghost Value = { Labels };
 
     ghost view = { λ name. labels_of_wire name.wire.items };
 
@@ -39,7 +40,7 @@ impl Model for Name {
 }
 
 impl Name {
-    /// The root, the name without labels. It takes no memory.
+    /// The root, the name without labels. Does not allocate.
     pub fn root(alloc: Global) -> Self
         ensures { result ≡ [] }
     {
@@ -48,14 +49,14 @@ impl Name {
         }
     }
 
-    /// Reads a name's text in a master file (RFC 1035, 5.1). `@` alone is the origin, `.` alone
-    /// the root. A backslash and three digits up to 255 are that octet, a backslash and an octet
-    /// that is no digit are that octet; a dot ends a label. A text that no dot ends is followed by
-    /// the origin.
+    /// Parses a name's text in a master file (RFC 1035, 5.1). The text `@` is the origin, the text
+    /// `.` the root. A backslash and three digits up to 255 denote that octet, a backslash and an
+    /// octet that is not a digit denote that octet; a dot ends a label. A name that does not end
+    /// with a dot is relative: the origin's labels follow.
     ///
-    /// The fault is the first in the text, an empty label (N1), a label of more than 63 octets
-    /// (N2), each found where the label ends, or a backslash that begins no escape (N4); then a
-    /// wire form of more than 255 octets (N3).
+    /// The error is the first in the text: an empty label (N1) or a label of more than 63 octets
+    /// (N2), each found where the label ends, or a backslash that begins no escape (N4). A wire
+    /// form of more than 255 octets (N3) is checked last.
     pub fn from_text(alloc: Global, text: &[u8], origin: &Name) -> Result<Self, NameFault>
         ensures read { IfOk result (λ name. name_of text.now origin.now ≡ Ok name) }
         ensures refused { IfErr result
@@ -68,8 +69,14 @@ impl Name {
         if text == b".".as_slice() {
             return Ok(Name::root(alloc));
         }
-        let Labels { mut wire, is_whole } = read_labels(alloc, text)?;
-        if !is_whole {
+        let origin_len = if text.ends_with(b".") {
+            0
+        } else {
+            origin.wire.len()
+        };
+        let mut wire = Vec::with_capacity(alloc, text.len() + 1 + origin_len)?;
+        let is_absolute = read_labels(&mut wire, text)?;
+        if !is_absolute {
             wire.extend_from_slice(&origin.wire)?;
         }
         if wire.len() >= MAX_NAME_LEN {
@@ -78,8 +85,8 @@ impl Name {
         Ok(Name { wire })
     }
 
-    /// The name with these labels in front, in lower case. The fault of the first that is no label
-    /// (N1, N2) comes before that of the whole, a wire form of more than 255 octets (N3).
+    /// The name with these labels prepended, in lower case. The fault of the first that is not a
+    /// label (N1, N2) comes before that of a wire form of more than 255 octets (N3).
     pub fn prefixed(&self, alloc: Global, labels: &[&[u8]]) -> Result<Self, NameFault>
         ensures made { IfOk result
             (λ name. prefixed_of (octets_of labels.now) self.now ≡ Ok name) }
@@ -88,29 +95,30 @@ impl Name {
             → prefixed_of (octets_of labels.now) self.now ≡ Err fault) }
         ensures limits { IfOk result IsName }
     {
-        let len = checked_len(labels)?.saturating_add(self.wire.len());
+        let len = checked_wire_len(labels)?.saturating_add(self.wire.len());
         if len >= MAX_NAME_LEN {
             return Err(NameFault::NameTooLong);
         }
         let mut wire = Vec::with_capacity(alloc, len)?;
-        push_labels(&mut wire, labels)?;
+        push_labels(&mut wire, labels);
         wire.extend_from_slice(&self.wire)?;
         Ok(Name { wire })
     }
 
-    /// Appends the name's text (RFC 1035, 5.1): each label with a dot behind it, the root as a
-    /// dot. Octets of 0x21 to 0x7E stand for themselves, `. \ " ; ( ) @ $` with a backslash before
-    /// them, all others as a backslash and three digits. An `Err` leaves `out` as it was.
+    /// Appends the name's text (RFC 1035, 5.1): each label followed by a dot, the root as a dot.
+    /// Octets of 0x21 to 0x7E are printed as they are, `. \ " ; ( ) @ $` after a backslash, all
+    /// others as a backslash and three digits. At most `MAX_NAME_TEXT_LEN` octets are appended.
+    /// Allocates only where `out` lacks the capacity; an `Err` leaves `out` as it was.
     pub fn write(&self, out: &mut Vec<u8>) -> Result<(), AllocError>
         ensures ok { OnOk result (out.new.items ≡ out.old.items ++ text_of self.now) }
         ensures err { OnErr result (out.new.items ≡ out.old.items) }
+        ensures capacity { vec_capacity out.old ≤ vec_capacity out.new }
+        ensures succeeds { vec_len out.old + length (text_of self.now) ≤ vec_capacity out.old
+            → IsOk result }
     {
-        let len = out.len();
-        let outcome = append_text(&self.wire, out);
-        if outcome.is_err() {
-            out.truncate(len);
-        }
-        outcome
+        reserve_text(out, &self.wire)?;
+        write_text(out, &self.wire);
+        Ok(())
     }
 
     /// A copy of the name.
@@ -123,7 +131,7 @@ impl Name {
         })
     }
 
-    /// Octets of the wire form, with that of the root (RFC 1035, 3.1).
+    /// How many octets the wire form has, with that of the root (RFC 1035, 3.1): 1 to 255.
     pub fn wire_len(&self) -> usize
         ensures value { result ≡ wire_length self.now }
         ensures limits { IsName self.now }
@@ -138,33 +146,32 @@ impl Name {
         self.wire.is_empty()
     }
 
-    /// Whether the name is the apex or below it, label by label (RFC 1034, 3.1). It costs the
-    /// octets of the name, and takes no memory.
+    /// Whether the name is the apex or below it, label by label (RFC 1034, 3.1). Linear in the
+    /// length of the name. Does not allocate.
     pub fn is_within(&self, apex: &Name) -> bool
         ensures value { result ≡ is_within self.now apex.now }
-        ensures suffix { IsTrue result
-            ↔ ((front : List (List ℕ)) × (self.now ≡ front ++ apex.now)) }
+        ensures suffix { IsTrue result ↔ ((first : Labels) × (self.now ≡ first ++ apex.now)) }
     {
         let suffix = apex.wire.as_slice();
         let mut rest = self.wire.as_slice();
-        while let Some((_, behind)) = split_label(rest) {
+        while let Some((_, tail)) = split_label(rest) {
             if rest.len() <= suffix.len() {
                 break;
             }
-            rest = behind;
+            rest = tail;
         }
         rest == suffix
     }
 
-    /// The name above, without the first label; None for the root.
+    /// The name without its first label; None for the root.
     pub fn parent(&self, alloc: Global) -> Result<Option<Name>, AllocError>
-        ensures value { IfOk result (λ above. above ≡ parent_of self.now) }
-        ensures limits { IfOk result (λ above. IfSome above IsName) }
+        ensures value { IfOk result (λ parent. parent ≡ parent_of self.now) }
+        ensures limits { IfOk result (λ parent. IfSome parent IsName) }
     {
-        let Some((_, above)) = split_label(&self.wire) else {
+        let Some((_, rest)) = split_label(&self.wire) else {
             return Ok(None);
         };
-        let wire = Vec::from_slice(alloc, above)?;
+        let wire = Vec::from_slice(alloc, rest)?;
         Ok(Some(Name { wire }))
     }
 
@@ -174,9 +181,9 @@ impl Name {
     {
         let mut top = None;
         let mut rest = self.wire.as_slice();
-        while let Some((label, behind)) = split_label(rest) {
+        while let Some((label, tail)) = split_label(rest) {
             top = Some(label);
-            rest = behind;
+            rest = tail;
         }
         top
     }
@@ -185,7 +192,7 @@ impl Name {
 impl PartialEq for Name {
     ghost eq = { same_name };
 
-    ghost laws = { laws_of.partial_equiv_from_equiv (lists_equiv nat_list_eq_equiv) };
+    ghost laws = { partial_equiv_from_equiv (lists_equiv nat_list_eq_equiv) };
 
     fn eq(&self, other: &Name) -> bool {
         self.wire == other.wire
@@ -197,11 +204,12 @@ impl Eq for Name {
 }
 
 impl Hash for Name {
-    ghost hash_input = { λ labels. fed.slice fed.u8 (wire_of labels) };
+    ghost hash_input = { hash_writes };
 
-    ghost respects_eq = { λ x y same. same_wires (fed.slice fed.u8) x y same };
+    ghost respects_eq = { λ x y same. ap hash_writes ((pointwise_decides bytes_decides x y).0 same) };
 
     fn hash<H: Hasher>(&self, state: &mut H) {
-        self.wire.hash(state);
+        state.write(&self.wire);
+        state.write_u8(0);
     }
 }

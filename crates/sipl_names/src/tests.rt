@@ -31,14 +31,14 @@ fn prints(alloc: Global, row: Row<'_>) -> bool {
     }
 }
 
-// A text of labels of these lengths, each with a dot behind it, and then the tail.
+// A text of labels of these lengths, each followed by a dot, and then the tail.
 fn long_text(alloc: Global, lengths: &[usize], tail: &[u8]) -> Result<Vec<u8>, AllocError> {
     let mut text = Vec::new(alloc);
     for length in lengths {
         for _ in 0..*length {
-            text.push(b'a')?;
+            text.extend_from_slice(b"a")?;
         }
-        text.push(b'.')?;
+        text.extend_from_slice(b".")?;
     }
     text.extend_from_slice(tail)?;
     Ok(text)
@@ -57,7 +57,7 @@ fn spell(alloc: Global, octet: u8, out: &mut Vec<u8>) -> Result<(), AllocError> 
 }
 
 #[test]
-fn reads_and_prints(rt: HostRuntime) {
+fn parses_and_prints_names(rt: HostRuntime) {
     let rows: [Row<'_>; 11] = [
         (b"WWW.Example\\.x", b".", b"www.example\\.x."),
         (b"a", b"b.", b"a.b."),
@@ -77,7 +77,7 @@ fn reads_and_prints(rt: HostRuntime) {
 }
 
 #[test]
-fn finds_the_first_fault(rt: HostRuntime) {
+fn parsing_reports_the_first_fault(rt: HostRuntime) {
     let rows: [(&[u8], NameFault); 10] = [
         (b"", NameFault::EmptyLabel),
         (b"a..b", NameFault::EmptyLabel),
@@ -96,7 +96,7 @@ fn finds_the_first_fault(rt: HostRuntime) {
 }
 
 #[test]
-fn keeps_the_limits(rt: HostRuntime) -> Result<(), Fail> {
+fn accepts_63_and_255_octets_and_no_more(rt: HostRuntime) -> Result<(), Fail> {
     let alloc = rt.alloc();
     let rows: [(&[usize], &[u8], Option<NameFault>); 10] = [
         (&[63, 63, 63, 61], b"", None),
@@ -125,9 +125,9 @@ fn with_octet(alloc: Global, octet: u8, at: usize) -> Result<Vec<u8>, NameFault>
     let mut out = Vec::new(alloc);
     for (place, own) in b"xyz".iter().enumerate() {
         if place != at {
-            out.push(*own)?;
+            out.extend_from_slice(&[*own])?;
         } else if octet == b'.' {
-            out.push(b'.')?;
+            out.extend_from_slice(b".")?;
         } else if octet != b'\\' {
             spell(alloc, octet, &mut out)?;
         }
@@ -144,7 +144,7 @@ fn with_octet(alloc: Global, octet: u8, at: usize) -> Result<Vec<u8>, NameFault>
 }
 
 #[test]
-fn takes_each_octet_in_each_place(rt: HostRuntime) {
+fn parses_each_octet_at_each_place(rt: HostRuntime) {
     for octet in 0..=255u8 {
         for at in 0..3 {
             let mut text = *b"xyz";
@@ -164,12 +164,12 @@ fn with_number(alloc: Global, number: u16) -> Result<Vec<u8>, NameFault> {
     };
     let mut out = Vec::new(alloc);
     spell(alloc, octet, &mut out)?;
-    out.push(b'.')?;
+    out.extend_from_slice(b".")?;
     Ok(out)
 }
 
 #[test]
-fn takes_three_digits_up_to_255(rt: HostRuntime) -> Result<(), Fail> {
+fn accepts_decimal_escapes_up_to_255(rt: HostRuntime) -> Result<(), Fail> {
     for number in 0..1000u16 {
         let text = format!(in rt.alloc(); "\\{:03}", number)?;
         assert!(rt;
@@ -181,7 +181,7 @@ fn takes_three_digits_up_to_255(rt: HostRuntime) -> Result<(), Fail> {
 }
 
 #[test]
-fn reads_escapes(rt: HostRuntime) {
+fn read_escape_returns_octet_and_length(rt: HostRuntime) {
     assert!(rt; read_escape(b"0461") == Some((46, 3)));
     assert!(rt; read_escape(b"256").is_none());
     assert!(rt; read_escape(b".a") == Some((46, 1)));
@@ -193,7 +193,7 @@ fn is_below(alloc: Global, text: &[u8], apex: &[u8]) -> Result<bool, NameFault> 
 }
 
 #[test]
-fn places_names_below_one_another(rt: HostRuntime) -> Result<(), Fail> {
+fn is_within_compares_labels(rt: HostRuntime) -> Result<(), Fail> {
     let rows: [(&[u8], &[u8], bool); 8] = [
         (b"Example.COM", b"com", true),
         (b"example.com", b"eXample.com", true),
@@ -212,7 +212,7 @@ fn places_names_below_one_another(rt: HostRuntime) -> Result<(), Fail> {
 }
 
 #[test]
-fn goes_up(rt: HostRuntime) -> Result<(), Fail> {
+fn parent_drops_the_first_label(rt: HostRuntime) -> Result<(), Fail> {
     let com = name(rt.alloc(), b"com")?;
     let above = name(rt.alloc(), b"WWW.Example\\.x")?.parent(rt.alloc())?;
     assert!(rt; above == Some(name(rt.alloc(), b"example\\.x")?));
@@ -225,7 +225,7 @@ fn goes_up(rt: HostRuntime) -> Result<(), Fail> {
 }
 
 #[test]
-fn tells_its_parts(rt: HostRuntime) -> Result<(), Fail> {
+fn reports_wire_length_root_and_top_label(rt: HostRuntime) -> Result<(), Fail> {
     let example = name(rt.alloc(), b"example.com")?;
     let root = Name::root(rt.alloc());
     assert!(rt; example.wire_len() == 13 && root.wire_len() == 1);
@@ -235,12 +235,12 @@ fn tells_its_parts(rt: HostRuntime) -> Result<(), Fail> {
     Ok(())
 }
 
-fn fault_before(alloc: Global, full: &Name, labels: &[&[u8]]) -> Option<NameFault> {
+fn prefixed_fault(alloc: Global, full: &Name, labels: &[&[u8]]) -> Option<NameFault> {
     full.prefixed(alloc, labels).err()
 }
 
 #[test]
-fn puts_labels_in_front(rt: HostRuntime) -> Result<(), Fail> {
+fn prefixed_prepends_labels_in_lower_case(rt: HostRuntime) -> Result<(), Fail> {
     let labels: [&[u8]; 2] = [b"_sip", b"_UDP"];
     let service = name(rt.alloc(), b"example.com.")?.prefixed(rt.alloc(), &labels)?;
     assert!(rt; printed(rt.alloc(), &service)?.as_slice() == b"_sip._udp.example.com.".as_slice());
@@ -248,7 +248,7 @@ fn puts_labels_in_front(rt: HostRuntime) -> Result<(), Fail> {
 }
 
 #[test]
-fn refuses_labels_in_front(rt: HostRuntime) -> Result<(), Fail> {
+fn prefixed_reports_the_first_fault(rt: HostRuntime) -> Result<(), Fail> {
     let full = name(rt.alloc(), &long_text(rt.alloc(), &[63, 63, 63, 59], b"")?)?;
     let long: &[u8] = &[b'a'; 64];
     let rows: [([&[u8]; 2], NameFault); 4] = [
@@ -258,7 +258,7 @@ fn refuses_labels_in_front(rt: HostRuntime) -> Result<(), Fail> {
         ([b"", long], NameFault::EmptyLabel),
     ];
     for (labels, want) in rows {
-        assert!(rt; fault_before(rt.alloc(), &full, &labels) == Some(want));
+        assert!(rt; prefixed_fault(rt.alloc(), &full, &labels) == Some(want));
     }
     Ok(())
 }
@@ -273,7 +273,7 @@ fn compares_and_hashes_without_case(rt: HostRuntime) -> Result<(), Fail> {
 }
 
 #[test]
-fn keeps_what_stood_before(rt: HostRuntime) -> Result<(), Fail> {
+fn write_appends_to_what_is_there(rt: HostRuntime) -> Result<(), Fail> {
     let mut out = Vec::from_slice(rt.alloc(), b"zone ")?;
     name(rt.alloc(), b"a.b")?.write(&mut out)?;
     assert!(rt; out.as_slice() == b"zone a.b.".as_slice());
@@ -281,7 +281,31 @@ fn keeps_what_stood_before(rt: HostRuntime) -> Result<(), Fail> {
 }
 
 #[test]
-fn names_its_faults(rt: HostRuntime) -> Result<(), Fail> {
+fn write_needs_no_more_than_the_reserved_space(rt: HostRuntime) -> Result<(), Fail> {
+    let mut out = Vec::with_capacity(rt.alloc(), 5)?;
+    name(rt.alloc(), b"a.\\\\.")?.write(&mut out)?;
+    assert!(rt; out.as_slice() == b"a.\\\\.".as_slice());
+    assert!(rt; out.capacity() == 5);
+    Ok(())
+}
+
+#[test]
+fn longest_text_has_1004_octets(rt: HostRuntime) -> Result<(), Fail> {
+    let mut text = Vec::new(rt.alloc());
+    for length in [63, 63, 63, 61] {
+        for _ in 0..length {
+            text.extend_from_slice(b"\\000")?;
+        }
+        text.extend_from_slice(b".")?;
+    }
+    let longest = name(rt.alloc(), &text)?;
+    assert!(rt; text.len() == MAX_NAME_TEXT_LEN);
+    assert!(rt; printed(rt.alloc(), &longest)? == text);
+    Ok(())
+}
+
+#[test]
+fn faults_have_codes_and_messages(rt: HostRuntime) -> Result<(), Fail> {
     let rows = [
         (NameFault::EmptyLabel, "N1", "a label is empty"),
         (

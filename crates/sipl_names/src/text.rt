@@ -1,90 +1,79 @@
 // A name's text in a master file (RFC 1035, 5.1).
-ghost use Rattle.std.specs.Prelude.{◌≡◌, ◌≢◌, ◌+◌, ◌-◌, ◌<◌, [], ◌∷◌, length, drop, None, Some, IfOk, IfErr, MatchOption, MatchResult, OnOk, slice_set, vec_len};
+ghost use Rattle.std.specs.Prelude.{◌≡◌, ◌+◌, ◌-◌, ◌<◌, ◌≤◌, [], length, drop, None, Some, IfOk, IfErr, MatchOption, MatchResult, OnOk, slice_set, vec_len, vec_capacity};
 ghost use Rattle.sipl_names.specs.Labels.{label_fault};
 ghost use Rattle.sipl_names.specs.NameText.{symbols, labels_from};
-ghost use Rattle.sipl_names.specs.Reading.{IsRead, IsNextSymbol, IsNoSymbol};
+ghost use Rattle.sipl_names.specs.Reading.{Spells, BeginsWith, IsBadEscape};
 
 use crate::escape::read_escape;
 use crate::fault::NameFault;
 use crate::wire::check_label;
-use std::alloc::Global;
 
-// The labels that a text spells, in lower case, and whether a dot ends the text.
-pub(crate) struct Labels {
-    pub(crate) wire: Vec<u8>,
-    pub(crate) is_whole: bool,
-}
-
-// What a text is made of: octets of labels, and the dots between them.
+// An octet of a label, or the dot that ends a label.
 #[derive(Clone, Copy)]
-pub(crate) enum Symbol {
+pub(crate) enum Token {
     Octet(u8),
     Dot,
 }
 
-// The labels of a text; the text behind them may go on with those of the origin.
-pub(crate) fn read_labels(alloc: Global, text: &[u8]) -> Result<Labels, NameFault>
-    ensures read { IfOk result (λ labels. IsRead text.now labels.wire.items labels.is_whole) }
-    ensures refused { IfErr result
-        (λ fault. fault ≢ NameFault.Memory → labels_from [] (symbols 0 text.now) ≡ Err fault) }
+// Appends the wire form of the labels of a text, in lower case, to an empty `wire` that has the
+// capacity for it, and returns whether the name is absolute: a dot ends the text.
+pub(crate) fn read_labels(wire: &mut Vec<u8>, text: &[u8]) -> Result<bool, NameFault>
+    requires empty { wire.old.items ≡ [] }
+    requires reserved { length text.now + 1 ≤ vec_capacity wire.old }
+    ensures read { IfOk result (λ is_absolute. Spells text.now wire.new.items is_absolute) }
+    ensures refused { IfErr result (λ fault. labels_from [] (symbols 0 text.now) ≡ Err fault) }
 {
-    let mut wire = Vec::new(alloc);
-    // Where the length of the label stands that is being read: it is written when the label ends.
+    // Where the length of the current label is: it is written when the label ends.
     let mut start = 0;
-    wire.push(0)?;
+    wire.push_reserved(0);
     let mut rest = text;
-    while let Some((symbol, behind)) = next_symbol(rest)? {
-        match symbol {
-            Symbol::Octet(octet) => wire.push(octet.to_ascii_lowercase())?,
-            Symbol::Dot => {
-                end_label(&mut wire, start)?;
-                if behind.is_empty() {
-                    return Ok(Labels {
-                        wire,
-                        is_whole: true,
-                    });
+    while let Some((token, tail)) = next_token(rest)? {
+        match token {
+            Token::Octet(octet) => wire.push_reserved(octet.to_ascii_lowercase()),
+            Token::Dot => {
+                end_label(wire, start)?;
+                if tail.is_empty() {
+                    return Ok(true);
                 }
                 start = wire.len();
-                wire.push(0)?;
+                wire.push_reserved(0);
             }
         }
-        rest = behind;
+        rest = tail;
     }
-    end_label(&mut wire, start)?;
-    Ok(Labels {
-        wire,
-        is_whole: false,
-    })
+    end_label(wire, start)?;
+    Ok(false)
 }
 
-// The first symbol, and the text behind it; None at the text's end.
-fn next_symbol(text: &[u8]) -> Result<Option<(Symbol, &[u8])>, NameFault>
+// The first octet or dot, and the text after it; None at the text's end.
+fn next_token(text: &[u8]) -> Result<Option<(Token, &[u8])>, NameFault>
     ensures next { IfOk result
         (λ next. MatchOption next (text.now ≡ [])
-        (λ parts. IsNextSymbol text.now parts.0 parts.1.now)) }
-    ensures refused { IfErr result (λ fault. IsNoSymbol text.now fault) }
+        (λ parts. BeginsWith text.now parts.0 parts.1.now)) }
+    ensures refused { IfErr result (λ fault. IsBadEscape text.now fault) }
 {
-    let Some((first, behind)) = text.split_first() else {
+    let Some((first, tail)) = text.split_first() else {
         return Ok(None);
     };
     match first {
-        b'.' => Ok(Some((Symbol::Dot, behind))),
+        b'.' => Ok(Some((Token::Dot, tail))),
         b'\\' => {
-            let (octet, spelled) = read_escape(behind).ok_or(NameFault::BadEscape)?;
-            Ok(Some((Symbol::Octet(octet), &behind[spelled..])))
+            let (octet, len) = read_escape(tail).ok_or(NameFault::BadEscape)?;
+            Ok(Some((Token::Octet(octet), &tail[len..])))
         }
-        octet => Ok(Some((Symbol::Octet(*octet), behind))),
+        octet => Ok(Some((Token::Octet(*octet), tail))),
     }
 }
 
-// Ends the label whose length is to stand at `start`.
+// Ends the label whose length belongs at `start`.
 fn end_label(wire: &mut Vec<u8>, start: usize) -> Result<(), NameFault>
     requires { start < vec_len wire.old }
     ensures fault { MatchResult result
         (λ _. label_fault (drop (start + 1) wire.old.items) ≡ None)
         (λ fault. label_fault (drop (start + 1) wire.old.items) ≡ Some fault) }
-    ensures counted { OnOk result
+    ensures length_written { OnOk result
         (wire.new.items ≡ slice_set wire.old.items start (vec_len wire.old - (start + 1))) }
+    ensures capacity { vec_capacity wire.new ≡ vec_capacity wire.old }
 {
     check_label(&wire[start + 1..])?;
     wire[start] = (wire.len() - (start + 1)) as u8;

@@ -1,26 +1,25 @@
 // Wire forms of labels, without the octet of the root (RFC 1035, 3.1).
-ghost use Rattle.std.specs.Prelude.{◌≡◌, ◌-◌, ◌^◌, [], ◌∷◌, ◌++◌, length, map, min, None, Some, IfNone, IfSome, IfOk, IfErr, OnOk, MatchResult};
+ghost use Rattle.std.specs.Prelude.{◌≡◌, ◌+◌, ◌-◌, ◌^◌, ◌≤◌, [], ◌∷◌, ◌++◌, length, map, min, None, Some, IfNone, IfSome, IfOk, IfErr, MatchResult, vec_len, vec_capacity};
 ghost use Rattle.std.specs.List.{AllByRecursion};
 ghost use Rattle.std.specs.Str.{str_to_ascii_lowercase};
-ghost use Rattle.sipl_names.specs.Labels.{counted, wire_of, IsLabel, label_fault, first_label_fault};
+ghost use Rattle.sipl_names.specs.Labels.{length_prefixed, wire_of, IsLabel, label_fault, first_label_fault};
 ghost use Rattle.sipl_names.specs.LabelSlices.{octets_of};
 ghost use Rattle.sipl_names.specs.Wire.{IsWire, labels_of_wire};
 
 use crate::MAX_LABEL_LEN;
 use crate::fault::NameFault;
-use std::alloc::AllocError;
 
-// The first label, and the wire form of those behind it; None where there is no label.
+// The first label, and the wire form of the others; None where there is no label.
 pub(crate) fn split_label(wire: &[u8]) -> Option<(&[u8], &[u8])>
     requires { IsWire wire.now }
     ensures none { IfNone result (wire.now ≡ []) }
-    ensures first { IfSome result (λ parts. wire.now ≡ counted parts.0.now ++ parts.1.now) }
+    ensures first { IfSome result (λ parts. wire.now ≡ length_prefixed parts.0.now ++ parts.1.now) }
     ensures rest { IfSome result (λ parts. IsWire parts.1.now) }
     ensures labels { IfSome result
         (λ parts. labels_of_wire wire.now ≡ parts.0.now ∷ labels_of_wire parts.1.now) }
 {
-    let (count, rest) = wire.split_first()?;
-    Some(rest.split_at(*count as usize))
+    let (len, rest) = wire.split_first()?;
+    Some(rest.split_at(*len as usize))
 }
 
 // Whether the octets can be a label.
@@ -38,9 +37,9 @@ pub(crate) fn check_label(label: &[u8]) -> Result<(), NameFault>
     Ok(())
 }
 
-// The octets of the wire form of these labels, or 2^64 - 1 where they are more; else the fault of
-// the first that is no label.
-pub(crate) fn checked_len(labels: &[&[u8]]) -> Result<usize, NameFault>
+// How many octets the wire form of these labels has, or 2^64 - 1 where it has more; else the fault
+// of the first that is not a label.
+pub(crate) fn checked_wire_len(labels: &[&[u8]]) -> Result<usize, NameFault>
     ensures faultless { IfOk result (λ _. first_label_fault (octets_of labels.now) ≡ None) }
     ensures len { IfOk result
         (λ len. len ≡ min (length (wire_of (octets_of labels.now))) (2 ^ 64 - 1)) }
@@ -55,30 +54,31 @@ pub(crate) fn checked_len(labels: &[&[u8]]) -> Result<usize, NameFault>
     Ok(len)
 }
 
-// Appends the wire form of these labels, in lower case.
-pub(crate) fn push_labels(wire: &mut Vec<u8>, labels: &[&[u8]]) -> Result<(), AllocError>
-    requires { first_label_fault (octets_of labels.now) ≡ None }
-    ensures ok { OnOk result
-        (wire.new.items
-        ≡ wire.old.items ++ wire_of (map str_to_ascii_lowercase (octets_of labels.now))) }
-    ensures labels { OnOk result
-        (AllByRecursion IsLabel (map str_to_ascii_lowercase (octets_of labels.now))) }
+// Appends the wire form of these labels, in lower case, for which space is reserved.
+pub(crate) fn push_labels(wire: &mut Vec<u8>, labels: &[&[u8]])
+    requires faultless { first_label_fault (octets_of labels.now) ≡ None }
+    requires reserved { vec_len wire.old + length (wire_of (octets_of labels.now))
+        ≤ vec_capacity wire.old }
+    ensures wire { wire.new.items
+        ≡ wire.old.items ++ wire_of (map str_to_ascii_lowercase (octets_of labels.now)) }
+    ensures labels { AllByRecursion IsLabel (map str_to_ascii_lowercase (octets_of labels.now)) }
 {
     for label in labels {
-        push_label(wire, label)?;
+        push_label(wire, label);
     }
-    Ok(())
 }
 
-fn push_label(wire: &mut Vec<u8>, label: &[u8]) -> Result<(), AllocError>
-    requires { label_fault label.now ≡ None }
-    ensures ok { OnOk result
-        (wire.new.items ≡ wire.old.items ++ counted (str_to_ascii_lowercase label.now)) }
+fn push_label(wire: &mut Vec<u8>, label: &[u8])
+    requires faultless { label_fault label.now ≡ None }
+    requires reserved { vec_len wire.old + length label.now + 1 ≤ vec_capacity wire.old }
+    ensures wire { wire.new.items
+        ≡ wire.old.items ++ length_prefixed (str_to_ascii_lowercase label.now) }
+    ensures len { vec_len wire.new ≡ vec_len wire.old + length label.now + 1 }
+    ensures capacity { vec_capacity wire.new ≡ vec_capacity wire.old }
     ensures label { IsLabel (str_to_ascii_lowercase label.now) }
 {
-    wire.push(label.len() as u8)?;
+    wire.push_reserved(label.len() as u8);
     for octet in label {
-        wire.push(octet.to_ascii_lowercase())?;
+        wire.push_reserved(octet.to_ascii_lowercase());
     }
-    Ok(())
 }

@@ -1,1 +1,1 @@
-pub mod Endpoints
+pub mod UniqueEndpoints

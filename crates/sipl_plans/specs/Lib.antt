@@ -1,4 +1,3 @@
 pub mod Reasons
 pub mod Route
 pub mod Plan
-pub use Rattle.sipl_uri.specs.Uris

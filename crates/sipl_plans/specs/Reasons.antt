@@ -1,9 +1,9 @@
--- How the reasons for no targets are printed.
+-- The names of the reasons for no targets.
 use Rattle.std.specs.Prelude.{ℕ, List, codes}
 use Rattle.sipl_plans.specs.declared.answer.Reason.{Reason}
 use Rattle.sipl_plans.specs.declared.answer.Reason.TheVariants.{NoAddress, NoTransport}
 
--- the name of a reason
+-- a reason's name in replies
 abbrev pub reason_text : Reason → List ℕ
 reason_text NoAddress = codes "NoAddress"
 reason_text NoTransport = codes "NoTransport"

@@ -1,5 +1,6 @@
--- Where a request goes: the transport, and the servers with their addresses (RFC 3263, 4.1 and 4.2).
+-- Where a request is sent: the transport, and the servers with their addresses (RFC 3263, 4.1 and 4.2).
 use Rattle.std.specs.Prelude.{ℕ, Bool, true, false, List, [], ◌∷◌, None, Some, if◌then◌else◌}
+use Rattle.sipl_names.specs.Labels.{Labels}
 use Rattle.sipl_records.specs.declared.address.Address.{Address}
 use Rattle.sipl_records.specs.declared.address.Address.TheVariants.{V4 as v4}
 use Rattle.sipl_records.specs.declared.data.Data.{Data}
@@ -25,9 +26,13 @@ use Rattle.sipl_plans.specs.declared.layout.Source.{Source}
 abbrev pub Look : Type 0
 Look = Key → List Data
 
--- RFC 1034, 3.6.2: the data of a name and kind (aliases are not followed so far)
-abbrev pub answer : Look → List (List ℕ) → Kind → List Data
-answer look name kind = look (record { name = name; kind = kind })
+-- the key of a name and a kind
+abbrev pub key : Labels → Kind → Key
+key name kind = record { name = name; kind = kind }
+
+-- RFC 1034, 3.6.2: the data of a name and kind; aliases are not supported yet
+abbrev pub answer : Look → Labels → Kind → List Data
+answer look name kind = look (key name kind)
 
 -- the addresses among the data, in their order
 abbrev pub addresses_in : List Data → List Address
@@ -35,7 +40,7 @@ addresses_in [] = []
 addresses_in (data_address4 n ∷ set) = v4 n ∷ addresses_in set
 
 -- RFC 3263, 4.2: a name's addresses, in the order of the families
-abbrev pub addresses : Look → List (List ℕ) → Families → List Address
+abbrev pub addresses : Look → Labels → Families → List Address
 addresses look name V4 = addresses_in (answer look name Address4)
 
 -- RFC 3263, 4.1: the transport that the URI gives, else UDP for `sip` and TLS for `sips`
@@ -46,26 +51,29 @@ transport_of question = elim question.transport [ Some transport ↦ transport |
 abbrev pub port_of : Question → Transport → ℕ
 port_of question transport = elim question.port [ Some port ↦ port | None ↦ default_port transport ]
 
--- one server, which no other comes before
+-- RFC 3263, 4.1: the route over a transport that the client supports, else that there is no transport
+abbrev pub route_over : Client → Transport → Layout → Layout
+route_over client transport layout = if supports client.preference transport then layout else Refused NoTransport
+
+-- these addresses at one port are the only server
 abbrev pub sole_source : ℕ → List Address → List Source
 sole_source port found = record { priority = 0; weight = 0; port = port; addresses = found } ∷ []
 
--- RFC 3263, 4.2: the addresses of the target itself: a numeric one is its own address
+-- RFC 3263, 4.2: the target's own addresses: a numeric one is its own
 abbrev pub target_addresses : Look → Target → Families → List Address
 target_addresses look (Numeric address) families = address ∷ []
 target_addresses look (Domain name) families = addresses look name families
 
--- RFC 3263, 4.1 and 4.2: whether the target's own addresses are used: where it is numeric, or a port is given
+-- RFC 3263, 4.1 and 4.2: whether the target's own addresses are used: it is numeric, or a port is given
 abbrev pub is_direct : Question → Bool
 is_direct question = elim question.target [ Numeric address ↦ true | Domain name ↦ elim question.port [ Some port ↦ true | None ↦ false ] ]
 
--- the target's own addresses over one transport
-abbrev pub direct_route : Look → Question → Client → Transport → Layout
-direct_route look question client transport =
-    if supports client.preference transport
-    then Servers transport (sole_source (port_of question transport) (target_addresses look question.target client.families))
-    else Refused NoTransport
+-- the target's own addresses, over one transport
+abbrev pub direct_layout : Look → Question → Client → Transport → Layout
+direct_layout look question client transport =
+    Servers transport (sole_source (port_of question transport) (target_addresses look question.target client.families))
 
--- RFC 3263, 4.1 and 4.2: the route of a question whose target's own addresses are used; others have none so far
+-- RFC 3263, 4.1 and 4.2: the route of a question whose target's own addresses are used; others are not supported yet
 abbrev pub route : Look → Question → Client → Layout
-route look question client = direct_route look question client (transport_of question)
+route look question client =
+    route_over client (transport_of question) (direct_layout look question client (transport_of question))

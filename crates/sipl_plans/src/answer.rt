@@ -10,21 +10,21 @@ use std::fmt;
 pub enum Reason {
     /// No server has an address.
     NoAddress,
-    /// The transport is none that the client has.
+    /// The client does not support the transport.
     NoTransport,
 }
 
-/// What is answered to a question.
+/// The answer to a question (RFC 3263, 4).
 #[derive(Debug, Drop)]
 pub enum Answer {
-    /// Where to send the request, the endpoint to try first at the front, each once.
+    /// Where to send the request: each endpoint once, the one to try first at the front.
     Targets(Sequence<Endpoint>),
-    /// There is nowhere to send it.
+    /// Nowhere, and the reason.
     None(Reason),
 }
 
 impl Reason {
-    /// The reason's name in replies, as `NoAddress`.
+    /// The reason's name in replies, such as `NoAddress`.
     pub fn name(self) -> &'static str
         ensures { result.now ≡ reason_text self }
     {

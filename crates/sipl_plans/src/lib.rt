@@ -8,5 +8,4 @@ mod plan;
 mod tests;
 
 pub use answer::{Answer, Reason};
-pub use layout::{Layout, Source, draw};
 pub use plan::plan_of;

@@ -1,7 +1,7 @@
 ghost use Rattle.std.specs.Prelude.{◌≡◌, IsTrue, IfOk};
 ghost use Rattle.sipl_records.specs.Sets.{set_of};
 ghost use Rattle.sipl_plans.specs.Plan.{plan};
-ghost use Rattle.sipl_plans.specs.Route.{addresses, is_direct, port_of, route, target_addresses, transport_of as transport_given};
+ghost use Rattle.sipl_plans.specs.Route.{addresses, is_direct, port_of, route, target_addresses, transport_of};
 
 use crate::answer::{Answer, Reason};
 use crate::layout::{Layout, Source, draw};
@@ -11,8 +11,9 @@ use sipl_records::{Address, Data, Record, Sequence};
 use sipl_uri::{Question, Target};
 use std::alloc::{AllocError, Global};
 
-/// The answer to a question, worked out from all records: the plain program, which looks at each
-/// record. So far the target is numeric, or the question gives a port.
+/// The answer to a question from all records: the targets, in the order in which they are tried, or
+/// the reason that there are none (RFC 3263, 4). It looks at each record once. Only questions of a
+/// numeric target, or with a port, are supported yet.
 pub fn plan_of(
     alloc: Global,
     records: &[Record],
@@ -27,7 +28,7 @@ pub fn plan_of(
     draw(alloc, &layout)
 }
 
-// Where requests go (RFC 3263, 4.1 and 4.2): to the target's own addresses, over the transport
+// Where requests are sent (RFC 3263, 4.1 and 4.2): to the target's own addresses, over the transport
 // and at the port that the question gives or implies.
 fn route_of(
     alloc: Global,
@@ -56,7 +57,7 @@ fn route_of(
 
 // The transport that the question gives, else UDP for `sip` and TLS for `sips` (RFC 3263, 4.1).
 fn transport_of(question: &Question) -> Transport
-    ensures { result ≡ transport_given question.now }
+    ensures { result ≡ transport_of question.now }
 {
     match question.transport {
         Some(transport) => transport,

@@ -1,7 +1,8 @@
 ghost use Rattle.std.specs.Prelude.{◌≡◌, true, IfOk, IsTrue};
 ghost use Rattle.sipl_plans.specs.Route.{is_direct};
 
-use crate::{Answer, Layout, Reason, Source, draw, plan_of};
+use crate::layout::{Layout, Source, draw};
+use crate::{Answer, Reason, plan_of};
 use sipl_choice::{Abilities, Endpoint, Families, Transport};
 use sipl_names::{Name, NameFault};
 use sipl_records::{Address, Data, Record, Sequence};
@@ -68,10 +69,10 @@ fn is_none(answer: &Answer, want: Reason) -> bool {
 }
 
 #[test]
-fn plans_the_addresses_of_a_name(rt: HostRuntime) -> Result<(), Fail> {
+fn targets_are_the_addresses_of_the_name(rt: HostRuntime) -> Result<(), Fail> {
     let alloc = rt.alloc();
     let client = client(alloc, &[Transport::Udp, Transport::Tcp])?;
-    // One address stands there twice, and another name has an address too.
+    // One address is there twice, and another name has an address too.
     let records = [
         address_of(alloc, "server1.example.com.", OTHER)?,
         address_of(alloc, "server2.example.com.", SERVER)?,
@@ -92,11 +93,11 @@ fn plans_the_addresses_of_a_name(rt: HostRuntime) -> Result<(), Fail> {
 }
 
 #[test]
-fn keeps_to_the_transport(rt: HostRuntime) -> Result<(), Fail> {
+fn transport_is_the_given_or_that_of_the_scheme(rt: HostRuntime) -> Result<(), Fail> {
     let alloc = rt.alloc();
     let client = client(alloc, &[Transport::Tls, Transport::Tcp])?;
     let records = [address_of(alloc, "a.", SERVER)?];
-    // UDP for sip, TLS for sips, else the transport that is given.
+    // The transport that is given, else UDP for sip and TLS for sips.
     let plain = question_for(alloc, "a.", false, None)?;
     assert!(rt;
         is_none(
@@ -121,7 +122,7 @@ fn keeps_to_the_transport(rt: HostRuntime) -> Result<(), Fail> {
 }
 
 #[test]
-fn takes_a_numeric_target_as_it_is(rt: HostRuntime) -> Result<(), Fail> {
+fn numeric_targets_are_their_own_addresses(rt: HostRuntime) -> Result<(), Fail> {
     let alloc = rt.alloc();
     let client = client(alloc, &[Transport::Udp, Transport::Tls])?;
     for (secure, transport, port) in [(false, Transport::Udp, 5060), (true, Transport::Tls, 5061)] {
@@ -151,7 +152,7 @@ fn source(alloc: Global, priority: u16, port: u16, numbers: &[u32]) -> Result<So
 }
 
 #[test]
-fn draws_each_endpoint_at_its_first_place(rt: HostRuntime) -> Result<(), Fail> {
+fn each_endpoint_is_drawn_once_at_its_first_place(rt: HostRuntime) -> Result<(), Fail> {
     let alloc = rt.alloc();
     // The second server shares an endpoint with the first, the third has no address.
     let mut servers = Vec::with_capacity(alloc, 4)?;
@@ -170,7 +171,7 @@ fn draws_each_endpoint_at_its_first_place(rt: HostRuntime) -> Result<(), Fail> {
 }
 
 #[test]
-fn draws_a_reason_where_there_is_no_endpoint(rt: HostRuntime) -> Result<(), Fail> {
+fn no_endpoint_draws_a_reason(rt: HostRuntime) -> Result<(), Fail> {
     let alloc = rt.alloc();
     let mut servers = Vec::with_capacity(alloc, 1)?;
     servers.push(source(alloc, 0, 5070, &[])?)?;

@@ -2,7 +2,7 @@
 use Rattle.std.specs.Prelude.{◌≡◌}
 use Rattle.std.specs.Bool.{Decides}
 use Rattle.std.proofs.Common.{rules}
-use Rattle.sipl_names.specs.SameName.{same_name_decides}
+use Rattle.sipl_names.proofs.SameName.{same_name_decides}
 use Rattle.sipl_records.specs.declared.record.Record.{Record}
 use Rattle.sipl_records.specs.declared.record.Key.{Key}
 use Rattle.sipl_records.specs.contracts.record.RecordPartialEq.TheImpl.{eq-value as record_eq}

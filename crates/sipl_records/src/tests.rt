@@ -11,7 +11,7 @@ use std::alloc::Global;
 use std::test::Fail;
 
 // Compares two records: `==` is true exactly where they are equal.
-#[tactic(auto, using(sipl_names::specs::SameName::same_name_decides))]
+#[tactic(auto, using(sipl_names::proofs::SameName::same_name_decides))]
 fn same_record(a: &Record, b: &Record) -> bool
     ensures { IsTrue result ↔ (a.now ≡ b.now) }
 {
@@ -19,7 +19,7 @@ fn same_record(a: &Record, b: &Record) -> bool
 }
 
 // Compares two keys: `==` is true exactly where they are equal.
-#[tactic(auto, using(sipl_names::specs::SameName::same_name_decides))]
+#[tactic(auto, using(sipl_names::proofs::SameName::same_name_decides))]
 fn same_key(a: &Key, b: &Key) -> bool
     ensures { IsTrue result ↔ (a.now ≡ b.now) }
 {

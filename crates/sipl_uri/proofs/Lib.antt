@@ -1,4 +1,7 @@
-pub mod Agreement
-pub mod LowerCase
-pub mod HostLemmas
-pub mod CaseLemmas
+pub mod Same
+pub mod Octets
+pub mod Splits
+pub mod Hostnames
+pub mod Hosts
+pub mod Ports
+pub mod Grammar

@@ -1,5 +1,3 @@
+pub mod UriFault
 pub mod Uris
-pub use Rattle.sipl_choice.specs.Transports
-pub mod FaultCode
-pub mod Same
-pub mod Hostnames
+pub mod Grammar

@@ -1,10 +1,10 @@
 //! Hosts (RFC 3261, 25.1): addresses and hostnames.
 ghost use Rattle.std.specs.Prelude.{◌≡◌, ◌≢◌, Some, None, IfOk, IfErr};
 ghost use Rattle.std.specs.List.{list_all};
-ghost use Rattle.sipl_uri.specs.Uris.{host_of, hostname_of, top_begins_with_letter, begins_with_letter as letter_first, is_host_octet as of_host};
+ghost use Rattle.sipl_uri.specs.Uris.{host_of, hostname_of, has_alphabetic_top, begins_with_letter, is_hostname_octet};
 
 use crate::fault::UriFault;
-use crate::octet::is_host_octet;
+use crate::octet::is_hostname_octet;
 use crate::question::Target;
 use sipl_names::{Name, NameFault};
 use sipl_records::Address;
@@ -22,37 +22,36 @@ pub(crate) fn read_host(alloc: Global, text: &[u8]) -> Result<Target, UriFault>
     Ok(Target::Domain(read_hostname(alloc, text)?))
 }
 
-// Reads a hostname, and takes it from the root.
+// Reads a hostname as an absolute name.
 fn read_hostname(alloc: Global, text: &[u8]) -> Result<Name, UriFault>
     ensures read { IfOk result (λ name. hostname_of text.now ≡ Some name) }
     ensures cause { IfErr result (λ fault. fault ≢ UriFault.Memory → fault ≡ UriFault.Host) }
     ensures refused { IfErr result (λ fault. fault ≢ UriFault.Memory → hostname_of text.now ≡ None) }
 {
-    if !has_host_octets(text) {
+    if !has_hostname_octets(text) {
         return Err(UriFault::Host);
     }
     let root = Name::root(alloc);
-    let name = match Name::from_text(alloc, text, &root) {
-        Ok(name) => name,
-        Err(NameFault::Memory) => return Err(UriFault::Memory),
-        Err(_) => return Err(UriFault::Host),
-    };
-    if !has_letter_on_top(&name) {
+    let name = Name::from_text(alloc, text, &root).map_err(|fault| match fault {
+        NameFault::Memory => UriFault::Memory,
+        _ => UriFault::Host,
+    })?;
+    if !has_alphabetic_top(&name) {
         return Err(UriFault::Host);
     }
     Ok(name)
 }
 
-// Whether a hostname may have each of the octets in it.
-fn has_host_octets(text: &[u8]) -> bool
-    ensures { result ≡ list_all of_host text.now }
+// Whether a hostname can have each of the octets.
+fn has_hostname_octets(text: &[u8]) -> bool
+    ensures { result ≡ list_all is_hostname_octet text.now }
 {
-    text.iter().all(|octet| is_host_octet(*octet))
+    text.iter().all(|octet| is_hostname_octet(*octet))
 }
 
 // Whether the label next to the root begins with a letter.
-fn has_letter_on_top(name: &Name) -> bool
-    ensures { result ≡ top_begins_with_letter name.now }
+fn has_alphabetic_top(name: &Name) -> bool
+    ensures { result ≡ has_alphabetic_top name.now }
 {
     match name.top_label() {
         Some(label) => begins_with_letter(label),
@@ -62,7 +61,7 @@ fn has_letter_on_top(name: &Name) -> bool
 
 // Whether a label begins with a letter.
 fn begins_with_letter(label: &[u8]) -> bool
-    ensures { result ≡ letter_first label.now }
+    ensures { result ≡ begins_with_letter label.now }
 {
     match label {
         [first, ..] => first.is_ascii_alphabetic(),

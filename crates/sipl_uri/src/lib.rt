@@ -3,7 +3,7 @@
 
 mod fault;
 mod host;
-mod laws;
+pub mod laws;
 mod octet;
 mod question;
 #[cfg(test)]
@@ -11,6 +11,5 @@ mod tests;
 mod uri;
 
 pub use fault::UriFault;
-pub use laws::{reads_hosts, reads_in_either_case};
 pub use question::{Question, Target};
 pub use uri::Uri;

@@ -1,31 +1,31 @@
-//! The octets of URIs.
-ghost use Rattle.std.specs.Prelude.{◌≡◌, ◌||◌};
-ghost use Rattle.sipl_uri.specs.Uris.{is_foreign as foreign, is_unread as unread, is_host_octet as of_host};
+//! The octets of URIs (RFC 3261, 25.1).
+ghost use Rattle.std.specs.Prelude.{◌≡◌};
+ghost use Rattle.sipl_uri.specs.Uris.{is_supported_octet, is_uri_octet, is_unsupported_delimiter, is_hostname_octet};
 
-// Whether the octet may not stand in a URI, or is not read so far.
-pub(crate) fn is_barred(octet: u8) -> bool
-    ensures { result ≡ (foreign octet || unread octet) }
+// Whether a URI that is supported can have the octet after its scheme.
+pub(crate) fn is_supported_octet(octet: u8) -> bool
+    ensures { result ≡ is_supported_octet octet }
 {
-    is_foreign(octet) || is_unread(octet)
+    is_uri_octet(octet) && !is_unsupported_delimiter(octet)
 }
 
-// Whether no URI has the octet in it (RFC 3261, 25.1).
-fn is_foreign(octet: u8) -> bool
-    ensures { result ≡ foreign octet }
+// Whether a URI can have the octet.
+fn is_uri_octet(octet: u8) -> bool
+    ensures { result ≡ is_uri_octet octet }
 {
-    !octet.is_ascii_graphic() || matches!(octet, b'"' | b'<' | b'>')
+    octet.is_ascii_graphic() && !matches!(octet, b'"' | b'<' | b'>')
 }
 
-// Whether the octet begins a part of a URI that is not read so far.
-fn is_unread(octet: u8) -> bool
-    ensures { result ≡ unread octet }
+// Whether the octet delimits user information, parameters or headers, which are not supported yet.
+fn is_unsupported_delimiter(octet: u8) -> bool
+    ensures { result ≡ is_unsupported_delimiter octet }
 {
     matches!(octet, b'@' | b';' | b'?')
 }
 
-// Whether a hostname may have the octet in it (RFC 3261, 25.1), or it is an underscore.
-pub(crate) fn is_host_octet(octet: u8) -> bool
-    ensures { result ≡ of_host octet }
+// Whether a hostname can have the octet: it is one of a label, or a dot.
+pub(crate) fn is_hostname_octet(octet: u8) -> bool
+    ensures { result ≡ is_hostname_octet octet }
 {
-    octet.is_ascii_alphanumeric() || matches!(octet, b'-' | b'.' | b'_')
+    octet.is_ascii_alphanumeric() || matches!(octet, b'-' | b'_' | b'.')
 }

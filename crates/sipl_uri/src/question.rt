@@ -5,7 +5,7 @@ use sipl_names::Name;
 use sipl_records::Address;
 use std::alloc::{AllocError, Global};
 
-/// The host that a request is sent to, the TARGET of RFC 3263, 4.
+/// The host that a request is sent to: the TARGET of RFC 3263, 4.
 #[derive(Debug, PartialEq, Eq, Hash, Drop)]
 pub enum Target {
     /// A numeric address.
@@ -15,7 +15,7 @@ pub enum Target {
 }
 
 impl Target {
-    /// A copy of the target.
+    /// A copy of the target. The only error is an allocation failure.
     pub fn dup(&self, alloc: Global) -> Result<Self, AllocError>
         ensures { IfOk result (λ copy. copy ≡ self.now) }
     {
@@ -39,7 +39,7 @@ pub struct Question {
 }
 
 impl Question {
-    /// A copy of the question.
+    /// A copy of the question. The only error is an allocation failure.
     pub fn dup(&self, alloc: Global) -> Result<Self, AllocError>
         ensures { IfOk result (λ copy. copy ≡ self.now) }
     {

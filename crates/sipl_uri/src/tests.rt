@@ -18,7 +18,7 @@ fn domain(alloc: Global, name: &[u8]) -> Result<Target, NameFault> {
     Ok(Target::Domain(Name::from_text(alloc, name, &Name::root(alloc))?))
 }
 
-// Whether the URI asks for the name at the port.
+// Whether the URI's question is of the name at the port.
 fn asks_for(alloc: Global, uri: &[u8], name: &[u8], port: u16) -> bool {
     match (Uri::parse(alloc, uri), domain(alloc, name)) {
         (Ok(question), Ok(target)) => question == asks(target, port),
@@ -26,7 +26,7 @@ fn asks_for(alloc: Global, uri: &[u8], name: &[u8], port: u16) -> bool {
     }
 }
 
-// The code of the URI's refusal, or `ok`.
+// The code of the URI's fault, or `ok`.
 fn code_of(alloc: Global, uri: &[u8]) -> &'static str {
     match Uri::parse(alloc, uri) {
         Ok(_) => "ok",
@@ -35,7 +35,7 @@ fn code_of(alloc: Global, uri: &[u8]) -> &'static str {
 }
 
 #[test]
-fn reads_hostnames(rt: HostRuntime) {
+fn parse_reads_hostnames(rt: HostRuntime) {
     let rows: [(&[u8], &[u8], u16); 6] = [
         (
             b"sip:server1.example.com:5070",
@@ -54,7 +54,7 @@ fn reads_hostnames(rt: HostRuntime) {
 }
 
 #[test]
-fn reads_addresses(rt: HostRuntime) {
+fn parse_reads_addresses(rt: HostRuntime) {
     let rows: [(&[u8], u32); 3] = [
         (b"sip:192.0.2.9:5060", 0xC000_0209),
         (b"sip:0.0.0.0:5060", 0),
@@ -67,7 +67,7 @@ fn reads_addresses(rt: HostRuntime) {
 }
 
 #[test]
-fn finds_the_first_fault(rt: HostRuntime) {
+fn parse_reports_the_first_fault(rt: HostRuntime) {
     let rows: [(&str, &[&[u8]]); 4] = [
         (
             "U1",
@@ -154,7 +154,7 @@ fn long_uri(alloc: Global, lengths: &[usize]) -> Result<Vec<u8>, AllocError> {
 }
 
 #[test]
-fn keeps_the_limits_of_names(rt: HostRuntime) -> Result<(), Fail> {
+fn hostnames_have_at_most_255_octets(rt: HostRuntime) -> Result<(), Fail> {
     let rows: [(&[usize], &str); 4] = [
         (&[63], "ok"),
         (&[64], "U2"),
@@ -168,12 +168,12 @@ fn keeps_the_limits_of_names(rt: HostRuntime) -> Result<(), Fail> {
     Ok(())
 }
 
-// Whether no URI has the octet in it so far.
+// Whether the octet is not allowed in a URI, or not supported yet.
 fn is_refused(octet: u8) -> bool {
     octet <= 32 || octet >= 127 || b"\"<>@;?".contains(&octet)
 }
 
-// What `sip:a.b:1` comes to with another octet in one place.
+// The code of `sip:a.b:1` with another octet in one place.
 fn code_with(octet: u8, place: usize) -> &'static str {
     if place < 4 {
         let same = b"sip:"[place] == octet.to_ascii_lowercase();
@@ -211,7 +211,7 @@ fn code_with(octet: u8, place: usize) -> &'static str {
 }
 
 #[test]
-fn takes_each_octet_in_each_place(rt: HostRuntime) {
+fn parse_checks_each_octet_in_each_place(rt: HostRuntime) {
     for octet in 0..=255u8 {
         for place in 0..9 {
             let mut uri = *b"sip:a.b:1";
@@ -226,7 +226,7 @@ fn takes_each_octet_in_each_place(rt: HostRuntime) {
 }
 
 #[test]
-fn copies_and_compares(rt: HostRuntime) -> Result<(), Fail> {
+fn questions_equal_their_copies_only(rt: HostRuntime) -> Result<(), Fail> {
     let alloc = rt.alloc();
     for uri in [b"sip:a.b:1".as_slice(), b"sip:1.2.3.4:1".as_slice()] {
         let question = Uri::parse(alloc, uri)?;
@@ -245,16 +245,43 @@ fn copies_and_compares(rt: HostRuntime) -> Result<(), Fail> {
 }
 
 #[test]
-fn says_why(rt: HostRuntime) -> Result<(), Fail> {
+fn parsing_ignores_case(rt: HostRuntime) -> Result<(), Fail> {
+    let alloc = rt.alloc();
+    let lower = Uri::parse(alloc, b"sip:server1.example.com:5070")?;
+    for uri in [
+        b"SIP:server1.example.com:5070".as_slice(),
+        b"sip:SERVER1.EXAMPLE.COM:5070".as_slice(),
+        b"sIp:Server1.eXample.Com:5070".as_slice(),
+    ] {
+        assert!(rt; Uri::parse(alloc, uri)? == lower);
+    }
+    Ok(())
+}
+
+#[test]
+fn faults_have_codes_and_messages(rt: HostRuntime) -> Result<(), Fail> {
     let rows = [
-        (UriFault::Scheme, "the scheme is not sip"),
-        (UriFault::Characters, "an octet may not stand in the URI"),
-        (UriFault::Host, "the host is no address and no hostname"),
-        (UriFault::Port, "the port is no number from 1 to 65535"),
-        (UriFault::Memory, "out of memory"),
+        (UriFault::Scheme, "U1", "the scheme is not sip"),
+        (
+            UriFault::Characters,
+            "U7",
+            "an octet is not allowed in the URI",
+        ),
+        (
+            UriFault::Host,
+            "U2",
+            "the host is neither an address nor a hostname",
+        ),
+        (
+            UriFault::Port,
+            "U3",
+            "the port is not a number from 1 to 65535",
+        ),
+        (UriFault::from(AllocError), "Memory", "out of memory"),
     ];
-    for (fault, want) in rows {
-        assert_eq!(rt; format!(in rt.alloc(); "{fault}")?.as_str(), want);
+    for (fault, code, message) in rows {
+        assert_eq!(rt; fault.code(), code);
+        assert_eq!(rt; fault.to_string(rt.alloc())?.as_str(), message);
     }
     Ok(())
 }

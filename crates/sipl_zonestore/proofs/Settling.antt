@@ -5,7 +5,7 @@ use Rattle.std.proofs.lemmas.Bool.{cases_Bool}
 use Rattle.std.proofs.lemmas.Bool.Decides.{Decides-eqb, Decides-like, same_from_decides}
 use Rattle.std.proofs.lemmas.List.Folds.{list_any-append, list_all-append}
 use Rattle.sipl_names.specs.Labels.{same_name, is_within}
-use Rattle.sipl_names.specs.SameName.{same_name_decides}
+use Rattle.sipl_names.proofs.SameName.{same_name_decides}
 use Rattle.sipl_records.specs.declared.data.Data.{Data}
 use Rattle.sipl_records.specs.declared.data.Data.TheVariants.{Address4 as data_address4}
 use Rattle.sipl_records.specs.declared.record.Record.{Record}

@@ -2,7 +2,7 @@
 use Rattle.std.specs.Prelude.{ℕ, Bool, ◌||◌, true, false, List, [], ◌∷◌, ◌++◌, length, Option, None, Some, Result, Ok, Err, codes, decimal, nat_lt, if◌then◌else◌}
 use Rattle.sipl_names.specs.NameText.{name_of}
 use Rattle.sipl_names.specs.declared.fault.NameFault.{NameFault}
-use Rattle.sipl_names.specs.FaultCode.{code_of as name_code}
+use Rattle.sipl_names.specs.NameFault.{code_of as name_code}
 use Rattle.sipl_records.specs.Sets.{set_of}
 use Rattle.sipl_records.specs.declared.record.Record.{Record}
 use Rattle.sipl_masterfile.specs.Zones.{Zone, zone_of}
@@ -16,7 +16,7 @@ use Rattle.sipl_choice.specs.declared.transport.Transport.TheVariants.{Udp, Tcp}
 use Rattle.sipl_uri.specs.Uris.{question_of}
 use Rattle.sipl_uri.specs.declared.fault.UriFault.{UriFault}
 use Rattle.sipl_uri.specs.declared.question.Question.{Question}
-use Rattle.sipl_uri.specs.FaultCode.{code_of as uri_code}
+use Rattle.sipl_uri.specs.UriFault.{code_of as uri_code}
 use Rattle.sipl_zonestore.specs.Store.{Zones, no_zones, load_refusal, after_load, add_refusal, after_add}
 use Rattle.sipl_zonestore.specs.Changes.{changed_keys}
 use Rattle.sipl_zonestore.specs.FaultCode.{code_of as store_code}

@@ -1,9 +1,12 @@
-use Rattle.std.proofs.Common.{length}
+use Rattle.std.proofs.Common.{◌+◌, ◌≤◌, length, vec_len, vec_capacity}
 use Rattle.sipl_names.proofs.ReadText.{IsReadTo}
 use Rattle.sipl_names.proofs.text.read_labels.Given as goal
 
-abbrev pub invariant-loop-wire : goal.invariant-loop-wire
-invariant-loop-wire l = IsReadTo l.text l.rest l.wire.items l.start
+abbrev pub invariant-loop-token : goal.invariant-loop-token
+invariant-loop-token l = record {
+  read : IsReadTo l.text l.rest l.wire.items l.start;
+  reserved : vec_len l.wire + length l.rest ≤ vec_capacity l.wire;
+}
 
-abbrev pub decreases-loop-wire : goal.decreases-loop-wire
-decreases-loop-wire l = length l.rest
+abbrev pub decreases-loop-token : goal.decreases-loop-token
+decreases-loop-token l = length l.rest

@@ -1,4 +1,4 @@
-use Rattle.std.proofs.Common.{◌≡◌, ◌++◌, take, drop, map, None}
+use Rattle.std.proofs.Common.{◌≡◌, ◌+◌, ◌≤◌, ◌++◌, length, take, drop, map, None, vec_len, vec_capacity}
 use Rattle.std.specs.List.{AllByRecursion}
 use Rattle.std.specs.Str.{str_to_ascii_lowercase}
 use Rattle.sipl_names.specs.Labels.{wire_of, first_label_fault, IsLabel}
@@ -10,4 +10,5 @@ invariant-loop-label l = record {
   faultless : first_label_fault (octets_of (drop l.label-index l.labels)) ≡ None;
   wires : l.wire.items ≡ l.fn.wire.items ++ wire_of (map str_to_ascii_lowercase (octets_of (take l.label-index l.labels)));
   each : AllByRecursion IsLabel (map str_to_ascii_lowercase (octets_of (take l.label-index l.labels)));
+  reserved : vec_len l.wire + length (wire_of (octets_of (drop l.label-index l.labels))) ≤ vec_capacity l.wire;
 }

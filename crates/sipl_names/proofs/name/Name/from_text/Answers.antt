@@ -2,25 +2,25 @@ use Rattle.std.proofs.Common.{◌≡◌, ◌<◌, ◌∷◌, [], ◌++◌, Ok, f
 use lib.Pointwise.{pointwise}
 use Rattle.sipl_names.specs.Wire.{IsNameWire, labels_of_wire}
 use Rattle.sipl_names.specs.NameText.{name_of}
-use Rattle.sipl_names.specs.Reading.{IsRead}
-use Rattle.sipl_names.proofs.Completes.{IsSpelled, whole_spelled, relative_spelled, spelled_name}
+use Rattle.sipl_names.specs.Reading.{Spells}
+use Rattle.sipl_names.proofs.Denotes.{IsSpelled, absolute_spelled, relative_spelled, spelled_name}
 use Rattle.sipl_names.proofs.name.Name.from_text.Goals as goal
-use Rattle.sipl_names.proofs.name.Name.from_text.Goals.{then-not-is_whole+in_ok-extend_from_slice, else-not-is_whole, After-len}
+use Rattle.sipl_names.proofs.name.Name.from_text.Goals.{then-not-is_absolute+in_ok-extend_from_slice, else-not-is_absolute, After-len}
 
-spelled : (c : After-len) → IsSpelled c.args.text.now c.args.origin.now c.if-not-is_whole.wire.items
+spelled : (c : After-len) → IsSpelled c.args.text.now c.args.origin.now c.if-not-is_absolute.wire.items
 spelled c =
-    let read = c.in_ok-wire.field-0.wire.items in
+    let read = c.read_labels.new.wire.items in
     let not_at : pointwise nat_eq c.args.text.now (64 ∷ []) ≡ false = ap (pointwise nat_eq c.args.text.now) (sym c.as_slice.ensures) ∙ sym c.if-eq.ensures in
     let not_dot : pointwise nat_eq c.args.text.now (46 ∷ []) ≡ false = ap (pointwise nat_eq c.args.text.now) (sym c.as_slice-2.ensures) ∙ sym c.if-eq-2.ensures in
-    elim c.if-not-is_whole.branch [
-      | then-not-is_whole+in_ok-extend_from_slice w ↦
-          relative_spelled _ _ read c.origin.inside.wire.items _ not_at not_dot (subst (IsRead c.args.text.now read) w.if-not-is_whole.true c.in_ok-wire.ensures.read) c.origin.invariant c.origin.view_is (ap (λ v. v.items) w.wire-is ∙ w.in_ok-extend_from_slice.ensures.items ∙ ap (λ s. read ++ s) w.deref.ensures.value)
-      | else-not-is_whole w ↦
-          whole_spelled _ _ read _ not_at not_dot (subst (IsRead c.args.text.now read) w.if-not-is_whole.false c.in_ok-wire.ensures.read) (ap (λ v. v.items) w.wire-is)
+    elim c.if-not-is_absolute.branch [
+      | then-not-is_absolute+in_ok-extend_from_slice w ↦
+          relative_spelled _ _ read c.origin.inside.wire.items _ not_at not_dot (subst (Spells c.args.text.now read) w.if-not-is_absolute.true c.in_ok-is_absolute.ensures.read) c.origin.invariant c.origin.view_is (ap (λ v. v.items) w.wire-is ∙ w.in_ok-extend_from_slice.ensures.items ∙ ap (λ s. read ++ s) w.deref.ensures.value)
+      | else-not-is_absolute w ↦
+          absolute_spelled _ _ read _ not_at not_dot (subst (Spells c.args.text.now read) w.if-not-is_absolute.false c.in_ok-is_absolute.ensures.read) (ap (λ v. v.items) w.wire-is)
     ]
 
-named : (c : After-len) → c.len.result < 255 → IsNameWire c.if-not-is_whole.wire.items × (name_of c.args.text.now c.args.origin.now ≡ Ok (labels_of_wire c.if-not-is_whole.wire.items))
-named c short = spelled_name _ _ _ (spelled c) (omega (arith, c.if-not-is_whole.wire.ok.0))
+named : (c : After-len) → c.len.result < 255 → IsNameWire c.if-not-is_absolute.wire.items × (name_of c.args.text.now c.args.origin.now ≡ Ok (labels_of_wire c.if-not-is_absolute.wire.items))
+named c short = spelled_name _ _ _ (spelled c) (omega (arith, c.if-not-is_absolute.wire.ok.0))
 
 pub invariant_of-result : goal.invariant_of-result
 invariant_of-result c = (named (goal.at.invariant_of-result c).After-len c.if-len-ge-MAX_NAME_LEN.false).0

@@ -10,14 +10,14 @@ use Rattle.sipl_names.proofs.name.Name.prefixed.Goals.{In_ok-extend_from_slice}
 pub returns-then-len-ge-MAX_NAME_LEN-clause-refused :
     goal.returns-then-len-ge-MAX_NAME_LEN-clause-refused
 returns-then-len-ge-MAX_NAME_LEN-clause-refused c =
-    λ _. prefix_long (octets_of c.args.labels.now) c.args.self.now c.self.inside.wire.items c.saturating_add-len.result c.in_ok-checked_len.ensures.faultless c.self.invariant c.self.view_is (omega (arith, c.self.inside.wire.ok.0, c.in_ok-checked_len.ensures.len)) c.if-len-ge-MAX_NAME_LEN.true
+    λ _. prefix_long (octets_of c.args.labels.now) c.args.self.now c.self.inside.wire.items c.saturating_add-len.result c.in_ok-checked_wire_len.ensures.faultless c.self.invariant c.self.view_is (omega (arith, c.self.inside.wire.ok.0, c.in_ok-checked_wire_len.ensures.len)) c.if-len-ge-MAX_NAME_LEN.true
 
 made : (c : In_ok-extend_from_slice) → IsNameWire c.extend_from_slice.new.self.items × (prefixed_of (octets_of c.args.labels.now) c.args.self.now ≡ Ok (labels_of_wire c.extend_from_slice.new.self.items))
 made c =
-    prefix_made (octets_of c.args.labels.now) c.args.self.now c.self.inside.wire.items c.extend_from_slice.new.self.items c.saturating_add-len.result c.in_ok-checked_len.ensures.faultless c.in_ok-push_labels.ensures.labels c.self.invariant c.self.view_is (omega (arith, c.self.inside.wire.ok.0, c.in_ok-checked_len.ensures.len)) c.if-len-ge-MAX_NAME_LEN.false
-    (let front = c.in_ok-push_labels.ensures.ok ∙ ap (λ w. w ++ wire_of (map str_to_ascii_lowercase (octets_of c.args.labels.now))) c.in_ok-wire.ensures.items in
+    prefix_made (octets_of c.args.labels.now) c.args.self.now c.self.inside.wire.items c.extend_from_slice.new.self.items c.saturating_add-len.result c.in_ok-checked_wire_len.ensures.faultless c.push_labels.ensures.labels c.self.invariant c.self.view_is (omega (arith, c.self.inside.wire.ok.0, c.in_ok-checked_wire_len.ensures.len)) c.if-len-ge-MAX_NAME_LEN.false
+    (let prepended = c.push_labels.ensures.wire ∙ ap (λ w. w ++ wire_of (map str_to_ascii_lowercase (octets_of c.args.labels.now))) c.in_ok-wire.ensures.items in
     let own = c.deref.ensures.value in
-    c.in_ok-extend_from_slice.ensures.items ∙ (λ i. front i ++ own i))
+    c.in_ok-extend_from_slice.ensures.items ∙ (λ i. prepended i ++ own i))
 
 pub invariant_of-result : goal.invariant_of-result
 invariant_of-result c = (made c).0

@@ -1,0 +1,51 @@
+-- The endpoints of servers, one after another, each once.
+use Rattle.std.proofs.Common.{◌≡◌, ℕ, ◌+◌, ◌<◌, ◌≤◌, List, [], ◌∷◌, ◌++◌, length, take, get_or, if◌then◌else◌, sym, ap, ◌∙◌, append_assoc, append-nil}
+use Rattle.std.specs.List.{flat_map, list_any}
+use Rattle.std.proofs.lemmas.List.{take_more, take_all, map-append}
+use Rattle.std.proofs.lemmas.Grind.{flat_map-append}
+use Rattle.sipl_records.specs.declared.address.Address.{Address}
+use Rattle.sipl_records.specs.declared.address.Address.TheVariants.{V4}
+use Rattle.sipl_records.specs.Unique.{unique}
+use Rattle.sipl_records.proofs.Unique.{transitive_from_equivalence, unique-append}
+use Rattle.sipl_choice.specs.declared.endpoint.Endpoint.{Endpoint}
+use Rattle.sipl_choice.specs.declared.transport.Transport.{Transport}
+use Rattle.sipl_choice.specs.Endpoints.{same_endpoint}
+use Rattle.sipl_choice.proofs.SameEndpoint.{same_endpoint-equivalence}
+use Rattle.sipl_plans.specs.declared.layout.Source.{Source}
+use Rattle.sipl_plans.specs.Plan.{endpoints_at, endpoints_of}
+
+-- one more endpoint
+push_if_new-unique : (before : List Endpoint) (endpoint : Endpoint) (old new : List Endpoint) → old ≡ unique same_endpoint before → new ≡ (if list_any (λ other. same_endpoint other endpoint) old then old else old ++ endpoint ∷ []) → new ≡ unique same_endpoint (before ++ endpoint ∷ [])
+push_if_new-unique before endpoint old new is pushed =
+    pushed
+    ∙ ap (λ (targets : List Endpoint). if list_any (λ other. same_endpoint other endpoint) targets then targets else targets ++ endpoint ∷ []) is
+    ∙ sym (unique-append same_endpoint (transitive_from_equivalence same_endpoint same_endpoint-equivalence) before endpoint)
+
+module _ (transport : Transport) (port : ℕ) (addresses : List Address) (i : ℕ) (before : List Endpoint) where
+  -- the endpoint of the address at this place
+  abbrev endpoint : Endpoint
+  endpoint = record { transport = transport; address = get_or addresses i (V4 0); port = port }
+
+  endpoints_at-more : i < length addresses → endpoints_at transport port (take (i + 1) addresses) ≡ endpoints_at transport port (take i addresses) ++ endpoint ∷ []
+  endpoints_at-more inside =
+      ap (endpoints_at transport port) (take_more addresses i (V4 0) inside) ∙ map-append (λ address. record { transport = transport; address = address; port = port }) (take i addresses) (get_or addresses i (V4 0) ∷ [])
+
+  -- the next address of a server
+  pub next_address : (old new : List Endpoint) → i < length addresses → old ≡ unique same_endpoint (before ++ endpoints_at transport port (take i addresses)) → new ≡ (if list_any (λ other. same_endpoint other endpoint) old then old else old ++ endpoint ∷ []) → new ≡ unique same_endpoint (before ++ endpoints_at transport port (take (i + 1) addresses))
+  next_address old new inside is pushed =
+      push_if_new-unique (before ++ endpoints_at transport port (take i addresses)) endpoint old new is pushed
+      ∙ ap (λ (all : List Endpoint). unique same_endpoint all) (append_assoc before (endpoints_at transport port (take i addresses)) (endpoint ∷ []) ∙ ap (λ (more : List Endpoint). before ++ more) (sym (endpoints_at-more inside)))
+
+  -- before its first address
+  pub first_address : (old : List Endpoint) → old ≡ unique same_endpoint before → old ≡ unique same_endpoint (before ++ endpoints_at transport port (take 0 addresses))
+  first_address old is = is ∙ ap (λ (all : List Endpoint). unique same_endpoint all) (sym (append-nil before))
+
+-- the next server, after its last address
+pub next_server : (transport : Transport) (servers : List Source) (j : ℕ) (server : Source) (addresses : List Address) (i : ℕ) (targets : List Endpoint) → j < length servers → server ≡ get_or servers j server → addresses ≡ server.addresses → length addresses ≤ i → targets ≡ unique same_endpoint (flat_map (endpoints_of transport) (take j servers) ++ endpoints_at transport server.port (take i addresses)) → targets ≡ unique same_endpoint (flat_map (endpoints_of transport) (take (j + 1) servers))
+next_server transport servers j server addresses i targets inside at own past is =
+    let whole : endpoints_at transport server.port (take i addresses) ≡ endpoints_of transport server = ap (endpoints_at transport server.port) (take_all i addresses past ∙ own) in
+    let more : flat_map (endpoints_of transport) (take (j + 1) servers) ≡ flat_map (endpoints_of transport) (take j servers) ++ endpoints_of transport server =
+    ap (λ (ss : List Source). flat_map (endpoints_of transport) ss) (take_more servers j server inside)
+    ∙ flat_map-append (endpoints_of transport) (take j servers) (get_or servers j server ∷ [])
+    ∙ ap (λ (all : List Endpoint). flat_map (endpoints_of transport) (take j servers) ++ all) (append-nil (endpoints_of transport (get_or servers j server)) ∙ ap (endpoints_of transport) (sym at)) in
+    is ∙ ap (λ (all : List Endpoint). unique same_endpoint all) (ap (λ (all : List Endpoint). flat_map (endpoints_of transport) (take j servers) ++ all) whole ∙ sym more)
