@@ -10,7 +10,7 @@ use Rattle.std.proofs.lemmas.Bool.{cases_Bool, lt-ltb, le-leb, leb-true, ltb-tru
 use Rattle.std.proofs.lemmas.Bool.Decides.{nat_tests}
 use Rattle.std.proofs.lemmas.List.{append_assoc, append-nil, length-append}
 use Rattle.std.proofs.lemmas.Option.{cond_some, none-some}
-use Rattle.sipl_records.specs.Addresses.{group_of, four_groups, number_of_text}
+use Rattle.sipl_records.specs.Ipv4.{group_of, four_groups, number_of_text}
 use Rattle.sipl_records.specs.Ipv6.{hex_group_of, last_groups_of, groups_of, groups_of_text, split_at_zeros, groups_around, groups6_of_text, address6_of_text, number_of_groups}
 use Rattle.sipl_records.specs.Ipv6Grammar.{IsHexGroup, IsIpv4Groups, IsGroupsAfter, IsGroups, IsAddress6Groups, IsAddress6Text}
 use Rattle.sipl_records.specs.Parts.{parts, prepend_to_first}
@@ -129,7 +129,7 @@ digits_lack_colon (c ∷ text) all =
       | inr other ↦ let (digit, others) = first_of_parts c (parts 46 text) (rw other at all) in rw (digit_no_colon c digit) (digits_lack_colon text others)
     ]
 
-ipv4_lacks_colon : (text : List ℕ) (n : ℕ) → number_of_text text ≡ Some n → lacks 58 text ≡ true
+pub ipv4_lacks_colon : (text : List ℕ) (n : ℕ) → number_of_text text ≡ Some n → lacks 58 text ≡ true
 ipv4_lacks_colon text n e = digits_lack_colon text (digits_from_groups (parts 46 text) (four_some (map group_of (parts 46 text)) n e))
 
 ipv4_some : (text : List ℕ) (n : ℕ) → number_of_text text ≡ Some n → 0 < length text

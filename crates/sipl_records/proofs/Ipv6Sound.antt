@@ -7,7 +7,7 @@ use Rattle.std.proofs.Math.Bool.{and-false}
 use Rattle.std.proofs.lemmas.List.{append-nil}
 use Rattle.std.proofs.lemmas.Option.{cond_some, none-some, same_Some}
 use Rattle.std.proofs.NetLemmas.Options.{map_some, and_then_some}
-use Rattle.sipl_records.specs.Addresses.{number_of_text}
+use Rattle.sipl_records.specs.Ipv4.{number_of_text}
 use Rattle.sipl_records.specs.Ipv6.{hex_group_of, last_groups_of, groups_of, groups_of_text, with_group, split_at_zeros, groups_around, groups6_of_text, address6_of_text, with_zeros, eight_groups, number_of_groups}
 use Rattle.sipl_records.specs.Ipv6Grammar.{IsGroupsAfter, IsGroups, IsAddress6Groups, IsAddress6Text}
 use Rattle.sipl_records.specs.Parts.{parts, prepend_to_first}

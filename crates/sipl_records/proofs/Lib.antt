@@ -16,3 +16,4 @@ pub mod Ipv6Texts
 pub mod Ipv6Reads
 pub mod Ipv6Sound
 pub mod Ipv6Prints
+pub mod AddressLemmas

@@ -6,7 +6,7 @@ use Rattle.std.specs.List.{list_all, starts_with}
 use Rattle.std.specs.Net.Text.{groups_text}
 use Rattle.std.specs.Option.{option_or}
 use Rattle.std.specs.Str.Parse.{digits_value}
-use Rattle.sipl_records.specs.Addresses.{number_of_text}
+use Rattle.sipl_records.specs.Ipv4.{number_of_text}
 use Rattle.sipl_records.specs.Parts.{parts}
 
 -- one to four hexadecimal digits, in either case

@@ -2,7 +2,7 @@
 -- stands for.
 use Rattle.std.specs.Prelude.{◌≡◌, ◌⊎◌, ℕ, ◌+◌, ◌-◌, ◌≤◌, ◌/◌, ◌%◌, Bool, true, false, List, [], ◌∷◌, ◌++◌, length, replicate, Some, codes, IsTrue}
 use Rattle.std.specs.Str.Parse.{IsNumeral, digits_value}
-use Rattle.sipl_records.specs.Addresses.{number_of_text}
+use Rattle.sipl_records.specs.Ipv4.{number_of_text}
 use Rattle.sipl_records.specs.Ipv6.{number_of_groups}
 
 -- one to four hexadecimal digits of this value

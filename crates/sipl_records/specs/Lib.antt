@@ -2,11 +2,12 @@ pub mod Unique
 pub mod Parts
 pub mod Numbers
 pub mod Fields
+pub mod Ipv4
+pub mod Ipv6
+pub mod Ipv6Counts
+pub mod Ipv6Grammar
 pub mod Addresses
 pub mod AddressFault
 pub mod Kinds
 pub mod Sets
 pub use Rattle.sipl_names.specs.Labels
-pub mod Ipv6
-pub mod Ipv6Counts
-pub mod Ipv6Grammar

@@ -1,19 +1,16 @@
 //! IPv6 addresses in text (RFC 4291, 2.2).
-ghost use Rattle.std.specs.Prelude.{◌≡◌, ◌↔◌, ℕ, List, ◌+◌, ◌-◌, ◌*◌, ◌<◌, ◌≤◌, ◌^◌, ◌++◌, ◌∷◌, [], length, take, map, Some, None, IfSome, IfNone, OnOk, OnErr, IsOk, MatchOption, option_map, vec_capacity, vec_len, nat_le, if◌then◌else◌, ◌==◌};
+ghost use Rattle.std.specs.Prelude.{◌≡◌, ◌+◌, ◌-◌, ◌*◌, ◌<◌, ◌≤◌, ◌^◌, ◌++◌, ◌∷◌, [], length, take, map, Some, None, IfSome, IfNone, OnOk, OnErr, IsOk, MatchOption, option_map, vec_capacity, vec_len, nat_le, if◌then◌else◌, ◌==◌};
 ghost use Rattle.std.specs.Char.{digit_char};
 ghost use Rattle.std.specs.Option.{option_copied};
 ghost use Rattle.std.specs.Net.Text.{hex, leading_zero_digits};
 ghost use Rattle.sipl_records.specs.Parts.{parts};
 ghost use Rattle.sipl_records.specs.Ipv6.{hex_group_of, groups_of_text, last_groups_of, split_at_zeros, address6_of_text, groups_of_number, text_of_address6};
 ghost use Rattle.sipl_records.specs.Ipv6Counts.{counted_after, IsBounded, IsPushed};
-ghost use Rattle.sipl_records.specs.Ipv6Grammar.{IsAddress6Text};
 
+use crate::address::MAX_ADDRESS_TEXT_LEN;
 use crate::address4;
 use crate::split::split_once;
 use std::alloc::AllocError;
-
-// Octets of the longest text, eight groups of four digits.
-const MAX_TEXT_LEN: usize = 39;
 
 // Groups read from the left: their number, and how many they are.
 #[derive(Clone, Copy)]
@@ -156,9 +153,10 @@ pub(crate) fn write(number: u128, out: &mut Vec<u8>) -> Result<(), AllocError>
     ensures capacity { vec_capacity out.old ≤ vec_capacity out.new }
     ensures succeeds { vec_len out.old + length (text_of_address6 number) ≤ vec_capacity out.old
         → IsOk result }
+    ensures short { length (text_of_address6 number) ≤ 39 }
 {
     let groups = groups_of(number);
-    let mut text = [0; MAX_TEXT_LEN];
+    let mut text = [0; MAX_ADDRESS_TEXT_LEN];
     let mut end = write_group(groups[0], &mut text, 0);
     for group in &groups[1..] {
         text[end] = b':';
@@ -225,22 +223,6 @@ fn hex_digit(value: u16) -> u8
         b'a' + (value - 10) as u8
     }
 }
-
-/// A text is read as a number exactly where the grammar (RFC 4291, 2.2) relates the two.
-pub fn reading_ipv6_follows_the_grammar()
-    ensures { (text : List ℕ) (number : ℕ) →
-        (address6_of_text text ≡ Some number) ↔ IsAddress6Text text number }
-{}
-
-/// A printed IPv6 address reads back to itself.
-pub fn printing_ipv6_reads_back()
-    ensures { (n : ℕ) → n < 2 ^ 128 → address6_of_text (text_of_address6 n) ≡ Some n }
-{}
-
-/// A printed IPv6 address has at most 39 octets.
-pub fn ipv6_texts_are_short()
-    ensures { (n : ℕ) → length (text_of_address6 n) ≤ 39 }
-{}
 
 #[cfg(test)]
 mod tests {
