@@ -4,10 +4,8 @@ use Rattle.std.specs.List.{list_any}
 use Rattle.std.specs.Str.{str_to_ascii_lowercase}
 use lib.Pointwise.{pointwise}
 use Rattle.sipl_names.specs.NameText.{name_of}
-use Rattle.sipl_records.specs.Addresses.{address_of}
+use Rattle.sipl_records.specs.Ipv4.{number_of_text}
 use Rattle.sipl_records.specs.Fields.{fields_of, is_wsp}
-use Rattle.sipl_records.specs.declared.address.Address.{Address}
-use Rattle.sipl_records.specs.declared.address.Address.TheVariants.{V4}
 use Rattle.sipl_records.specs.declared.data.Data.{Data}
 use Rattle.sipl_records.specs.declared.data.Data.TheVariants.{Address4}
 use Rattle.sipl_records.specs.declared.record.Record.{Record}
@@ -33,10 +31,6 @@ has_no_owner (c ∷ line) = is_wsp c || c == 36
 abbrev pub is_other_form : List ℕ → Bool
 is_other_form line = has_no_owner line || list_any is_other_mark line || escapes_gap line
 
--- the data of an address
-abbrev pub address_data : Address → Data
-address_data (V4 n) = Address4 n
-
 -- the data, where no field is left
 abbrev pub alone : Data → List (List ℕ) → Result Data ZoneCause
 alone value [] = Ok value
@@ -45,7 +39,7 @@ alone value (other ∷ others) = Err MissingField
 -- RFC 1035, 3.4.1: the data of type `A` are an address, and nothing behind it
 abbrev pub address_data_of : List (List ℕ) → Result Data ZoneCause
 address_data_of [] = Err MissingField
-address_data_of (text ∷ others) = elim (address_of text) [ None ↦ Err BadAddress | Some address ↦ alone (address_data address) others ]
+address_data_of (text ∷ others) = elim (number_of_text text) [ None ↦ Err BadAddress | Some n ↦ alone (Address4 n) others ]
 
 -- the type, `A` in either case, and its data
 abbrev pub data_of : List (List ℕ) → Result Data ZoneCause

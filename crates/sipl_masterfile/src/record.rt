@@ -5,7 +5,7 @@ ghost use Rattle.sipl_masterfile.specs.RecordText.{record_of, data_of, address_d
 use crate::fault::{ZoneCause, ZoneFault};
 use crate::form::is_other_form;
 use sipl_names::{Name, NameFault};
-use sipl_records::{Address, Data, Record, next_field};
+use sipl_records::{Data, Record, next_field, read_ipv4};
 use std::alloc::Global;
 
 /// Reads one record's line: OWNER `A` ADDRESS, parted by spaces and tabs, the type in either case
@@ -61,7 +61,7 @@ fn read_address(line: &[u8]) -> Result<Data, ZoneCause>
     let Some((text, rest)) = next_field(line) else {
         return Err(ZoneCause::MissingField);
     };
-    let Address::V4(number) = Address::from_text(text)?;
+    let number = read_ipv4(text)?;
     if next_field(rest).is_some() {
         return Err(ZoneCause::MissingField);
     }
