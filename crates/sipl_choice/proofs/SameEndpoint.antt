@@ -4,7 +4,7 @@ use Rattle.std.specs.Bool.{Decides}
 use Rattle.std.specs.Cmp.{IsEquivalence, decided}
 use Rattle.std.proofs.lemmas.Bool.Decides.{Decides-eqb, Decides-like, Decides-and}
 use Rattle.sipl_records.specs.declared.address.Address.{Address}
-use Rattle.sipl_records.specs.declared.address.Address.TheVariants.{V4}
+use Rattle.sipl_records.specs.declared.address.Address.TheVariants.{V4, V6}
 use Rattle.sipl_records.specs.Addresses.{same_address}
 use Rattle.sipl_choice.specs.declared.endpoint.Endpoint.{Endpoint}
 use Rattle.sipl_choice.specs.Endpoints.{same_endpoint}
@@ -12,6 +12,9 @@ use Rattle.sipl_choice.specs.SameClient.{same_transport_decides}
 
 same_address_decides : (a b : Address) → Decides (same_address a b) (a ≡ b)
 same_address_decides (V4 m) (V4 n) = Decides-like _ (λ e. ap (λ k. V4 k) e) (λ e. cc) (Decides-eqb m n)
+same_address_decides (V6 m) (V6 n) = Decides-like _ (λ e. ap (λ k. V6 k) e) (λ e. cc) (Decides-eqb m n)
+same_address_decides (V4 m) (V6 n) = ((λ e. cc), (λ e. cc))
+same_address_decides (V6 m) (V4 n) = ((λ e. cc), (λ e. cc))
 
 pub same_endpoint_decides : (a b : Endpoint) → Decides (same_endpoint a b) (a ≡ b)
 same_endpoint_decides a b =

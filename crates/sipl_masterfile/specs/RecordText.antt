@@ -5,10 +5,8 @@ use Rattle.std.specs.Str.{str_to_ascii_lowercase}
 use lib.Pointwise.{pointwise}
 use Rattle.sipl_names.specs.Labels.{Octets, Labels}
 use Rattle.sipl_names.specs.NameText.{name_of}
-use Rattle.sipl_records.specs.Addresses.{address_of}
+use Rattle.sipl_records.specs.Ipv4.{number_of_text}
 use Rattle.sipl_records.specs.Fields.{fields_of, is_wsp}
-use Rattle.sipl_records.specs.declared.address.Address.{Address}
-use Rattle.sipl_records.specs.declared.address.Address.TheVariants.{V4}
 use Rattle.sipl_records.specs.declared.data.Data.{Data}
 use Rattle.sipl_records.specs.declared.data.Data.TheVariants.{Address4}
 use Rattle.sipl_records.specs.declared.record.Record.{Record}
@@ -42,10 +40,6 @@ abbrev pub is_unsupported : List ℕ → Bool
 is_unsupported line =
     omits_owner line || is_directive line || list_any is_unsupported_octet line || escapes_wsp line
 
--- the data of an address
-abbrev pub address_data : Address → Data
-address_data (V4 n) = Address4 n
-
 -- the data, where no further field follows
 abbrev pub data_at_end : Data → List Octets → Result Data ZoneCause
 data_at_end value [] = Ok value
@@ -54,9 +48,9 @@ data_at_end value (other ∷ others) = Err MissingField
 -- RFC 1035, 3.4.1: the data of type `A` are an address, and no field after it
 abbrev pub address_data_of : List Octets → Result Data ZoneCause
 address_data_of [] = Err MissingField
-address_data_of (text ∷ others) = elim (address_of text) [
+address_data_of (text ∷ others) = elim (number_of_text text) [
   | None ↦ Err BadAddress
-  | Some address ↦ data_at_end (address_data address) others
+  | Some n ↦ data_at_end (Address4 n) others
 ]
 
 -- the type, `A` in either case, and its data

@@ -5,7 +5,7 @@ ghost use Rattle.sipl_masterfile.specs.RecordText.{record_of, record_or_cause, d
 use crate::fault::{ZoneCause, ZoneFault};
 use crate::form::is_unsupported;
 use sipl_names::{Name, NameFault};
-use sipl_records::{Address, Data, Record, next_field};
+use sipl_records::{Data, Record, next_field, read_ipv4};
 use std::alloc::Global;
 
 /// Reads one record's line (RFC 1035, 5.1): OWNER `A` ADDRESS, separated by spaces and tabs, the
@@ -56,7 +56,7 @@ fn read_address(line: &[u8]) -> Result<Data, ZoneCause>
     ensures { result ≡ address_data_of (fields_of line.now) }
 {
     let (text, rest) = next_field(line).ok_or(ZoneCause::MissingField)?;
-    let Address::V4(number) = Address::from_text(text)?;
+    let number = read_ipv4(text)?;
     if next_field(rest).is_some() {
         return Err(ZoneCause::MissingField);
     }

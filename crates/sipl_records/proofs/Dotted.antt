@@ -3,9 +3,7 @@ use Rattle.std.proofs.Common.{◌≡◌, ℕ, ◌+◌, ◌-◌, ◌/◌, ◌%◌
 use Rattle.std.specs.Prelude.{OnOk}
 use lib.ListN.{replicate}
 use Rattle.std.proofs.lemmas.Fmt.{length-decimal-le}
-use Rattle.sipl_records.specs.declared.address.Address.{Address}
-use Rattle.sipl_records.specs.declared.address.Address.TheVariants.{V4}
-use Rattle.sipl_records.specs.Addresses.{text_of_number, text_of_address, IsAddress}
+use Rattle.sipl_records.specs.Ipv4.{text_of_number}
 use Rattle.sipl_records.proofs.Groups.{rest_whole}
 use Rattle.std.proofs.lemmas.List.{take-take, take-replicate, get_or-take, get_or-replicate}
 
@@ -20,9 +18,6 @@ length-four a b c d three_a three_b three_c three_d = simp length-append (omega 
 pub length-text_of_number : (n : ℕ) → n < 2 ^ 32 → length (text_of_number n) ≤ 15
 length-text_of_number n small =
     length-four (decimal (n / 16777216)) (decimal (n / 65536 % 256)) (decimal (n / 256 % 256)) (decimal (n % 256)) (octet_digits (n / 16777216) (omega arith)) (octet_digits (n / 65536 % 256) (omega arith)) (octet_digits (n / 256 % 256) (omega arith)) (octet_digits (n % 256) (omega arith))
-
-pub length-text_of_address : (address : Address) → IsAddress address → length (text_of_address address) ≤ 15
-length-text_of_address (V4 n) small = length-text_of_number n small
 
 -- dots before the end, and this text from there on
 pub record IsDotted (end : ℕ) (tail text : List ℕ) : Type 0 where

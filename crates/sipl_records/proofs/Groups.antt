@@ -11,7 +11,7 @@ use Rattle.std.proofs.lemmas.Grind.{common_steps}
 use Rattle.std.proofs.lemmas.Int.Digits.{digits_value_more}
 use Rattle.std.proofs.lemmas.List.{length-map}
 use Rattle.sipl_records.specs.Parts.{parts, split_once}
-use Rattle.sipl_records.specs.Addresses.{group_of, four_groups, number_of_four, HasNoGroupBeforeDot}
+use Rattle.sipl_records.specs.Ipv4.{group_of, four_groups, number_of_four, HasNoGroupBeforeDot}
 use Rattle.sipl_records.proofs.Parts.{parts-Some, parts-None, split_once-whole, length-parts}
 
 -- a text with an octet that is not a digit

@@ -10,3 +10,10 @@ pub mod RoundTrip
 pub mod Splitting
 pub mod Numbers
 pub mod Fields
+pub mod Ipv6Groups
+pub mod Ipv6Numbers
+pub mod Ipv6Texts
+pub mod Ipv6Reads
+pub mod Ipv6Sound
+pub mod Ipv6Prints
+pub mod AddressLemmas

@@ -7,10 +7,8 @@ use Rattle.std.specs.Char.{is_ascii_digit}
 use Rattle.std.proofs.lemmas.Bool.Decides.{nat_tests}
 use Rattle.std.proofs.lemmas.Fmt.{decimal_is_IsNumeral, digits_decimal, decimal_nonempty}
 use Rattle.std.proofs.lemmas.Str.Parse.{numerals_by_value, tells_all_ascii_digits}
-use Rattle.sipl_records.specs.declared.address.Address.{Address}
-use Rattle.sipl_records.specs.declared.address.Address.TheVariants.{V4}
 use Rattle.sipl_records.specs.Parts.{parts}
-use Rattle.sipl_records.specs.Addresses.{group_of, four_groups, number_of_four, address_of, text_of_address, IsAddress}
+use Rattle.sipl_records.specs.Ipv4.{group_of, four_groups, number_of_four, number_of_text, text_of_number}
 use Rattle.sipl_records.proofs.Groups.{digit_before, digit_no_dot}
 use Rattle.sipl_records.proofs.Dotted.{octet_digits}
 
@@ -57,10 +55,7 @@ four_groups-printed a b c d ha hb hc hd =
     let flat : decimal a ++ 46 ∷ decimal b ++ 46 ∷ decimal c ++ 46 ∷ decimal d ≡ decimal a ++ 46 ∷ (decimal b ++ 46 ∷ (decimal c ++ 46 ∷ decimal d)) = simp append_assoc in
     rw (flat, parts-digits (decimal a) (decimal b ++ 46 ∷ (decimal c ++ 46 ∷ decimal d)) (digits_of_decimal a ha), parts-digits (decimal b) (decimal c ++ 46 ∷ decimal d) (digits_of_decimal b hb), parts-digits (decimal c) (decimal d) (digits_of_decimal c hc), parts-last_digits (decimal d) (digits_of_decimal d hd), group_of-decimal a ha, group_of-decimal b hb, group_of-decimal c hc, group_of-decimal d hd) refl
 
-read_back : (n : ℕ) → n < 2 ^ 32 → address_of (text_of_address (V4 n)) ≡ Some (V4 n)
-read_back n small =
+-- a printed IPv4 address reads back to itself
+pub number_of_text-text_of : (n : ℕ) → n < 2 ^ 32 → number_of_text (text_of_number n) ≡ Some n
+number_of_text-text_of n small =
     rw (four_groups-printed (n / 16777216) (n / 65536 % 256) (n / 256 % 256) (n % 256) (omega arith) (omega arith) (omega arith) (omega arith), number_of_four-octets n) refl
-
--- a printed address reads back to itself
-pub address_of-text : (address : Address) → IsAddress address → address_of (text_of_address address) ≡ Some address
-address_of-text (V4 n) small = read_back n small

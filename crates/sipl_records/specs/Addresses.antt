@@ -1,52 +1,29 @@
--- IP addresses in text: IPv4 as in RFC 1123, 2.1.
-use Rattle.std.specs.Prelude.{ℕ, ◌+◌, ◌*◌, ◌^◌, ◌<◌, ◌/◌, ◌%◌, Bool, ◌&&◌, List, [], ◌∷◌, ◌++◌, length, map, Option, None, Some, option_map, nat_le, if◌then◌else◌, ◌==◌, decimal}
-use Rattle.std.specs.Str.{all_ascii_digits}
-use Rattle.std.specs.Str.Parse.{digits_value}
+-- IP addresses in text.
+use Rattle.std.specs.Prelude.{ℕ, ◌^◌, ◌<◌, Bool, false, List, Option, option_map, ◌==◌}
+use Rattle.std.specs.Option.{option_or}
 use Rattle.sipl_records.specs.declared.address.Address.{Address}
-use Rattle.sipl_records.specs.declared.address.Address.TheVariants.{V4}
-use Rattle.sipl_records.specs.Parts.{parts}
+use Rattle.sipl_records.specs.declared.address.Address.TheVariants.{V4, V6}
+use Rattle.sipl_records.specs.Ipv4.{number_of_text, text_of_number}
+use Rattle.sipl_records.specs.Ipv6.{address6_of_text, text_of_address6}
 
--- the value of a group: one to three digits, at most 255
-abbrev pub group_of : List ℕ → Option ℕ
-group_of digits =
-    if nat_le 1 (length digits) && nat_le (length digits) 3 && all_ascii_digits digits && nat_le (digits_value 10 digits) 255
-    then Some (digits_value 10 digits) else None
-
--- the number of four octets, the first one the highest
-abbrev pub number_of_four : ℕ → ℕ → ℕ → ℕ → ℕ
-number_of_four a b c d = a * 16777216 + b * 65536 + c * 256 + d
-
--- the number of four groups, and of no other count
-abbrev pub four_groups : List (Option ℕ) → Option ℕ
-four_groups (Some a ∷ Some b ∷ Some c ∷ Some d ∷ []) = Some (number_of_four a b c d)
-four_groups _ = None
-
--- the first part is not a group, or it is the last part, so no dot follows it
-abbrev pub HasNoGroupBeforeDot : List (Option ℕ) → Type 0
-HasNoGroupBeforeDot (Some a ∷ b ∷ groups) = ⊥
-HasNoGroupBeforeDot _ = Unit {0}
-
--- the number of a text: four groups separated by dots
-abbrev pub number_of_text : List ℕ → Option ℕ
-number_of_text text = four_groups (map group_of (parts 46 text))
-
--- the address of a text
+-- the address of a text: IPv4, or else IPv6
 abbrev pub address_of : List ℕ → Option Address
-address_of text = option_map (λ n. V4 n) (number_of_text text)
-
--- the text of an IPv4 address: four groups separated by dots, without leading zeros
-abbrev pub text_of_number : ℕ → List ℕ
-text_of_number n =
-    decimal (n / 16777216) ++ 46 ∷ decimal (n / 65536 % 256) ++ 46 ∷ decimal (n / 256 % 256) ++ 46 ∷ decimal (n % 256)
+address_of text =
+    option_or (option_map (λ n. V4 n) (number_of_text text))
+    (option_map (λ n. V6 n) (address6_of_text text))
 
 -- the text of an address
 abbrev pub text_of_address : Address → List ℕ
 text_of_address (V4 n) = text_of_number n
+text_of_address (V6 n) = text_of_address6 n
 
--- an IPv4 address has 32 bits
+-- an IPv4 address has 32 bits, and an IPv6 address 128
 abbrev pub IsAddress : Address → Type 0
 IsAddress (V4 n) = n < 2 ^ 32
+IsAddress (V6 n) = n < 2 ^ 128
 
 -- whether two addresses are one
 abbrev pub same_address : Address → Address → Bool
 same_address (V4 m) (V4 n) = m == n
+same_address (V6 m) (V6 n) = m == n
+same_address _ _ = false

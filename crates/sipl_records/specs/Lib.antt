@@ -2,6 +2,10 @@ pub mod Unique
 pub mod Parts
 pub mod Numbers
 pub mod Fields
+pub mod Ipv4
+pub mod Ipv6
+pub mod Ipv6Counts
+pub mod Ipv6Grammar
 pub mod Addresses
 pub mod AddressFault
 pub mod Kinds

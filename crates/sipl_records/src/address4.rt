@@ -1,12 +1,14 @@
 //! IPv4 addresses in text (RFC 1123, 2.1).
 ghost use Rattle.std.specs.Prelude.{◌≡◌, ℕ, ◌+◌, ◌++◌, ◌∷◌, length, map, Some, IfSome, IfNone, OnOk, OnErr, IsOk, ◌≤◌, vec_len, vec_capacity};
 ghost use Rattle.sipl_records.specs.Parts.{parts};
-ghost use Rattle.sipl_records.specs.Addresses.{group_of, number_of_text, text_of_number, HasNoGroupBeforeDot};
+ghost use Rattle.sipl_records.specs.Ipv4.{group_of, number_of_text, text_of_number, HasNoGroupBeforeDot};
 
-use crate::address::MAX_ADDRESS_TEXT_LEN;
 use crate::split::split_once;
 use itoa::write_digits;
 use std::alloc::AllocError;
+
+// Octets of the longest text, `255.255.255.255`.
+const MAX_TEXT_LEN: usize = 15;
 
 // The number of a text of four groups separated by dots.
 pub(crate) fn read(text: &[u8]) -> Option<u32>
@@ -60,8 +62,8 @@ pub(crate) fn write(number: u32, out: &mut Vec<u8>) -> Result<(), AllocError>
 {
     let number = u64::from(number);
     // The groups are written from the last one on, over dots.
-    let mut text = [b'.'; MAX_ADDRESS_TEXT_LEN];
-    let fourth = write_digits(number % 256, &mut text, MAX_ADDRESS_TEXT_LEN);
+    let mut text = [b'.'; MAX_TEXT_LEN];
+    let fourth = write_digits(number % 256, &mut text, MAX_TEXT_LEN);
     let third = write_digits(number / 256 % 256, &mut text, fourth - 1);
     let second = write_digits(number / 65536 % 256, &mut text, third - 1);
     let first = write_digits(number / 16777216, &mut text, second - 1);

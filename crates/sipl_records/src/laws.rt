@@ -10,6 +10,8 @@ ghost use Rattle.sipl_records.specs.declared.record.Key.{Key};
 ghost use Rattle.sipl_records.specs.declared.address.Address.{Address};
 ghost use Rattle.sipl_records.specs.declared.address.TheConstants.{MAX_ADDRESS_TEXT_LEN};
 ghost use Rattle.sipl_records.specs.Addresses.{address_of, text_of_address, IsAddress};
+ghost use Rattle.sipl_records.specs.Ipv6.{address6_of_text};
+ghost use Rattle.sipl_records.specs.Ipv6Grammar.{IsAddress6Text};
 ghost use Rattle.sipl_records.specs.Sets.{has_key, key_of, set_of, shares_set};
 ghost use Rattle.sipl_records.specs.Unique.{unique};
 ghost use Rattle.sipl_records.specs.Parts.{parts};
@@ -91,11 +93,17 @@ pub fn printing_addresses_reads_back()
         → address_of (text_of_address address) ≡ Some address }
 {}
 
-/// The text of an address has at most 15 octets.
-pub fn address_text_has_at_most_15_octets()
+/// A text is read as an IPv6 address exactly where the grammar (RFC 4291, 2.2) relates the two.
+pub fn ipv6_texts_follow_the_grammar()
+    ensures { (text : List ℕ) (number : ℕ) →
+        (address6_of_text text ≡ Some number) ↔ IsAddress6Text text number }
+{}
+
+/// The text of an address has at most 39 octets.
+pub fn address_text_has_at_most_39_octets()
     ensures short { (address : Address) → IsAddress address
-        → length (text_of_address address) ≤ 15 }
-    ensures constant { MAX_ADDRESS_TEXT_LEN ≡ 15 }
+        → length (text_of_address address) ≤ 39 }
+    ensures constant { MAX_ADDRESS_TEXT_LEN ≡ 39 }
 {}
 
 /// The parts of a text are what std's `split` at the separator yields.

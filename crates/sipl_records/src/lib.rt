@@ -4,6 +4,7 @@
 
 mod address;
 mod address4;
+mod address6;
 mod data;
 mod fault;
 mod field;
@@ -16,7 +17,7 @@ mod split;
 #[cfg(test)]
 mod tests;
 
-pub use address::{Address, MAX_ADDRESS_TEXT_LEN};
+pub use address::{Address, MAX_ADDRESS_TEXT_LEN, read_ipv4, read_ipv6};
 pub use data::Data;
 pub use fault::AddressFault;
 pub use field::{is_wsp, next_field, trim_start};

@@ -91,6 +91,11 @@ fn address_reads_and_prints_its_text(rt: HostRuntime) -> Result<(), Fail> {
         assert_eq!(rt; &out[..3], b"at ".as_slice(), "writing {number}");
         assert_eq!(rt; &out[3..], text, "writing {number}");
     }
+    let address = Address::V6(0x2001_0db8_0000_0000_0000_0000_0000_0001);
+    assert_eq!(rt; Address::from_text(b"2001:DB8::1"), Ok(address));
+    let mut out = Vec::new(rt.alloc());
+    address.write(&mut out)?;
+    assert_eq!(rt; out.as_slice(), b"2001:db8:0:0:0:0:0:1".as_slice());
     Ok(())
 }
 
@@ -242,6 +247,9 @@ fn copies_equal_their_originals(rt: HostRuntime) -> Result<(), Fail> {
     );
     assert!(rt; !same_key(&key(alloc, b"example.com.", Kind::Address4)?, &addresses));
     assert!(rt; !same_address(&Address::V4(1), &Address::V4(2)));
+    assert!(rt; same_address(&Address::V6(1), &Address::V6(1)));
+    assert!(rt; !same_address(&Address::V6(1), &Address::V6(2)));
+    assert!(rt; !same_address(&Address::V4(1), &Address::V6(1)));
     let copy = www.dup(alloc)?;
     let records = vec![in alloc; record(alloc, b"example.com.", 0xC000_0202)?, www]?;
     assert!(rt; is_among(&records, &copy));

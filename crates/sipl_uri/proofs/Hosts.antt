@@ -9,9 +9,8 @@ use Rattle.std.proofs.lemmas.Bool.{cases_Bool, and_parts, and_from, and_left, an
 use Rattle.std.proofs.lemmas.Bool.Decides.{nat_tests}
 use Rattle.std.proofs.lemmas.List.Folds.{list_all-append}
 use Rattle.sipl_names.specs.Labels.{Octets, Labels}
-use Rattle.sipl_records.specs.declared.address.Address.{Address}
-use Rattle.sipl_records.specs.declared.address.Address.TheVariants.{V4}
-use Rattle.sipl_records.specs.Addresses.{group_of, four_groups, number_of_text, address_of}
+use Rattle.sipl_records.specs.declared.address.Address.TheVariants.{V4, V6}
+use Rattle.sipl_records.specs.Ipv4.{group_of, four_groups, number_of_text}
 use Rattle.sipl_records.specs.Parts.{prepend_to_first, parts}
 use Rattle.sipl_uri.specs.declared.question.Target.{Target}
 use Rattle.sipl_uri.specs.declared.question.Target.TheVariants.{Numeric, Domain}
@@ -60,15 +59,9 @@ parts_octets (c ∷ text) all =
     let both = next_octet c (nat_eq c 46) (parts 46 text) refl all in
     and_from _ _ both.0 (parts_octets text both.1)
 
-number_by : (number : Option ℕ) (address : Address) → option_map (λ n. V4 n) number ≡ Some address → (n : ℕ) × (number ≡ Some n)
-number_by (Some n) address e = (n, refl)
-number_by None address e = cc
-
 -- an address is written with digits and dots
-address_octets : (text : Octets) (address : Address) → address_of text ≡ Some address → list_all is_address_octet text ≡ true
-address_octets text address e =
-    let number = number_by (number_of_text text) address e in
-    parts_octets text (groups_digits (parts 46 text) (four (map group_of (parts 46 text)) number.0 number.1))
+address_octets : (text : Octets) (n : ℕ) → number_of_text text ≡ Some n → list_all is_address_octet text ≡ true
+address_octets text n e = parts_octets text (groups_digits (parts 46 text) (four (map group_of (parts 46 text)) n e))
 
 address_octet_of_hostname : (c : ℕ) → is_address_octet c ≡ true → is_hostname_octet c ≡ true
 address_octet_of_hostname c is = elim (cases_Bool (is_ascii_digit c)) [
@@ -84,36 +77,38 @@ first_letter [] all letter = letter
 first_letter (c ∷ top) all letter = no_letter c (and_parts (is_address_octet c) (list_all is_address_octet top) all).0 letter
 
 -- a hostname is no address
-hostname_is_no_address : (text : Octets) (labels : Labels) (address : Address) → IsHostname text labels → address_of text ≡ Some address → false ≡ true
-hostname_is_no_address text labels address is e =
+hostname_is_no_address : (text : Octets) (labels : Labels) (n : ℕ) → IsHostname text labels → number_of_text text ≡ Some n → false ≡ true
+hostname_is_no_address text labels n is e =
     let p = hostname_parts text labels is in
     let end : Octets = if p.whole then codes "." else [] in
-    let all : list_all is_address_octet (flat_map dotted p.domains ++ p.top ++ end) ≡ true = sym (ap (λ (t : Octets). list_all is_address_octet t) p.written) ∙ address_octets text address e in
+    let all : list_all is_address_octet (flat_map dotted p.domains ++ p.top ++ end) ≡ true = sym (ap (λ (t : Octets). list_all is_address_octet t) p.written) ∙ address_octets text n e in
     let front = (and_parts (list_all is_address_octet (flat_map dotted p.domains ++ p.top)) (list_all is_address_octet end) (sym (list_all-append is_address_octet (flat_map dotted p.domains ++ p.top) end) ∙ all)).0 in
     let top = (and_parts (list_all is_address_octet (flat_map dotted p.domains)) (list_all is_address_octet p.top) (sym (list_all-append is_address_octet (flat_map dotted p.domains) p.top) ∙ front)).1 in
     first_letter p.top top p.top_label.letter
 
 -- the octets of a host
 pub host_octets : (text : Octets) (target : Target) → IsHost text target → list_all is_hostname_octet text ≡ true
-host_octets text (Numeric address) is = list_all-weaker is_address_octet is_hostname_octet address_octet_of_hostname text (address_octets text address is)
+host_octets text (Numeric (V4 n)) is = list_all-weaker is_address_octet is_hostname_octet address_octet_of_hostname text (address_octets text n is)
+host_octets text (Numeric (V6 n)) is = absurd is
 host_octets text (Domain labels) is = hostname_octets text labels is
 
-host_by : (text : Octets) (address : Option Address) (name : Option Labels) (target : Target) → address_of text ≡ address → hostname_of text ≡ name → elim address as (λ _. Option Target) [ Some a ↦ Some (Numeric a) | None ↦ option_map (λ labels. Domain labels) name ] ≡ Some target → IsHost text target
-host_by text (Some address) name target e f same = let is : Numeric address ≡ target = cc in subst (λ (t : Target). IsHost text t) is e
+host_by : (text : Octets) (number : Option ℕ) (name : Option Labels) (target : Target) → number_of_text text ≡ number → hostname_of text ≡ name → elim number as (λ _. Option Target) [ Some n ↦ Some (Numeric (V4 n)) | None ↦ option_map (λ labels. Domain labels) name ] ≡ Some target → IsHost text target
+host_by text (Some n) name target e f same = let is : Numeric (V4 n) ≡ target = cc in subst (λ (t : Target). IsHost text t) is e
 host_by text None (Some labels) target e f same = let is : Domain labels ≡ target = cc in subst (λ (t : Target). IsHost text t) is (hostname_of-is text labels f)
 host_by text None None target e f same = cc
 
 -- what is read as a host is one
 pub host_of-is : (text : Octets) (target : Target) → host_of text ≡ Some target → IsHost text target
-host_of-is text target e = host_by text (address_of text) (hostname_of text) target refl refl e
+host_of-is text target e = host_by text (number_of_text text) (hostname_of text) target refl refl e
 
-no_address : (text : Octets) (labels : Labels) (address : Option Address) → IsHostname text labels → address_of text ≡ address → address ≡ None
+no_address : (text : Octets) (labels : Labels) (number : Option ℕ) → IsHostname text labels → number_of_text text ≡ number → number ≡ None
 no_address text labels None is e = refl
-no_address text labels (Some address) is e = let absent = hostname_is_no_address text labels address is e in cc
+no_address text labels (Some n) is e = let absent = hostname_is_no_address text labels n is e in cc
 
 -- a host is read as one
 pub host_of-Some : (text : Octets) (target : Target) → IsHost text target → host_of text ≡ Some target
-host_of-Some text (Numeric address) is = ap (λ (a : Option Address). elim a as (λ _. Option Target) [ Some x ↦ Some (Numeric x) | None ↦ option_map (λ labels. Domain labels) (hostname_of text) ]) is
+host_of-Some text (Numeric (V6 n)) is = absurd is
+host_of-Some text (Numeric (V4 n)) is = ap (λ (a : Option ℕ). elim a as (λ _. Option Target) [ Some x ↦ Some (Numeric (V4 x)) | None ↦ option_map (λ labels. Domain labels) (hostname_of text) ]) is
 host_of-Some text (Domain labels) is =
-    ap (λ (a : Option Address). elim a as (λ _. Option Target) [ Some x ↦ Some (Numeric x) | None ↦ option_map (λ labels. Domain labels) (hostname_of text) ]) (no_address text labels (address_of text) is refl)
+    ap (λ (a : Option ℕ). elim a as (λ _. Option Target) [ Some x ↦ Some (Numeric (V4 x)) | None ↦ option_map (λ labels. Domain labels) (hostname_of text) ]) (no_address text labels (number_of_text text) is refl)
     ∙ ap (λ (name : Option Labels). option_map (λ labels. Domain labels) name) (hostname_of-Some text labels is)

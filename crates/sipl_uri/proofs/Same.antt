@@ -6,7 +6,7 @@ use Rattle.std.proofs.Common.{rules, refl, ap}
 use Rattle.std.proofs.lemmas.Bool.Decides.{Decides-eqb, Decides-like, Decides-and}
 use mathlib.Core.Bool.{beq}
 use Rattle.sipl_names.proofs.SameName.{same_name_decides}
-use Rattle.sipl_records.specs.declared.address.Address.TheVariants.{V4}
+use Rattle.sipl_records.specs.declared.address.Address.TheVariants.{V4, V6}
 use Rattle.sipl_choice.specs.declared.transport.Transport.{Transport}
 use Rattle.sipl_choice.specs.contracts.transport.TransportPartialEq.TheImpl.{eq-value as transport_eq}
 use Rattle.sipl_uri.specs.declared.question.Target.{Target}
@@ -19,8 +19,13 @@ use Rattle.sipl_uri.specs.contracts.question.QuestionPartialEq.TheImpl.{eq-value
 pub same_target_decides : (a b : Target) → Decides (target_eq.it a b) (a ≡ b)
 same_target_decides (Numeric (V4 m)) (Numeric (V4 n)) = Decides-like _ (λ e. ap (λ k. Numeric (V4 k)) e) (λ e. cc) (Decides-eqb m n)
 same_target_decides (Domain m) (Domain n) = Decides-like _ (λ e. ap (λ k. Domain k) e) (λ e. cc) (same_name_decides m n)
+same_target_decides (Numeric (V6 m)) (Numeric (V6 n)) = Decides-like _ (λ e. ap (λ k. Numeric (V6 k)) e) (λ e. cc) (Decides-eqb m n)
+same_target_decides (Numeric (V4 m)) (Numeric (V6 n)) = ((λ e. cc), (λ e. cc))
+same_target_decides (Numeric (V6 m)) (Numeric (V4 n)) = ((λ e. cc), (λ e. cc))
 same_target_decides (Numeric (V4 m)) (Domain n) = ((λ e. cc), (λ e. cc))
+same_target_decides (Numeric (V6 m)) (Domain n) = ((λ e. cc), (λ e. cc))
 same_target_decides (Domain m) (Numeric (V4 n)) = ((λ e. cc), (λ e. cc))
+same_target_decides (Domain m) (Numeric (V6 n)) = ((λ e. cc), (λ e. cc))
 
 same_flag_decides : (a b : Bool) → Decides (beq a b) (a ≡ b)
 same_flag_decides true true = ((λ e. refl), (λ e. refl))

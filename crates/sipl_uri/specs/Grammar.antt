@@ -8,7 +8,8 @@ use Rattle.std.specs.List.{AllByRecursion, flat_map, list_all}
 use Rattle.std.specs.Str.{str_to_ascii_lowercase, all_ascii_digits}
 use Rattle.std.specs.Str.Parse.{digits_value}
 use Rattle.sipl_names.specs.Labels.{Octets, Labels, wire_length}
-use Rattle.sipl_records.specs.Addresses.{address_of}
+use Rattle.sipl_records.specs.declared.address.Address.TheVariants.{V4, V6}
+use Rattle.sipl_records.specs.Ipv4.{number_of_text}
 use Rattle.sipl_uri.specs.declared.question.Question.{Question}
 use Rattle.sipl_uri.specs.declared.question.Target.{Target}
 use Rattle.sipl_uri.specs.declared.question.Target.TheVariants.{Numeric, Domain}
@@ -48,7 +49,8 @@ pub record IsHostname (text : Octets) (labels : Labels) : Type 0 where
 
 -- host
 abbrev pub IsHost : Octets → Target → Type 0
-IsHost text (Numeric address) = address_of text ≡ Some address
+IsHost text (Numeric (V4 n)) = number_of_text text ≡ Some n
+IsHost text (Numeric (V6 n)) = ⊥
 IsHost text (Domain labels) = IsHostname text labels
 
 -- port: one or more digits, of a value from 1 to 65,535

@@ -7,7 +7,8 @@ use Rattle.std.specs.Char.{is_ascii_alphabetic, is_ascii_alphanumeric, is_ascii_
 use lib.Pointwise.{pointwise}
 use Rattle.sipl_names.specs.Labels.{Octets, Labels, top_label_of}
 use Rattle.sipl_names.specs.NameText.{name_of}
-use Rattle.sipl_records.specs.Addresses.{address_of}
+use Rattle.sipl_records.specs.declared.address.Address.TheVariants.{V4}
+use Rattle.sipl_records.specs.Ipv4.{number_of_text}
 use Rattle.sipl_records.specs.Numbers.{number_of}
 use Rattle.sipl_records.specs.Parts.{split_once}
 use Rattle.sipl_uri.specs.declared.question.Question.{Question}
@@ -59,10 +60,10 @@ hostname_of text =
       | Err fault ↦ None
     ] else None
 
--- RFC 3261, 25.1: a host is an address or a hostname
+-- RFC 3261, 25.1: a host is an IPv4 address or a hostname
 abbrev pub host_of : Octets → Option Target
-host_of text = elim (address_of text) [
-  | Some address ↦ Some (Numeric address)
+host_of text = elim (number_of_text text) [
+  | Some n ↦ Some (Numeric (V4 n))
   | None ↦ option_map (λ labels. Domain labels) (hostname_of text)
 ]
 

@@ -7,7 +7,7 @@ use crate::fault::UriFault;
 use crate::octet::is_hostname_octet;
 use crate::question::Target;
 use sipl_names::{Name, NameFault};
-use sipl_records::Address;
+use sipl_records::{Address, read_ipv4};
 use std::alloc::Global;
 
 // Reads an address or a hostname.
@@ -16,8 +16,8 @@ pub(crate) fn read_host(alloc: Global, text: &[u8]) -> Result<Target, UriFault>
     ensures cause { IfErr result (λ fault. fault ≢ UriFault.Memory → fault ≡ UriFault.Host) }
     ensures refused { IfErr result (λ fault. fault ≢ UriFault.Memory → host_of text.now ≡ None) }
 {
-    if let Ok(address) = Address::from_text(text) {
-        return Ok(Target::Numeric(address));
+    if let Ok(number) = read_ipv4(text) {
+        return Ok(Target::Numeric(Address::V4(number)));
     }
     Ok(Target::Domain(read_hostname(alloc, text)?))
 }

@@ -1,7 +1,7 @@
 use Rattle.std.proofs.Common.{◌≡◌, Some, None, ap, sym, ◌∙◌}
 use Rattle.std.specs.Option.{option_copied}
 use Rattle.sipl_records.specs.Parts.{split_once}
-use Rattle.sipl_records.specs.Addresses.{group_of}
+use Rattle.sipl_records.specs.Ipv4.{group_of}
 use Rattle.sipl_records.proofs.Groups.{lacks_dot, lacks_group, groups-Some}
 use Rattle.sipl_records.proofs.address4.group_before_dot.Goals as goal
 

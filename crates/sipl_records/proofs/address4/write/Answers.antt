@@ -1,5 +1,5 @@
 use Rattle.std.proofs.Common.{◌≡◌, ◌/◌, ◌%◌, ◌-◌, ◌<◌, ◌^◌, arith, ap, take, drop, replicate, length, [], refl, lit≤}
-use Rattle.sipl_records.specs.Addresses.{text_of_number}
+use Rattle.sipl_records.specs.Ipv4.{text_of_number}
 use Rattle.sipl_records.proofs.Dotted.{IsDotted, Writes, groups_written, appended, length-text_of_number}
 use Rattle.sipl_records.proofs.address4.write.Goals as goal
 

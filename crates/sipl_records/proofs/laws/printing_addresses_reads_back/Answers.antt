@@ -1,4 +1,4 @@
-use Rattle.sipl_records.proofs.RoundTrip.{address_of-text}
+use Rattle.sipl_records.proofs.AddressLemmas.{address_of-text}
 use Rattle.sipl_records.proofs.laws.printing_addresses_reads_back.Goals as goal
 
 pub returns : goal.returns

@@ -1,5 +1,0 @@
-use Rattle.sipl_records.proofs.Dotted.{length-text_of_address}
-use Rattle.sipl_records.proofs.laws.address_text_has_at_most_15_octets.Goals as goal
-
-pub returns-clause-short : goal.returns-clause-short
-returns-clause-short c = length-text_of_address
