@@ -1,12 +1,12 @@
 -- A printed address reads back, and its text is short.
-use Rattle.std.proofs.Common.{◌≡◌, ℕ, ◌/◌, ◌%◌, ◌^◌, ◌<◌, ◌≤◌, Bool, true, false, List, [], ◌∷◌, ◌++◌, length, flat_map, Option, None, Some, nat_eq, refl, sym, ap, ◌∙◌, arith}
-use Rattle.std.proofs.lemmas.Bool.{false≢true, and_right, cases_Bool}
+use Rattle.std.proofs.Common.{◌≡◌, ℕ, ◌/◌, ◌%◌, ◌^◌, ◌≤◌, false, List, [], ◌∷◌, ◌++◌, length, flat_map, Option, None, Some, refl, sym, ◌∙◌, arith}
+use Rattle.std.proofs.lemmas.Bool.{false≢true, and_right}
 use Rattle.std.specs.Net.Text.{hex, groups_text}
 use Rattle.sipl_records.specs.declared.address.Address.{Address}
 use Rattle.sipl_records.specs.declared.address.Address.TheVariants.{V4, V6}
 use Rattle.sipl_records.specs.Addresses.{address_of, text_of_address, IsAddress}
 use Rattle.sipl_records.specs.Ipv4.{number_of_text}
-use Rattle.sipl_records.specs.Ipv6.{address6_of_text, text_of_address6, groups_of_number}
+use Rattle.sipl_records.specs.Ipv6.{text_of_address6}
 use Rattle.sipl_records.proofs.Dotted.{length-text_of_number}
 use Rattle.sipl_records.proofs.RoundTrip.{number_of_text-text_of}
 use Rattle.sipl_records.proofs.Ipv6Prints.{address6_of_text-text_of, length-text_of_address6}

@@ -1,4 +1,4 @@
-use Rattle.std.proofs.Common.{◌≡◌, Some, None, ap, sym, ◌∙◌, ◌∷◌}
+use Rattle.std.proofs.Common.{◌≡◌, Some, ap, sym, ◌∙◌, ◌∷◌}
 use Rattle.std.specs.Option.{option_copied}
 use Rattle.sipl_records.specs.Parts.{parts, split_once}
 use Rattle.sipl_records.proofs.Parts.{parts-Some, parts-None}
