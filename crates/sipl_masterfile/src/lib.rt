@@ -1,6 +1,7 @@
 //! Master files (RFC 1035, 5.1): zones and single records in text.
 #![tactic(auto)]
 
+mod by_owner;
 mod fault;
 mod form;
 mod record;
