@@ -1,3 +1,4 @@
 pub mod Lines
 pub mod Escapes
 pub mod Owners
+pub mod TakenIn

@@ -1,12 +1,13 @@
 -- The zone of a master file (RFC 1035, 5.1); entries are not supported yet.
-use Rattle.std.specs.Prelude.{◌≡◌, ℕ, ◌+◌, Bool, true, false, not, ◌||◌, List, [], ◌∷◌, Option, None, Some, Result, Ok, Err, count_by, nat_le, if◌then◌else◌, ◌==◌}
+use Rattle.std.specs.Prelude.{◌≡◌, ℕ, ◌+◌, Bool, true, false, not, ◌||◌, List, [], ◌∷◌, ◌++◌, Option, None, Some, Result, Ok, Err, count_by, nat_le, if◌then◌else◌, ◌==◌, AllPairs}
 use Rattle.std.specs.List.{list_any, list_all}
 use Rattle.sipl_names.specs.Labels.{Octets, Labels, is_within}
 use Rattle.sipl_records.specs.Parts.{parts, split_once}
-use Rattle.sipl_records.specs.Sets.{same_record, shares_set}
+use Rattle.sipl_records.specs.Sets.{conflicts, same_record, shares_set}
 use Rattle.sipl_records.specs.declared.record.Record.{Record}
+use Rattle.sipl_masterfile.specs.declared.fault.ZoneCause.{ZoneCause}
 use Rattle.sipl_masterfile.specs.declared.fault.ZoneFault.{ZoneFault}
-use Rattle.sipl_masterfile.specs.declared.fault.ZoneCause.TheVariants.{MissingField}
+use Rattle.sipl_masterfile.specs.declared.fault.ZoneCause.TheVariants.{MissingField, AliasBesideData, SetFull}
 
 -- what callers see of a zone's text: its apex, its records, and how many records were left out,
 -- since their owner is outside the apex or since they are repeated
@@ -25,12 +26,25 @@ has_repeats (r ∷ records) = list_any (same_record r) records || has_repeats re
 abbrev pub sets_fit : List Record → Bool
 sets_fit records = list_all (λ r. nat_le (count_by (shares_set r) records) 32) records
 
--- what holds of each zone's text: all owners are within the apex, no record is there twice, no set
--- has over 32 records
+-- what holds of each zone's text: all owners are within the apex, no record is there twice, no
+-- alias has other data beside it, no set has over 32 records
 pub record IsZone (zone : Zone) : Type 0 where
   pub within : list_all (λ r. is_within r.owner zone.apex) zone.records ≡ true
   pub distinct : has_repeats zone.records ≡ false
+  pub aliases : AllPairs (λ a b. conflicts a b ≡ false) zone.records
   pub fits : sets_fit zone.records ≡ true
+
+-- the zone once a record is taken in, or the cause why it is not: a record whose owner is outside the
+-- apex is left out, and so is one that was taken in before; no alias has other data beside it
+-- (RFC 1034, 3.6.2; RFC 2181, 10.1); a set has at most 32 records
+abbrev pub take_in : Record → Zone → Result Zone ZoneCause
+take_in r zone =
+    if not (is_within r.owner zone.apex) then Ok (record zone { outside = zone.outside + 1 })
+    else (if list_any (same_record r) zone.records
+    then Ok (record zone { repeated = zone.repeated + 1 })
+    else (if list_any (conflicts r) zone.records then Err AliasBesideData
+    else (if nat_le 32 (count_by (shares_set r) zone.records) then Err SetFull
+    else Ok (record zone { records = zone.records ++ r ∷ [] }))))
 
 -- RFC 1035, 5.1: a space, a tab; and a CR before a line's end
 abbrev pub is_blank : ℕ → Bool

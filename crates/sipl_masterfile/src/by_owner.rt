@@ -3,12 +3,11 @@ ghost use Rattle.std.specs.Option.{unwrap_or};
 ghost use Rattle.indexmap.specs.IndexMap.{get, IsUnchanged};
 ghost use Rattle.sipl_names.specs.Labels.{Labels, same_name};
 ghost use Rattle.std.specs.List.{list_any};
-ghost use Rattle.sipl_records.specs.Sets.{same_record, shares_set};
-ghost use Rattle.sipl_masterfile.specs.Conflicts.{conflicts};
+ghost use Rattle.sipl_records.specs.Sets.{conflicts, same_record, shares_set};
 
 use indexmap::IndexMap;
 use sipl_names::Name;
-use sipl_records::{Kind, Record};
+use sipl_records::Record;
 use std::alloc::{AllocError, Global};
 use std::marker::Model;
 
@@ -129,14 +128,8 @@ impl Comparison {
     {
         Comparison {
             is_repeated: new == other || self.is_repeated,
-            conflicts: conflicts(new, other) || self.conflicts,
+            conflicts: new.conflicts_with(other) || self.conflicts,
             set_len: new.shares_set(other) as usize + self.set_len,
         }
     }
-}
-
-fn conflicts(new: &Record, other: &Record) -> bool
-    ensures { result ≡ conflicts new.now other.now }
-{
-    new.owner == other.owner && (new.value.has_kind(Kind::Alias) || other.value.has_kind(Kind::Alias))
 }

@@ -4,6 +4,7 @@
 mod by_owner;
 mod fault;
 mod form;
+mod intake;
 mod record;
 #[cfg(test)]
 mod tests;

@@ -2,10 +2,9 @@ use Rattle.std.proofs.Common.{◌≡◌, ℕ, ◌<◌, ◌+◌, ◌-◌, List, O
 use Rattle.std.specs.Option.{unwrap_or}
 use Rattle.std.proofs.lemmas.Grind.{get_or_default_zero}
 use Rattle.sipl_names.specs.Labels.{Labels, same_name}
-use Rattle.sipl_records.specs.Sets.{same_record, shares_set}
+use Rattle.sipl_records.specs.Sets.{conflicts, same_record, shares_set}
 use Rattle.sipl_records.specs.declared.record.Record.{Record}
 use Rattle.sipl_masterfile.specs.ByOwner.{end_of, IsIndexed}
-use Rattle.sipl_masterfile.specs.Conflicts.{conflicts}
 use Rattle.sipl_masterfile.proofs.Owners.{end_of-le, end_of-take, next-le, next_last, count-init, any-init, count-step, any-step}
 use Rattle.sipl_masterfile.proofs.by_owner.RecordsByOwner.compare.Goals as goal
 

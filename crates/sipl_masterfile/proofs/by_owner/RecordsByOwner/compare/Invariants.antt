@@ -1,8 +1,7 @@
 use Rattle.std.proofs.Common.{◌≡◌, ◌+◌, ◌≤◌, ◌||◌, count_by, length, take}
 use Rattle.std.specs.List.{list_any}
-use Rattle.sipl_records.specs.Sets.{same_record, shares_set}
+use Rattle.sipl_records.specs.Sets.{conflicts, same_record, shares_set}
 use Rattle.sipl_masterfile.specs.ByOwner.{end_of}
-use Rattle.sipl_masterfile.specs.Conflicts.{conflicts}
 use Rattle.sipl_masterfile.proofs.by_owner.RecordsByOwner.compare.Given as goal
 
 abbrev pub invariant-loop-end : goal.invariant-loop-end
