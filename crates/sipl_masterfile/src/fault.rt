@@ -2,7 +2,7 @@ ghost use Rattle.std.specs.Prelude.{◌≡◌};
 
 use sipl_names::NameFault;
 use sipl_records::AddressFault;
-use std::alloc::AllocError;
+use std::alloc::{AllocError, AllocFailed};
 use std::error::Error;
 use std::fmt;
 
@@ -151,6 +151,20 @@ impl From<AllocError> for ZoneFault {
     ghost from_gives = { λ _ fault. fault ≡ record { line = 1; cause = Memory } };
 
     fn from(_: AllocError) -> ZoneFault {
+        ZoneFault {
+            line: 1,
+            cause: ZoneCause::Memory,
+        }
+    }
+}
+
+impl<T: Drop> From<AllocFailed<T>> for ZoneFault {
+    ghost use Rattle.std.specs.Prelude.{◌≡◌};
+    ghost use Rattle.sipl_masterfile.specs.declared.fault.ZoneCause.TheVariants.{Memory};
+
+    ghost from_gives = { λ _ fault. fault ≡ record { line = 1; cause = Memory } };
+
+    fn from(_: AllocFailed<T>) -> ZoneFault {
         ZoneFault {
             line: 1,
             cause: ZoneCause::Memory,
