@@ -164,11 +164,8 @@ impl<T: Drop> From<AllocFailed<T>> for ZoneFault {
 
     ghost from_gives = { λ _ fault. fault ≡ record { line = 1; cause = Memory } };
 
-    fn from(_: AllocFailed<T>) -> ZoneFault {
-        ZoneFault {
-            line: 1,
-            cause: ZoneCause::Memory,
-        }
+    fn from(failed: AllocFailed<T>) -> ZoneFault {
+        AllocError::from(failed).into()
     }
 }
 
