@@ -2,3 +2,4 @@ pub mod Lines
 pub mod Escapes
 pub mod Owners
 pub mod TakenIn
+pub mod Scanning

@@ -2,7 +2,7 @@ ghost use Rattle.std.specs.Prelude.{◌≡◌};
 
 use sipl_names::NameFault;
 use sipl_records::AddressFault;
-use std::alloc::AllocError;
+use std::alloc::{AllocError, AllocFailed};
 use std::error::Error;
 use std::fmt;
 
@@ -155,6 +155,17 @@ impl From<AllocError> for ZoneFault {
             line: 1,
             cause: ZoneCause::Memory,
         }
+    }
+}
+
+impl<T: Drop> From<AllocFailed<T>> for ZoneFault {
+    ghost use Rattle.std.specs.Prelude.{◌≡◌};
+    ghost use Rattle.sipl_masterfile.specs.declared.fault.ZoneCause.TheVariants.{Memory};
+
+    ghost from_gives = { λ _ fault. fault ≡ record { line = 1; cause = Memory } };
+
+    fn from(failed: AllocFailed<T>) -> ZoneFault {
+        AllocError::from(failed).into()
     }
 }
 

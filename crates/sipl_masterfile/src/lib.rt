@@ -2,12 +2,14 @@
 #![tactic(auto)]
 
 mod by_owner;
+mod entries;
 mod fault;
 mod form;
 mod intake;
 mod record;
 #[cfg(test)]
 mod tests;
+mod tokens;
 mod zone;
 
 pub use fault::{ZoneCause, ZoneFault};
