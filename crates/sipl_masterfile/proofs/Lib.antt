@@ -1,5 +1,5 @@
-pub mod Lines
-pub mod Escapes
+pub mod Durations
+pub mod Strings
 pub mod Owners
 pub mod TakenIn
 pub mod Scanning

@@ -74,6 +74,14 @@ impl RecordsByOwner {
         Ok(())
     }
 
+    // The records, in the order of addition.
+    pub(crate) fn into_records(self) -> Vec<Record>
+        ensures { result.items ≡ self }
+    {
+        let RecordsByOwner { records, .. } = self;
+        records
+    }
+
     // Compares a new record with those of its owner, from the last one to the first.
     pub(crate) fn compare(&self, new: &Record) -> Comparison
         ensures repeated { result.is_repeated ≡ list_any (same_record new.now) self.now }

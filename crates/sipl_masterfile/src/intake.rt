@@ -1,8 +1,9 @@
 ghost use Rattle.std.specs.Prelude.{◌≡◌, ◌≢◌, ◌+◌, ◌-◌, ◌^◌, ◌<◌, [], IfOk, IfErr, OnOk, OnErr, Ok, Err};
-ghost use Rattle.sipl_masterfile.specs.Zones.{IsZone, take_in};
+ghost use Rattle.sipl_masterfile.specs.Zones.{IsZone, empty_zone, take_in};
 
 use crate::by_owner::RecordsByOwner;
 use crate::fault::ZoneCause;
+use crate::zone::ZoneText;
 use sipl_names::Name;
 use sipl_records::{MAX_SET_LEN, Record};
 use std::alloc::Global;
@@ -39,7 +40,7 @@ impl Model for Intake {
 
 impl Intake {
     pub(crate) fn new(alloc: Global, apex: Name) -> Self
-        ensures { result ≡ record { apex = apex; records = []; outside = 0; repeated = 0 } }
+        ensures { result ≡ empty_zone apex }
     {
         Intake {
             apex,
@@ -74,5 +75,17 @@ impl Intake {
         }
         self.records.push(alloc, new)?;
         Ok(())
+    }
+    // The zone of the records that were taken in.
+    pub(crate) fn into_zone(self) -> ZoneText
+        ensures { result ≡ self }
+    {
+        let Intake {
+            apex,
+            records,
+            outside,
+            repeated,
+        } = self;
+        ZoneText::new(apex, records.into_records(), outside, repeated)
     }
 }

@@ -4,12 +4,16 @@
 mod by_owner;
 mod entries;
 mod fault;
-mod form;
 mod intake;
+mod rdata;
+mod reader;
+mod reading;
 mod record;
+mod statement;
 #[cfg(test)]
 mod tests;
 mod tokens;
+mod ttl;
 mod zone;
 
 pub use fault::{ZoneCause, ZoneFault};
