@@ -1,10 +1,16 @@
 -- The tokens of a text, octet by octet.
-use Rattle.std.proofs.Common.{◌≡◌, ℕ, suc, zero, ◌+◌, ◌≤◌, ◌<◌, List, [], ◌∷◌, Option, None, Some, length, take, drop, refl, sym, ap, nat_eq, false, arith, length-drop, add_comm, add-one, ◌∙◌}
+use Rattle.std.proofs.Common.{◌≡◌, ℕ, suc, zero, ◌+◌, ◌≤◌, ◌<◌, List, [], ◌∷◌, Option, None, Some, length, take, drop, refl, sym, ap, nat_eq, Bool, true, false, Ok, if◌then◌else◌, arith, length-drop, add_comm, add-one, ◌∙◌}
 use Rattle.std.specs.Option.{unwrap_or}
+use Rattle.std.specs.List.{slice_get}
+use Rattle.std.specs.Borrow.{Bor}
 use Rattle.std.proofs.lemmas.Bool.{false_from_ne_true, or_parts}
 use Rattle.std.proofs.lemmas.List.Sums.{position_or_len_is}
 use Rattle.memchr.specs.Find.{IsFirstByte, is_byte}
-use Rattle.sipl_masterfile.specs.Tokens.{is_blank, ends_field, field_len, quoted_len, comment_len, Token, field, comment, tokens}
+use Rattle.sipl_masterfile.specs.Tokens.{is_blank, ends_field, field_len, quoted_len, comment_len, Token, blank, line_end, opening, closing, comment, field, open_quote, tokens}
+use Rattle.sipl_names.specs.Labels.{Octets}
+use Rattle.sipl_names.specs.LabelSlices.{octets_of}
+use Rattle.sipl_masterfile.specs.Entries.{Entry, Begun, begin, begins_blank, prepend_entry, entries_at}
+use Rattle.sipl_masterfile.specs.Scanning.{begun_at}
 
 -- the octets that belong to a token before the rest
 pub tokens-taken : (n : ℕ) (text : List ℕ) → tokens n text ≡ tokens 0 (drop n text)
@@ -64,3 +70,41 @@ begins-field text tail octets rest c len whole other is octets_is rest_is =
       spells = rw (whole, octets_are, rest_are, is) (field-spells c tail other ∙ ap (λ others. field (c ∷ take (field_len (nat_eq c 92) tail) tail) ∷ others) (tokens-taken (field_len (nat_eq c 92) tail) tail));
       shorter = rw (whole, rest_are) (omega (arith, length-drop len tail));
     }
+
+-- whether the tokens begin with a blank
+BeginsBlank : List Token → Bool → Type 0
+BeginsBlank spelled b = begins_blank spelled ≡ b
+
+by_blank : (b : Bool) (others : List Token) (tail : List ℕ) → BeginsBlank others false → BeginsBlank (if b then blank ∷ tokens 0 tail else others) b
+unfolding BeginsBlank
+by_blank true others tail other = refl
+by_blank false others tail other = other
+
+neither : (b : Bool) (first others : List Token) → BeginsBlank first false → BeginsBlank others false → BeginsBlank (if b then first else others) false
+unfolding BeginsBlank
+neither true first others p q = p
+neither false first others p q = q
+
+quoted_is_other : (found : Option ℕ) (tail : List ℕ) → BeginsBlank (elim found [ Some len ↦ field (take len tail) ∷ tokens (len + 1) tail | None ↦ open_quote ∷ [] ]) false
+unfolding BeginsBlank
+quoted_is_other None tail = refl
+quoted_is_other (Some len) tail = refl
+
+-- the tokens of a text begin with a blank exactly where its first octet is one
+pub begins_blank-first : (c : ℕ) (tail : List ℕ) → begins_blank (tokens 0 (c ∷ tail)) ≡ is_blank c
+unfolding BeginsBlank
+begins_blank-first c tail =
+    by_blank (is_blank c) _ tail (neither (nat_eq c 10) (line_end ∷ tokens 0 tail) _ refl (neither (nat_eq c 40) (opening ∷ tokens 0 tail) _ refl (neither (nat_eq c 41) (closing ∷ tokens 0 tail) _ refl (neither (nat_eq c 59) (comment ∷ tokens (comment_len tail) tail) _ refl (neither (nat_eq c 34) _ _ (quoted_is_other (quoted_len false tail) tail) refl)))))
+
+begins_blank-get : (text : List ℕ) (first : ℕ) → Some first ≡ slice_get text 0 → begins_blank (tokens 0 text) ≡ is_blank first
+begins_blank-get [] first is = absurd (cc is)
+begins_blank-get (c ∷ tail) first is = let same : first ≡ c = cc is in rw same (begins_blank-first c tail)
+
+filled : (begun : Begun) (slices : List (Bor Octets)) (others : List Entry) → 0 < length slices → prepend_entry (record begun { fields = octets_of slices }) others ≡ record { line = begun.line; is_indented = begun.is_indented; content = Ok (octets_of slices) } ∷ others
+filled begun [] others some = absurd (omega arith)
+filled begun (slice ∷ slices) others some = refl
+
+-- the next entry of a text, with its fields and the entries after it
+pub next-read : (entries others next : List Entry) (text : List ℕ) (line first : ℕ) (is_indented : Bool) (slices : List (Bor Octets)) → entries ≡ entries_at line text → entries_at line text ≡ prepend_entry (begun_at line text slices) others → others ≡ next → Some first ≡ slice_get text 0 → is_indented ≡ is_blank first → 0 < length slices → entries ≡ record { line = line; is_indented = is_indented; content = Ok (octets_of slices) } ∷ next
+next-read entries others next text line first is_indented slices left read follows at is some =
+    left ∙ read ∙ ap (prepend_entry (begun_at line text slices)) follows ∙ filled (begin line (tokens 0 text)) slices next some ∙ ap (λ b. record { line = line; is_indented = b; content = Ok (octets_of slices) } ∷ next) (begins_blank-get text first at ∙ sym is)

@@ -3,6 +3,8 @@
 
 mod by_owner;
 mod entries;
+#[cfg(test)]
+mod entry_tests;
 mod fault;
 mod intake;
 mod rdata;
