@@ -3,3 +3,4 @@ pub mod Strings
 pub mod Owners
 pub mod TakenIn
 pub mod Scanning
+pub mod EntryCount

@@ -1,4 +1,4 @@
-ghost use Rattle.std.specs.Prelude.{◌≡◌, ◌≢◌, ◌+◌, ◌-◌, ◌^◌, ◌<◌, [], IfOk, IfErr, OnOk, OnErr, Ok, Err};
+ghost use Rattle.std.specs.Prelude.{◌≡◌, ◌≢◌, ◌+◌, ◌-◌, ◌^◌, ◌<◌, ◌≤◌, IfOk, IfErr, OnOk, OnErr, Ok, Err};
 ghost use Rattle.sipl_masterfile.specs.Zones.{IsZone, empty_zone, take_in};
 
 use crate::by_owner::RecordsByOwner;
@@ -54,6 +54,8 @@ impl Intake {
     pub(crate) fn take_in(&mut self, alloc: Global, new: Record) -> Result<(), ZoneCause>
         requires { self.old.outside + self.old.repeated < 2 ^ 64 - 1 }
         ensures taken { OnOk result (take_in new self.old ≡ Ok self.new) }
+        ensures left_out { OnOk result (self.new.outside + self.new.repeated
+            ≤ self.old.outside + self.old.repeated + 1) }
         ensures refused { IfErr result
             (λ cause. cause ≢ ZoneCause.Memory → take_in new self.old ≡ Err cause) }
         ensures unchanged { OnErr result (self.new ≡ self.old) }

@@ -109,9 +109,9 @@ pub fn read_zone(alloc: Global, text: &[u8], apex: &Name) -> Result<ZoneText, Zo
     let mut fields = Vec::new(alloc);
     let mut reading = Reading::new(alloc, apex)?;
     while let Some(head) = entries.next_entry(&mut fields)? {
-        reading
-            .read_entry(alloc, head.is_indented, &fields)
-            .map_err(|cause| ZoneFault::at(head.line, cause))?;
+        if let Err(cause) = reading.read_entry(alloc, head.is_indented, &fields) {
+            return Err(ZoneFault::at(head.line, cause));
+        }
     }
     Ok(reading.into_zone())
 }
