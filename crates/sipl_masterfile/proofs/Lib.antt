@@ -1,2 +1,4 @@
 pub mod Lines
 pub mod Escapes
+pub mod Durations
+pub mod Strings

@@ -2,4 +2,8 @@ pub mod ZoneCause
 pub mod ZoneFault
 pub mod Zones
 pub mod RecordText
+pub mod Ttl
+pub mod Readers
+pub mod Rdata
+pub mod Statements
 pub use Rattle.sipl_records.specs.Sets

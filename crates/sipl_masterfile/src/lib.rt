@@ -3,9 +3,13 @@
 
 mod fault;
 mod form;
+mod rdata;
+mod reader;
 mod record;
+mod statement;
 #[cfg(test)]
 mod tests;
+mod ttl;
 mod zone;
 
 pub use fault::{ZoneCause, ZoneFault};
