@@ -1,6 +1,6 @@
 pub mod Durations
 pub mod Strings
-pub mod Owners
-pub mod TakenIn
 pub mod Scanning
 pub mod EntryCount
+pub mod Owners
+pub mod TakenIn

@@ -7,12 +7,15 @@ mod entries;
 mod entry_tests;
 mod fault;
 mod intake;
+mod rdata;
+mod reader;
 mod reading;
 mod record;
 mod statement;
 #[cfg(test)]
 mod tests;
 mod tokens;
+mod ttl;
 mod zone;
 
 pub use fault::{ZoneCause, ZoneFault};
