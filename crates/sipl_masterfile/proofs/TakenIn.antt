@@ -1,5 +1,5 @@
 -- A record that is taken in leaves a zone.
-use Rattle.std.proofs.Common.{◌≡◌, ◌≢◌, ℕ, zero, suc, ◌+◌, ◌<◌, ◌≤◌, Bool, true, false, not, ◌&&◌, ◌||◌, List, [], ◌∷◌, ◌++◌, Some, length, get_or, cond, refl, ap, sym, ◌∙◌, inl, inr, nat_le, arith}
+use Rattle.std.proofs.Common.{◌≡◌, ℕ, zero, suc, ◌+◌, ◌<◌, Bool, true, false, ◌&&◌, ◌||◌, List, [], ◌∷◌, ◌++◌, Some, length, get_or, cond, refl, ap, sym, ◌∙◌, inl, inr, nat_le, arith}
 use Rattle.std.specs.List.{list_any, list_all, count_by, AllPairs}
 use Rattle.std.proofs.lemmas.Bool.{cases_Bool}
 use Rattle.std.proofs.lemmas.Bool.Decides.{nat_tests}
@@ -7,7 +7,7 @@ use Rattle.std.proofs.lemmas.List.Elements.{filter_agree}
 use Rattle.std.proofs.lemmas.List.Folds.{list_any-append, list_all-append}
 use Rattle.std.proofs.lemmas.List.Quantifiers.{all_pairs_push}
 use Rattle.std.proofs.lemmas.List.Sums.{length-filter, sum_by-append}
-use Rattle.sipl_names.specs.Labels.{Labels, same_name, is_within}
+use Rattle.sipl_names.specs.Labels.{is_within}
 use Rattle.sipl_records.specs.declared.kind.Kind.TheVariants.{Alias}
 use Rattle.sipl_records.specs.declared.record.Record.{Record}
 use Rattle.sipl_records.specs.declared.record.Key.{Key}

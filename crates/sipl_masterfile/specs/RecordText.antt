@@ -1,5 +1,5 @@
 -- The record of a text with one entry (RFC 1035, 5.1).
-use Rattle.std.specs.Prelude.{Bool, true, false, List, [], ◌∷◌, None, Result, Ok, Err, if◌then◌else◌}
+use Rattle.std.specs.Prelude.{Bool, false, List, [], ◌∷◌, None, Result, Ok, Err, if◌then◌else◌}
 use Rattle.sipl_names.specs.Labels.{Octets, Labels}
 use Rattle.sipl_records.specs.declared.record.Record.{Record}
 use Rattle.sipl_masterfile.specs.Entries.{Entry, entries_of}
@@ -8,7 +8,6 @@ use Rattle.sipl_masterfile.specs.Statements.{statement_of, is_directive}
 use Rattle.sipl_masterfile.specs.declared.fault.ZoneCause.{ZoneCause}
 use Rattle.sipl_masterfile.specs.declared.fault.ZoneCause.TheVariants.{MissingField, Include, Generate, ExtraField}
 use Rattle.sipl_masterfile.specs.declared.fault.ZoneFault.{ZoneFault}
-use Rattle.sipl_masterfile.specs.declared.statement.Statement.{Statement}
 use Rattle.sipl_masterfile.specs.declared.statement.Statement.TheVariants as statement
 
 -- whether the fields are those of a directive: the entry is not indented, and its first field

@@ -1,4 +1,4 @@
-use Rattle.std.proofs.Common.{◌≡◌, ◌+◌, [], ◌∷◌, ◌++◌, length, sym, refl, ap, ◌∙◌, arith}
+use Rattle.std.proofs.Common.{◌≡◌, length, refl, ◌∙◌, arith}
 use Rattle.sipl_masterfile.proofs.Owners.{indexed-push}
 use Rattle.sipl_masterfile.proofs.by_owner.RecordsByOwner.push.Goals as goal
 
