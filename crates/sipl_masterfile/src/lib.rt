@@ -1,11 +1,13 @@
 //! Master files (RFC 1035, 5.1): zones and single records in text.
 #![tactic(auto)]
 
+mod entries;
 mod fault;
 mod form;
 mod record;
 #[cfg(test)]
 mod tests;
+mod tokens;
 mod zone;
 
 pub use fault::{ZoneCause, ZoneFault};
