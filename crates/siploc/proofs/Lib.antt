@@ -3,4 +3,4 @@ pub mod Replies
 pub mod Turning
 pub mod Exits
 pub mod Rules
-pub mod Prefixes
+pub mod Results

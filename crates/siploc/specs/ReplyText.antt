@@ -1,5 +1,5 @@
 -- How replies are written.
-use Rattle.std.specs.Prelude.{ℕ, ◌+◌, List, [], ◌∷◌, ◌++◌, length, codes, decimal}
+use Rattle.std.specs.Prelude.{ℕ, ◌+◌, ◌*◌, List, [], ◌∷◌, ◌++◌, length, codes, decimal}
 use Rattle.std.specs.List.{flat_map}
 use Rattle.sipl_records.specs.Addresses.{text_of_address}
 use Rattle.sipl_choice.specs.Transports.{transport_text}
@@ -42,3 +42,9 @@ abbrev pub answer_text : Answer → Octets
 answer_text (Targets targets) =
     target_lines 1 targets ++ counts_line (codes "ok find") (length targets ∷ [])
 answer_text (None reason) = codes "none " ++ reason_text reason ++ 10 ∷ []
+
+-- the maximum length of a reply to a question: 94 octets for each target's line, and 29 for the
+-- line that counts them
+abbrev pub max_answer_len : Answer → ℕ
+max_answer_len (Targets targets) = 94 * length targets + 29
+max_answer_len (None reason) = length (answer_text (None reason))

@@ -1,5 +1,4 @@
 ghost use Rattle.std.specs.Prelude.{◌≡◌, ◌+◌, ◌≤◌, [], ◌++◌, IsTrue, IfOk, OnOk, OnErr, vec_len, vec_capacity};
-ghost use Rattle.std.specs.Io.{StartsWith};
 ghost use Rattle.siploc.specs.CommandMeaning.{meaning_of};
 ghost use Rattle.siploc.specs.Items.{Item};
 ghost use Rattle.siploc.specs.Replies.{AppendsReply};
@@ -80,16 +79,14 @@ impl Session {
             return Ok(());
         }
         out.reserve(MAX_SHORT_REPLY_LEN)?;
-        let start = out.len();
         if self.perform(alloc, read_command(line), out).is_ok() {
             return Ok(());
         }
-        out.truncate(start);
         write_refusal(out, "Memory")
     }
 
     // Carries a command out and appends its reply. An error says that an allocation failed: then
-    // the session is as it was, and `out` may have a part of a reply.
+    // the session and `out` are as they were.
     fn perform(
         &mut self,
         alloc: Global,
@@ -102,7 +99,7 @@ impl Session {
         ensures after { OnOk result
             (self.new ≡ (outcome_of (meaning_of command.entry) self.old).state) }
         ensures err { OnErr result (self.new ≡ self.old) }
-        ensures err_out { OnErr result (StartsWith out.new.items out.old.items) }
+        ensures err_out { OnErr result (out.new.items ≡ out.old.items) }
         ensures allocates { OnErr result (IsTrue (allocates (meaning_of command.entry))) }
         ensures capacity { vec_capacity out.old ≤ vec_capacity out.new }
     {
@@ -127,7 +124,7 @@ impl Session {
             (out.new.items ≡ out.old.items ++ (zone_outcome apex.now self.old).reply) }
         ensures after { OnOk result (self.new ≡ (zone_outcome apex.now self.old).state) }
         ensures err { OnErr result (self.new ≡ self.old) }
-        ensures err_out { OnErr result (StartsWith out.new.items out.old.items) }
+        ensures err_out { OnErr result (out.new.items ≡ out.old.items) }
         ensures capacity { vec_capacity out.old ≤ vec_capacity out.new }
     {
         let apex = match Name::from_text(alloc, apex, &Name::root(alloc)) {
@@ -164,7 +161,7 @@ impl Session {
             (out.new.items ≡ out.old.items ++ (add_outcome text.now self.old).reply) }
         ensures after { OnOk result (self.new ≡ (add_outcome text.now self.old).state) }
         ensures err { OnErr result (self.new ≡ self.old) }
-        ensures err_out { OnErr result (StartsWith out.new.items out.old.items) }
+        ensures err_out { OnErr result (out.new.items ≡ out.old.items) }
         ensures capacity { vec_capacity out.old ≤ vec_capacity out.new }
     {
         let record = match read_record(alloc, text, &Name::root(alloc)) {
@@ -191,7 +188,7 @@ impl Session {
     fn find(&self, alloc: Global, uri: &[u8], out: &mut Vec<u8>) -> Result<(), AllocError>
         ensures ok { OnOk result
             (out.new.items ≡ out.old.items ++ (find_outcome uri.now self.now).reply) }
-        ensures err { OnErr result (StartsWith out.new.items out.old.items) }
+        ensures err { OnErr result (out.new.items ≡ out.old.items) }
         ensures capacity { vec_capacity out.old ≤ vec_capacity out.new }
     {
         let question = match Uri::parse(alloc, uri) {

@@ -1,6 +1,6 @@
 use Rattle.std.proofs.Common.{◌+◌, ◌≤◌, length, vec_len, vec_capacity, codes, arith}
 use Rattle.siploc.specs.ReplyText.{refusal_line}
-use Rattle.siploc.proofs.Prefixes.{no_error}
+use Rattle.siploc.proofs.Results.{no_error}
 use Rattle.siploc.proofs.session.Session.perform.Goals as goal
 
 pub returns-in-Unknown-clause-allocates : goal.returns-in-Unknown-clause-allocates
