@@ -2,6 +2,8 @@
 #![tactic(auto)]
 
 mod entries;
+#[cfg(test)]
+mod entry_tests;
 mod fault;
 mod form;
 mod record;
