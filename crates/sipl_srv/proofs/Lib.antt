@@ -1,0 +1,5 @@
+pub mod Ranks
+pub mod Seeds
+pub mod Chosen
+pub mod Places
+pub mod Offered

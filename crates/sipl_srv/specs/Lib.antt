@@ -1,0 +1,4 @@
+pub mod Offers
+pub mod Draws
+pub mod DrawsFault
+pub mod Order

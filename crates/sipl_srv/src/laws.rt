@@ -1,0 +1,1 @@
+//! Laws of every order of picks. The functions do nothing: their contracts are the laws.
