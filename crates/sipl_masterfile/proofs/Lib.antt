@@ -1,3 +1,6 @@
-pub mod Lines
-pub mod Escapes
+pub mod Durations
+pub mod Strings
 pub mod Scanning
+pub mod EntryCount
+pub mod Owners
+pub mod TakenIn

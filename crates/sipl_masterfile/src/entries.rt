@@ -6,6 +6,7 @@ ghost use Rattle.sipl_masterfile.specs.Scanning.{begun_at, IsFaulty};
 
 use crate::fault::{ZoneCause, ZoneFault};
 use crate::tokens::{Token, is_blank, next_token};
+use sipl_names::NameFault;
 use std::marker::Model;
 
 // A text's entries that have not been read.
@@ -38,7 +39,8 @@ impl<'a> Model for Entries<'a> {
 impl<'a> Entries<'a> {
     // The entries of a text.
     pub(crate) fn new(text: &'a [u8]) -> Self
-        ensures { result ≡ entries_of text.now }
+        ensures value { result ≡ entries_of text.now }
+        ensures few { length result ≤ length text.now }
     {
         Entries {
             rest: text,
@@ -61,6 +63,7 @@ impl<'a> Entries<'a> {
         ensures refused { IfErr result
             (λ fault. fault.cause ≢ ZoneCause.Memory → IsFaulty self.old fault) }
         ensures memory { IfErr result (λ fault. fault.cause ≡ ZoneCause.Memory → fault.line ≡ 1) }
+        ensures name { IfErr result (λ fault. fault.cause ≢ ZoneCause.InName NameFault.Memory) }
     {
         while let Some(first) = self.rest.first() {
             let head = EntryHead {
@@ -94,6 +97,7 @@ fn read_fields<'a>(
     ensures refused { IfErr result
         (λ fault. fault.cause ≢ ZoneCause.Memory → IsFaulty (entries_at line text.now) fault) }
     ensures memory { IfErr result (λ fault. fault.cause ≡ ZoneCause.Memory → fault.line ≡ 1) }
+    ensures name { IfErr result (λ fault. fault.cause ≢ ZoneCause.InName NameFault.Memory) }
 {
     fields.clear();
     let mut rest = text;

@@ -80,7 +80,18 @@ impl ZoneCause {
 }
 
 impl ZoneFault {
+    ghost use Rattle.std.specs.Prelude.{◌≢◌};
     ghost use Rattle.sipl_masterfile.specs.ZoneFault.{code_of};
+
+    // The fault of an entry that begins in this line; an allocation failure is at line 1.
+    pub(crate) fn at(line: u64, cause: ZoneCause) -> Self
+        ensures cause { result.cause ≡ cause }
+        ensures line { cause ≢ ZoneCause.Memory → result.line ≡ line }
+        ensures memory { cause ≡ ZoneCause.Memory → result.line ≡ 1 }
+    {
+        let line = if cause == ZoneCause::Memory { 1 } else { line };
+        ZoneFault { line, cause }
+    }
 
     /// The error's code in replies, such as `Z1`.
     pub fn code(self) -> &'static str

@@ -1,0 +1,198 @@
+//! The types of records and their data (RFC 1035, 5.1).
+ghost use Rattle.std.specs.Prelude.{◌≡◌, ◌≢◌, Ok, Err, IfOk, IfErr};
+ghost use Rattle.std.specs.List.{list_all};
+ghost use Rattle.sipl_names.specs.LabelSlices.{octets_of};
+ghost use Rattle.sipl_masterfile.specs.Rdata.{data_of, data_of_kind, address4_data, address6_data, alias_data, service_data, pointer_data, kind_of_type, is_numbered_kind, are_generic, is_type, begins_with_letter, is_type_octet};
+
+use crate::fault::ZoneCause;
+use crate::reader::{check_end, first_field, first_name, first_number, first_string};
+use sipl_names::{Name, NameFault};
+use sipl_records::{Data, Kind, read_ipv4, read_ipv6};
+use std::alloc::Global;
+
+// The data of the fields from the type on.
+pub(crate) fn read_data(alloc: Global, fields: &[&[u8]], origin: &Name) -> Result<Data, ZoneCause>
+    ensures read { IfOk result (λ value.
+        data_of origin.now (octets_of fields.now) ≡ Ok value) }
+    ensures refused { IfErr result (λ cause. cause ≢ ZoneCause.Memory
+        → data_of origin.now (octets_of fields.now) ≡ Err cause) }
+    ensures name { IfErr result (λ cause. cause ≢ ZoneCause.InName NameFault.Memory) }
+{
+    let (word, fields) = first_field(fields)?;
+    if !is_type(word) {
+        return Err(ZoneCause::MissingField);
+    }
+    match kind_of_type(word) {
+        Some(_) if are_generic(fields) => Err(ZoneCause::GenericForm),
+        Some(kind) => read_kind(alloc, kind, fields, origin),
+        None if is_numbered_kind(word) => Err(ZoneCause::GenericForm),
+        None => Ok(Data::Bare),
+    }
+}
+
+// The data of a kind.
+fn read_kind(alloc: Global, kind: Kind, fields: &[&[u8]], origin: &Name) -> Result<Data, ZoneCause>
+    ensures read { IfOk result (λ value.
+        data_of_kind kind origin.now (octets_of fields.now) ≡ Ok value) }
+    ensures refused { IfErr result (λ cause. cause ≢ ZoneCause.Memory
+        → data_of_kind kind origin.now (octets_of fields.now) ≡ Err cause) }
+    ensures name { IfErr result (λ cause. cause ≢ ZoneCause.InName NameFault.Memory) }
+{
+    match kind {
+        Kind::Address4 => read_address4(fields),
+        Kind::Address6 => read_address6(fields),
+        Kind::Alias => read_alias(alloc, fields, origin),
+        Kind::Service => read_service(alloc, fields, origin),
+        Kind::Pointer => read_pointer(alloc, fields, origin),
+    }
+}
+
+// An IPv4 address (RFC 1035, 3.4.1).
+fn read_address4(fields: &[&[u8]]) -> Result<Data, ZoneCause>
+    ensures { result ≡ address4_data (octets_of fields.now) }
+{
+    let (field, rest) = first_field(fields)?;
+    let address = read_ipv4(field)?;
+    check_end(rest)?;
+    Ok(Data::Address4(address))
+}
+
+// An IPv6 address (RFC 3596, 2.2).
+fn read_address6(fields: &[&[u8]]) -> Result<Data, ZoneCause>
+    ensures { result ≡ address6_data (octets_of fields.now) }
+{
+    let (field, rest) = first_field(fields)?;
+    let address = read_ipv6(field)?;
+    check_end(rest)?;
+    Ok(Data::Address6(address))
+}
+
+// The canonical name of an alias (RFC 1035, 3.3.1).
+fn read_alias(alloc: Global, fields: &[&[u8]], origin: &Name) -> Result<Data, ZoneCause>
+    ensures read { IfOk result (λ value.
+        alias_data origin.now (octets_of fields.now) ≡ Ok value) }
+    ensures refused { IfErr result (λ cause. cause ≢ ZoneCause.Memory
+        → alias_data origin.now (octets_of fields.now) ≡ Err cause) }
+    ensures name { IfErr result (λ cause. cause ≢ ZoneCause.InName NameFault.Memory) }
+{
+    let (name, rest) = first_name(alloc, fields, origin)?;
+    check_end(rest)?;
+    Ok(Data::Alias(name))
+}
+
+// A server of a service (RFC 2782).
+fn read_service(alloc: Global, fields: &[&[u8]], origin: &Name) -> Result<Data, ZoneCause>
+    ensures read { IfOk result (λ value.
+        service_data origin.now (octets_of fields.now) ≡ Ok value) }
+    ensures refused { IfErr result (λ cause. cause ≢ ZoneCause.Memory
+        → service_data origin.now (octets_of fields.now) ≡ Err cause) }
+    ensures name { IfErr result (λ cause. cause ≢ ZoneCause.InName NameFault.Memory) }
+{
+    let (priority, rest) = first_number(fields)?;
+    let (weight, rest) = first_number(rest)?;
+    let (port, rest) = first_number(rest)?;
+    let (target, rest) = first_name(alloc, rest, origin)?;
+    check_end(rest)?;
+    Ok(Data::Service {
+        priority,
+        weight,
+        port,
+        target,
+    })
+}
+
+// A pointer to a domain's services (RFC 3403, 4.1).
+fn read_pointer(alloc: Global, fields: &[&[u8]], origin: &Name) -> Result<Data, ZoneCause>
+    ensures read { IfOk result (λ value.
+        pointer_data origin.now (octets_of fields.now) ≡ Ok value) }
+    ensures refused { IfErr result (λ cause. cause ≢ ZoneCause.Memory
+        → pointer_data origin.now (octets_of fields.now) ≡ Err cause) }
+    ensures name { IfErr result (λ cause. cause ≢ ZoneCause.InName NameFault.Memory) }
+{
+    let (order, rest) = first_number(fields)?;
+    let (preference, rest) = first_number(rest)?;
+    let (flags, rest) = first_string(alloc, rest)?;
+    let (services, rest) = first_string(alloc, rest)?;
+    let (regexp, rest) = first_string(alloc, rest)?;
+    let (replacement, rest) = first_name(alloc, rest, origin)?;
+    check_end(rest)?;
+    Ok(Data::Pointer {
+        order,
+        preference,
+        flags,
+        services,
+        regexp,
+        replacement,
+    })
+}
+
+// The kind whose mnemonic is this type, in either case.
+fn kind_of_type(word: &[u8]) -> Option<Kind>
+    ensures { result ≡ kind_of_type word.now }
+{
+    if word.eq_ignore_ascii_case(b"A") {
+        Some(Kind::Address4)
+    } else if word.eq_ignore_ascii_case(b"AAAA") {
+        Some(Kind::Address6)
+    } else if word.eq_ignore_ascii_case(b"CNAME") {
+        Some(Kind::Alias)
+    } else if word.eq_ignore_ascii_case(b"SRV") {
+        Some(Kind::Service)
+    } else if word.eq_ignore_ascii_case(b"NAPTR") {
+        Some(Kind::Pointer)
+    } else {
+        None
+    }
+}
+
+// Whether the type is that of a kind by its number (RFC 3597, 5).
+fn is_numbered_kind(word: &[u8]) -> bool
+    ensures { result ≡ is_numbered_kind word.now }
+{
+    word.eq_ignore_ascii_case(b"TYPE1")
+        || word.eq_ignore_ascii_case(b"TYPE5")
+        || word.eq_ignore_ascii_case(b"TYPE28")
+        || word.eq_ignore_ascii_case(b"TYPE33")
+        || word.eq_ignore_ascii_case(b"TYPE35")
+}
+
+// Whether the data are of the generic form, which begins with `\#` (RFC 3597, 5).
+fn are_generic(fields: &[&[u8]]) -> bool
+    ensures { result ≡ are_generic (octets_of fields.now) }
+{
+    match fields.first() {
+        Some(field) => *field == b"\\#".as_slice(),
+        None => false,
+    }
+}
+
+// Whether the field is a type: a letter, and then letters, digits and hyphens.
+fn is_type(field: &[u8]) -> bool
+    ensures { result ≡ is_type field.now }
+{
+    begins_with_letter(field) && has_type_octets(field)
+}
+
+// Whether the field begins with a letter.
+fn begins_with_letter(field: &[u8]) -> bool
+    ensures { result ≡ begins_with_letter field.now }
+{
+    match field {
+        [first, ..] => first.is_ascii_alphabetic(),
+        [] => false,
+    }
+}
+
+// Whether a type can have each of the octets.
+fn has_type_octets(field: &[u8]) -> bool
+    ensures { result ≡ list_all is_type_octet field.now }
+{
+    field.iter().all(|octet| is_type_octet(*octet))
+}
+
+// Whether a type can have the octet after its first letter.
+fn is_type_octet(octet: u8) -> bool
+    ensures { result ≡ is_type_octet octet }
+{
+    octet.is_ascii_alphanumeric() || octet == b'-'
+}
