@@ -1,3 +1,5 @@
 pub mod Lines
 pub mod Escapes
 pub mod Scanning
+pub mod Joining
+pub mod Cutting

@@ -3,6 +3,7 @@ pub mod ZoneFault
 pub mod Tokens
 pub mod Scanning
 pub mod Entries
+pub mod JoinedTexts
 pub mod Zones
 pub mod RecordText
 pub use Rattle.sipl_records.specs.Sets

@@ -6,6 +6,7 @@ mod entries;
 mod entry_tests;
 mod fault;
 mod form;
+pub mod laws;
 mod record;
 #[cfg(test)]
 mod tests;
