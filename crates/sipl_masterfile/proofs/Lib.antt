@@ -4,3 +4,5 @@ pub mod Scanning
 pub mod EntryCount
 pub mod Owners
 pub mod TakenIn
+pub mod Joining
+pub mod Cutting

@@ -1,5 +1,5 @@
 -- The tokens of a text, octet by octet.
-use Rattle.std.proofs.Common.{◌≡◌, ℕ, suc, zero, ◌+◌, ◌≤◌, ◌<◌, List, [], ◌∷◌, Option, None, Some, length, take, drop, refl, sym, ap, nat_eq, Bool, true, false, Ok, if◌then◌else◌, arith, length-drop, add_comm, add-one, ◌∙◌}
+use Rattle.std.proofs.Common.{◌≡◌, ℕ, suc, zero, ◌+◌, ◌≤◌, ◌<◌, List, [], ◌∷◌, Option, None, Some, length, take, drop, refl, sym, ap, nat_eq, Bool, true, false, Ok, if◌then◌else◌, arith, length-drop, add_comm, one-add, ◌∙◌}
 use Rattle.std.specs.Option.{unwrap_or}
 use Rattle.std.specs.List.{slice_get}
 use Rattle.std.specs.Borrow.{Bor}
@@ -11,9 +11,6 @@ use Rattle.sipl_names.specs.Labels.{Octets}
 use Rattle.sipl_names.specs.LabelSlices.{octets_of}
 use Rattle.sipl_masterfile.specs.Entries.{Entry, Begun, begin, begins_blank, prepend_entry, entries_at}
 use Rattle.sipl_masterfile.specs.Scanning.{begun_at}
-
-one-add : (n : ℕ) → 1 + n ≡ suc n
-one-add n = omega arith
 
 -- the octets that belong to a token before the rest
 pub tokens-taken : (n : ℕ) (text : List ℕ) → tokens n text ≡ tokens 0 (drop n text)

@@ -1,0 +1,22 @@
+//! What follows from the definitions. Each law is the contract of a function that does nothing.
+
+ghost use Rattle.std.specs.Prelude.{◌≡◌, true, false, ◌++◌, codes, map, ◌==◌};
+ghost use Rattle.std.specs.List.{list_any};
+ghost use Rattle.sipl_names.specs.Labels.{Octets};
+ghost use Rattle.sipl_masterfile.specs.Entries.{entries_of};
+ghost use Rattle.sipl_masterfile.specs.JoinedTexts.{AllowsComment, follows_line, IsComplete, line_ends, further};
+
+/// A comment changes no entry: `;` and octets without LF, after a text that ends outside quotes and
+/// comments, and before a line's end or the end of the text.
+pub fn comments_change_nothing()
+    ensures { (before comment after : Octets) → AllowsComment before
+        → list_any (λ octet. octet == 10) comment ≡ false → follows_line after ≡ true
+        → entries_of (before ++ codes ";" ++ comment ++ after) ≡ entries_of (before ++ after) }
+{}
+
+/// The entries of two texts joined, the first of which is complete, are those of the first, then
+/// those of the second, with their lines counted on.
+pub fn joining_texts_joins_entries()
+    ensures { (first second : Octets) → IsComplete first → entries_of (first ++ second)
+        ≡ entries_of first ++ map (further (line_ends first)) (entries_of second) }
+{}
