@@ -216,7 +216,7 @@ fn are_digits(octets: &[u8]) -> bool
 }
 
 // Whether the field begins with the `$` of a directive.
-fn is_directive(field: &[u8]) -> bool
+pub(crate) fn is_directive(field: &[u8]) -> bool
     ensures { result ≡ is_directive field.now }
 {
     matches!(field, [b'$', ..])
