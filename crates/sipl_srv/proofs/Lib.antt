@@ -3,3 +3,5 @@ pub mod Seeds
 pub mod Chosen
 pub mod Places
 pub mod Offered
+pub mod Orders
+pub mod Shares

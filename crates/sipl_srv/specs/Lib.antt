@@ -2,3 +2,4 @@ pub mod Offers
 pub mod Draws
 pub mod DrawsFault
 pub mod Order
+pub mod Shares
