@@ -1,7 +1,7 @@
 -- A text has at most as many entries as octets.
-use Rattle.std.proofs.Common.{◌≡◌, ℕ, zero, suc, ◌+◌, ◌-◌, ◌≤◌, Bool, true, false, List, [], ◌∷◌, ◌++◌, Option, Some, None, Ok, if◌then◌else◌, ◌==◌, length, take, arith}
+use Rattle.std.proofs.Common.{◌≡◌, ℕ, zero, suc, ◌+◌, ◌-◌, ◌≤◌, Bool, true, false, List, [], ◌∷◌, Ok, if◌then◌else◌, ◌==◌, length, arith}
 use Rattle.sipl_names.specs.Labels.{Octets}
-use Rattle.sipl_masterfile.specs.Tokens.{Token, blank, line_end, opening, closing, comment, field, open_quote, tokens, is_blank, comment_len, quoted_len, field_len}
+use Rattle.sipl_masterfile.specs.Tokens.{Token, blank, line_end, opening, closing, comment, field, open_quote, first_token, tokens}
 use Rattle.sipl_masterfile.specs.Entries.{Entry, Begun, begin, prepend_entry, faulty_entry, with_field, entries_from, entries_of}
 use Rattle.sipl_masterfile.specs.declared.fault.ZoneCause.TheVariants.{Parenthesis, OpenQuote}
 
@@ -17,20 +17,7 @@ tokens-le taken [] = none taken
     none zero = omega arith
     none (suc taken) = omega arith
 tokens-le (suc taken) (c ∷ text) = omega (arith, tokens-le taken text)
-tokens-le zero (c ∷ text) =
-    let n : ℕ = suc (length text) in
-    let one : (t : Token) (taken : ℕ) → length (t ∷ tokens taken text) ≤ n = λ t taken. omega (arith, tokens-le taken text) in
-    if_le (is_blank c) n _ _ (one blank 0)
-    (if_le (c == 10) n _ _ (one line_end 0)
-    (if_le (c == 40) n _ _ (one opening 0)
-    (if_le (c == 41) n _ _ (one closing 0)
-    (if_le (c == 59) n _ _ (one comment (comment_len text))
-    (if_le (c == 34) n _ _ (quoted (quoted_len false text) one)
-    (one (field (c ∷ take (field_len (c == 92) text) text)) (field_len (c == 92) text)))))))
-  where
-    quoted : (len : Option ℕ) → ((t : Token) (taken : ℕ) → length (t ∷ tokens taken text) ≤ suc (length text)) → length {A = Token} (elim len [ Some len ↦ field (take len text) ∷ tokens (len + 1) text | None ↦ open_quote ∷ [] ]) ≤ suc (length text)
-    quoted (Some len) one = one (field (take len text)) (len + 1)
-    quoted None one = omega arith
+tokens-le zero (c ∷ text) = omega (arith, tokens-le (first_token c text).1 text)
 
 prepend : (begun : Begun) (others : List Entry) → length (prepend_entry begun others) ≡ length (prepend_entry begun []) + length others
 prepend begun others = at begun.fields
