@@ -1,5 +1,5 @@
 -- The tokens of a text, octet by octet.
-use Rattle.std.proofs.Common.{◌≡◌, ℕ, suc, zero, ◌+◌, ◌≤◌, ◌<◌, List, [], ◌∷◌, Option, None, Some, length, take, drop, refl, sym, ap, nat_eq, Bool, true, false, Ok, if◌then◌else◌, arith, length-drop, add_comm, one-add, ◌∙◌}
+use Rattle.std.proofs.Common.{◌≡◌, ℕ, suc, zero, ◌+◌, ◌≤◌, ◌<◌, List, [], ◌∷◌, Option, None, Some, length, take, drop, refl, sym, ap, nat_eq, Bool, true, false, Ok, if◌then◌else◌, arith, length-drop, one-add, ◌∙◌}
 use Rattle.std.specs.Option.{unwrap_or}
 use Rattle.std.specs.List.{slice_get}
 use Rattle.std.specs.Borrow.{Bor}

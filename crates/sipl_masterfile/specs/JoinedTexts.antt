@@ -2,7 +2,7 @@
 use Rattle.std.specs.Prelude.{◌≡◌, ℕ, ◌+◌, ◌-◌, Bool, true, false, List, [], ◌∷◌, ◌++◌, Option, None, Some, codes, count_by, if◌then◌else◌, ◌==◌}
 use Rattle.std.specs.List.{last_or}
 use Rattle.sipl_names.specs.Labels.{Octets}
-use Rattle.sipl_masterfile.specs.Tokens.{Token, blank, line_end, opening, closing, comment, field, open_quote, tokens}
+use Rattle.sipl_masterfile.specs.Tokens.{Token, line_end, opening, closing, comment, open_quote, tokens}
 use Rattle.sipl_masterfile.specs.Entries.{Entry}
 
 -- a `;` after the text begins a comment: the text ends outside quotes and comments, and not with a

@@ -1,6 +1,5 @@
-use Rattle.std.proofs.Common.{◌≡◌, false, ◌∷◌, ◌++◌, codes, ap, refl, ◌∙◌, append_assoc}
+use Rattle.std.proofs.Common.{◌≡◌, ◌∷◌, ◌++◌, codes, ap, refl, ◌∙◌, append_assoc}
 use Rattle.sipl_masterfile.specs.Tokens.{tokens, comment}
-use Rattle.sipl_masterfile.specs.Entries.{begins_blank}
 use Rattle.sipl_masterfile.proofs.Cutting.{tokens-cut, tokens-after_comment, ends_token-line, after_blank}
 use Rattle.sipl_masterfile.proofs.Joining.{entries-without}
 use Rattle.sipl_masterfile.proofs.laws.comments_change_nothing.Goals as goal
