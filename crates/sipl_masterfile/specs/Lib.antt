@@ -6,4 +6,5 @@ pub mod Ttl
 pub mod Readers
 pub mod Rdata
 pub mod Statements
+pub mod RecordPrint
 pub use Rattle.sipl_records.specs.Sets

@@ -3,6 +3,7 @@
 
 mod fault;
 mod form;
+pub mod laws;
 mod rdata;
 mod reader;
 mod record;
