@@ -1,10 +1,14 @@
 pub mod ZoneCause
 pub mod ZoneFault
-pub mod Zones
-pub mod RecordText
+pub mod Tokens
+pub mod Scanning
+pub mod Entries
 pub mod Ttl
 pub mod Readers
 pub mod Rdata
 pub mod Statements
 pub mod RecordPrint
+pub mod Zones
+pub mod RecordText
+pub mod ByOwner
 pub use Rattle.sipl_records.specs.Sets

@@ -2,7 +2,7 @@ ghost use Rattle.std.specs.Prelude.{◌≡◌};
 
 use sipl_names::NameFault;
 use sipl_records::AddressFault;
-use std::alloc::AllocError;
+use std::alloc::{AllocError, AllocFailed};
 use std::error::Error;
 use std::fmt;
 
@@ -80,7 +80,18 @@ impl ZoneCause {
 }
 
 impl ZoneFault {
+    ghost use Rattle.std.specs.Prelude.{◌≢◌};
     ghost use Rattle.sipl_masterfile.specs.ZoneFault.{code_of};
+
+    // The fault of an entry that begins in this line; an allocation failure is at line 1.
+    pub(crate) fn at(line: u64, cause: ZoneCause) -> Self
+        ensures cause { result.cause ≡ cause }
+        ensures line { cause ≢ ZoneCause.Memory → result.line ≡ line }
+        ensures memory { cause ≡ ZoneCause.Memory → result.line ≡ 1 }
+    {
+        let line = if cause == ZoneCause::Memory { 1 } else { line };
+        ZoneFault { line, cause }
+    }
 
     /// The error's code in replies, such as `Z1`.
     pub fn code(self) -> &'static str
@@ -155,6 +166,17 @@ impl From<AllocError> for ZoneFault {
             line: 1,
             cause: ZoneCause::Memory,
         }
+    }
+}
+
+impl<T: Drop> From<AllocFailed<T>> for ZoneFault {
+    ghost use Rattle.std.specs.Prelude.{◌≡◌};
+    ghost use Rattle.sipl_masterfile.specs.declared.fault.ZoneCause.TheVariants.{Memory};
+
+    ghost from_gives = { λ _ fault. fault ≡ record { line = 1; cause = Memory } };
+
+    fn from(failed: AllocFailed<T>) -> ZoneFault {
+        AllocError::from(failed).into()
     }
 }
 

@@ -1,15 +1,21 @@
 //! Master files (RFC 1035, 5.1): zones and single records in text.
 #![tactic(auto)]
 
+mod by_owner;
+mod entries;
+#[cfg(test)]
+mod entry_tests;
 mod fault;
-mod form;
+mod intake;
 pub mod laws;
 mod rdata;
 mod reader;
+mod reading;
 mod record;
 mod statement;
 #[cfg(test)]
 mod tests;
+mod tokens;
 mod ttl;
 mod zone;
 

@@ -1,20 +1,20 @@
 ghost use Rattle.std.specs.Prelude.{◌≡◌, ◌≢◌, IfOk, IfErr, Ok, Err};
-ghost use Rattle.sipl_records.specs.Fields.{fields_of};
-ghost use Rattle.sipl_masterfile.specs.RecordText.{record_of, record_or_cause, data_of, address_data_of};
+ghost use Rattle.sipl_names.specs.LabelSlices.{octets_of};
+ghost use Rattle.sipl_masterfile.specs.RecordText.{record_of, stated_record, state_directive};
 
+use crate::entries::Entries;
 use crate::fault::{ZoneCause, ZoneFault};
-use crate::form::is_unsupported;
+use crate::statement::{Statement, is_directive, read_statement};
 use sipl_names::{Name, NameFault};
-use sipl_records::{Data, Record, next_field, read_ipv4};
+use sipl_records::Record;
 use std::alloc::Global;
 
-/// Reads one record's line (RFC 1035, 5.1): OWNER `A` ADDRESS, separated by spaces and tabs, the
-/// type in either case. An owner without a dot at its end is relative to the origin, and `@` is the
-/// origin. Other types and forms are not supported yet. Linear in the length of the line.
+/// Reads a text with one entry, which is a record with its owner (RFC 1035, 5.1). Relative names are
+/// below the origin, and `@` is the origin. Linear in the length of the text.
 ///
-/// The fault is the first one, from left to right: an unsupported form, a missing or a further
-/// field (Z2), an invalid owner (Z1), an invalid address (Z4). Its line is 1, also where an
-/// allocation fails.
+/// The fault is the first one: no entry with fields (Z2, at line 1), a fault of the entry, a further
+/// entry with fields (Z13). A directive is no record: `$INCLUDE` is Z8, `$GENERATE` Z9, any other Z2.
+/// The fault is at the line on which its entry begins, an allocation failure at line 1.
 pub fn read_record(alloc: Global, line: &[u8], origin: &Name) -> Result<Record, ZoneFault>
     ensures read { IfOk result (λ r. record_of line.now origin.now ≡ Ok r) }
     ensures refused { IfErr result
@@ -22,43 +22,54 @@ pub fn read_record(alloc: Global, line: &[u8], origin: &Name) -> Result<Record, 
     ensures memory { IfErr result (λ fault. fault.cause ≡ ZoneCause.Memory → fault.line ≡ 1) }
     ensures name { IfErr result (λ fault. fault.cause ≢ ZoneCause.InName NameFault.Memory) }
 {
-    read_fields(alloc, line, origin).map_err(|cause| ZoneFault { line: 1, cause })
+    let mut entries = Entries::new(line);
+    let mut fields = Vec::new(alloc);
+    let head = entries.next_entry(&mut fields)?.ok_or(ZoneFault {
+        line: 1,
+        cause: ZoneCause::MissingField,
+    })?;
+    let record = read_stated_record(alloc, head.is_indented, &fields, origin)
+        .map_err(|cause| ZoneFault::at(head.line, cause))?;
+    if let Some(further) = entries.next_entry(&mut fields)? {
+        return Err(ZoneFault {
+            line: further.line,
+            cause: ZoneCause::ExtraField,
+        });
+    }
+    Ok(record)
 }
 
-// The record of the line's fields.
-fn read_fields(alloc: Global, line: &[u8], origin: &Name) -> Result<Record, ZoneCause>
-    ensures read { IfOk result (λ r. record_or_cause line.now origin.now ≡ Ok r) }
-    ensures refused { IfErr result
-        (λ cause. cause ≢ ZoneCause.Memory → record_or_cause line.now origin.now ≡ Err cause) }
+// The record that an entry states by itself, with no owner before it.
+fn read_stated_record(
+    alloc: Global,
+    is_indented: bool,
+    fields: &[&[u8]],
+    origin: &Name,
+) -> Result<Record, ZoneCause>
+    ensures read { IfOk result
+        (λ r. stated_record is_indented (octets_of fields.now) origin.now ≡ Ok r) }
+    ensures refused { IfErr result (λ cause. cause ≢ ZoneCause.Memory
+        → stated_record is_indented (octets_of fields.now) origin.now ≡ Err cause) }
     ensures name { IfErr result (λ cause. cause ≢ ZoneCause.InName NameFault.Memory) }
 {
-    if is_unsupported(line) {
-        return Err(ZoneCause::MissingField);
-    }
-    let (owner, rest) = next_field(line).ok_or(ZoneCause::MissingField)?;
-    let owner = Name::from_text(alloc, owner, origin)?;
-    let value = read_data(rest)?;
-    Ok(Record { owner, value })
-}
-
-// The type, and its data.
-fn read_data(line: &[u8]) -> Result<Data, ZoneCause>
-    ensures { result ≡ data_of (fields_of line.now) }
-{
-    match next_field(line) {
-        Some((b"A" | b"a", rest)) => read_address(rest),
-        _ => Err(ZoneCause::MissingField),
+    match read_statement(alloc, is_indented, fields, origin, None) {
+        Ok(Statement::Record(record)) => Ok(record),
+        Ok(Statement::Origin(_) | Statement::Ttl) => Err(ZoneCause::MissingField),
+        Err(cause @ (ZoneCause::Include | ZoneCause::Generate | ZoneCause::Memory)) => Err(cause),
+        Err(_) if states_directive(is_indented, fields) => Err(ZoneCause::MissingField),
+        Err(cause) => Err(cause),
     }
 }
 
-// The data of an address, with no field after it.
-fn read_address(line: &[u8]) -> Result<Data, ZoneCause>
-    ensures { result ≡ address_data_of (fields_of line.now) }
+// Whether the fields are those of a directive.
+fn states_directive(is_indented: bool, fields: &[&[u8]]) -> bool
+    ensures { result ≡ state_directive is_indented (octets_of fields.now) }
 {
-    let (text, rest) = next_field(line).ok_or(ZoneCause::MissingField)?;
-    let number = read_ipv4(text)?;
-    if next_field(rest).is_some() {
-        return Err(ZoneCause::MissingField);
+    match fields.first() {
+        Some(field) => !is_indented && is_directive(field),
+        None => false,
     }
-    Ok(Data::Address4(number))
 }
+
+#[cfg(test)]
+mod tests;

@@ -1,8 +1,9 @@
 ghost use Rattle.std.specs.Prelude.{◌≡◌, ◌≢◌, IfOk, IfErr, Ok, Err};
-ghost use Rattle.sipl_records.specs.Parts.{parts};
-ghost use Rattle.sipl_masterfile.specs.Zones.{IsZone, zone_of, first_entry};
+ghost use Rattle.sipl_masterfile.specs.Zones.{IsZone, zone_of};
 
+use crate::entries::Entries;
 use crate::fault::{ZoneCause, ZoneFault};
+use crate::reading::Reading;
 use sipl_names::Name;
 use sipl_records::Record;
 use std::alloc::Global;
@@ -39,6 +40,29 @@ impl Model for ZoneText {
 }
 
 impl ZoneText {
+    // The zone of these records.
+    pub(crate) fn new(apex: Name, records: Vec<Record>, outside: u64, repeated: u64) -> Self
+        requires { IsZone (record {
+            apex = apex;
+            records = records.items;
+            outside = outside;
+            repeated = repeated;
+        }) }
+        ensures { result ≡ record {
+            apex = apex;
+            records = records.items;
+            outside = outside;
+            repeated = repeated;
+        } }
+    {
+        ZoneText {
+            apex,
+            records,
+            outside,
+            repeated,
+        }
+    }
+
     /// The zone's name.
     pub fn apex(&self) -> &Name
         ensures { result.now ≡ self.now.apex }
@@ -69,47 +93,28 @@ impl ZoneText {
     }
 }
 
-/// Reads a zone's text (RFC 1035, 5.1): lines that LF ends, with spaces, tabs and CR as blanks, and
-/// comments from `;` to the line's end. Entries are not supported yet: the first one is a fault
-/// (Z2) at its line, where the first line is 1. An allocation failure is at line 1. Linear in the
-/// length of the text.
+/// Reads a zone's text (RFC 1035, 5.1), whose origin is at first the apex. The entries are records
+/// of class `IN` and the directives `$ORIGIN` and `$TTL`. Records are taken in in the order of the
+/// text: one whose owner is outside the apex is left out and counted, and so is one that is repeated.
+///
+/// The fault is that of the first faulty entry, at the line on which it begins, where the first line
+/// is 1. An allocation failure is at line 1. Linear in the length of the text, on average.
 pub fn read_zone(alloc: Global, text: &[u8], apex: &Name) -> Result<ZoneText, ZoneFault>
     ensures read { IfOk result (λ zone. zone_of text.now apex.now ≡ Ok zone) }
     ensures refused { IfErr result
         (λ fault. fault.cause ≢ ZoneCause.Memory → zone_of text.now apex.now ≡ Err fault) }
     ensures memory { IfErr result (λ fault. fault.cause ≡ ZoneCause.Memory → fault.line ≡ 1) }
 {
-    if let Some(line) = find_entry(text) {
-        return Err(ZoneFault {
-            line,
-            cause: ZoneCause::MissingField,
-        });
-    }
-    Ok(ZoneText {
-        apex: apex.dup(alloc)?,
-        records: Vec::new(alloc),
-        outside: 0,
-        repeated: 0,
-    })
-}
-
-// The number, counted from 1, of the first line with more than blanks before its comment.
-fn find_entry(text: &[u8]) -> Option<u64>
-    ensures { result ≡ first_entry 1 (parts 10 text.now) }
-{
-    let mut line_ends = 0;
-    let mut in_comment = false;
-    for octet in text {
-        match octet {
-            b'\n' => {
-                line_ends += 1;
-                in_comment = false;
-            }
-            b';' => in_comment = true,
-            b' ' | b'\t' | b'\r' => {}
-            _ if in_comment => {}
-            _ => return Some(line_ends + 1),
+    let mut entries = Entries::new(text);
+    let mut fields = Vec::new(alloc);
+    let mut reading = Reading::new(alloc, apex)?;
+    while let Some(head) = entries.next_entry(&mut fields)? {
+        if let Err(cause) = reading.read_entry(alloc, head.is_indented, &fields) {
+            return Err(ZoneFault::at(head.line, cause));
         }
     }
-    None
+    Ok(reading.into_zone())
 }
+
+#[cfg(test)]
+mod tests;

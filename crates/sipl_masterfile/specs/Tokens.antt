@@ -1,0 +1,58 @@
+-- The tokens of a master file's text (RFC 1035, 5.1).
+use Rattle.std.specs.Prelude.{ℕ, zero, suc, ◌+◌, Bool, false, not, ◌&&◌, ◌||◌, List, [], ◌∷◌, Option, None, Some, take, if◌then◌else◌, ◌==◌}
+use Rattle.std.specs.List.{position_or_len}
+use Rattle.std.specs.Option.{option_map}
+use Rattle.sipl_names.specs.Labels.{Octets}
+
+-- what a text is made of: fields, what separates and joins them, and a quote that nothing closes
+pub data Token : Type 0 where
+  blank : Token
+  line_end : Token
+  opening : Token
+  closing : Token
+  comment : Token
+  field : Octets → Token
+  open_quote : Token
+
+-- a space, a tab or a CR
+abbrev pub is_blank : ℕ → Bool
+is_blank c = c == 32 || c == 9 || c == 13
+
+-- an octet that ends a field: a blank, LF ( ) ; "
+abbrev pub ends_field : ℕ → Bool
+ends_field c = is_blank c || c == 10 || c == 40 || c == 41 || c == 59 || c == 34
+
+-- how many octets more a field has that has begun, maybe with a backslash at last: a backslash
+-- takes the next octet into the field, unless that is LF
+abbrev pub field_len : Bool → Octets → ℕ
+field_len is_escaped [] = 0
+field_len is_escaped (c ∷ text) =
+    if c == 10 || not is_escaped && ends_field c then 0
+    else 1 + field_len (not is_escaped && c == 92) text
+
+-- how many octets come before the quote that closes a quoted field, which no backslash takes; LF is
+-- not allowed before it
+abbrev pub quoted_len : Bool → Octets → Option ℕ
+quoted_len is_escaped [] = None
+quoted_len is_escaped (c ∷ text) =
+    if c == 10 then None
+    else (if not is_escaped && c == 34 then Some 0
+    else option_map (λ len. 1 + len) (quoted_len (not is_escaped && c == 92) text))
+
+-- how many octets a comment has: all those before LF
+abbrev pub comment_len : Octets → ℕ
+comment_len text = position_or_len (λ c. c == 10) text
+
+-- the tokens of a text, where this number of its octets belongs to a token before it
+abbrev pub tokens : ℕ → Octets → List Token
+tokens taken [] = []
+tokens (suc taken) (c ∷ text) = tokens taken text
+tokens zero (c ∷ text) =
+    if is_blank c then blank ∷ tokens 0 text
+    else (if c == 10 then line_end ∷ tokens 0 text
+    else (if c == 40 then opening ∷ tokens 0 text
+    else (if c == 41 then closing ∷ tokens 0 text
+    else (if c == 59 then comment ∷ tokens (comment_len text) text
+    else (if c == 34
+    then elim (quoted_len false text) [ Some len ↦ field (take len text) ∷ tokens (len + 1) text | None ↦ open_quote ∷ [] ]
+    else field (c ∷ take (field_len (c == 92) text) text) ∷ tokens (field_len (c == 92) text) text)))))

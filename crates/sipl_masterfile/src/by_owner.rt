@@ -1,0 +1,143 @@
+ghost use Rattle.std.specs.Prelude.{◌≡◌, [], ◌∷◌, ◌++◌, ◌<◌, ◌+◌, ◌^◌, ◌||◌, if◌then◌else◌, Some, count_by, IfOk, OnOk, OnErr};
+ghost use Rattle.std.specs.Option.{unwrap_or};
+ghost use Rattle.indexmap.specs.IndexMap.{get, IsUnchanged};
+ghost use Rattle.sipl_names.specs.Labels.{Labels, same_name};
+ghost use Rattle.std.specs.List.{list_any};
+ghost use Rattle.sipl_records.specs.Sets.{conflicts, same_record, shares_set};
+
+use indexmap::IndexMap;
+use sipl_names::Name;
+use sipl_records::Record;
+use std::alloc::{AllocError, Global};
+use std::marker::Model;
+
+// Records in the order of addition, with a table by which those of one owner are found.
+//
+// The end of an owner's records is how many records there are up to its last one, 0 if it has none.
+// The table has it for each owner, and beside each record is the end of those of its owner before
+// it: so the records of an owner are found from the last one to the first.
+#[derive(Drop)]
+pub(crate) struct RecordsByOwner {
+    records: Vec<Record>,
+    earlier: Vec<usize>,
+    ends: IndexMap<Name, usize>,
+}
+
+impl Model for RecordsByOwner {
+    ghost use Rattle.std.specs.Prelude.{List};
+    ghost use Rattle.sipl_records.specs.declared.record.Record.{Record};
+
+    ghost Value = { List Record };
+
+    ghost use Rattle.indexmap.specs.IndexMap.{get};
+    ghost use Rattle.sipl_names.specs.Labels.{same_name};
+    ghost use Rattle.sipl_masterfile.specs.ByOwner.{IsIndexed};
+
+    ghost view = { λ s. s.records.items };
+
+    ghost invariant = { λ s. IsIndexed s.records.items s.earlier.items (get same_name s.ends) };
+}
+
+// What the records are to a new one.
+#[derive(Clone, Copy)]
+pub(crate) struct Comparison {
+    // Whether one of them is equal to the new one.
+    pub(crate) is_repeated: bool,
+    // Whether one of them conflicts with it.
+    pub(crate) conflicts: bool,
+    // How many of them are in its set.
+    pub(crate) set_len: usize,
+}
+
+impl RecordsByOwner {
+    pub(crate) fn new(alloc: Global) -> Self
+        ensures { result ≡ [] }
+    {
+        RecordsByOwner {
+            records: Vec::new(alloc),
+            earlier: Vec::new(alloc),
+            ends: IndexMap::new(alloc),
+        }
+    }
+
+    // Appends a record.
+    pub(crate) fn push(&mut self, alloc: Global, new: Record) -> Result<(), AllocError>
+        ensures ok { OnOk result (self.new ≡ self.old ++ new ∷ []) }
+        ensures err { OnErr result (self.new ≡ self.old) }
+    {
+        self.records.reserve(1)?;
+        self.earlier.reserve(1)?;
+        let end = self.records.len() + 1;
+        let earlier = replace_end(&mut self.ends, alloc, &new.owner, end)?;
+        self.earlier.push_reserved(earlier);
+        self.records.push_reserved(new);
+        Ok(())
+    }
+
+    // The records, in the order of addition.
+    pub(crate) fn into_records(self) -> Vec<Record>
+        ensures { result.items ≡ self }
+    {
+        let RecordsByOwner { records, .. } = self;
+        records
+    }
+
+    // Compares a new record with those of its owner, from the last one to the first.
+    pub(crate) fn compare(&self, new: &Record) -> Comparison
+        ensures repeated { result.is_repeated ≡ list_any (same_record new.now) self.now }
+        ensures conflicts { result.conflicts ≡ list_any (conflicts new.now) self.now }
+        ensures set_len { result.set_len ≡ count_by (shares_set new.now) self.now }
+    {
+        let mut found = Comparison {
+            is_repeated: false,
+            conflicts: false,
+            set_len: 0,
+        };
+        let mut end = self.ends.get(&new.owner).copied().unwrap_or(0);
+        while end > 0 {
+            let other = &self.records[end - 1];
+            found = found.with(new, other);
+            end = self.earlier[end - 1];
+        }
+        found
+    }
+}
+
+// Sets the end of an owner's records, and returns the one that it had, 0 if it had none.
+fn replace_end(
+    ends: &mut IndexMap<Name, usize>,
+    alloc: Global,
+    owner: &Name,
+    end: usize,
+) -> Result<usize, AllocError>
+    ensures earlier { IfOk result
+        (λ earlier. earlier ≡ unwrap_or (get same_name ends.old owner.now) 0) }
+    ensures ends { OnOk result ((name : Labels) → get same_name ends.new name
+        ≡ (if same_name owner.now name then Some end else get same_name ends.old name)) }
+    ensures unchanged { OnErr result (IsUnchanged ends.old ends.new) }
+{
+    match ends.get_mut(owner) {
+        Some(last) => Ok(std::mem::replace(last, end)),
+        None => {
+            ends.insert(owner.dup(alloc)?, end)?;
+            Ok(0)
+        }
+    }
+}
+
+impl Comparison {
+    // The comparison with one record more.
+    fn with(self, new: &Record, other: &Record) -> Comparison
+        requires { self.set_len < 2 ^ 63 }
+        ensures repeated { result.is_repeated ≡ (same_record new.now other.now || self.is_repeated) }
+        ensures conflicts { result.conflicts ≡ (conflicts new.now other.now || self.conflicts) }
+        ensures set_len { result.set_len
+            ≡ (if shares_set new.now other.now then 1 else 0) + self.set_len }
+    {
+        Comparison {
+            is_repeated: new == other || self.is_repeated,
+            conflicts: new.conflicts_with(other) || self.conflicts,
+            set_len: new.shares_set(other) as usize + self.set_len,
+        }
+    }
+}

@@ -1,0 +1,93 @@
+ghost use Rattle.std.specs.Prelude.{◌≡◌, ◌≢◌, ◌+◌, ◌-◌, ◌^◌, ◌<◌, ◌≤◌, IfOk, IfErr, OnOk, OnErr, Ok, Err};
+ghost use Rattle.sipl_masterfile.specs.Zones.{IsZone, empty_zone, take_in};
+
+use crate::by_owner::RecordsByOwner;
+use crate::fault::ZoneCause;
+use crate::zone::ZoneText;
+use sipl_names::Name;
+use sipl_records::{MAX_SET_LEN, Record};
+use std::alloc::Global;
+use std::marker::Model;
+
+// A zone whose records are taken in one by one.
+#[derive(Drop)]
+pub(crate) struct Intake {
+    apex: Name,
+    records: RecordsByOwner,
+    outside: u64,
+    repeated: u64,
+}
+
+impl Model for Intake {
+    ghost use Rattle.sipl_masterfile.specs.Zones.{Zone, IsZone};
+
+    ghost Value = { Zone };
+
+    ghost view = { λ z. record {
+      apex = z.apex;
+      records = z.records;
+      outside = z.outside;
+      repeated = z.repeated;
+    } };
+
+    ghost invariant = { λ z. let zone : Zone = record {
+      apex = z.apex;
+      records = z.records;
+      outside = z.outside;
+      repeated = z.repeated;
+    } in IsZone zone };
+}
+
+impl Intake {
+    pub(crate) fn new(alloc: Global, apex: Name) -> Self
+        ensures { result ≡ empty_zone apex }
+    {
+        Intake {
+            apex,
+            records: RecordsByOwner::new(alloc),
+            outside: 0,
+            repeated: 0,
+        }
+    }
+
+    // Takes a record in. Constant time on average, whatever was taken in before.
+    pub(crate) fn take_in(&mut self, alloc: Global, new: Record) -> Result<(), ZoneCause>
+        requires { self.old.outside + self.old.repeated < 2 ^ 64 - 1 }
+        ensures taken { OnOk result (take_in new self.old ≡ Ok self.new) }
+        ensures left_out { OnOk result (self.new.outside + self.new.repeated
+            ≤ self.old.outside + self.old.repeated + 1) }
+        ensures refused { IfErr result
+            (λ cause. cause ≢ ZoneCause.Memory → take_in new self.old ≡ Err cause) }
+        ensures unchanged { OnErr result (self.new ≡ self.old) }
+    {
+        if !new.owner.is_within(&self.apex) {
+            self.outside += 1;
+            return Ok(());
+        }
+        let found = self.records.compare(&new);
+        if found.is_repeated {
+            self.repeated += 1;
+            return Ok(());
+        }
+        if found.conflicts {
+            return Err(ZoneCause::AliasBesideData);
+        }
+        if found.set_len >= MAX_SET_LEN {
+            return Err(ZoneCause::SetFull);
+        }
+        self.records.push(alloc, new)?;
+        Ok(())
+    }
+    // The zone of the records that were taken in.
+    pub(crate) fn into_zone(self) -> ZoneText
+        ensures { result ≡ self }
+    {
+        let Intake {
+            apex,
+            records,
+            outside,
+            repeated,
+        } = self;
+        ZoneText::new(apex, records.into_records(), outside, repeated)
+    }
+}
