@@ -1,10 +1,14 @@
 //! What follows from the definitions. Each law is the contract of a function that does nothing.
 
-ghost use Rattle.std.specs.Prelude.{◌≡◌, true, false, ◌++◌, codes, map, ◌==◌};
+ghost use Rattle.std.specs.Prelude.{◌≡◌, true, false, ◌++◌, codes, map, Option, Ok, ◌==◌};
 ghost use Rattle.std.specs.List.{list_any};
-ghost use Rattle.sipl_names.specs.Labels.{Octets};
+ghost use Rattle.sipl_names.specs.Labels.{Octets, Labels};
+ghost use Rattle.sipl_records.specs.declared.record.Record.{Record};
 ghost use Rattle.sipl_masterfile.specs.Entries.{entries_of};
 ghost use Rattle.sipl_masterfile.specs.JoinedTexts.{AllowsComment, follows_line, IsComplete, line_ends, further};
+ghost use Rattle.sipl_masterfile.specs.RecordPrint.{IsRecord, record_fields};
+ghost use Rattle.sipl_masterfile.specs.Statements.{statement_of};
+ghost use Rattle.sipl_masterfile.specs.declared.statement.Statement.TheVariants as statement;
 
 /// A comment changes no entry: `;` and octets without LF, after a text that ends outside quotes and
 /// comments, and before a line's end or the end of the text.
@@ -19,4 +23,10 @@ pub fn comments_change_nothing()
 pub fn joining_texts_joins_entries()
     ensures { (first second : Octets) → IsComplete first → entries_of (first ++ second)
         ≡ entries_of first ++ map (further (line_ends first)) (entries_of second) }
+{}
+
+/// The fields of a printed record state that record, with any origin and any owner before it.
+pub fn printed_fields_state_the_record()
+    ensures { (r : Record) (origin : Labels) (owner : Option Labels) → IsRecord r
+        → statement_of false (record_fields r) origin owner ≡ Ok (statement.Record r) }
 {}
