@@ -4,3 +4,4 @@ pub mod Turning
 pub mod Exits
 pub mod Rules
 pub mod Results
+pub mod Steps
