@@ -5,3 +5,6 @@ pub mod Scanning
 pub mod EntryCount
 pub mod Owners
 pub mod TakenIn
+pub mod Joining
+pub mod Cutting
+pub mod PrintedEntries

@@ -8,6 +8,7 @@ pub mod Readers
 pub mod Rdata
 pub mod Statements
 pub mod RecordPrint
+pub mod JoinedTexts
 pub mod Zones
 pub mod RecordText
 pub mod ByOwner

@@ -56,9 +56,9 @@ impl<'a> Entries<'a> {
     ) -> Result<Option<EntryHead>, ZoneFault>
         ensures read { IfOk result (λ next. MatchOption next (self.old ≡ [])
             (λ head. self.old ≡ record {
-                line = head.line;
-                is_indented = head.is_indented;
-                content = Ok (octets_of fields.new.items);
+              line = head.line;
+              is_indented = head.is_indented;
+              content = Ok (octets_of fields.new.items);
             } ∷ self.new)) }
         ensures refused { IfErr result
             (λ fault. fault.cause ≢ ZoneCause.Memory → IsFaulty self.old fault) }
@@ -100,6 +100,10 @@ fn read_fields<'a>(
     ensures name { IfErr result (λ fault. fault.cause ≢ ZoneCause.InName NameFault.Memory) }
 {
     fields.clear();
+    let unbalanced = ZoneFault {
+        line,
+        cause: ZoneCause::Parenthesis,
+    };
     let mut rest = text;
     let mut line_ends = 0;
     let mut depth: usize = 0;
@@ -110,8 +114,11 @@ fn read_fields<'a>(
             Token::Field(octets) => fields.push(octets)?,
             Token::Opening => depth += 1,
             Token::Closing if depth > 0 => depth -= 1,
-            Token::Closing => return Err(ZoneFault { line, cause: ZoneCause::Parenthesis }),
-            Token::OpenQuote => return Err(ZoneFault { line, cause: ZoneCause::OpenQuote }),
+            Token::Closing => return Err(unbalanced),
+            Token::OpenQuote => return Err(ZoneFault {
+                line,
+                cause: ZoneCause::OpenQuote,
+            }),
             Token::LineEnd => {
                 line_ends += 1;
                 if depth == 0 {
@@ -121,7 +128,7 @@ fn read_fields<'a>(
         }
     }
     if depth > 0 {
-        return Err(ZoneFault { line, cause: ZoneCause::Parenthesis });
+        return Err(unbalanced);
     }
     Ok((rest, line_ends))
 }

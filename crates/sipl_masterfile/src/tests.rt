@@ -16,26 +16,14 @@ fn faults_print_line_and_message(rt: HostRuntime) {
             "Z3",
             "line 3: a number is invalid or too large",
         ),
-        (
-            ZoneCause::BadAddress,
-            "Z4",
-            "line 3: not an IP address",
-        ),
+        (ZoneCause::BadAddress, "Z4", "line 3: not an IP address"),
         (
             ZoneCause::Parenthesis,
             "Z5",
             "line 3: a parenthesis does not match",
         ),
-        (
-            ZoneCause::OpenQuote,
-            "Z6",
-            "line 3: a quote is not closed",
-        ),
-        (
-            ZoneCause::ClassNotIn,
-            "Z7",
-            "line 3: the class is not IN",
-        ),
+        (ZoneCause::OpenQuote, "Z6", "line 3: a quote is not closed"),
+        (ZoneCause::ClassNotIn, "Z7", "line 3: the class is not IN"),
         (
             ZoneCause::Include,
             "Z8",
@@ -56,11 +44,7 @@ fn faults_print_line_and_message(rt: HostRuntime) {
             "Z11",
             "line 3: a string has more than 255 octets",
         ),
-        (
-            ZoneCause::NoOwner,
-            "Z12",
-            "line 3: the record has no owner",
-        ),
+        (ZoneCause::NoOwner, "Z12", "line 3: the record has no owner"),
         (
             ZoneCause::ExtraField,
             "Z13",
