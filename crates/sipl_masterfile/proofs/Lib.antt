@@ -8,3 +8,4 @@ pub mod TakenIn
 pub mod Joining
 pub mod Cutting
 pub mod PrintedEntries
+pub mod PrintedRecords
