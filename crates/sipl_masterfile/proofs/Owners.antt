@@ -81,11 +81,9 @@ indexed-push records earlier ends ends' r old before old_is after = record {
         let inside' : i < length earlier = omega (arith, before.len) in
         let below : i ≤ length records = omega arith in
         rw (get_or_append_left earlier (old ∷ []) 0 i inside', get_or_append_left records (r ∷ []) d i inside, take-append-le i records (r ∷ []) below) (before.beside i d inside)
-
     beside_new : (i : ℕ) (d : Record) → i ≡ length records → get_or (earlier ++ old ∷ []) i 0 ≡ end_of (get_or (records ++ r ∷ []) i d).owner (take i (records ++ r ∷ []))
     beside_new i d last =
         rw (get_or_push earlier old 0 i (before.len ∙ sym last), get_or_push records r d i (sym last), last, take-append_seam records (r ∷ [])) (old_is ∙ before.table r.owner)
-
     at : (q : Labels) (b : Bool) → same_name r.owner q ≡ b → unwrap_or (cond b (Some (length records + 1)) (ends q)) 0 ≡ (if same_name q r.owner then suc (length records) else end_of q records)
     at q true same = rw (same_name-sym q r.owner, same) (add-one (length records))
     at q false other = rw (same_name-sym q r.owner, other) (before.table q)

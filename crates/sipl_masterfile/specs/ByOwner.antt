@@ -19,4 +19,4 @@ pub record IsIndexed (records : List Record) (earlier : List ℕ) (ends : Labels
   pub table : (owner : Labels) → unwrap_or (ends owner) 0 ≡ end_of owner records
   pub len : length earlier ≡ length records
   pub beside : (i : ℕ) (d : Record) → i < length records
-      → slice_index_or earlier i 0 ≡ end_of (slice_index_or records i d).owner (take i records)
+    → slice_index_or earlier i 0 ≡ end_of (slice_index_or records i d).owner (take i records)

@@ -28,9 +28,8 @@ pub fn read_record(alloc: Global, line: &[u8], origin: &Name) -> Result<Record, 
         line: 1,
         cause: ZoneCause::MissingField,
     })?;
-    let record = read_stated_record(alloc, head.is_indented, &fields, origin).map_err(
-        |cause| ZoneFault::at(head.line, cause),
-    )?;
+    let record = read_stated_record(alloc, head.is_indented, &fields, origin)
+        .map_err(|cause| ZoneFault::at(head.line, cause))?;
     if let Some(further) = entries.next_entry(&mut fields)? {
         return Err(ZoneFault {
             line: further.line,

@@ -43,16 +43,16 @@ impl ZoneText {
     // The zone of these records.
     pub(crate) fn new(apex: Name, records: Vec<Record>, outside: u64, repeated: u64) -> Self
         requires { IsZone (record {
-          apex = apex;
-          records = records.items;
-          outside = outside;
-          repeated = repeated;
+            apex = apex;
+            records = records.items;
+            outside = outside;
+            repeated = repeated;
         }) }
         ensures { result ≡ record {
-          apex = apex;
-          records = records.items;
-          outside = outside;
-          repeated = repeated;
+            apex = apex;
+            records = records.items;
+            outside = outside;
+            repeated = repeated;
         } }
     {
         ZoneText {

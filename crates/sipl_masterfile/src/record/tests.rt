@@ -25,10 +25,7 @@ fn one_entry_gives_its_record(rt: HostRuntime) {
         ("\"a\" A 192.0.2.1", "a.example.com."),
         ("a\\.b A \"192.0.2.1\"", "a\\.b.example.com."),
         ("a\\ b A 192.0.2.1", "a\\032b.example.com."),
-        (
-            "\n \t\n; a comment\na A 192.0.2.1\n\n ;\n",
-            "a.example.com.",
-        ),
+        ("\n \t\n; a comment\na A 192.0.2.1\n\n ;\n", "a.example.com."),
     ] {
         let want = Record {
             owner: name(&rt, alloc, owner.as_bytes()),

@@ -78,28 +78,16 @@ fn owners_follow_the_origin_and_the_record_before(rt: HostRuntime) {
         ("a A 192.0.2.1", "a.example.com."),
         ("$ORIGIN b\na A 192.0.2.1", "a.b.example.com."),
         ("$origin b\n$ORIGIN c\n@ A 192.0.2.1", "c.b.example.com."),
-        (
-            "$ORIGIN org.\n$ORIGIN example.com.\na A 192.0.2.1",
-            "a.example.com.",
-        ),
+        ("$ORIGIN org.\n$ORIGIN example.com.\na A 192.0.2.1", "a.example.com."),
         ("a A 192.0.2.2\n$ORIGIN b\n A 192.0.2.1", "a.example.com."),
-        (
-            "a A 192.0.2.2\na A 192.0.2.2\n A 192.0.2.1",
-            "a.example.com.",
-        ),
-        (
-            "a A 192.0.2.2\n$TTL 5\n\n\t300 A 192.0.2.1",
-            "a.example.com.",
-        ),
+        ("a A 192.0.2.2\na A 192.0.2.2\n A 192.0.2.1", "a.example.com."),
+        ("a A 192.0.2.2\n$TTL 5\n\n\t300 A 192.0.2.1", "a.example.com."),
         ("a A 192.0.2.2\n(b) A 192.0.2.1", "b.example.com."),
     ] {
         let zone = read(&rt, alloc, text.as_bytes()).expect(&rt, "a zone");
         let last = zone.records().len() - 1;
         let value = Data::Address4(ADDRESS);
-        assert!(rt;
-            has_record(&rt, alloc, &zone, last, owner.as_bytes(), value),
-            "at {text}"
-        );
+        assert!(rt; has_record(&rt, alloc, &zone, last, owner.as_bytes(), value), "at {text}");
     }
 }
 
@@ -110,10 +98,7 @@ fn records_outside_and_repeated_are_counted(rt: HostRuntime) {
         // An owner outside the apex is that of the next record too.
         ("a A 192.0.2.1\nb.org. A 192.0.2.1\n A 192.0.2.1", (1, 2, 0)),
         // Records outside are neither repeated nor in conflict.
-        (
-            "b.org. A 192.0.2.1\nb.org. A 192.0.2.1\nb.org. CNAME a",
-            (0, 3, 0),
-        ),
+        ("b.org. A 192.0.2.1\nb.org. A 192.0.2.1\nb.org. CNAME a", (0, 3, 0)),
         // The parent and a name that only ends alike are outside.
         ("com. A 192.0.2.1\nxexample.com. A 192.0.2.1", (0, 2, 0)),
         // Names are equal without case, data of other types in any form.
@@ -121,10 +106,7 @@ fn records_outside_and_repeated_are_counted(rt: HostRuntime) {
         ("a TXT x\na TYPE99 \\# 0\na MX 10 b", (1, 0, 2)),
         // Data of other types are beside an alias, and an alias beside itself is repeated.
         ("a CNAME b\na TXT x\na CNAME B", (2, 0, 1)),
-        (
-            "a A 192.0.2.1\na AAAA ::1\na SRV 0 0 5060 b\nb CNAME a",
-            (4, 0, 0),
-        ),
+        ("a A 192.0.2.1\na AAAA ::1\na SRV 0 0 5060 b\nb CNAME a", (4, 0, 0)),
     ] {
         let zone = read(&rt, alloc, text.as_bytes()).expect(&rt, "a zone");
         assert!(rt; counts(&zone) == want, "at {text}");
@@ -136,35 +118,19 @@ fn first_faulty_entry_is_reported_at_its_line(rt: HostRuntime) {
     let alloc = rt.alloc();
     for (text, line, cause) in [
         ("\n a..b A 192.0.2.1", 2, ZoneCause::NoOwner),
-        (
-            "a..b A 192.0.2.1",
-            1,
-            ZoneCause::InName(NameFault::EmptyLabel),
-        ),
+        ("a..b A 192.0.2.1", 1, ZoneCause::InName(NameFault::EmptyLabel)),
         ("$TTL 5\n\na", 3, ZoneCause::MissingField),
-        (
-            "; a\r\n \t\n\"\" x\n",
-            3,
-            ZoneCause::InName(NameFault::EmptyLabel),
-        ),
+        ("; a\r\n \t\n\"\" x\n", 3, ZoneCause::InName(NameFault::EmptyLabel)),
         ("a SRV 0 0 65536 b", 1, ZoneCause::BadNumber),
         ("$TTL x", 1, ZoneCause::BadNumber),
         ("@ A 192.0.2.1\\", 1, ZoneCause::BadAddress),
         ("a A (\n192.0.2.256\n)", 1, ZoneCause::BadAddress),
-        (
-            "@ A 192.0.2.1\nb A (\n192.0.2.2\n",
-            2,
-            ZoneCause::Parenthesis,
-        ),
+        ("@ A 192.0.2.1\nb A (\n192.0.2.2\n", 2, ZoneCause::Parenthesis),
         ("a A 192.0.2.256 )", 1, ZoneCause::Parenthesis),
         ("\n\n\n;\n)", 5, ZoneCause::Parenthesis),
         ("a TXT \"b\nc\"", 1, ZoneCause::OpenQuote),
         ("a CH A 192.0.2.1", 1, ZoneCause::ClassNotIn),
-        (
-            "$TTL 5\n@ A 192.0.2.1\n$INCLUDE x\n)",
-            3,
-            ZoneCause::Include,
-        ),
+        ("$TTL 5\n@ A 192.0.2.1\n$INCLUDE x\n)", 3, ZoneCause::Include),
         ("$generate 1-2 a A 192.0.2.$", 1, ZoneCause::Generate),
         ("a A \\# 4 c0000201", 1, ZoneCause::GenericForm),
         (" A 192.0.2.1", 1, ZoneCause::NoOwner),
