@@ -7,3 +7,5 @@ pub mod Owners
 pub mod TakenIn
 pub mod Joining
 pub mod Cutting
+pub mod PrintedEntries
+pub mod PrintedRecords

@@ -31,7 +31,7 @@ use Rattle.sipl_masterfile.specs.declared.statement.Statement.TheVariants as sta
 
 -- numbers
 
-number_of-decimal : (n : ℕ) → n < 65536 → number_of (decimal n) 65535 ≡ Some n
+pub number_of-decimal : (n : ℕ) → n < 65536 → number_of (decimal n) 65535 ≡ Some n
 number_of-decimal n small =
     let value : digits_value 10 (decimal n) ≡ n = (decimal_is_IsNumeral n (omega arith)).1 in
     let all : all_ascii_digits (decimal n) ≡ true = digits_decimal (numerals_by_value (λ ds. all_ascii_digits ds ≡ true) tells_all_ascii_digits) n (omega arith) in

@@ -1,5 +1,5 @@
 -- How a record is printed as a line of a master file (RFC 1035, 5.1), without the line's end.
-use Rattle.std.specs.Prelude.{◌≡◌, ℕ, ◌^◌, ◌<◌, ◌≤◌, List, [], ◌∷◌, ◌++◌, length, map, codes, decimal}
+use Rattle.std.specs.Prelude.{ℕ, ◌^◌, ◌<◌, ◌≤◌, false, Ok, List, [], ◌∷◌, ◌++◌, length, map, codes, decimal}
 use Rattle.std.specs.List.{AllByRecursion, flat_map}
 use Rattle.sipl_names.specs.Labels.{Octets, Labels, IsName}
 use Rattle.sipl_names.specs.NamePrint.{printed_octet, text_of}
@@ -8,6 +8,7 @@ use Rattle.sipl_records.specs.Ipv6.{text_of_address6}
 use Rattle.sipl_records.specs.declared.data.Data.{Data}
 use Rattle.sipl_records.specs.declared.data.Data.TheVariants.{Address4, Address6, Alias, Service, Pointer, Bare}
 use Rattle.sipl_records.specs.declared.record.Record.{Record}
+use Rattle.sipl_masterfile.specs.Entries.{Entry}
 
 -- RFC 1035, 3.3: a character string has at most 255 octets
 pub record IsString (octets : Octets) : Type 0 where
@@ -95,3 +96,7 @@ spaced (field ∷ next ∷ fields) = field ++ codes " " ++ spaced (next ∷ fiel
 -- the line of a record
 abbrev pub record_text : Record → Octets
 record_text r = spaced (map spelled (written_record r))
+
+-- the entry of a printed record
+abbrev pub entry_of_record : Record → Entry
+entry_of_record r = record { line = 1; is_indented = false; content = Ok (record_fields r) }

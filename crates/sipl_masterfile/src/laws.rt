@@ -1,12 +1,13 @@
 //! What follows from the definitions. Each law is the contract of a function that does nothing.
 
-ghost use Rattle.std.specs.Prelude.{◌≡◌, true, false, ◌++◌, codes, map, Option, Ok, ◌==◌};
+ghost use Rattle.std.specs.Prelude.{◌≡◌, true, false, [], ◌∷◌, ◌++◌, codes, map, Option, Ok, ◌==◌};
 ghost use Rattle.std.specs.List.{list_any};
 ghost use Rattle.sipl_names.specs.Labels.{Octets, Labels};
 ghost use Rattle.sipl_records.specs.declared.record.Record.{Record};
 ghost use Rattle.sipl_masterfile.specs.Entries.{entries_of};
 ghost use Rattle.sipl_masterfile.specs.JoinedTexts.{AllowsComment, follows_line, IsComplete, line_ends, further};
-ghost use Rattle.sipl_masterfile.specs.RecordPrint.{IsRecord, record_fields};
+ghost use Rattle.sipl_masterfile.specs.RecordPrint.{IsRecord, record_fields, record_text, entry_of_record};
+ghost use Rattle.sipl_masterfile.specs.RecordText.{record_of};
 ghost use Rattle.sipl_masterfile.specs.Statements.{statement_of};
 ghost use Rattle.sipl_masterfile.specs.declared.statement.Statement.TheVariants as statement;
 
@@ -25,8 +26,13 @@ pub fn joining_texts_joins_entries()
         ≡ entries_of first ++ map (further (line_ends first)) (entries_of second) }
 {}
 
-/// The fields of a printed record state that record, with any origin and any owner before it.
-pub fn printed_fields_state_the_record()
-    ensures { (r : Record) (origin : Labels) (owner : Option Labels) → IsRecord r
+/// The text of a printed record reads back to that record, whatever the origin is. It is one entry,
+/// whose fields state the record, whatever the owner before it is.
+pub fn printing_records_reads_back()
+    ensures text { (r : Record) (origin : Labels) → IsRecord r
+        → record_of (record_text r) origin ≡ Ok r }
+    ensures entry { (r : Record) → IsRecord r
+        → entries_of (record_text r) ≡ entry_of_record r ∷ [] }
+    ensures fields { (r : Record) (origin : Labels) (owner : Option Labels) → IsRecord r
         → statement_of false (record_fields r) origin owner ≡ Ok (statement.Record r) }
 {}
