@@ -1,11 +1,10 @@
 -- The place that a word chooses, whether the places of weight 0 come first or not.
-use Rattle.std.proofs.Common.{◌≡◌, ℕ, ◌+◌, ◌%◌, ◌<◌, ◌≤◌, Bool, true, false, not, eqb, leb, List, [], ◌∷◌, ◌++◌, Option, Some, None, length, slice_get, option_map, refl, ap, sym, ◌∙◌, inl, inr, arith}
-use Rattle.std.specs.List.{filter, sum_by}
+use Rattle.std.proofs.Common.{◌≡◌, ℕ, ◌+◌, ◌%◌, ◌<◌, ◌≤◌, true, false, not, eqb, leb, List, [], ◌∷◌, ◌++◌, Option, Some, None, length, slice_get, option_map, refl, ap, sym, ◌∙◌, inl, inr, arith}
 use Rattle.std.specs.Option.{is_some, IsSome}
 use Rattle.std.proofs.lemmas.Bool.{cases_Bool, cases_lt, eqb-true, leb-false, le-leb, lt-leb}
 use Rattle.std.proofs.lemmas.List.Sums.{sum_by-append, sum_by-cons}
 use Rattle.std.proofs.lemmas.List.Filters.{sum_by-filter_both}
-use Rattle.sipl_srv.specs.Order.{Rank, weight_at, weightless, weighted, weightless_first, of_priority, of_least_priority, candidates, total_weight, first_reaching, chosen}
+use Rattle.sipl_srv.specs.Order.{Rank, weight_at, weightless, weighted, weightless_first, of_priority, of_least_priority, total_weight, first_reaching, chosen}
 
 -- the order of the places does not change the sum of their weights
 pub total-weightless_first : (ranks : List Rank) (places : List ℕ) → total_weight ranks (weightless_first ranks places) ≡ total_weight ranks places
@@ -34,9 +33,9 @@ reaching-weighted ranks number sum (place ∷ places) above = elim (cases_Bool (
       let same : sum + weight_at ranks place ≡ sum = omega arith in
       rw (free, lt-leb number (sum + weight_at ranks place) (omega arith), same) (reaching-weighted ranks number sum places above)
   | inr heavy ↦ rw heavy (elim (cases_Bool (leb number (sum + weight_at ranks place))) [
-      | inl reached ↦ rw reached refl
-      | inr below ↦ rw below (reaching-weighted ranks number (sum + weight_at ranks place) places (leb-false number (sum + weight_at ranks place) below))
-    ])
+    | inl reached ↦ rw reached refl
+    | inr below ↦ rw below (reaching-weighted ranks number (sum + weight_at ranks place) places (leb-false number (sum + weight_at ranks place) below))
+  ])
 ]
 
 -- where no place has weight 0, all have another

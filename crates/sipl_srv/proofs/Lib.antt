@@ -5,3 +5,4 @@ pub mod Places
 pub mod Offered
 pub mod Orders
 pub mod Shares
+pub mod Groups

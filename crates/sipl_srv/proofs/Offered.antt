@@ -1,5 +1,5 @@
 -- What a set offers, from whether it has SRV data and from its picks.
-use Rattle.std.proofs.Common.{◌≡◌, ℕ, ◌+◌, ◌<◌, ◌≤◌, Bool, true, false, not, cond, ltb, List, [], ◌∷◌, ◌++◌, Option, Some, None, length, get_or, take, refl, ap, sym, ◌∙◌, inl, inr, arith, append-nil}
+use Rattle.std.proofs.Common.{◌≡◌, ℕ, ◌+◌, ◌<◌, ◌≤◌, Bool, true, false, not, cond, ltb, List, [], ◌∷◌, ◌++◌, Some, None, length, get_or, take, refl, ap, sym, ◌∙◌, inl, inr, arith, append-nil}
 use Rattle.std.specs.List.{filter, filter_map, cons_option, list_all}
 use Rattle.std.proofs.lemmas.Bool.{cases_Bool, lt-ltb}
 use Rattle.std.proofs.lemmas.List.{take_more, length_push}
@@ -8,7 +8,6 @@ use Rattle.sipl_names.specs.Labels.{Labels}
 use Rattle.sipl_records.specs.declared.data.Data.{Data}
 use Rattle.sipl_records.specs.declared.data.Data.TheVariants.{Address4, Address6, Alias, Service, Pointer, Bare}
 use Rattle.sipl_srv.specs.declared.pick.Pick.{Pick}
-use Rattle.sipl_srv.specs.declared.pick.Offer.{Offer}
 use Rattle.sipl_srv.specs.declared.pick.Offer.TheVariants.{Nothing, Closed, Picks}
 use Rattle.sipl_srv.specs.Offers.{pick_of, is_unavailable, offer_of_picks}
 
@@ -67,15 +66,19 @@ pub IsOffered-root : (set : List Data) (i : ℕ) (value : Data) (pick : Pick) (h
     → IsOffered has picks (take i set) → IsOffered true picks (take (i + 1) set)
 IsOffered-root set i value pick has picks within is some' root before =
     let all = filter_map pick_of (take i set) in
-    rw (services-some set i value pick within is some') (sym (lt-ltb 0 (length (all ++ pick ∷ [])) (omega (arith, length_push all pick))),
-    before.1 ∙ sym (filter-append (λ p. not (is_unavailable p)) all (pick ∷ []) ∙ ap (λ b. available all ++ cond (not b) (pick ∷ []) []) root ∙ append-nil (available all)))
+    rw (services-some set i value pick within is some') (
+      sym (lt-ltb 0 (length (all ++ pick ∷ [])) (omega (arith, length_push all pick))),
+      before.1 ∙ sym (filter-append (λ p. not (is_unavailable p)) all (pick ∷ []) ∙ ap (λ b. available all ++ cond (not b) (pick ∷ []) []) root ∙ append-nil (available all)),
+    )
 
 pub IsOffered-pick : (set : List Data) (i : ℕ) (value : Data) (pick : Pick) (has : Bool) (picks : List Pick) → i < length set → value ≡ get_or set i value → pick_of value ≡ Some pick → is_unavailable pick ≡ false
     → IsOffered has picks (take i set) → IsOffered true (picks ++ pick ∷ []) (take (i + 1) set)
 IsOffered-pick set i value pick has picks within is some' open' before =
     let all = filter_map pick_of (take i set) in
-    rw (services-some set i value pick within is some') (sym (lt-ltb 0 (length (all ++ pick ∷ [])) (omega (arith, length_push all pick))),
-    ap (λ ps. ps ++ pick ∷ []) before.1 ∙ sym (filter-append (λ p. not (is_unavailable p)) all (pick ∷ []) ∙ ap (λ b. available all ++ cond (not b) (pick ∷ []) []) open'))
+    rw (services-some set i value pick within is some') (
+      sym (lt-ltb 0 (length (all ++ pick ∷ [])) (omega (arith, length_push all pick))),
+      ap (λ ps. ps ++ pick ∷ []) before.1 ∙ sym (filter-append (λ p. not (is_unavailable p)) all (pick ∷ []) ∙ ap (λ b. available all ++ cond (not b) (pick ∷ []) []) open'),
+    )
 
 pub offer-nothing : (picks : List Pick) → length picks ≤ 0 → offer_of_picks picks ≡ Nothing
 offer-nothing [] none = refl

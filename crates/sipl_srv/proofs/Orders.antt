@@ -1,12 +1,12 @@
 -- What the order of the places has: each place once, and by priority.
 use Rattle.std.proofs.Common.{◌≡◌, ℕ, zero, suc, ◌+◌, ◌%◌, ◌<◌, ◌≤◌, Bool, true, false, not, eqb, leb, List, [], ◌∷◌, ◌++◌, Option, Some, None, length, get_or, replicate, refl, ap, sym, subst, ◌∙◌, inl, inr, arith}
-use Rattle.std.specs.List.{All, AllPairs, Contains, filter, list_all, remove, range_with_len}
+use Rattle.std.specs.List.{All, AllPairs, Contains, list_all, remove, range_with_len}
 use Rattle.std.specs.List.Sorted.{IsPermutation}
 use Rattle.std.specs.Option.{is_some}
 use Rattle.std.proofs.lemmas.Bool.{cases_Bool, cases_lt, le-leb, leb-true}
 use Rattle.std.proofs.lemmas.List.{length-replicate, length-append, get_or_default}
 use Rattle.std.proofs.lemmas.List.Edits.{length-remove}
-use Rattle.std.proofs.lemmas.List.Elements.{All-nil, All-cons, All-head, All-tail, All-append, All-filter, All-weaker, All-contains_itself, All-contains, filter_passes, Contains-get_or}
+use Rattle.std.proofs.lemmas.List.Elements.{All-nil, All-cons, All-head, All-tail, All-append, All-filter, All-weaker, All-contains_itself, All-contains, filter_passes}
 use Rattle.std.proofs.lemmas.List.Filters.{length-filter_both}
 use Rattle.std.proofs.lemmas.List.FromFn.{length-range_with_len}
 use Rattle.std.proofs.lemmas.List.Kept.{AllPairs-cons}
@@ -60,8 +60,12 @@ least_exists f (x ∷ y ∷ xs) some' =
     let m = get_or (y ∷ xs) rest.0 0 in
     elim (cases_lt (f m) (f x)) [
       | inl less ↦ (suc rest.0, omega (arith, rest.1), All-cons (λ z. f m ≤ f z) x (y ∷ xs) (omega arith) rest.2)
-      | inr more ↦ (zero, omega arith, All-cons (λ z. f x ≤ f z) x (y ∷ xs) (omega arith)
-          (All-weaker (λ z. f m ≤ f z) (λ z. f x ≤ f z) (λ z h. omega arith) (y ∷ xs) rest.2))
+      | inr more ↦ (
+        zero,
+        omega arith,
+        All-cons (λ z. f x ≤ f z) x (y ∷ xs) (omega arith)
+            (All-weaker (λ z. f m ≤ f z) (λ z. f x ≤ f z) (λ z h. omega arith) (y ∷ xs) rest.2),
+      )
     ]
 
 some-candidates : (ranks : List Rank) (places : List ℕ) → 0 < length places → 0 < length (candidates ranks places)
@@ -70,10 +74,14 @@ some-candidates ranks places some' =
     let at = least_exists (priority_at ranks) places some' in
     let first = get_or places at.0 0 in
     let passes = list_all-from_AllPass (λ j. leb (priority_at ranks first) (priority_at ranks j)) places
-        (All-weaker (λ j. priority_at ranks first ≤ priority_at ranks j) (λ j. leb (priority_at ranks first) (priority_at ranks j) ≡ true) (λ j h. le-leb (priority_at ranks first) (priority_at ranks j) h) places at.2) in
+    (All-weaker (λ j. priority_at ranks first ≤ priority_at ranks j) (λ j. leb (priority_at ranks first) (priority_at ranks j) ≡ true) (λ j h. le-leb (priority_at ranks first) (priority_at ranks j) h) places at.2) in
     let there = some-filter (λ i. list_all (λ j. leb (priority_at ranks i) (priority_at ranks j)) places) places at.0 at.1 passes in
-    omega (arith, there, length-append (weightless ranks least) (weighted ranks least),
-    length-filter_both (λ i. eqb (weight_at ranks i) 0) (λ i. not (eqb (weight_at ranks i) 0)) (λ _. refl) least)
+    omega (
+      arith,
+      there,
+      length-append (weightless ranks least) (weighted ranks least),
+      length-filter_both (λ i. eqb (weight_at ranks i) 0) (λ i. not (eqb (weight_at ranks i) 0)) (λ _. refl) least,
+    )
 
 -- where there are places, a word chooses one
 pub chosen-some : (ranks : List Rank) (places : List ℕ) (word : ℕ) → 0 < length places → is_some (chosen ranks places word) ≡ true

@@ -1,6 +1,6 @@
 -- The places that are left: distinct, and each of a pick.
-use Rattle.std.proofs.Common.{◌≡◌, ◌≢◌, ℕ, zero, suc, ◌+◌, ◌-◌, ◌<◌, ◌≤◌, Bool, true, false, not, eqb, List, [], ◌∷◌, ◌++◌, Option, Some, None, length, get_or, take, drop, refl, ap, sym, ◌∙◌, inl, inr, arith, add-one, append_assoc, append-nil, drop-cons}
-use Rattle.std.specs.List.{All, AllPairs, filter, remove, range_with_len}
+use Rattle.std.proofs.Common.{◌≡◌, ◌≢◌, ℕ, zero, suc, ◌+◌, ◌-◌, ◌<◌, ◌≤◌, not, eqb, List, [], ◌∷◌, ◌++◌, Some, length, get_or, take, drop, refl, ap, sym, ◌∙◌, arith, add-one, append_assoc, append-nil, drop-cons}
+use Rattle.std.specs.List.{All, remove, range_with_len}
 use Rattle.std.proofs.lemmas.Bool.{eq-eqb, ne_eqb}
 use Rattle.std.proofs.lemmas.List.{length-drop, length-take-le, length_push, take_all, drop_all, take_at, drop_at}
 use Rattle.std.proofs.lemmas.List.Elements.{All-head, All-tail, All-filter}
@@ -68,12 +68,13 @@ moved order ys k i below is =
     let none = drop_all (length order - k) rest (omega (arith, length-drop k order)) in
     let size : length (take k order ++ place ∷ []) ≡ k + 1 = omega (arith, length_push (take k order) place, length-take-le k order (omega arith)) in
     let new : put_mid k (length order - k) order ys ≡ (take k order ++ place ∷ []) ++ remove rest i =
-        ap (λ zs. take k order ++ (zs ++ drop (length order - k) rest)) (is ∙ ap (λ zs. get_or zs i 0 ∷ remove zs i) whole)
-        ∙ ap (λ zs. take k order ++ ((place ∷ remove rest i) ++ zs)) none
-        ∙ ap (λ zs. take k order ++ zs) (append-nil (place ∷ remove rest i))
-        ∙ sym (append_assoc (take k order) (place ∷ []) (remove rest i)) in
-    (ap (take (k + 1)) new ∙ take_at (take k order ++ place ∷ []) (remove rest i) (k + 1) size,
-    ap (drop (k + 1)) new ∙ drop_at (take k order ++ place ∷ []) (remove rest i) (k + 1) size)
+    ap (λ zs. take k order ++ (zs ++ drop (length order - k) rest)) (is ∙ ap (λ zs. get_or zs i 0 ∷ remove zs i) whole)
+    ∙ ap (λ zs. take k order ++ ((place ∷ remove rest i) ++ zs)) none
+    ∙ ap (λ zs. take k order ++ zs) (append-nil (place ∷ remove rest i))
+    ∙ sym (append_assoc (take k order) (place ∷ []) (remove rest i)) in (
+      ap (take (k + 1)) new ∙ take_at (take k order ++ place ∷ []) (remove rest i) (k + 1) size,
+      ap (drop (k + 1)) new ∙ drop_at (take k order ++ place ∷ []) (remove rest i) (k + 1) size,
+    )
 
 -- what the loop keeps, after one choice
 pub ordered_more : (ranks : List Rank) (order order' words more start : List ℕ) (k i : ℕ) → k < length words → i < length (drop k order) → AreDistinct (drop k order)

@@ -1,7 +1,7 @@
 -- How many numbers choose each place.
-use Rattle.std.proofs.Common.{◌≡◌, ℕ, zero, suc, ◌+◌, ◌%◌, ◌<◌, ◌≤◌, Bool, true, false, not, cond, eqb, leb, List, [], ◌∷◌, ◌++◌, Option, Some, None, slice_get, length, get_or, refl, ap, sym, subst, ◌∙◌, inl, inr, arith, add-one, add-zero, zero-add}
+use Rattle.std.proofs.Common.{◌≡◌, ℕ, zero, suc, ◌+◌, ◌<◌, ◌≤◌, Bool, true, false, not, cond, eqb, leb, List, [], ◌∷◌, ◌++◌, slice_get, get_or, refl, ap, sym, subst, ◌∙◌, inl, inr, arith, add-one, add-zero, zero-add}
 use Rattle.std.proofs.Math.Nat.{mod-eq_of_lt}
-use Rattle.std.specs.List.{All, AllPairs, Contains, count_by, filter, list_all, remove, range_with_len, sum_by}
+use Rattle.std.specs.List.{Contains, count_by, list_all, remove, range_with_len, sum_by}
 use Rattle.std.proofs.lemmas.Bool.{cases_Bool, eq-eqb, le-leb, lt-leb}
 use Rattle.std.proofs.lemmas.List.{get_or_default}
 use Rattle.std.proofs.lemmas.List.Elements.{All-append, All-filter, All-contains, All-contains_itself}
@@ -33,13 +33,12 @@ count-constant p false a (suc n) is =
     sum_by-cons (λ x. cond (p x) 1 0) a (range_with_len (a + 1) n)
     ∙ rw (is a (omega arith) (omega arith), rest) refl
 
-count-same : (p q : ℕ → Bool) (a n : ℕ) → ((x : ℕ) → a ≤ x → x < a + n → p x ≡ q x) → count_by p (range_with_len a n) ≡ count_by q (range_with_len a n)
+pub count-same : (p q : ℕ → Bool) (a n : ℕ) → ((x : ℕ) → a ≤ x → x < a + n → p x ≡ q x) → count_by p (range_with_len a n) ≡ count_by q (range_with_len a n)
 count-same p q a zero same = refl
 count-same p q a (suc n) same =
     let rest = count-same p q (a + 1) n (λ x low high. same x (omega arith) (omega arith)) in
     sum_by-cons (λ x. cond (p x) 1 0) a (range_with_len (a + 1) n)
     ∙ rw (same a (omega arith) (omega arith), rest) (sym (sum_by-cons (λ x. cond (q x) 1 0) a (range_with_len (a + 1) n)))
-
 
 -- the numbers above the sum so far, up to the whole sum, choose each place as often as its weight
 count-reaching : (ranks : List Rank) (place sum : ℕ) (places : List ℕ)
@@ -52,9 +51,9 @@ count-reaching ranks place sum (x ∷ places) =
     let q : ℕ → Bool = λ number. is_place place (first_reaching ranks number (sum + w) places) in
     let next : sum + 1 + w ≡ sum + w + 1 = omega arith in
     let here : (number : ℕ) → sum + 1 ≤ number → number < sum + 1 + w → p number ≡ eqb x place =
-        λ number low high. let reached : number ≤ sum + w = omega arith in rw (le-leb number (sum + w) reached) refl in
+    λ number low high. let reached : number ≤ sum + w = omega arith in rw (le-leb number (sum + w) reached) refl in
     let later : (number : ℕ) → sum + w + 1 ≤ number → number < sum + w + 1 + total → p number ≡ q number =
-        λ number low high. let above : sum + w < number = omega arith in rw (lt-leb number (sum + w) above) refl in
+    λ number low high. let above : sum + w < number = omega arith in rw (lt-leb number (sum + w) above) refl in
     ap (λ n. count_by p (range_with_len (sum + 1) n)) (sum_by-cons (weight_at ranks) x places)
     ∙ ap (count_by p) (range-add (sum + 1) w total)
     ∙ sum_by-append (λ number. cond (p number) 1 0) (range_with_len (sum + 1) w) (range_with_len (sum + 1 + w) total)
@@ -87,8 +86,8 @@ reaching-first : (ranks : List Rank) (places : List ℕ) → first_reaching rank
 reaching-first ranks [] = refl
 reaching-first ranks (x ∷ places) = rw (le-leb 0 (0 + weight_at ranks x) (omega arith)) refl
 
-pub share-is : (ranks : List Rank) (places : List ℕ) (place : ℕ) → AreDistinct places → Contains (candidates ranks places) place → share ranks places place ≡ weight_at ranks place + cond (is_first_candidate ranks places place) 1 0
-share-is ranks places place apart among =
+pub share-least : (ranks : List Rank) (places : List ℕ) (place : ℕ) → AreDistinct places → Contains (of_least_priority ranks places) place → share ranks places place ≡ weight_at ranks place + cond (is_first_candidate ranks places place) 1 0
+share-least ranks places place apart at =
     let from = candidates ranks places in
     let least = of_least_priority ranks places in
     let total = total_weight ranks from in
@@ -96,21 +95,25 @@ share-is ranks places place apart among =
     let p : ℕ → Bool = λ word. is_place place (chosen ranks places word) in
     let q : ℕ → Bool = λ number. is_place place (first_reaching ranks number 0 from) in
     let same : (x : ℕ) → 0 ≤ x → x < 0 + (total + 1) → p x ≡ q x =
-        λ x low high. let within : x < total + 1 = omega arith in ap (λ number. is_place place (first_reaching ranks number 0 from)) (mod-eq_of_lt within) in
-    let at : Contains least place =
-        All-contains (Contains least) from place
-        (All-append (Contains least) (weightless ranks least) (weighted ranks least)
-        (All-filter (λ i. eqb (weight_at ranks i) 0) (Contains least) least (All-contains_itself least))
-        (All-filter (λ i. not (eqb (weight_at ranks i) 0)) (Contains least) least (All-contains_itself least))) among in
+    λ x low high. let within : x < total + 1 = omega arith in ap (λ number. is_place place (first_reaching ranks number 0 from)) (mod-eq_of_lt within) in
     let alone : AreDistinct least = AllPairs-filter (λ x y. x ≡ y → ⊥) (λ i. list_all (λ j. leb (priority_at ranks i) (priority_at ranks j)) places) places apart in
     let weights : sum_by g from ≡ weight_at ranks place =
-        sum_by-append g (weightless ranks least) (weighted ranks least)
-        ∙ sum_by-filter_both (λ i. eqb (weight_at ranks i) 0) (λ i. not (eqb (weight_at ranks i) 0)) (λ _. refl) g least
-        ∙ sum-place ranks place least alone at in
+    sum_by-append g (weightless ranks least) (weighted ranks least)
+    ∙ sum_by-filter_both (λ i. eqb (weight_at ranks i) 0) (λ i. not (eqb (weight_at ranks i) 0)) (λ _. refl) g least
+    ∙ sum-place ranks place least alone at in
     let one_more : count_by q (range_with_len 0 (total + 1)) ≡ cond (q 0) 1 0 + count_by q (range_with_len 1 total) =
-        ap (λ n. count_by q (range_with_len 0 n)) (add-one total) ∙ sum_by-cons (λ x. cond (q x) 1 0) 0 (range_with_len 1 total) in
+    ap (λ n. count_by q (range_with_len 0 n)) (add-one total) ∙ sum_by-cons (λ x. cond (q x) 1 0) 0 (range_with_len 1 total) in
     let first : q 0 ≡ is_first_candidate ranks places place = ap (is_place place) (reaching-first ranks from) in
     let others : count_by q (range_with_len 1 total) ≡ weight_at ranks place = count-reaching ranks place 0 from ∙ weights in
     let as_number : Bool → ℕ = λ b. cond b 1 0 in
     let one = ap as_number first in
     count-same p q 0 (total + 1) same ∙ one_more ∙ omega (arith, others, one)
+
+pub share-is : (ranks : List Rank) (places : List ℕ) (place : ℕ) → AreDistinct places → Contains (candidates ranks places) place → share ranks places place ≡ weight_at ranks place + cond (is_first_candidate ranks places place) 1 0
+share-is ranks places place apart among =
+    let least = of_least_priority ranks places in
+    share-least ranks places place apart
+    (All-contains (Contains least) (candidates ranks places) place
+    (All-append (Contains least) (weightless ranks least) (weighted ranks least)
+    (All-filter (λ i. eqb (weight_at ranks i) 0) (Contains least) least (All-contains_itself least))
+    (All-filter (λ i. not (eqb (weight_at ranks i) 0)) (Contains least) least (All-contains_itself least))) among)

@@ -1,6 +1,6 @@
 -- The order in which a client tries the targets of SRV records (RFC 2782, "Priority", "Weight" and
 -- "Usage rules"). A record is named by its place in a list, from 0.
-use Rattle.std.specs.Prelude.{◌≢◌, ℕ, ◌+◌, ◌%◌, Bool, not, List, [], ◌∷◌, ◌++◌, length, filter, replicate, Option, None, Some, nat_le, ◌==◌, if◌then◌else◌}
+use Rattle.std.specs.Prelude.{◌≢◌, ℕ, ◌+◌, ◌%◌, not, List, [], ◌∷◌, ◌++◌, length, filter, replicate, Option, None, Some, nat_le, ◌==◌, if◌then◌else◌}
 use Rattle.std.specs.List.{slice_index_or, AllPairs, list_all, range_with_len, sum_by}
 use Rattle.sipl_srv.specs.declared.pick.Pick.{Pick}
 
@@ -81,10 +81,13 @@ order_of ranks places (word ∷ words) =
       | Some place ↦ place ∷ order_of ranks (without place places) words
     ]
 
+-- the places of all ranks
+abbrev pub all_places : List Rank → List ℕ
+all_places ranks = range_with_len 0 (length ranks)
+
 -- the places of all ranks in the order that the words give; a word past their end is 0
 abbrev pub ordered : List Rank → List ℕ → List ℕ
-ordered ranks words =
-    order_of ranks (range_with_len 0 (length ranks)) (words ++ replicate (length ranks) 0)
+ordered ranks words = order_of ranks (all_places ranks) (words ++ replicate (length ranks) 0)
 
 -- no place twice
 abbrev pub AreDistinct : List ℕ → Type 0

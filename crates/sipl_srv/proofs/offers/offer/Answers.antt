@@ -1,4 +1,4 @@
-use Rattle.std.proofs.Common.{◌≡◌, ◌<◌, ◌≤◌, ◌++◌, [], ◌∷◌, length, take, true, false, vec_len, sym, ap, ◌∙◌, arith}
+use Rattle.std.proofs.Common.{◌≡◌, ◌<◌, ◌++◌, [], ◌∷◌, length, true, false, vec_len, sym, ap, ◌∙◌, arith}
 use Rattle.std.specs.List.{filter_map}
 use Rattle.std.proofs.lemmas.Bool.{true≢false, eqb-true, eqb-false, ltb-true, ltb-false}
 use Rattle.std.proofs.lemmas.List.{take_all}
@@ -22,10 +22,11 @@ loop-value-preserved c =
     elim c.if-not-is_root.branch [
       | then-not-is_root+in_ok-dup+in_ok-push w ↦
           let other : is_unavailable pick ≡ false = unavailable-other pick (λ e. true≢false (sym (c.is_root.ensures.1 e) ∙ w.if-not-is_root.true)) in
-          let after = IsOffered-pick c.args.set.now before.value-index c.value-item.result pick before.has_service before.picks.items c.loop-value-test.true c.value-item.is (ap pick_of s.is) other before.invariant in
-          (after.0,
-          ap (λ v. v.items) w.picks-is ∙ w.in_ok-push.ensures.items
-          ∙ ap (λ t. before.picks.items ++ record pick { target = t } ∷ []) w.in_ok-dup.ensures.value ∙ after.1)
+          let after = IsOffered-pick c.args.set.now before.value-index c.value-item.result pick before.has_service before.picks.items c.loop-value-test.true c.value-item.is (ap pick_of s.is) other before.invariant in (
+            after.0,
+            ap (λ v. v.items) w.picks-is ∙ w.in_ok-push.ensures.items
+                ∙ ap (λ t. before.picks.items ++ record pick { target = t } ∷ []) w.in_ok-dup.ensures.value ∙ after.1,
+          )
       | else-not-is_root w ↦
           let root : is_unavailable pick ≡ true = unavailable-root pick (c.is_root.ensures.0 w.if-not-is_root.false) in
           let after = IsOffered-root c.args.set.now before.value-index c.value-item.result pick before.has_service before.picks.items c.loop-value-test.true c.value-item.is (ap pick_of s.is) root before.invariant in

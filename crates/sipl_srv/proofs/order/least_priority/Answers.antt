@@ -1,6 +1,5 @@
-use Rattle.std.proofs.Common.{◌≡◌, ℕ, min, ◌+◌, ◌<◌, ◌≤◌, eqb, map, length, get_or, ap, ◌∙◌, sym, inl, inr, arith, below_more}
-use Rattle.std.specs.List.{All}
-use Rattle.std.proofs.lemmas.Bool.{cases_lt, eq-eqb}
+use Rattle.std.proofs.Common.{◌≡◌, min, ◌<◌, ◌≤◌, eqb, map, length, get_or, ap, ◌∙◌, sym, arith}
+use Rattle.std.proofs.lemmas.Bool.{eq-eqb}
 use Rattle.std.proofs.lemmas.List.Elements.{All-from_get_or}
 use Rattle.sipl_srv.specs.Order.{rank_of, priority_at}
 use Rattle.sipl_srv.proofs.Ranks.{rank_at-map, filter_least, some-filter, least_below, least_attained}
@@ -13,10 +12,11 @@ loop-place-preserved c =
     let i = c.loop-place.place-index in
     let within : i < length places = omega arith in
     let here : priority_at ranks (get_or places i 0) ≡ c.index-picks-place.result.priority =
-        ap (λ r. r.priority) (rank_at-map c.args.picks.now (get_or places i 0) c.index-picks-place.result (c.requires.valid i 0 within) c.index-picks-place.is) in
-    let least = c.min-least.ensures ∙ ap (λ p. min c.loop-place.least p.priority) (sym c.index-picks-place.is) in
-    (least_below (priority_at ranks) places i c.index-picks-place.result.priority c.loop-place.least c.min-least.result here least c.loop-place.invariant.0,
-    least_attained (priority_at ranks) places i c.index-picks-place.result.priority c.loop-place.least c.min-least.result within here least c.loop-place.invariant.1)
+    ap (λ r. r.priority) (rank_at-map c.args.picks.now (get_or places i 0) c.index-picks-place.result (c.requires.valid i 0 within) c.index-picks-place.is) in
+    let least = c.min-least.ensures ∙ ap (λ p. min c.loop-place.least p.priority) (sym c.index-picks-place.is) in (
+      least_below (priority_at ranks) places i c.index-picks-place.result.priority c.loop-place.least c.min-least.result here least c.loop-place.invariant.0,
+      least_attained (priority_at ranks) places i c.index-picks-place.result.priority c.loop-place.least c.min-least.result within here least c.loop-place.invariant.1,
+    )
 
 pub returns-clause-some : goal.returns-clause-some
 returns-clause-some c =

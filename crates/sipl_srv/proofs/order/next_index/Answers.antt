@@ -1,4 +1,4 @@
-use Rattle.std.proofs.Common.{◌≡◌, ℕ, ◌+◌, ◌%◌, ◌≤◌, Some, None, map, option_map, slice_get, slice_index, sym, ap, ◌∙◌, arith}
+use Rattle.std.proofs.Common.{◌≡◌, ◌+◌, ◌%◌, ◌≤◌, None, map, option_map, slice_get, slice_index, sym, ap, ◌∙◌, arith}
 use Rattle.sipl_srv.specs.Order.{rank_of, of_priority, weightless, weightless_first, total_weight, first_reaching}
 use Rattle.sipl_srv.proofs.Chosen.{chosen-by_priority, reaching-zero, reaching-in_order, reaching-some, some-from_map, none-from_map}
 use Rattle.sipl_srv.proofs.order.next_index.Goals as goal

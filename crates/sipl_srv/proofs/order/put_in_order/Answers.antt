@@ -1,7 +1,7 @@
-use Rattle.std.proofs.Common.{◌≡◌, ◌+◌, ◌-◌, ◌<◌, ◌++◌, map, length, get_or, take, drop, sym, ap, subst, ◌∙◌, arith, Some}
+use Rattle.std.proofs.Common.{◌≡◌, ◌-◌, ◌<◌, ◌++◌, map, length, get_or, drop, sym, subst, ◌∙◌, arith, Some}
 use Rattle.std.specs.List.{All}
 use Rattle.std.proofs.lemmas.List.{length-drop, take_all}
-use Rattle.sipl_srv.specs.Order.{rank_of, AreDistinct, without, chosen, order_of}
+use Rattle.sipl_srv.specs.Order.{rank_of, AreDistinct, chosen, order_of}
 use Rattle.sipl_srv.proofs.Places.{without-remove, AreDistinct-without, All-without, moved, ordered_more, ordered_all}
 use Rattle.sipl_srv.proofs.order.put_in_order.Goals as goal
 

@@ -1,4 +1,4 @@
-use Rattle.std.proofs.Common.{◌≡◌, refl, sym, ap, ◌∙◌, arith}
+use Rattle.std.proofs.Common.{refl, sym, ap, ◌∙◌, arith}
 use Rattle.std.proofs.lemmas.List.{length-set}
 use Rattle.rand_core.specs.Steps.{first_words}
 use Rattle.rand_pcg.specs.Pcg.{pcg32}
@@ -11,10 +11,11 @@ loop-word-init c = (refl, ap (first_words pcg32 32) c.new-generator.ensures)
 pub loop-word-preserved : goal.loop-word-preserved
 loop-word-preserved c =
     let xs = c.loop-word.word-items in
-    let i = c.loop-word.word-index in
-    (length-set xs i c.next_word.result ∙ c.loop-word.invariant.0,
-    first_words-more xs i c.next_word.result c.loop-word.generator c.next_word.new.self c.loop-word.invariant.0 (omega arith) c.next_word.ensures
-    ∙ c.loop-word.invariant.1)
+    let i = c.loop-word.word-index in (
+      length-set xs i c.next_word.result ∙ c.loop-word.invariant.0,
+      first_words-more xs i c.next_word.result c.loop-word.generator c.next_word.new.self c.loop-word.invariant.0 (omega arith) c.next_word.ensures
+          ∙ c.loop-word.invariant.1,
+    )
 
 pub returns : goal.returns
 returns c =

@@ -1,7 +1,6 @@
-use Rattle.std.proofs.Common.{◌≡◌, ◌-◌, ◌≤◌, ◌++◌, Ok, leb, length, drop, replicate, sym, ap, ◌∙◌, arith}
-use Rattle.std.proofs.lemmas.Bool.{cond-true, le-leb}
+use Rattle.std.proofs.Common.{◌≤◌, ◌++◌, Ok, length, ap, arith}
+use Rattle.std.proofs.lemmas.Bool.{le-leb}
 use Rattle.std.proofs.lemmas.List.{drop-replicate}
-use Rattle.sipl_srv.specs.Draws.{words_of}
 use Rattle.sipl_srv.proofs.draws.Draws.from_words.Goals as goal
 
 pub returns : goal.returns
