@@ -1,9 +1,9 @@
 -- A text has at most as many entries as octets.
-use Rattle.std.proofs.Common.{◌≡◌, ℕ, zero, suc, ◌+◌, ◌-◌, ◌≤◌, Bool, true, false, List, [], ◌∷◌, Option, Some, None, Ok, if◌then◌else◌, ◌==◌, length, take, arith}
+use Rattle.std.proofs.Common.{◌≡◌, ℕ, zero, suc, ◌+◌, ◌-◌, ◌≤◌, Bool, true, false, List, [], ◌∷◌, Ok, if◌then◌else◌, ◌==◌, length, arith}
 use Rattle.sipl_names.specs.Labels.{Octets}
-use Rattle.sipl_masterfile.specs.Tokens.{Token, blank, line_end, opening, closing, comment, field, open_quote, tokens, is_blank, comment_len, quoted_len, field_len}
+use Rattle.sipl_masterfile.specs.Tokens.{Token, blank, line_end, opening, closing, comment, field, open_quote, first_token, tokens}
 use Rattle.sipl_masterfile.specs.Entries.{Entry, Begun, begin, prepend_entry, faulty_entry, with_field, entries_from, entries_of}
-use Rattle.sipl_masterfile.specs.declared.fault.ZoneCause.TheVariants.{Parenthesis}
+use Rattle.sipl_masterfile.specs.declared.fault.ZoneCause.TheVariants.{Parenthesis, OpenQuote}
 
 if_le : {A : Type 0} (b : Bool) (n : ℕ) (x y : List A) → length x ≤ n → length y ≤ n → length (if b then x else y) ≤ n
 if_le true n x y first second = first
@@ -17,21 +17,7 @@ tokens-le taken [] = none taken
     none zero = omega arith
     none (suc taken) = omega arith
 tokens-le (suc taken) (c ∷ text) = omega (arith, tokens-le taken text)
-tokens-le zero (c ∷ text) =
-    by (is_blank c) (c == 10) (c == 40) (c == 41) (c == 59) (c == 34) (λ t taken. omega (arith, tokens-le taken text))
-  where
-    quoted : (len : Option ℕ) → ((t : Token) (taken : ℕ) → length (t ∷ tokens taken text) ≤ suc (length text)) → length {A = Token} (elim len [ Some len ↦ field (take len text) ∷ tokens (len + 1) text | None ↦ open_quote ∷ [] ]) ≤ suc (length text)
-    quoted (Some len) one = one (field (take len text)) (len + 1)
-    quoted None one = omega arith
-
-    by : (b1 b2 b3 b4 b5 b6 : Bool) → ((t : Token) (taken : ℕ) → length (t ∷ tokens taken text) ≤ suc (length text)) → length {A = Token} (if b1 then blank ∷ tokens 0 text else (if b2 then line_end ∷ tokens 0 text else (if b3 then opening ∷ tokens 0 text else (if b4 then closing ∷ tokens 0 text else (if b5 then comment ∷ tokens (comment_len text) text else (if b6 then elim (quoted_len false text) [ Some len ↦ field (take len text) ∷ tokens (len + 1) text | None ↦ open_quote ∷ [] ] else field (c ∷ take (field_len (c == 92) text) text) ∷ tokens (field_len (c == 92) text) text)))))) ≤ suc (length text)
-    by true b2 b3 b4 b5 b6 one = one blank 0
-    by false true b3 b4 b5 b6 one = one line_end 0
-    by false false true b4 b5 b6 one = one opening 0
-    by false false false true b5 b6 one = one closing 0
-    by false false false false true b6 one = one comment (comment_len text)
-    by false false false false false true one = quoted (quoted_len false text) one
-    by false false false false false false one = one (field (c ∷ take (field_len (c == 92) text) text)) (field_len (c == 92) text)
+tokens-le zero (c ∷ text) = omega (arith, tokens-le (first_token c text).1 text)
 
 prepend : (begun : Begun) (others : List Entry) → length (prepend_entry begun others) ≡ length (prepend_entry begun []) + length others
 prepend begun others = at begun.fields

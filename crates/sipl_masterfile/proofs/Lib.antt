@@ -1,6 +1,11 @@
 pub mod Durations
 pub mod Strings
+pub mod PrintedFields
 pub mod Scanning
 pub mod EntryCount
 pub mod Owners
 pub mod TakenIn
+pub mod Joining
+pub mod Cutting
+pub mod PrintedEntries
+pub mod PrintedRecords

@@ -1,12 +1,12 @@
 -- The tokens of a text, octet by octet.
-use Rattle.std.proofs.Common.{◌≡◌, ℕ, suc, zero, ◌+◌, ◌≤◌, ◌<◌, List, [], ◌∷◌, Option, None, Some, length, take, drop, refl, sym, ap, nat_eq, Bool, true, false, Ok, if◌then◌else◌, arith, length-drop, add_comm, add-one, ◌∙◌}
+use Rattle.std.proofs.Common.{◌≡◌, ℕ, suc, zero, ◌+◌, ◌≤◌, ◌<◌, List, [], ◌∷◌, Option, None, Some, length, take, drop, refl, sym, ap, nat_eq, Bool, true, false, Ok, if◌then◌else◌, arith, length-drop, one-add, ◌∙◌}
 use Rattle.std.specs.Option.{unwrap_or}
 use Rattle.std.specs.List.{slice_get}
 use Rattle.std.specs.Borrow.{Bor}
 use Rattle.std.proofs.lemmas.Bool.{false_from_ne_true, or_parts}
 use Rattle.std.proofs.lemmas.List.Sums.{position_or_len_is}
 use Rattle.memchr.specs.Find.{IsFirstByte, is_byte}
-use Rattle.sipl_masterfile.specs.Tokens.{is_blank, ends_field, field_len, quoted_len, comment_len, Token, blank, line_end, opening, closing, comment, field, open_quote, tokens}
+use Rattle.sipl_masterfile.specs.Tokens.{is_blank, ends_field, field_len, quoted_len, comment_len, Token, blank, line_end, opening, closing, comment, field, open_quote, first_token, tokens}
 use Rattle.sipl_names.specs.Labels.{Octets}
 use Rattle.sipl_names.specs.LabelSlices.{octets_of}
 use Rattle.sipl_masterfile.specs.Entries.{Entry, Begun, begin, begins_blank, prepend_entry, entries_at}
@@ -41,6 +41,18 @@ begins-quoted text rest len is inside rest_is = record {
   shorter = rw rest_is (omega (arith, length-drop (len + 1) text));
 }
 
+-- no token follows where all octets belong to one before them
+pub tokens-all : (text : List ℕ) → tokens (length text) text ≡ []
+tokens-all [] = refl
+tokens-all (c ∷ text) = tokens-all text
+
+-- a quote that nothing closes
+pub begins-open : (text : List ℕ) → quoted_len false text ≡ None → BeginsWithToken (34 ∷ text) open_quote []
+begins-open text is = record {
+  spells = rw is (ap (λ others. open_quote ∷ others) (tokens-all text));
+  shorter = omega arith;
+}
+
 -- a comment, and what follows it
 pub begins-comment : (text tail rest : List ℕ) (len : ℕ) → text ≡ 59 ∷ tail → len ≡ comment_len tail → rest ≡ drop len tail → BeginsWithToken text comment rest
 begins-comment text tail rest len whole is rest_is = record {
@@ -48,11 +60,8 @@ begins-comment text tail rest len whole is rest_is = record {
   shorter = rw (whole, rest_is) (omega (arith, length-drop len tail));
 }
 
-one-add : (n : ℕ) → 1 + n ≡ suc n
-one-add n = omega arith
-
 -- an octet that ends no field begins one
-field-spells : (c : ℕ) (tail : List ℕ) → ends_field c ≡ false → tokens 0 (c ∷ tail) ≡ field (c ∷ take (field_len (nat_eq c 92) tail) tail) ∷ tokens (field_len (nat_eq c 92) tail) tail
+field-spells : (c : ℕ) (tail : List ℕ) → ends_field c ≡ false → first_token c tail ≡ (field (c ∷ take (field_len (nat_eq c 92) tail) tail), field_len (nat_eq c 92) tail)
 field-spells c tail other =
     let quote = or_parts _ (nat_eq c 34) other in
     let semicolon = or_parts _ (nat_eq c 59) quote.0 in
@@ -67,34 +76,48 @@ begins-field text tail octets rest c len whole other is octets_is rest_is =
     let octets_are : octets ≡ c ∷ take len tail = rw (octets_is, whole, one-add) refl in
     let rest_are : rest ≡ drop len tail = rw (rest_is, whole, one-add) refl in
     record {
-      spells = rw (whole, octets_are, rest_are, is) (field-spells c tail other ∙ ap (λ others. field (c ∷ take (field_len (nat_eq c 92) tail) tail) ∷ others) (tokens-taken (field_len (nat_eq c 92) tail) tail));
+      spells = rw (whole, octets_are, rest_are, is) (ap (λ first. first.0 ∷ tokens first.1 tail) (field-spells c tail other) ∙ ap (λ others. field (c ∷ take (field_len (nat_eq c 92) tail) tail) ∷ others) (tokens-taken (field_len (nat_eq c 92) tail) tail));
       shorter = rw (whole, rest_are) (omega (arith, length-drop len tail));
     }
 
--- whether the tokens begin with a blank
-BeginsBlank : List Token → Bool → Type 0
-BeginsBlank spelled b = begins_blank spelled ≡ b
+-- whether tokens begin with a blank depends on the first one only
+pub begins_blank-any : (t : Token) (xs ys : List Token) → begins_blank (t ∷ xs) ≡ begins_blank (t ∷ ys)
+begins_blank-any blank xs ys = refl
+begins_blank-any line_end xs ys = refl
+begins_blank-any opening xs ys = refl
+begins_blank-any closing xs ys = refl
+begins_blank-any comment xs ys = refl
+begins_blank-any (field octets) xs ys = refl
+begins_blank-any open_quote xs ys = refl
 
-by_blank : (b : Bool) (others : List Token) (tail : List ℕ) → BeginsBlank others false → BeginsBlank (if b then blank ∷ tokens 0 tail else others) b
-unfolding BeginsBlank
-by_blank true others tail other = refl
-by_blank false others tail other = other
+-- whether a first token is a blank
+IsBlank : Token × ℕ → Bool → Type 0
+IsBlank first b = begins_blank (first.0 ∷ []) ≡ b
 
-neither : (b : Bool) (first others : List Token) → BeginsBlank first false → BeginsBlank others false → BeginsBlank (if b then first else others) false
-unfolding BeginsBlank
+by_blank : (b : Bool) (others : Token × ℕ) → IsBlank others false → IsBlank (if b then (blank, 0) else others) b
+unfolding IsBlank
+by_blank true others other = refl
+by_blank false others other = other
+
+neither : (b : Bool) (first others : Token × ℕ) → IsBlank first false → IsBlank others false → IsBlank (if b then first else others) false
+unfolding IsBlank
 neither true first others p q = p
 neither false first others p q = q
 
-quoted_is_other : (found : Option ℕ) (tail : List ℕ) → BeginsBlank (elim found [ Some len ↦ field (take len tail) ∷ tokens (len + 1) tail | None ↦ open_quote ∷ [] ]) false
-unfolding BeginsBlank
+quoted_is_other : (found : Option ℕ) (tail : List ℕ) → IsBlank (elim found as (λ _. Token × ℕ) [ Some len ↦ (field (take len tail), len + 1) | None ↦ (open_quote, length tail) ]) false
+unfolding IsBlank
 quoted_is_other None tail = refl
 quoted_is_other (Some len) tail = refl
 
+is_blank-first : (c : ℕ) (tail : List ℕ) → IsBlank (first_token c tail) (is_blank c)
+unfolding IsBlank
+is_blank-first c tail =
+    by_blank (is_blank c) _ (neither (nat_eq c 10) (line_end, 0) _ refl (neither (nat_eq c 40) (opening, 0) _ refl (neither (nat_eq c 41) (closing, 0) _ refl (neither (nat_eq c 59) (comment, comment_len tail) _ refl (neither (nat_eq c 34) _ _ (quoted_is_other (quoted_len false tail) tail) refl)))))
+
 -- the tokens of a text begin with a blank exactly where its first octet is one
 pub begins_blank-first : (c : ℕ) (tail : List ℕ) → begins_blank (tokens 0 (c ∷ tail)) ≡ is_blank c
-unfolding BeginsBlank
-begins_blank-first c tail =
-    by_blank (is_blank c) _ tail (neither (nat_eq c 10) (line_end ∷ tokens 0 tail) _ refl (neither (nat_eq c 40) (opening ∷ tokens 0 tail) _ refl (neither (nat_eq c 41) (closing ∷ tokens 0 tail) _ refl (neither (nat_eq c 59) (comment ∷ tokens (comment_len tail) tail) _ refl (neither (nat_eq c 34) _ _ (quoted_is_other (quoted_len false tail) tail) refl)))))
+unfolding IsBlank
+begins_blank-first c tail = begins_blank-any (first_token c tail).0 (tokens (first_token c tail).1 tail) [] ∙ is_blank-first c tail
 
 begins_blank-get : (text : List ℕ) (first : ℕ) → Some first ≡ slice_get text 0 → begins_blank (tokens 0 text) ≡ is_blank first
 begins_blank-get [] first is = absurd (cc is)

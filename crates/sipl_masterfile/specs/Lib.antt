@@ -7,6 +7,8 @@ pub mod Ttl
 pub mod Readers
 pub mod Rdata
 pub mod Statements
+pub mod JoinedTexts
+pub mod RecordPrint
 pub mod Zones
 pub mod RecordText
 pub mod ByOwner

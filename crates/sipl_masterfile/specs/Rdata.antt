@@ -93,7 +93,7 @@ begins_with_letter (c ∷ field) = is_ascii_alphabetic c
 abbrev pub is_type : Octets → Bool
 is_type field = begins_with_letter field && list_all is_type_octet field
 
--- the data of a type: those of a kind, which are not in the generic form, or data of which nothing is kept
+-- the data of a type: those of a kind, not in the generic form, or data of which nothing is kept
 abbrev pub data_of_type : Octets → Labels → List Octets → Result Data ZoneCause
 data_of_type type origin fields = elim (kind_of_type type) [
   | Some kind ↦ if are_generic fields then Err GenericForm else data_of_kind kind origin fields
@@ -103,4 +103,5 @@ data_of_type type origin fields = elim (kind_of_type type) [
 -- the data of the fields from the type on
 abbrev pub data_of : Labels → List Octets → Result Data ZoneCause
 data_of origin [] = Err MissingField
-data_of origin (type ∷ fields) = if is_type type then data_of_type type origin fields else Err MissingField
+data_of origin (type ∷ fields) =
+    if is_type type then data_of_type type origin fields else Err MissingField

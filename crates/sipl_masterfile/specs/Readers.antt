@@ -14,13 +14,15 @@ use Rattle.sipl_masterfile.specs.declared.fault.ZoneCause.TheVariants.{InName, M
 
 -- a step after another, which a cause ends
 infixl 10 ◌>>=◌
-abbrev pub ◌>>=◌ : {A B : Type 0} → Result A ZoneCause → (A → Result B ZoneCause) → Result B ZoneCause
+abbrev pub ◌>>=◌ : {A B : Type 0} → Result A ZoneCause → (A → Result B ZoneCause)
+    → Result B ZoneCause
 (Ok x) >>= f = f x
 (Err cause) >>= f = Err cause
 
 -- what one field states
 abbrev pub name_in : Labels → Octets → Result Labels ZoneCause
-name_in origin field = elim (name_of field origin) [ Ok name ↦ Ok name | Err fault ↦ Err (InName fault) ]
+name_in origin field =
+    elim (name_of field origin) [ Ok name ↦ Ok name | Err fault ↦ Err (InName fault) ]
 
 -- an integer of 16 bits, such as a preference or a port
 abbrev pub number_in : Octets → Result ℕ ZoneCause
@@ -63,7 +65,8 @@ abbrev pub string_of : Octets → Result Octets ZoneCause
 string_of field = octets_of_symbols (symbols 0 field) >>= string_within_limit
 
 -- the first field as it is read, and the fields after it
-abbrev pub first : {A : Type 0} → (Octets → Result A ZoneCause) → List Octets → Result (A × List Octets) ZoneCause
+abbrev pub first : {A : Type 0} → (Octets → Result A ZoneCause) → List Octets
+    → Result (A × List Octets) ZoneCause
 first read [] = Err MissingField
 first read (field ∷ fields) = read field >>= (λ value. Ok (value, fields))
 

@@ -46,10 +46,11 @@ abbrev pub ttl_is_first : List Octets → Bool
 ttl_is_first [] = false
 ttl_is_first (field ∷ fields) = begins_with_digit field
 
--- the fields from the type on, after a ttl and a class in either order, each of which may be missing
+-- the fields from the type on: after [ttl] [class] in either order
 abbrev pub from_type : List Octets → Result (List Octets) ZoneCause
 from_type fields =
-    if ttl_is_first fields then after_ttl fields >>= after_class else after_class fields >>= after_ttl
+    if ttl_is_first fields then after_ttl fields >>= after_class
+    else after_class fields >>= after_ttl
 
 -- the record of an owner: [ttl] [class] type rdata
 abbrev pub record_of_owner : Labels → Labels → List Octets → Result Statement ZoneCause
@@ -78,7 +79,8 @@ directive_of word origin fields =
     if str_eq_ignore_ascii_case word (codes "$ORIGIN") then origin_directive origin fields
     else (if str_eq_ignore_ascii_case word (codes "$TTL") then ttl_directive fields
     else (if str_eq_ignore_ascii_case word (codes "$INCLUDE") then Err Include
-    else (if str_eq_ignore_ascii_case word (codes "$GENERATE") then Err Generate else Err MissingField)))
+    else (if str_eq_ignore_ascii_case word (codes "$GENERATE") then Err Generate
+    else Err MissingField)))
 
 -- whether a field begins with the `$` of a directive
 abbrev pub is_directive : Octets → Bool

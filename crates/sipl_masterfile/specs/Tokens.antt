@@ -1,5 +1,5 @@
 -- The tokens of a master file's text (RFC 1035, 5.1).
-use Rattle.std.specs.Prelude.{ℕ, zero, suc, ◌+◌, Bool, false, not, ◌&&◌, ◌||◌, List, [], ◌∷◌, Option, None, Some, take, if◌then◌else◌, ◌==◌}
+use Rattle.std.specs.Prelude.{ℕ, zero, suc, ◌+◌, Bool, false, not, ◌&&◌, ◌||◌, List, [], ◌∷◌, Option, None, Some, length, take, if◌then◌else◌, ◌==◌}
 use Rattle.std.specs.List.{position_or_len}
 use Rattle.std.specs.Option.{option_map}
 use Rattle.sipl_names.specs.Labels.{Octets}
@@ -43,16 +43,20 @@ quoted_len is_escaped (c ∷ text) =
 abbrev pub comment_len : Octets → ℕ
 comment_len text = position_or_len (λ c. c == 10) text
 
--- the tokens of a text, where this number of its octets belongs to a token before it
+-- the token that this octet begins, and how many of the octets after it belong to the token
+abbrev pub first_token : ℕ → Octets → Token × ℕ
+first_token c text =
+    if is_blank c then (blank, 0)
+    else (if c == 10 then (line_end, 0)
+    else (if c == 40 then (opening, 0)
+    else (if c == 41 then (closing, 0)
+    else (if c == 59 then (comment, comment_len text)
+    else (if c == 34
+    then elim (quoted_len false text) [ Some len ↦ (field (take len text), len + 1) | None ↦ (open_quote, length text) ]
+    else (field (c ∷ take (field_len (c == 92) text) text), field_len (c == 92) text))))))
+
+-- the tokens of a text, where this many octets at its beginning belong to a token before it
 abbrev pub tokens : ℕ → Octets → List Token
 tokens taken [] = []
 tokens (suc taken) (c ∷ text) = tokens taken text
-tokens zero (c ∷ text) =
-    if is_blank c then blank ∷ tokens 0 text
-    else (if c == 10 then line_end ∷ tokens 0 text
-    else (if c == 40 then opening ∷ tokens 0 text
-    else (if c == 41 then closing ∷ tokens 0 text
-    else (if c == 59 then comment ∷ tokens (comment_len text) text
-    else (if c == 34
-    then elim (quoted_len false text) [ Some len ↦ field (take len text) ∷ tokens (len + 1) text | None ↦ open_quote ∷ [] ]
-    else field (c ∷ take (field_len (c == 92) text) text) ∷ tokens (field_len (c == 92) text) text)))))
+tokens zero (c ∷ text) = (first_token c text).0 ∷ tokens (first_token c text).1 text

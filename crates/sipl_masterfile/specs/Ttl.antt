@@ -39,14 +39,15 @@ durations (c ∷ text) =
 abbrev pub seconds_of : Duration → Option ℕ
 seconds_of duration =
     if nat_le 1 (length duration.0)
-    then option_map (λ seconds. digits_value 10 duration.0 * seconds) (option_and_then unit_of duration.1)
-    else None
+    then option_map (λ unit. digits_value 10 duration.0 * unit)
+    (option_and_then unit_of duration.1) else None
 
 -- the sum of seconds
 abbrev pub sum_of : List Duration → Option ℕ
 sum_of [] = Some 0
 sum_of (duration ∷ others) =
-    option_and_then (λ seconds. option_map (λ more. seconds + more) (sum_of others)) (seconds_of duration)
+    option_and_then (λ seconds. option_map (λ more. seconds + more) (sum_of others))
+    (seconds_of duration)
 
 -- RFC 2181, 8: a ttl is at most 2^31 - 1
 abbrev pub ttl_within_limit : ℕ → Option ℕ

@@ -100,6 +100,10 @@ fn read_fields<'a>(
     ensures name { IfErr result (λ fault. fault.cause ≢ ZoneCause.InName NameFault.Memory) }
 {
     fields.clear();
+    let unbalanced = ZoneFault {
+        line,
+        cause: ZoneCause::Parenthesis,
+    };
     let mut rest = text;
     let mut line_ends = 0;
     let mut depth: usize = 0;
@@ -110,10 +114,7 @@ fn read_fields<'a>(
             Token::Field(octets) => fields.push(octets)?,
             Token::Opening => depth += 1,
             Token::Closing if depth > 0 => depth -= 1,
-            Token::Closing => return Err(ZoneFault {
-                line,
-                cause: ZoneCause::Parenthesis,
-            }),
+            Token::Closing => return Err(unbalanced),
             Token::OpenQuote => return Err(ZoneFault {
                 line,
                 cause: ZoneCause::OpenQuote,
@@ -127,10 +128,7 @@ fn read_fields<'a>(
         }
     }
     if depth > 0 {
-        return Err(ZoneFault {
-            line,
-            cause: ZoneCause::Parenthesis,
-        });
+        return Err(unbalanced);
     }
     Ok((rest, line_ends))
 }

@@ -59,7 +59,10 @@ fn lines_are_cut_into_fields(rt: HostRuntime) {
         ("\ta\n\ra", "1+[a]|2+[a]|"),
         ("\n\na\n", "3[a]|"),
     ] {
-        assert!(rt; lists(&rt, alloc, text.as_bytes(), want.as_bytes()), "at {text}");
+        assert!(rt;
+            lists(&rt, alloc, text.as_bytes(), want.as_bytes()),
+            "at {text}"
+        );
     }
 }
 
@@ -76,7 +79,10 @@ fn comments_end_before_the_line_end(rt: HostRuntime) {
         (";a\n b", "2+[b]|"),
         ("( ;a )\n b )", "1[b]|"),
     ] {
-        assert!(rt; lists(&rt, alloc, text.as_bytes(), want.as_bytes()), "at {text}");
+        assert!(rt;
+            lists(&rt, alloc, text.as_bytes(), want.as_bytes()),
+            "at {text}"
+        );
     }
 }
 
@@ -98,7 +104,10 @@ fn parentheses_join_lines(rt: HostRuntime) {
         ("a ( b\n) c )\n", "1Z5"),
         ("a\n ( b\n\n", "1[a]|2Z5"),
     ] {
-        assert!(rt; lists(&rt, alloc, text.as_bytes(), want.as_bytes()), "at {text}");
+        assert!(rt;
+            lists(&rt, alloc, text.as_bytes(), want.as_bytes()),
+            "at {text}"
+        );
     }
 }
 
@@ -122,7 +131,10 @@ fn quoted_fields_keep_their_octets(rt: HostRuntime) {
         ("\") ( \"\nb \"\\\"", "1[) ( ]|2Z6"),
         (") \"", "1Z5"),
     ] {
-        assert!(rt; lists(&rt, alloc, text.as_bytes(), want.as_bytes()), "at {text}");
+        assert!(rt;
+            lists(&rt, alloc, text.as_bytes(), want.as_bytes()),
+            "at {text}"
+        );
     }
 }
 
@@ -138,7 +150,10 @@ fn backslash_takes_the_next_octet_of_its_line(rt: HostRuntime) {
         ("a\\\\ b", "1[a\\\\][b]|"),
         ("(a\\\nb)", "1[a\\][b]|"),
     ] {
-        assert!(rt; lists(&rt, alloc, text.as_bytes(), want.as_bytes()), "at {text}");
+        assert!(rt;
+            lists(&rt, alloc, text.as_bytes(), want.as_bytes()),
+            "at {text}"
+        );
     }
 }
 
@@ -155,164 +170,4 @@ fn nesting_is_bounded_by_the_text_only(rt: HostRuntime) {
         text.push(b')').expect(&rt, "memory");
     }
     assert!(rt; lists(&rt, alloc, &text, b"1[a]|"));
-}
-
-// What a reading is in, octet by octet.
-#[derive(Clone, Copy, PartialEq, Eq)]
-enum Place {
-    Between,
-    Field,
-    FieldEscape,
-    Quotes,
-    QuotesEscape,
-    Comment,
-}
-
-// A second reading, which keeps a place for each octet.
-#[derive(Drop)]
-struct Reading {
-    place: Place,
-    depth: u32,
-    line: u64,
-    head: EntryHead,
-    is_first: bool,
-    entry: Vec<u8>,
-    out: Vec<u8>,
-}
-
-impl Reading {
-    fn new(alloc: Global) -> Self {
-        Reading {
-            place: Place::Between,
-            depth: 0,
-            line: 1,
-            head: EntryHead {
-                line: 1,
-                is_indented: false,
-            },
-            is_first: true,
-            entry: Vec::new(alloc),
-            out: Vec::new(alloc),
-        }
-    }
-
-    // Takes the next octet; returns the code of a fault.
-    fn take(&mut self, rt: &impl Abort, alloc: Global, octet: u8) -> Option<&'static str> {
-        if self.is_first {
-            self.head.line = self.line;
-            self.head.is_indented = matches!(octet, b' ' | b'\t' | b'\r');
-            self.is_first = false;
-        }
-        let next = match (self.place, octet) {
-            (Place::Quotes | Place::QuotesEscape, b'\n') => return Some("Z6"),
-            (Place::Comment, b'\n') => return self.take_plain(rt, alloc, octet),
-            (Place::Comment, _) => return None,
-            (Place::FieldEscape, b'\n') => {
-                self.place = Place::Field;
-                return self.take_plain(rt, alloc, octet);
-            }
-            (Place::FieldEscape, _) => Place::Field,
-            (Place::Quotes, b'\\') => Place::QuotesEscape,
-            (Place::Quotes, b'"') => Place::Between,
-            (Place::Quotes | Place::QuotesEscape, _) => Place::Quotes,
-            (Place::Between | Place::Field, _) => return self.take_plain(rt, alloc, octet),
-        };
-        let kept = if next == Place::Between { b']' } else { octet };
-        self.entry.push(kept).expect(rt, "memory");
-        self.place = next;
-        None
-    }
-
-    // Takes an octet outside quotes that no backslash takes; returns the code of a fault.
-    fn take_plain(&mut self, rt: &impl Abort, alloc: Global, octet: u8) -> Option<&'static str> {
-        let is_special = matches!(octet, b' ' | b'\t' | b'\r' | b'\n' | b'(' | b')' | b';' | b'"');
-        if self.place == Place::Field && is_special {
-            self.entry.push(b']').expect(rt, "memory");
-        }
-        if !is_special {
-            if self.place != Place::Field {
-                self.entry.push(b'[').expect(rt, "memory");
-            }
-            self.entry.push(octet).expect(rt, "memory");
-            self.place = if octet == b'\\' { Place::FieldEscape } else { Place::Field };
-            return None;
-        }
-        self.place = Place::Between;
-        match octet {
-            b'(' => self.depth += 1,
-            b')' if self.depth == 0 => return Some("Z5"),
-            b')' => self.depth -= 1,
-            b';' => self.place = Place::Comment,
-            b'"' => {
-                self.entry.push(b'[').expect(rt, "memory");
-                self.place = Place::Quotes;
-            }
-            b'\n' => self.end_line(rt, alloc),
-            _ => {}
-        }
-        None
-    }
-
-    fn end_line(&mut self, rt: &impl Abort, alloc: Global) {
-        self.line += 1;
-        if self.depth == 0 {
-            self.end_entry(rt, alloc);
-            self.is_first = true;
-        }
-    }
-
-    fn end_entry(&mut self, rt: &impl Abort, alloc: Global) {
-        if !self.entry.is_empty() {
-            push_head(rt, alloc, &mut self.out, self.head);
-            self.out.extend_from_slice(&self.entry).expect(rt, "memory");
-            self.out.push(b'|').expect(rt, "memory");
-            self.entry.clear();
-        }
-    }
-}
-
-// The listing of a text by the second reading.
-fn second_listing(rt: &impl Abort, alloc: Global, text: &[u8]) -> Vec<u8> {
-    let mut reading = Reading::new(alloc);
-    for octet in text {
-        if let Some(code) = reading.take(rt, alloc, *octet) {
-            push_fault(rt, alloc, &mut reading.out, reading.head.line, code);
-            return reading.out;
-        }
-    }
-    let code = match reading.place {
-        Place::Quotes | Place::QuotesEscape => "Z6",
-        _ if reading.depth > 0 => "Z5",
-        place => {
-            if place == Place::Field || place == Place::FieldEscape {
-                reading.entry.push(b']').expect(rt, "memory");
-            }
-            reading.end_entry(rt, alloc);
-            return reading.out;
-        }
-    };
-    push_fault(rt, alloc, &mut reading.out, reading.head.line, code);
-    reading.out
-}
-
-#[test]
-fn each_octet_is_read_as_by_a_second_reading(rt: HostRuntime) {
-    let alloc = rt.alloc();
-    for text in [
-        "a \"b\" (c\n) d\n e",
-        "(a\\b\n\"\")c;d\ne",
-        "\n\"a\\b\"c\nd(\"e\")\n",
-    ] {
-        let mut changed = Vec::new(alloc);
-        changed.extend_from_slice(text.as_bytes()).expect(&rt, "memory");
-        for place in 0..text.len() {
-            let octet = changed[place];
-            for other in 0..=255 {
-                changed[place] = other;
-                let want = second_listing(&rt, alloc, &changed);
-                assert!(rt; lists(&rt, alloc, &changed, &want), "octet {other} at {place} of {text}");
-            }
-            changed[place] = octet;
-        }
-    }
 }

@@ -7,6 +7,7 @@ mod entries;
 mod entry_tests;
 mod fault;
 mod intake;
+pub mod laws;
 mod rdata;
 mod reader;
 mod reading;

@@ -60,7 +60,10 @@ pub(crate) fn is_blank(octet: u8) -> bool
 fn ends_field(octet: u8) -> bool
     ensures { result ≡ ends_field octet }
 {
-    matches!(octet, b' ' | b'\t' | b'\r' | b'\n' | b'(' | b')' | b';' | b'"')
+    matches!(
+        octet,
+        b' ' | b'\t' | b'\r' | b'\n' | b'(' | b')' | b';' | b'"'
+    )
 }
 
 // How many octets more a field has that has begun, maybe with a backslash at last.

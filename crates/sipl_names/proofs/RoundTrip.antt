@@ -62,10 +62,10 @@ chosen_octet true c rest h = marked_octet (is_special c) c rest refl
 chosen_octet false c rest h = numbered_octet c rest h
 
 -- a printed octet reads back
-printed_octet_reads : (c : ℕ) (rest : Octets) → c < 256 → symbols 0 (printed_octet c ++ rest) ≡ octet c ∷ symbols 0 rest
+pub printed_octet_reads : (c : ℕ) (rest : Octets) → c < 256 → symbols 0 (printed_octet c ++ rest) ≡ octet c ∷ symbols 0 rest
 printed_octet_reads c rest h = chosen_octet (nat_le 33 c && nat_le c 126) c rest h
 
-printed_octets_read : (label rest : Octets) → AllByRecursion (λ octet. octet < 256) label → symbols 0 (flat_map printed_octet label ++ rest) ≡ map octet label ++ symbols 0 rest
+pub printed_octets_read : (label rest : Octets) → AllByRecursion (λ octet. octet < 256) label → symbols 0 (flat_map printed_octet label ++ rest) ≡ map octet label ++ symbols 0 rest
 printed_octets_read [] rest all = refl
 printed_octets_read (c ∷ label) rest all =
     ap (symbols 0) (append_assoc (printed_octet c) (flat_map printed_octet label) rest) ∙ printed_octet_reads c (flat_map printed_octet label ++ rest) all.0 ∙ ap (λ ss. octet c ∷ ss) (printed_octets_read label rest all.1)

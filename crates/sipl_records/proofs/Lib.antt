@@ -4,6 +4,7 @@ pub mod Sets
 pub mod Same
 pub mod SameData
 pub mod Keys
+pub mod Conflicts
 pub mod Parts
 pub mod Groups
 pub mod Dotted

@@ -77,12 +77,11 @@ abbrev pub same_data : Data → Data → Bool
 same_data (data_address4 m) (data_address4 n) = m == n
 same_data (data_address6 m) (data_address6 n) = m == n
 same_data (data_alias a) (data_alias b) = same_name a b
-same_data (data_service priority weight port target) (data_service priority' weight' port' target') =
-    priority == priority' && weight == weight' && port == port' && same_name target target'
-same_data (data_pointer order preference flags services regexp replacement) (data_pointer order' preference' flags' services' regexp' replacement') =
-    order == order' && preference == preference' && same_octets flags flags'
-    && same_octets services services' && same_octets regexp regexp'
-    && same_name replacement replacement'
+same_data (data_service p w port n) (data_service p' w' port' n') =
+    p == p' && w == w' && port == port' && same_name n n'
+same_data (data_pointer o p f s r n) (data_pointer o' p' f' s' r' n') =
+    o == o' && p == p' && same_octets f f' && same_octets s s' && same_octets r r'
+    && same_name n n'
 same_data data_bare data_bare = true
 same_data _ _ = false
 

@@ -5,6 +5,7 @@ ghost use Rattle.std.specs.Bool.{Decides};
 ghost use Rattle.std.specs.Cmp.{IsEquivalence};
 ghost use Rattle.std.specs.List.{IsDistinct, list_any, position_or_len, slice_split};
 ghost use Rattle.sipl_names.specs.Labels.{Labels};
+ghost use Rattle.sipl_records.specs.declared.data.Data.{Data};
 ghost use Rattle.sipl_records.specs.declared.record.Record.{Record};
 ghost use Rattle.sipl_records.specs.declared.record.Key.{Key};
 ghost use Rattle.sipl_records.specs.declared.address.Address.{Address};
@@ -12,10 +13,13 @@ ghost use Rattle.sipl_records.specs.declared.address.TheConstants.{MAX_ADDRESS_T
 ghost use Rattle.sipl_records.specs.Addresses.{address_of, text_of_address, IsAddress};
 ghost use Rattle.sipl_records.specs.Ipv6.{address6_of_text};
 ghost use Rattle.sipl_records.specs.Ipv6Grammar.{IsAddress6Text};
-ghost use Rattle.sipl_records.specs.Sets.{has_key, key_of, set_of, shares_set};
+ghost use Rattle.sipl_records.specs.Sets.{conflicts, has_key, key_of, same_data, same_record, set_of, shares_set};
 ghost use Rattle.sipl_records.specs.Unique.{unique};
 ghost use Rattle.sipl_records.specs.Parts.{parts};
 ghost use Rattle.sipl_records.specs.Fields.{fields_of, is_wsp};
+
+use crate::data::Data;
+use crate::record::Record;
 
 /// `unique` keeps each value of a list once: every value is the same as one that is kept, no two
 /// that are kept are the same, each is the first in the list of those that are the same, and they
@@ -42,6 +46,19 @@ pub fn unique_appends_new_values<T>()
     ensures { (same : T → T → Bool) → IsEquivalence same → (xs : List T) (x : T)
         → unique same (xs ++ x ∷ []) ≡ (if list_any (λ y. same y x) (unique same xs)
         then unique same xs else unique same xs ++ x ∷ []) }
+{}
+
+/// `==` of data and of records is as defined: true exactly where the two are equal.
+pub fn equality_is_exact()
+    ensures data_eq { (a b : Data) → ⟦<Data as PartialEq>⟧.eq a b ≡ same_data a b }
+    ensures record_eq { (a b : Record) → ⟦<Record as PartialEq>⟧.eq a b ≡ same_record a b }
+    ensures same_data { (a b : Data) → IsTrue (same_data a b) ↔ (a ≡ b) }
+    ensures same_record { (a b : Record) → IsTrue (same_record a b) ↔ (a ≡ b) }
+{}
+
+/// Whether two records conflict does not depend on their order.
+pub fn conflicts_are_mutual()
+    ensures { (a b : Record) → conflicts a b ≡ conflicts b a }
 {}
 
 /// A record is in a key's set exactly where the key is its own: that of its owner and kind.

@@ -1,4 +1,4 @@
-ghost use Rattle.std.specs.Prelude.{◌≡◌, ◌↔◌, IsTrue, Contains};
+ghost use Rattle.std.specs.Prelude.{◌≡◌, ◌↔◌, IsTrue};
 
 use crate::address::Address;
 use crate::data::Data;
@@ -25,22 +25,6 @@ fn same_key(a: &Key, b: &Key) -> bool
     ensures { IsTrue result ↔ (a.now ≡ b.now) }
 {
     a == b
-}
-
-// Searches for a record: `contains` is true exactly where an equal one is there.
-#[tactic(auto, using(crate::proofs::Same::same_record_decides))]
-fn is_among(records: &[Record], wanted: &Record) -> bool
-    ensures { IsTrue result ↔ Contains records.now wanted.now }
-{
-    records.contains(wanted)
-}
-
-// Searches for a key: `contains` is true exactly where an equal one is there.
-#[tactic(auto, using(crate::proofs::Same::same_key_decides))]
-fn is_key_among(keys: &[Key], key: &Key) -> bool
-    ensures { IsTrue result ↔ Contains keys.now key.now }
-{
-    keys.contains(key)
 }
 
 // Compares two data: `==` is true exactly where they are equal.
@@ -75,63 +59,81 @@ fn string(rt: &impl Abort, alloc: Global, text: &str) -> Sequence<u8> {
     Sequence::from_vec(Vec::from_slice(alloc, text.as_bytes()).expect(rt, "a string"))
 }
 
-fn service(rt: &impl Abort, alloc: Global, numbers: [u16; 3], target: &str) -> Data {
-    let [priority, weight, port] = numbers;
-    Data::Service {
-        priority,
-        weight,
-        port,
-        target: name(rt, alloc, target),
+// Data of this type, of the first of the numbers, strings and the name that it has.
+fn data(rt: &impl Abort, alloc: Global, kind: Option<Kind>, row: &Row) -> Data {
+    let (numbers, strings, target) = row;
+    match kind {
+        Some(Kind::Address4) => Data::Address4(u32::from(numbers[0])),
+        Some(Kind::Address6) => Data::Address6(u128::from(numbers[0]) << 64),
+        Some(Kind::Alias) => Data::Alias(name(rt, alloc, target)),
+        Some(Kind::Service) => Data::Service {
+            priority: numbers[0],
+            weight: numbers[1],
+            port: numbers[2],
+            target: name(rt, alloc, target),
+        },
+        Some(Kind::Pointer) => Data::Pointer {
+            order: numbers[0],
+            preference: numbers[1],
+            flags: string(rt, alloc, strings[0]),
+            services: string(rt, alloc, strings[1]),
+            regexp: string(rt, alloc, strings[2]),
+            replacement: name(rt, alloc, target),
+        },
+        None => Data::Bare,
     }
 }
 
-// A pointer of these flags, services and regexp.
-fn pointer(
+// The numbers, strings and name of data.
+type Row = ([u16; 3], [&'static str; 3], &'static str);
+
+const KINDS: [Option<Kind>; 6] = [
+    Some(Kind::Address4),
+    Some(Kind::Address6),
+    Some(Kind::Alias),
+    Some(Kind::Service),
+    Some(Kind::Pointer),
+    None,
+];
+
+// Rows of which each differs from the first: in numbers, in the name, in strings; the last is the
+// first in upper case, which is the same name.
+const ROWS: [Row; 9] = [
+    ([1, 2, 3], ["s", "SIP+D2U", ""], "a."),
+    ([2, 1, 3], ["s", "SIP+D2U", ""], "a."),
+    ([1, 3, 2], ["s", "SIP+D2U", ""], "a."),
+    ([1, 2, 3], ["s", "SIP+D2U", ""], "b."),
+    ([1, 2, 3], ["S", "SIP+D2U", ""], "a."),
+    ([1, 2, 3], ["s", "SIP+D2T", ""], "a."),
+    ([1, 2, 3], ["s", "SIP+D2", "U"], "a."),
+    ([1, 2, 3], ["", "SIP+D2U", "s"], "a."),
+    ([1, 2, 3], ["s", "SIP+D2U", ""], "A."),
+];
+
+// Whether data of this type and of the two rows are equal, and so are their copies.
+fn are_equal(rt: &impl Abort, kind: Option<Kind>, row: &Row, other: &Row, alloc: Global) -> bool {
+    let value = data(rt, alloc, kind, row);
+    let copy = data(rt, alloc, kind, other).dup(alloc).expect(rt, "a copy");
+    same_data(&value, &copy)
+}
+
+// Whether a record of this owner and type of data conflicts with one of `example.com.`.
+fn do_conflict(
     rt: &impl Abort,
     alloc: Global,
-    numbers: [u16; 2],
-    strings: [&str; 3],
-    replacement: &str,
-) -> Data {
-    let [order, preference] = numbers;
-    let [flags, services, regexp] = strings;
-    Data::Pointer {
-        order,
-        preference,
-        flags: string(rt, alloc, flags),
-        services: string(rt, alloc, services),
-        regexp: string(rt, alloc, regexp),
-        replacement: name(rt, alloc, replacement),
-    }
-}
-
-// How many of `different_data` there are.
-const DIFFERENT: usize = 19;
-
-// Data of each type, of which no two are equal: data of one type differ in one field, or in two
-// that are exchanged.
-fn different_data(rt: &impl Abort, alloc: Global, index: usize) -> Data {
-    match index {
-        0 => Data::Address4(1),
-        1 => Data::Address4(2),
-        2 => Data::Address6(1),
-        3 => Data::Address6(1 << 64),
-        4 => Data::Alias(name(rt, alloc, "a.")),
-        5 => Data::Alias(name(rt, alloc, "b.")),
-        6 => service(rt, alloc, [1, 2, 3], "a."),
-        7 => service(rt, alloc, [2, 1, 3], "a."),
-        8 => service(rt, alloc, [1, 3, 2], "a."),
-        9 => service(rt, alloc, [1, 2, 3], "b."),
-        10 => pointer(rt, alloc, [1, 2], ["s", "SIP+D2U", ""], "a."),
-        11 => pointer(rt, alloc, [2, 1], ["s", "SIP+D2U", ""], "a."),
-        12 => pointer(rt, alloc, [1, 2], ["S", "SIP+D2U", ""], "a."),
-        13 => pointer(rt, alloc, [1, 2], ["s", "sip+d2u", ""], "a."),
-        14 => pointer(rt, alloc, [1, 2], ["s", "SIP+D2T", ""], "a."),
-        15 => pointer(rt, alloc, [1, 2], ["s", "SIP+D2U", "!a!b!"], "a."),
-        16 => pointer(rt, alloc, [1, 2], ["", "SIP+D2U", "s"], "a."),
-        17 => pointer(rt, alloc, [1, 2], ["s", "SIP+D2U", ""], "."),
-        _ => Data::Bare,
-    }
+    owner: &str,
+    kind: Option<Kind>,
+    other: Option<Kind>,
+) -> bool {
+    let record = Record {
+        owner: name(rt, alloc, owner),
+        value: data(rt, alloc, kind, &ROWS[0]),
+    };
+    let beside = Record {
+        owner: name(rt, alloc, "example.com."),
+        value: data(rt, alloc, other, &ROWS[3]),
+    };
+    record.conflicts_with(&beside)
 }
 
 // The key of the records of this owner and kind.
@@ -290,134 +292,100 @@ fn record_has_the_key_of_its_owner_and_kind(rt: HostRuntime) -> Result<(), Fail>
 }
 
 #[test]
-fn data_are_equal_where_type_and_fields_are(rt: HostRuntime) {
-    let alloc = rt.alloc();
-    for row in 0..DIFFERENT {
-        let data = different_data(&rt, alloc, row);
-        for other in 0..DIFFERENT {
-            let is_same = same_data(&data, &different_data(&rt, alloc, other));
-            assert_eq!(rt; is_same, row == other, "rows {row} and {other}");
-        }
-        let copy = data.dup(alloc).expect(&rt, "a copy");
-        assert!(rt; same_data(&copy, &data), "row {row}");
-    }
-}
-
-#[test]
-fn names_of_data_are_equal_without_case(rt: HostRuntime) {
-    let alloc = rt.alloc();
-    let (upper, lower) = ("SIP.Example.COM.", "sip.example.com.");
-    for (a, b) in [
-        (
-            Data::Alias(name(&rt, alloc, upper)),
-            Data::Alias(name(&rt, alloc, lower)),
-        ),
-        (
-            service(&rt, alloc, [1, 2, 3], upper),
-            service(&rt, alloc, [1, 2, 3], lower),
-        ),
-        (
-            pointer(&rt, alloc, [1, 2], ["", "", ""], upper),
-            pointer(&rt, alloc, [1, 2], ["", "", ""], lower),
-        ),
+fn data_are_equal_where_their_fields_are(rt: HostRuntime) {
+    for (kind, different) in [
+        (Some(Kind::Address4), 1..2),
+        (Some(Kind::Address6), 1..2),
+        (Some(Kind::Alias), 3..4),
+        (Some(Kind::Service), 1..4),
+        (Some(Kind::Pointer), 1..8),
+        (None, 0..0),
     ] {
-        assert!(rt; same_data(&a, &b));
+        for (index, row) in ROWS.iter().enumerate() {
+            let is_equal = are_equal(&rt, kind, &ROWS[0], row, rt.alloc());
+            assert_eq!(rt; is_equal, !different.contains(&index), "row {index}");
+        }
     }
 }
 
 #[test]
-fn data_have_the_kind_of_their_type_only(rt: HostRuntime) {
-    let alloc = rt.alloc();
-    let kinds = [
-        Kind::Address4,
-        Kind::Address6,
-        Kind::Alias,
-        Kind::Service,
-        Kind::Pointer,
-    ];
-    for (row, own) in [(0, 0), (3, 1), (5, 2), (6, 3), (10, 4), (18, 5)] {
-        let data = different_data(&rt, alloc, row);
-        assert_eq!(rt; data.kind(), kinds.get(own).copied(), "row {row}");
-        for (index, kind) in kinds.into_iter().enumerate() {
-            assert_eq!(rt; data.has_kind(kind), index == own, "row {row}, {kind}");
-        }
+fn data_have_the_kind_of_their_type(rt: HostRuntime) {
+    for kind in KINDS {
+        let value = data(&rt, rt.alloc(), kind, &ROWS[0]);
+        assert_eq!(rt; value.kind(), kind);
     }
 }
 
 #[test]
 fn aliases_conflict_with_data_of_some_kind(rt: HostRuntime) {
-    let alloc = rt.alloc();
-    // Rows of `different_data`: two aliases, an address, a server, a pointer and bare data.
-    for (row, other, is_conflict) in [
-        (4, 5, true),
-        (4, 4, true),
-        (4, 0, true),
-        (4, 2, true),
-        (4, 6, true),
-        (4, 10, true),
-        (4, 18, false),
-        (0, 1, false),
-        (0, 6, false),
-        (0, 18, false),
-        (18, 18, false),
-    ] {
-        let data = Record {
-            owner: name(&rt, alloc, "www.example.com."),
-            value: different_data(&rt, alloc, row),
-        };
-        for (owner, is_owner) in [("WWW.example.com.", true), ("example.com.", false)] {
-            let beside = Record {
-                owner: name(&rt, alloc, owner),
-                value: different_data(&rt, alloc, other),
-            };
-            let expected = is_conflict && is_owner;
-            assert_eq!(rt; data.conflicts_with(&beside), expected, "rows {row} and {other}");
-            assert_eq!(rt; beside.conflicts_with(&data), expected, "rows {other} and {row}");
-        }
+    let alias = Some(Kind::Alias);
+    for kind in KINDS {
+        let is_conflict = kind.is_some();
+        assert_eq!(rt; do_conflict(&rt, rt.alloc(), "Example.com.", kind, alias), is_conflict);
+        assert_eq!(rt; do_conflict(&rt, rt.alloc(), "EXAMPLE.com.", alias, kind), is_conflict);
+        assert!(rt; !do_conflict(&rt, rt.alloc(), "www.example.com.", alias, kind));
+        let is_alias = kind == alias;
+        assert_eq!(rt; do_conflict(&rt, rt.alloc(), "example.com.", kind, KINDS[0]), is_alias);
+        assert!(rt; !do_conflict(&rt, rt.alloc(), "example.com.", kind, None));
     }
 }
 
 #[test]
-fn data_of_other_types_are_in_no_set(rt: HostRuntime) -> Result<(), Fail> {
-    let alloc = rt.alloc();
+fn data_of_other_types_are_in_no_set(rt: HostRuntime) {
     let bare = Record {
-        owner: name(&rt, alloc, "example.com."),
+        owner: name(&rt, rt.alloc(), "example.com."),
         value: Data::Bare,
     };
-    assert!(rt; bare.key(alloc)?.is_none());
+    assert!(rt; bare.key(rt.alloc()).expect(&rt, "no key").is_none());
     assert!(rt; !bare.shares_set(&bare));
-    assert!(rt; !bare.has_key(&key(alloc, b"example.com.", Kind::Address4)?));
-    assert!(rt; same_record(&bare.dup(alloc)?, &bare));
-    Ok(())
+}
+
+// Whether the copy of a record of `www.example.com.` and the address 192.0.2.1 equals this one.
+fn is_www(rt: &impl Abort, alloc: Global, owner: &str, address: u32) -> bool {
+    let record = Record {
+        owner: name(rt, alloc, "www.example.com."),
+        value: Data::Address4(0xC000_0201),
+    };
+    let other = Record {
+        owner: name(rt, alloc, owner),
+        value: Data::Address4(address),
+    };
+    same_record(&record.dup(alloc).expect(rt, "a copy"), &other)
 }
 
 #[test]
-fn copies_equal_their_originals(rt: HostRuntime) -> Result<(), Fail> {
-    let alloc = rt.alloc();
-    let www = record(alloc, b"www.example.com.", 0xC000_0201)?;
-    assert!(rt; same_record(&www.dup(alloc)?, &www));
-    assert!(rt; !same_record(&record(alloc, b"example.com.", 0xC000_0201)?, &www));
-    assert!(rt; !same_record(&record(alloc, b"www.example.com.", 0xC000_0202)?, &www));
-    assert!(rt; same_data(&www.value.dup(alloc)?, &Data::Address4(0xC000_0201)));
-    let addresses = key(alloc, b"www.example.com.", Kind::Address4)?;
-    assert!(rt; same_key(&addresses.dup(alloc)?, &addresses));
-    assert!(rt;
-        !same_key(
-            &key(alloc, b"www.example.com.", Kind::Address6)?,
-            &addresses
-        )
-    );
-    assert!(rt; !same_key(&key(alloc, b"example.com.", Kind::Address4)?, &addresses));
-    assert!(rt; !same_address(&Address::V4(1), &Address::V4(2)));
+fn records_are_equal_where_owners_and_data_are(rt: HostRuntime) {
+    assert!(rt; is_www(&rt, rt.alloc(), "WWW.Example.com.", 0xC000_0201));
+    assert!(rt; !is_www(&rt, rt.alloc(), "example.com.", 0xC000_0201));
+    assert!(rt; !is_www(&rt, rt.alloc(), "www.example.com.", 0xC000_0202));
+}
+
+// Whether the copy of the key of the addresses of `www.example.com.` equals this one.
+fn is_www_key(rt: &impl Abort, alloc: Global, owner: &str, kind: Kind) -> bool {
+    let key = Key {
+        name: name(rt, alloc, "www.example.com."),
+        kind: Kind::Address4,
+    };
+    let other = Key {
+        name: name(rt, alloc, owner),
+        kind,
+    };
+    same_key(&key.dup(alloc).expect(rt, "a copy"), &other)
+}
+
+#[test]
+fn keys_are_equal_where_owners_and_kinds_are(rt: HostRuntime) {
+    assert!(rt; is_www_key(&rt, rt.alloc(), "WWW.example.com.", Kind::Address4));
+    assert!(rt; !is_www_key(&rt, rt.alloc(), "example.com.", Kind::Address4));
+    assert!(rt; !is_www_key(&rt, rt.alloc(), "www.example.com.", Kind::Address6));
+}
+
+#[test]
+fn addresses_are_equal_where_families_and_numbers_are(rt: HostRuntime) {
     assert!(rt; same_address(&Address::V6(1), &Address::V6(1)));
     assert!(rt; !same_address(&Address::V6(1), &Address::V6(2)));
+    assert!(rt; !same_address(&Address::V4(1), &Address::V4(2)));
     assert!(rt; !same_address(&Address::V4(1), &Address::V6(1)));
-    let copy = www.dup(alloc)?;
-    let records = vec![in alloc; record(alloc, b"example.com.", 0xC000_0202)?, www]?;
-    assert!(rt; is_among(&records, &copy));
-    let keys = vec![in alloc; addresses]?;
-    assert!(rt; !is_key_among(&keys, &key(alloc, b"www.example.com.", Kind::Alias)?));
-    Ok(())
 }
 
 #[test]
@@ -427,7 +395,6 @@ fn records_of_one_set_have_one_key(rt: HostRuntime) -> Result<(), Fail> {
     let like = record(alloc, b"WWW.example.com.", 0xC000_0202)?;
     let above = record(alloc, b"example.com.", 0xC000_0201)?;
     assert!(rt; www.shares_set(&like) && !www.shares_set(&above));
-    assert_eq!(rt; www.value.kind(), Some(Kind::Address4));
     let Some(found) = like.key(alloc)? else {
         panic!(rt; "no key");
     };

@@ -8,24 +8,16 @@ use Rattle.std.proofs.lemmas.List.Quantifiers.{all_pairs_push}
 use Rattle.std.proofs.lemmas.List.Sums.{sum_by-append}
 use Rattle.sipl_names.specs.Labels.{same_name, is_within}
 use Rattle.sipl_names.proofs.SameName.{same_name_decides}
-use Rattle.sipl_records.specs.declared.data.Data.{Data}
-use Rattle.sipl_records.specs.declared.data.Data.TheVariants.{Address4 as data_address4}
 use Rattle.sipl_records.specs.declared.record.Record.{Record}
 use Rattle.sipl_records.specs.declared.record.Key.{Key}
-use Rattle.sipl_records.specs.Sets.{same_data, same_record, key_of, shares_set}
+use Rattle.sipl_records.specs.Sets.{same_record, key_of, shares_set}
+use Rattle.sipl_records.proofs.SameData.{same_record-sym}
 use Rattle.sipl_records.proofs.Keys.{same_name-sym, shares_set-Decides, shares_set-Some}
 use Rattle.sipl_masterfile.specs.Zones.{Zone, IsZone, has_repeats, sets_fit}
 use Rattle.sipl_zonestore.specs.declared.fault.StoreFault.{StoreFault}
 use Rattle.sipl_zonestore.specs.Store.{Zones, overlaps, is_covered, records_outside, apexes_after_load, records_after_load, after_load, load_refusal, after_add, add_refusal}
 use Rattle.sipl_zonestore.specs.Consistent.{IsConsistent}
 use Rattle.sipl_zonestore.proofs.Elements.{or_left, or_right, or_first, or_second, and_first, and_second, all-weaker, all-both, all-filter_weaker, any-filter, none-at, count-filter-le, count-same}
-
-same_data-sym : (a b : Data) → same_data a b ≡ same_data b a
-same_data-sym (data_address4 m) (data_address4 n) =
-    same_from_decides (nat_eq m n) (nat_eq n m) (Decides-eqb m n) (Decides-like (nat_eq n m) (λ e. sym e) (λ e. sym e) (Decides-eqb n m))
-
-same_record-sym : (a b : Record) → same_record a b ≡ same_record b a
-same_record-sym a b = λ i. same_name-sym a.owner b.owner i && same_data-sym a.value b.value i
 
 or_swapped : (a b : Bool) → (a || b) ≡ (b || a)
 or_swapped true true = refl

@@ -1,6 +1,6 @@
 -- How serving ends, for any protocol: each exit of the loop over turns keeps what `serve` promises.
 use Rattle.std.proofs.Common.{◌≡◌, ℕ, ◌+◌, ◌-◌, ◌^◌, ◌<◌, ◌≤◌, ◌||◌, [], Bool, true, false, Ok, Err, refl, sym, ap, ◌∙◌, subst, min, arith}
-use Rattle.std.specs.Prelude.{Option, Result, IsTrue, ◌↔◌}
+use Rattle.std.specs.Prelude.{Option, IsTrue, ◌↔◌}
 use Rattle.std.proofs.Math.Bool.{or-false}
 use Rattle.sipl_names.specs.Labels.{Octets}
 use Rattle.siploc.specs.Protocol.{Protocol}

@@ -3,4 +3,5 @@ pub mod Replies
 pub mod Turning
 pub mod Exits
 pub mod Rules
-pub mod Prefixes
+pub mod Results
+pub mod Steps

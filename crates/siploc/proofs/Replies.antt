@@ -172,15 +172,38 @@ replies_kept p rules s text kept pending old u new stripped is_kept reply =
     replies_alike p (line (without_cr kept) ∷ []) (line (without_cr pending) ∷ []) s old u new (AreAlike-kept_cr p rules kept pending alike, tt)
     (replies_one p s (line (without_cr kept)) old u new (subst P stripped reply))
 
--- the replies to what is left at the end of the input, which has no reply itself
-pub replies_last : (p : Protocol) (s : p.State) (kept old : Octets) (u : p.State) (new : Octets) → (length kept ≡ 0 → ⊥) → p.MayReply u end_of_input [] u
-    → AppendsReply p s (line kept) old u new → AppendsReplies p s (last_items kept) old u new
-replies_last p s [] old u new some silent reply = absurd (some refl)
-replies_last p s (c ∷ kept) old u new some silent reply = (
-  reply.0,
-  record { reply = reply.0; replies = []; between = u; first = reply.1; others = Serves-one p u end_of_input [] u silent; joined = sym (append-nil reply.0) },
-  reply.2,
-)
+-- the replies to what is left at the end of the input, and to the end
+pub replies_last : (p : Protocol) (s : p.State) (kept old : Octets) (u : p.State) (mid : Octets) (v : p.State) (new : Octets) → (length kept ≡ 0 → ⊥)
+    → AppendsReply p s (line kept) old u mid → AppendsReply p u end_of_input mid v new → AppendsReplies p s (last_items kept) old v new
+replies_last p s [] old u mid v new some reply last = absurd (some refl)
+replies_last p s (c ∷ kept) old u mid v new some reply last =
+    replies_more p (line (c ∷ kept) ∷ []) (end_of_input ∷ []) s u v old mid new
+    (replies_one p s (line (c ∷ kept)) old u mid reply) (replies_one p u end_of_input mid v new last)
+
+-- where nothing is left, the reply to the end
+pub replies_end : (p : Protocol) (s : p.State) (kept old : Octets) (u : p.State) (new : Octets) → kept ≡ []
+    → AppendsReply p s end_of_input old u new → AppendsReplies p s (last_items kept) old u new
+replies_end p s kept old u new none reply =
+    let P : Octets → Type 0 = λ k. AppendsReplies p s (last_items k) old u new in
+    subst P (sym none) (replies_one p s end_of_input old u new reply)
+
+-- no item was served
+pub first_none : (p : Protocol) (s : p.State) (items : List Item) (old : Octets) (u : p.State) (new : Octets) → u ≡ s → new ≡ old → AppendsFirstReplies p s items old u new
+first_none p s items old u new same same_out =
+    record { done = []; rest = items; split = refl; replies = ([], (refl, same), same_out ∙ sym (append-nil old)) }
+
+-- what was left is served, and the end is not
+pub first_line : (p : Protocol) (s : p.State) (kept old : Octets) (u : p.State) (mid : Octets) (v : p.State) (new : Octets) → (length kept ≡ 0 → ⊥)
+    → AppendsReply p s (line kept) old u mid → v ≡ u → new ≡ mid → AppendsFirstReplies p s (last_items kept) old v new
+first_line p s [] old u mid v new some reply same same_out = absurd (some refl)
+first_line p s (c ∷ kept) old u mid v new some reply same same_out =
+    record {
+      done = line (c ∷ kept) ∷ [];
+      rest = end_of_input ∷ [];
+      split = refl;
+      replies = subst (λ w. AppendsReplies p s (line (c ∷ kept) ∷ []) old w new) (sym same)
+          (subst (λ o. AppendsReplies p s (line (c ∷ kept) ∷ []) old u o) (sym same_out) (replies_one p s (line (c ∷ kept)) old u mid reply));
+    }
 
 -- ---- a chunk that is fed
 

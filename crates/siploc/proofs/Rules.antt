@@ -1,31 +1,44 @@
 -- The protocol of a session is a line protocol, and a question changes nothing.
-use Rattle.std.proofs.Common.{◌≡◌, ℕ, ◌<◌, [], true, if◌then◌else◌, Result, Ok, Err, length, refl, sym, ap, ◌∙◌, subst, inl, inr}
+use Rattle.std.proofs.Common.{◌≡◌, ◌<◌, ◌-◌, [], true, if◌then◌else◌, Result, Ok, Err, length, refl, sym, ap, ◌∙◌, subst, inl}
+use Rattle.std.specs.Prelude.{Option, None, Some}
 use Rattle.std.proofs.lemmas.Bool.{lt-ltb}
 use Rattle.sipl_records.specs.Fields.{fields_of}
 use Rattle.sipl_uri.specs.declared.fault.UriFault.{UriFault}
 use Rattle.sipl_uri.specs.declared.question.Question.{Question}
 use Rattle.sipl_uri.specs.Uris.{question_of}
 use Rattle.sipl_names.specs.Labels.{Octets}
-use Rattle.siploc.specs.Items.{Item, line, end_of_input}
-use Rattle.siploc.specs.Requests.{Request, nothing, too_long, is_comment, fields_request, request_of}
-use Rattle.siploc.specs.Session.{SessionState, Performs, MayReply, session_protocol, question_outcome, find_outcome}
+use Rattle.siploc.specs.Items.{Item, line}
+use Rattle.siploc.specs.Requests.{nothing, too_long, is_comment, fields_request, request_of}
+use Rattle.siploc.specs.Gathering.{gathered_after, after_long_line, after_short_line}
+use Rattle.siploc.specs.declared.gather.Gathered.{Gathered}
+use Rattle.siploc.specs.declared.gather.Gathering.{Gathering}
+use Rattle.siploc.specs.Session.{SessionState, Step, Performs, MayReply, certain, keeps, request_step, gathering_step, line_step, live_step, session_protocol, question_outcome, find_outcome}
 use Rattle.siploc.proofs.Replies.{IsLineProtocol}
 
 -- once a session has ended an item has no reply
 ended_silent : (s : SessionState) (item : Item) → s.ended ≡ true → MayReply s item [] s
-ended_silent s (line octets) ended =
-    subst (λ b. Performs (if b then nothing else request_of octets) s [] s) (sym ended) (inl record { reply = refl; state = refl })
-ended_silent s end_of_input ended = inl record { reply = refl; state = refl }
+ended_silent s item ended =
+    subst (λ b. Performs (if b then certain (keeps [] s) else live_step item s) [] s) (sym ended) (inl record { reply = refl; state = refl })
 
 request_of-long : (octets : Octets) → 65536 < length octets → request_of octets ≡ too_long
 request_of-long octets long =
     ap (λ b. if b then too_long else (if is_comment octets then nothing else fields_request (fields_of octets) octets))
     (lt-ltb 65536 (length octets) long)
 
+gathered_after-long : (octets : Octets) (gathered : Gathered) → 65536 < length octets → gathered_after octets gathered ≡ after_long_line gathered
+gathered_after-long octets gathered long =
+    ap (λ b. if b then after_long_line gathered else after_short_line octets gathered) (lt-ltb 65536 (length octets) long)
+
+line_step-long : (gathering : Option Gathering) (a b : Octets) (s : SessionState) → 65536 < length a → 65536 < length b → line_step gathering a s ≡ line_step gathering b s
+line_step-long None a b s long long' = ap (λ r. request_step r s) (request_of-long a long ∙ sym (request_of-long b long'))
+line_step-long (Some gathering) a b s long long' =
+    let F : Gathered → Step = λ gathered. gathering_step (record { left = gathering.left - 1; gathered = gathered }) s in
+    ap F (gathered_after-long a gathering.gathered long ∙ sym (gathered_after-long b gathering.gathered long'))
+
 -- two lines that are too long have the same replies
 long_alike : (s u : SessionState) (a b text : Octets) → 65536 < length a → 65536 < length b → MayReply s (line a) text u → MayReply s (line b) text u
 long_alike s u a b text long long' reply =
-    subst (λ r. Performs (if s.ended then nothing else r) s text u) (request_of-long a long ∙ sym (request_of-long b long')) reply
+    subst (λ step. Performs (if s.ended then certain (keeps [] s) else step) text u) (line_step-long s.gathering a b s long long') reply
 
 pub session_rules : IsLineProtocol session_protocol
 session_rules = record { silent = ended_silent; long = long_alike }

@@ -7,7 +7,7 @@ use Rattle.std.specs.Prelude.{Option, nat_lt, OnOk, OnErr}
 use Rattle.std.specs.Io.KnownBytes.{Keeps, Appends, Consumes, IsAtEnd}
 use Rattle.std.proofs.KnownBytes.{Consumes-nil, Appends-nil, Appends-trans, Appends-kept, Consumes-trans, Consumes-kept, Consumes-whole}
 use Rattle.sipl_names.specs.Labels.{Octets}
-use Rattle.siploc.specs.Items.{Item, items_of, complete_items}
+use Rattle.siploc.specs.Items.{Item, items_of}
 use Rattle.siploc.specs.Protocol.{Protocol}
 use Rattle.siploc.specs.Replies.{Serves, AppendsReplies, AppendsFirstReplies}
 use Rattle.siploc.specs.Machine.{items_from, pending_after, kept_prefix, last_items, read_items}

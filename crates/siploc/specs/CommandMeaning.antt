@@ -8,7 +8,7 @@ abbrev pub meaning_of : Command → Request
 meaning_of Nothing = nothing
 meaning_of Unknown = unknown
 meaning_of TooLong = too_long
-meaning_of (Zone apex) = zone apex.now
+meaning_of (Zone apex lines) = zone apex.now lines
 meaning_of (Add text) = add text.now
 meaning_of (Find uri) = find uri.now
 meaning_of Quit = quit

@@ -10,6 +10,8 @@ pub mod ServeFault
 pub mod Ended
 pub mod Serving
 pub mod Requests
+pub mod ZoneLines
+pub mod Gathering
 pub mod CommandMeaning
 pub mod ReplyText
 pub mod Session

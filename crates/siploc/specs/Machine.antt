@@ -1,5 +1,5 @@
 -- The machine that the code follows: what is pending of a line, and the items of each octet.
-use Rattle.std.specs.Prelude.{◌≡◌, ℕ, List, [], ◌∷◌, ◌++◌, if◌then◌else◌, ◌==◌, ◌<◌, length, take}
+use Rattle.std.specs.Prelude.{◌≡◌, List, [], ◌∷◌, ◌++◌, if◌then◌else◌, ◌==◌, ◌<◌, length, take}
 use Rattle.sipl_names.specs.Labels.{Octets}
 use Rattle.siploc.specs.Lines.{without_cr}
 use Rattle.siploc.specs.Items.{Item, line, end_of_input}

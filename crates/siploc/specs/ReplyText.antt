@@ -1,5 +1,5 @@
 -- How replies are written.
-use Rattle.std.specs.Prelude.{ℕ, ◌+◌, List, [], ◌∷◌, ◌++◌, length, codes, decimal}
+use Rattle.std.specs.Prelude.{ℕ, ◌+◌, ◌*◌, List, [], ◌∷◌, ◌++◌, length, codes, decimal}
 use Rattle.std.specs.List.{flat_map}
 use Rattle.sipl_records.specs.Addresses.{text_of_address}
 use Rattle.sipl_choice.specs.Transports.{transport_text}
@@ -25,6 +25,10 @@ counts_line words numbers = words ++ flat_map number_field numbers ++ 10 ∷ []
 abbrev pub refusal_line : Octets → Octets
 refusal_line code = codes "err " ++ code ++ 10 ∷ []
 
+-- the reply to a fault in a zone's text: the line on which its entry begins, and its code
+abbrev pub zone_refusal_line : ℕ → Octets → Octets
+zone_refusal_line line code = codes "err zone" ++ number_field line ++ word_field code ++ 10 ∷ []
+
 -- the line of a target: its number from 1, its transport, address and port
 abbrev pub target_line : ℕ → Endpoint → Octets
 target_line number endpoint =
@@ -42,3 +46,9 @@ abbrev pub answer_text : Answer → Octets
 answer_text (Targets targets) =
     target_lines 1 targets ++ counts_line (codes "ok find") (length targets ∷ [])
 answer_text (None reason) = codes "none " ++ reason_text reason ++ 10 ∷ []
+
+-- the maximum length of a reply to a question: 94 octets for each target's line, and 29 for the
+-- line that counts them
+abbrev pub max_answer_len : Answer → ℕ
+max_answer_len (Targets targets) = 94 * length targets + 29
+max_answer_len (None reason) = length (answer_text (None reason))

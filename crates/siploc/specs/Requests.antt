@@ -10,7 +10,7 @@ pub data Request : Type 0 where
   nothing : Request
   unknown : Request
   too_long : Request
-  zone : Octets → Request
+  zone : Octets → ℕ → Request
   add : Octets → Request
   find : Octets → Request
   quit : Request
@@ -20,10 +20,10 @@ abbrev pub is_comment : Octets → Bool
 is_comment [] = false
 is_comment (c ∷ line) = c == 35
 
--- `zone APEX COUNT`: the count of lines of the zone's text is 0
+-- `zone APEX COUNT`: the lines of the zone's text, at most 2^20, follow
 abbrev pub zone_request : List Octets → Request
 zone_request (apex ∷ count ∷ []) =
-    elim (number_of count 0) [ Some lines ↦ zone apex | None ↦ unknown ]
+    elim (number_of count 1048576) [ Some lines ↦ zone apex lines | None ↦ unknown ]
 zone_request _ = unknown
 
 -- `add RECORD`: the record is the line from the first field after the command on

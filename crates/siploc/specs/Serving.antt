@@ -1,5 +1,5 @@
 -- What `serve` promises, for any protocol.
-use Rattle.std.specs.Prelude.{◌≡◌, ℕ, Bool, true, false, ◌+◌, ◌-◌, ◌^◌, ◌≤◌, ◌||◌, ◌↔◌, min, Option, Result, Ok, IfOk, OnOk, OnErr, IsTrue}
+use Rattle.std.specs.Prelude.{◌≡◌, ℕ, false, ◌+◌, ◌-◌, ◌^◌, ◌≤◌, ◌||◌, ◌↔◌, min, Option, Result, IfOk, OnOk, OnErr, IsTrue}
 use Rattle.std.specs.Io.KnownBytes.{IsAtEnd}
 use Rattle.sipl_names.specs.Labels.{Octets}
 use Rattle.siploc.specs.Protocol.{Protocol}

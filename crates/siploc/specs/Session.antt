@@ -1,7 +1,5 @@
 -- What each item of a session does, and its reply.
-use Rattle.std.specs.Prelude.{◌≡◌, ◌⊎◌, ℕ, Bool, true, false, List, [], ◌∷◌, ◌++◌, length, Option, None, Some, Result, Ok, Err, IsTrue, codes, decimal, if◌then◌else◌}
-use Rattle.sipl_names.specs.NameText.{name_of}
-use Rattle.sipl_names.specs.declared.fault.NameFault.{NameFault}
+use Rattle.std.specs.Prelude.{◌≡◌, ◌⊎◌, ℕ, Bool, true, false, [], ◌∷◌, ◌++◌, length, Option, None, Some, Result, Ok, Err, codes, if◌then◌else◌, ◌==◌}
 use Rattle.sipl_names.specs.NameFault.{code_of as name_code}
 use Rattle.sipl_records.specs.Sets.{set_of}
 use Rattle.sipl_records.specs.declared.record.Record.{Record}
@@ -25,16 +23,22 @@ use Rattle.sipl_names.specs.Labels.{Octets}
 use Rattle.siploc.specs.Items.{Item, line, end_of_input}
 use Rattle.siploc.specs.Protocol.{Protocol}
 use Rattle.siploc.specs.Requests.{Request, nothing, unknown, too_long, zone, add, find, quit, request_of}
-use Rattle.siploc.specs.ReplyText.{counts_line, refusal_line, answer_text}
+use Rattle.siploc.specs.ReplyText.{counts_line, refusal_line, zone_refusal_line, answer_text}
+use Rattle.siploc.specs.Gathering.{gathering_of, after_line, at_end, lost, keeps_lines}
+use Rattle.siploc.specs.declared.gather.Gathered.{Gathered}
+use Rattle.siploc.specs.declared.gather.Gathered.TheVariants.{Lines, BadApex, LongLine, Lost}
+use Rattle.siploc.specs.declared.gather.Gathering.{Gathering}
 
--- the state of a session: the zones that are loaded, and whether it has ended
+-- the state of a session: the zones that are loaded, the zone whose lines are being taken, and
+-- whether the session has ended
 pub record SessionState : Type 0 where
   pub zones : Zones
+  pub gathering : Option Gathering
   pub ended : Bool
 
 -- a session that has had no line
 abbrev pub new_session : SessionState
-new_session = record { zones = no_zones; ended = false }
+new_session = record { zones = no_zones; gathering = None; ended = false }
 
 -- the abilities of the client that asks
 abbrev pub client : Client
@@ -60,7 +64,10 @@ refuses code state = keeps (refusal_line code) state
 -- a reply, with these zones after it
 abbrev pub changes : Octets → Zones → SessionState → Outcome
 changes reply zones state =
-    record { reply = reply; state = record { zones = zones; ended = state.ended } }
+    record {
+      reply = reply;
+      state = record { zones = zones; gathering = state.gathering; ended = state.ended };
+    }
 
 -- a zone is loaded, where the store does not refuse it
 abbrev pub load_outcome : Option StoreFault → Zone → SessionState → Outcome
@@ -73,20 +80,27 @@ load_outcome None text state =
     (after_load text state.zones) state
 
 -- a zone's text is loaded; a fault in it is reported with its line
-abbrev pub zone_text_outcome : Result Zone ZoneFault → SessionState → Outcome
-zone_text_outcome (Err fault) state =
-    keeps (codes "err zone " ++ decimal fault.line ++ 32 ∷ zone_code fault ++ 10 ∷ []) state
-zone_text_outcome (Ok text) state =
-    load_outcome (load_refusal max_records text state.zones) text state
+abbrev pub text_outcome : Result Zone ZoneFault → SessionState → Outcome
+text_outcome (Err fault) state = keeps (zone_refusal_line fault.line (zone_code fault)) state
+text_outcome (Ok text) state = load_outcome (load_refusal max_records text state.zones) text state
 
--- the zone of this apex is read from a text without lines
-abbrev pub apex_outcome : Result (List Octets) NameFault → SessionState → Outcome
-apex_outcome (Err fault) state = refuses (name_code fault) state
-apex_outcome (Ok name) state = zone_text_outcome (zone_of [] name) state
+-- `zone APEX COUNT`, once its lines are taken: the first of these that applies is reported
+abbrev pub zone_outcome : Gathered → SessionState → Outcome
+zone_outcome Lost state = refuses (codes "Memory") state
+zone_outcome LongLine state = refuses (codes "K2") state
+zone_outcome (BadApex fault) state = refuses (name_code fault) state
+zone_outcome (Lines lines) state = text_outcome (zone_of lines.text lines.apex) state
 
--- `zone APEX 0`: the apex is relative to the root
-abbrev pub zone_outcome : Octets → SessionState → Outcome
-zone_outcome apex state = apex_outcome (name_of apex []) state
+-- lines are taken from now on, or none
+abbrev pub with_gathering : Option Gathering → SessionState → SessionState
+with_gathering gathering state =
+    record { zones = state.zones; gathering = gathering; ended = state.ended }
+
+-- while lines are left to be taken there is no reply; it comes with the last of them
+abbrev pub gathering_outcome : Gathering → SessionState → Outcome
+gathering_outcome gathering state =
+    if gathering.left == 0 then zone_outcome gathering.gathered (with_gathering None state)
+    else keeps [] (with_gathering (Some gathering) state)
 
 -- a record is added, where the store does not refuse it
 abbrev pub insert_outcome : Option StoreFault → Record → SessionState → Outcome
@@ -116,53 +130,87 @@ question_outcome (Ok question) state =
 abbrev pub find_outcome : Octets → SessionState → Outcome
 find_outcome uri state = question_outcome (question_of uri) state
 
--- the result of a request
-abbrev pub outcome_of : Request → SessionState → Outcome
-outcome_of nothing state = keeps [] state
-outcome_of unknown state = refuses (codes "K1") state
-outcome_of too_long state = refuses (codes "K2") state
-outcome_of (zone apex) state = zone_outcome apex state
-outcome_of (add text) state = add_outcome text state
-outcome_of (find uri) state = find_outcome uri state
-outcome_of quit state =
-    record { reply = codes "ok quit\n"; state = record { zones = state.zones; ended = true } }
+-- what is done: its outcome, and the outcome where an allocation fails, if there is one
+pub record Step : Type 0 where
+  pub outcome : Outcome
+  pub failure : Option Outcome
 
--- whether a request may run out of memory; the others' replies fit the space that is reserved
--- before them
-abbrev pub allocates : Request → Bool
-allocates nothing = false
-allocates unknown = false
-allocates too_long = false
-allocates (zone apex) = true
-allocates (add text) = true
-allocates (find uri) = true
-allocates quit = false
+-- a step without allocations; replies fit the space that is reserved before them
+abbrev pub certain : Outcome → Step
+certain outcome = record { outcome = outcome; failure = None }
 
--- the request of an item: none once the session has ended, and none at the end of the input
-abbrev pub item_request : SessionState → Item → Request
-item_request state (line octets) = if state.ended then nothing else request_of octets
-item_request state end_of_input = nothing
+-- where an allocation fails, the reply is `err Memory`, and nothing changes
+abbrev pub allocates : Outcome → SessionState → Step
+allocates outcome state =
+    record { outcome = outcome; failure = Some (refuses (codes "Memory") state) }
+
+-- lines are taken; where an allocation fails they are lost
+abbrev pub gathering_step : Gathering → SessionState → Step
+gathering_step gathering state =
+    record {
+      outcome = gathering_outcome gathering state;
+      failure = if keeps_lines gathering.gathered then Some (gathering_outcome (lost gathering.left) state) else None;
+    }
+
+-- what a request does
+abbrev pub request_step : Request → SessionState → Step
+request_step nothing state = certain (keeps [] state)
+request_step unknown state = certain (refuses (codes "K1") state)
+request_step too_long state = certain (refuses (codes "K2") state)
+request_step (zone apex lines) state =
+    record {
+      outcome = gathering_outcome (gathering_of apex lines) state;
+      failure = Some (gathering_outcome (lost lines) state);
+    }
+request_step (add text) state = allocates (add_outcome text state) state
+request_step (find uri) state = allocates (find_outcome uri state) state
+request_step quit state =
+    certain (record {
+      reply = codes "ok quit\n";
+      state = record { zones = state.zones; gathering = state.gathering; ended = true };
+    })
+
+-- what a line does: it is a command, or one of the lines that a zone takes
+abbrev pub line_step : Option Gathering → Octets → SessionState → Step
+line_step None octets state = request_step (request_of octets) state
+line_step (Some gathering) octets state = gathering_step (after_line octets gathering) state
+
+-- what the end of the input does: a zone whose lines are being taken has its reply
+abbrev pub end_step : Option Gathering → SessionState → Step
+end_step None state = certain (keeps [] state)
+end_step (Some gathering) state = gathering_step (at_end gathering) state
+
+-- what an item does in a session that has not ended
+abbrev pub live_step : Item → SessionState → Step
+live_step (line octets) state = line_step state.gathering octets state
+live_step end_of_input state = end_step state.gathering state
+
+-- what an item does: nothing once the session has ended
+abbrev pub item_step : Item → SessionState → Step
+item_step item state = if state.ended then certain (keeps [] state) else live_step item state
 
 -- the reply and the state are those of an outcome
 pub record IsOutcome (outcome : Outcome) (text : Octets) (after : SessionState) : Type 0 where
   pub reply : text ≡ outcome.reply
   pub state : after ≡ outcome.state
 
--- an allocation fails: the reply is `err Memory`, and nothing changes
-pub record RunsOut (request : Request) (before : SessionState) (text : Octets)
-    (after : SessionState) : Type 0 where
-  pub may_fail : IsTrue (allocates request)
-  pub reply : text ≡ codes "err Memory\n"
-  pub state : after ≡ before
+-- the reply and the state are those of the outcome of a failed allocation, where one may fail
+abbrev pub IsFailure : Option Outcome → Octets → SessionState → Type 0
+IsFailure None text after = ⊥
+IsFailure (Some outcome) text after = IsOutcome outcome text after
 
--- a request has this reply and leaves this state: its outcome's, or those of a failed allocation
-abbrev pub Performs : Request → SessionState → Octets → SessionState → Type 0
-Performs request before text after =
-    IsOutcome (outcome_of request before) text after ⊎ RunsOut request before text after
+-- a step may have this reply and leave this state
+abbrev pub Performs : Step → Octets → SessionState → Type 0
+Performs step text after = IsOutcome step.outcome text after ⊎ IsFailure step.failure text after
+
+-- a step is done, and its reply appended
+abbrev pub AppendsStep : Step → Octets → SessionState → Octets → Type 0
+AppendsStep step old after new =
+    (text : Octets) × Performs step text after × (new ≡ old ++ text)
 
 -- an item may have this reply and leave this state
 abbrev pub MayReply : SessionState → Item → Octets → SessionState → Type 0
-MayReply before item text after = Performs (item_request before item) before text after
+MayReply before item text after = Performs (item_step item before) text after
 
 -- the protocol of a session
 abbrev pub session_protocol : Protocol

@@ -9,6 +9,9 @@ use sipl_records::{next_field, read_number, trim_start};
 /// The maximum length of a line in octets. A longer one is refused as K2.
 pub const MAX_LINE_LEN: usize = 65_536;
 
+/// The maximum number of lines of a zone's text.
+pub const MAX_ZONE_LINES: u64 = 1_048_576;
+
 /// A command, with its fields as they are in the line.
 #[derive(Clone, Copy)]
 pub enum Command<'a> {
@@ -18,8 +21,8 @@ pub enum Command<'a> {
     Unknown,
     /// More octets than a line may have: K2.
     TooLong,
-    /// `zone APEX 0`: loads a zone without records.
-    Zone(&'a [u8]),
+    /// `zone APEX COUNT`: loads the zone whose text is in so many lines after it.
+    Zone(&'a [u8], u64),
     /// `add RECORD`: adds a record.
     Add(&'a [u8]),
     /// `find URI`: asks for the targets of a URI.
@@ -50,7 +53,7 @@ pub fn read_command(line: &[u8]) -> Command<'_>
     }
 }
 
-// `zone APEX 0`.
+// `zone APEX COUNT`.
 fn zone_command(rest: &[u8]) -> Command<'_>
     ensures { meaning_of result ≡ zone_request (fields_of rest.now) }
 {
@@ -63,8 +66,8 @@ fn zone_command(rest: &[u8]) -> Command<'_>
     if next_field(rest).is_some() {
         return Command::Unknown;
     }
-    match read_number(count, 0) {
-        Some(_) => Command::Zone(apex),
+    match read_number(count, MAX_ZONE_LINES) {
+        Some(lines) => Command::Zone(apex, lines),
         None => Command::Unknown,
     }
 }

@@ -123,7 +123,7 @@ impl Pending {
         Ok(())
     }
 
-    // Processes the octets that are left at the end of the input.
+    // Processes the octets that are left, and then the end of the input.
     fn finish(
         &self,
         alloc: Global,
@@ -132,13 +132,14 @@ impl Pending {
     ) -> Result<(), AllocError>
         ensures ok { OnOk result (AppendsReplies session_protocol session.old
             (last_items self.now) out.old.items session.new out.new.items) }
-        ensures err { OnErr result (session.new ≡ session.old) }
-        ensures err_out { OnErr result (out.new.items ≡ out.old.items) }
+        ensures err { OnErr result (AppendsFirstReplies session_protocol session.old
+            (last_items self.now) out.old.items session.new out.new.items) }
     {
         if self.kept.is_empty() {
-            return Ok(());
+            return session.finish(alloc, out);
         }
-        session.process_line(alloc, &self.kept, out)
+        session.process_line(alloc, &self.kept, out)?;
+        session.finish(alloc, out)
     }
 }
 

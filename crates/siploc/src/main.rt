@@ -2,6 +2,7 @@
 #![tactic(auto)]
 
 mod command;
+mod gather;
 mod lines;
 mod program;
 mod reply;

@@ -1,17 +1,21 @@
 // How replies are written.
 ghost use Rattle.std.specs.Prelude.{◌≡◌, ◌+◌, ◌*◌, ◌≤◌, [], ◌∷◌, ◌++◌, length, codes, IsOk, OnOk, OnErr, vec_len, vec_capacity};
-ghost use Rattle.std.specs.Io.{StartsWith};
-ghost use Rattle.sipl_records.specs.Addresses.{text_of_address};
-ghost use Rattle.siploc.specs.ReplyText.{answer_text, counts_line, refusal_line, number_field, word_field, target_line, target_lines};
+ghost use Rattle.siploc.specs.ReplyText.{answer_text, max_answer_len, counts_line, refusal_line, zone_refusal_line, number_field, target_line, target_lines};
 
 use itoa::Buffer;
 use sipl_choice::Endpoint;
 use sipl_plans::Answer;
-use sipl_records::Address;
 use std::alloc::AllocError;
 
 // The maximum length in octets of a number below 2^64 with a space before it.
 const MAX_NUMBER_FIELD_LEN: usize = 21;
+
+// The maximum length in octets of a target's line: `target`, its number, the transport's name of at
+// most four octets, the address's text of at most 39, and the port.
+const MAX_TARGET_LINE_LEN: usize = 94;
+
+// The maximum length in octets of the line that counts the targets.
+const MAX_COUNT_LINE_LEN: usize = 29;
 
 /// Appends words, numbers with a space before each, and the end of the line, to space that is
 /// reserved: it does not allocate.
@@ -56,6 +60,25 @@ pub fn write_refusal(out: &mut Vec<u8>, code: &str) -> Result<(), AllocError>
     write_line(out, b"err ", code.as_bytes())
 }
 
+/// Appends the reply to a fault in a zone's text, whose entry begins on this line. An error leaves
+/// `out` as it was.
+pub fn write_zone_refusal(out: &mut Vec<u8>, line: u64, code: &str) -> Result<(), AllocError>
+    ensures ok { OnOk result (out.new.items ≡ out.old.items ++ zone_refusal_line line code.now) }
+    ensures err { OnErr result (out.new.items ≡ out.old.items) }
+    ensures capacity { vec_capacity out.old ≤ vec_capacity out.new }
+    ensures succeeds { vec_len out.old + 31 + length code.now ≤ vec_capacity out.old
+        → IsOk result }
+{
+    let words = b"err zone";
+    out.reserve(words.len() + MAX_NUMBER_FIELD_LEN + code.len() + 2)?;
+    out.extend_from_slice(words).unwrap();
+    write_number(out, line);
+    out.push_reserved(b' ');
+    out.extend_from_slice(code.as_bytes()).unwrap();
+    out.push_reserved(b'\n');
+    Ok(())
+}
+
 // Appends a word, a text and the end of the line. An error leaves `out` as it was.
 fn write_line(out: &mut Vec<u8>, word: &[u8], text: &[u8]) -> Result<(), AllocError>
     ensures ok { OnOk result (out.new.items ≡ out.old.items ++ (word.now ++ text.now ++ 10 ∷ [])) }
@@ -71,11 +94,13 @@ fn write_line(out: &mut Vec<u8>, word: &[u8], text: &[u8]) -> Result<(), AllocEr
     Ok(())
 }
 
-/// Appends the reply to a question. An error may leave a part of it in `out`.
+/// Appends the reply to a question. An error leaves `out` as it was.
 pub fn write_answer(out: &mut Vec<u8>, answer: &Answer) -> Result<(), AllocError>
     ensures ok { OnOk result (out.new.items ≡ out.old.items ++ answer_text answer.now) }
-    ensures err { OnErr result (StartsWith out.new.items out.old.items) }
+    ensures err { OnErr result (out.new.items ≡ out.old.items) }
     ensures capacity { vec_capacity out.old ≤ vec_capacity out.new }
+    ensures succeeds { vec_len out.old + max_answer_len answer.now ≤ vec_capacity out.old
+        → IsOk result }
 {
     match answer {
         Answer::Targets(targets) => write_targets(out, targets.as_slice()),
@@ -83,68 +108,41 @@ pub fn write_answer(out: &mut Vec<u8>, answer: &Answer) -> Result<(), AllocError
     }
 }
 
-// Appends a line for each target, and the line that counts them.
+// Appends a line for each target, and the line that counts them. An error leaves `out` as it was.
 fn write_targets(out: &mut Vec<u8>, targets: &[Endpoint]) -> Result<(), AllocError>
     ensures ok { OnOk result (out.new.items
         ≡ out.old.items ++ (target_lines 1 targets.now
         ++ counts_line (codes "ok find") (length targets.now ∷ []))) }
-    ensures err { OnErr result (StartsWith out.new.items out.old.items) }
-    ensures capacity { vec_capacity out.old ≤ vec_capacity out.new }
-{
-    let mut number = 1;
-    for target in targets {
-        write_target(out, number, target)?;
-        number += 1;
-    }
-    let words = b"ok find";
-    out.reserve(words.len() + MAX_NUMBER_FIELD_LEN + 1)?;
-    write_counts(out, words, &[targets.len() as u64]);
-    Ok(())
-}
-
-// Appends the line of a target.
-fn write_target(out: &mut Vec<u8>, number: u64, target: &Endpoint) -> Result<(), AllocError>
-    ensures ok { OnOk result (out.new.items ≡ out.old.items ++ target_line number target.now) }
-    ensures err { OnErr result (StartsWith out.new.items out.old.items) }
-    ensures capacity { vec_capacity out.old ≤ vec_capacity out.new }
-{
-    out.extend_from_slice(b"target")?;
-    append_number(out, number)?;
-    append_word(out, target.transport.name().as_bytes())?;
-    append_address(out, target.address)?;
-    append_number(out, u64::from(target.port))?;
-    out.push(b'\n')?;
-    Ok(())
-}
-
-// Appends a space and a number.
-fn append_number(out: &mut Vec<u8>, number: u64) -> Result<(), AllocError>
-    ensures ok { OnOk result (out.new.items ≡ out.old.items ++ number_field number) }
     ensures err { OnErr result (out.new.items ≡ out.old.items) }
     ensures capacity { vec_capacity out.old ≤ vec_capacity out.new }
+    ensures succeeds { vec_len out.old + 94 * length targets.now + 29 ≤ vec_capacity out.old
+        → IsOk result }
 {
-    out.reserve(MAX_NUMBER_FIELD_LEN)?;
-    write_number(out, number);
+    let lines_len = targets.len().saturating_mul(MAX_TARGET_LINE_LEN);
+    out.reserve(lines_len.saturating_add(MAX_COUNT_LINE_LEN))?;
+    let mut number = 1;
+    for target in targets {
+        write_target(out, number, target);
+        number += 1;
+    }
+    write_counts(out, b"ok find", &[targets.len() as u64]);
     Ok(())
 }
 
-// Appends a space and a word.
-fn append_word(out: &mut Vec<u8>, word: &[u8]) -> Result<(), AllocError>
-    ensures ok { OnOk result (out.new.items ≡ out.old.items ++ word_field word.now) }
-    ensures err { OnErr result (StartsWith out.new.items out.old.items) }
+// Appends the line of a target to space that is reserved.
+fn write_target(out: &mut Vec<u8>, number: u64, target: &Endpoint)
+    requires { vec_len out.old + MAX_TARGET_LINE_LEN ≤ vec_capacity out.old }
+    ensures ok { out.new.items ≡ out.old.items ++ target_line number target.now }
+    ensures len { vec_len out.new ≤ vec_len out.old + MAX_TARGET_LINE_LEN }
     ensures capacity { vec_capacity out.old ≤ vec_capacity out.new }
 {
-    out.push(b' ')?;
-    out.extend_from_slice(word)
-}
-
-// Appends a space and an address.
-fn append_address(out: &mut Vec<u8>, address: Address) -> Result<(), AllocError>
-    ensures ok { OnOk result
-        (out.new.items ≡ out.old.items ++ word_field (text_of_address address)) }
-    ensures err { OnErr result (StartsWith out.new.items out.old.items) }
-    ensures capacity { vec_capacity out.old ≤ vec_capacity out.new }
-{
-    out.push(b' ')?;
-    address.write(out)
+    out.extend_from_slice(b"target").unwrap();
+    write_number(out, number);
+    out.push_reserved(b' ');
+    out.extend_from_slice(target.transport.name().as_bytes())
+        .unwrap();
+    out.push_reserved(b' ');
+    target.address.write(out).unwrap();
+    write_number(out, u64::from(target.port));
+    out.push_reserved(b'\n');
 }

@@ -1,12 +1,14 @@
-ghost use Rattle.std.specs.Prelude.{◌≡◌, ◌+◌, ◌≤◌, [], ◌++◌, IsTrue, IfOk, OnOk, OnErr, vec_len, vec_capacity};
-ghost use Rattle.std.specs.Io.{StartsWith};
+ghost use Rattle.std.specs.Prelude.{◌≡◌, ◌+◌, ◌≤◌, [], ◌++◌, Some, codes, IsTrue, IfOk, OnOk, OnErr, vec_len, vec_capacity};
 ghost use Rattle.siploc.specs.CommandMeaning.{meaning_of};
 ghost use Rattle.siploc.specs.Items.{Item};
 ghost use Rattle.siploc.specs.Replies.{AppendsReply};
-ghost use Rattle.siploc.specs.Session.{allocates, new_session, session_protocol, outcome_of, zone_outcome, add_outcome, find_outcome};
+ghost use Rattle.siploc.specs.Gathering.{keeps_lines};
+ghost use Rattle.siploc.specs.Session.{AppendsStep, new_session, refuses, request_step, gathering_step, session_protocol, text_outcome, zone_outcome, add_outcome, find_outcome};
+ghost use Rattle.sipl_masterfile.specs.Zones.{zone_of};
 
 use crate::command::{Command, read_command};
-use crate::reply::{write_answer, write_counts, write_refusal};
+use crate::gather::{Gathered, Gathering, ZoneLines};
+use crate::reply::{write_answer, write_counts, write_refusal, write_zone_refusal};
 use sipl_choice::{Abilities, Families, Transport};
 use sipl_masterfile::{ZoneCause, ZoneFault, read_record, read_zone};
 use sipl_names::{Name, NameFault};
@@ -19,11 +21,13 @@ use std::marker::Model;
 // The maximum length of a short reply in octets. Space for one is reserved before each command.
 const MAX_SHORT_REPLY_LEN: usize = 128;
 
-/// A session: the zones that its commands have loaded, and the abilities of the client that asks.
+/// A session: the zones that its commands have loaded, the abilities of the client that asks, and
+/// the zone whose lines are being taken.
 #[derive(Drop)]
 pub struct Session {
     store: ZoneStore,
     abilities: Abilities,
+    gathering: Option<Gathering>,
     ended: bool,
 }
 
@@ -33,7 +37,11 @@ impl Model for Session {
 
     ghost Value = { SessionState };
 
-    ghost view = { λ s. record { zones = s.store.zones; ended = s.ended } };
+    ghost view = { λ s. record {
+      zones = s.store.zones;
+      gathering = s.gathering;
+      ended = s.ended;
+    } };
 
     ghost invariant = { λ s. (s.abilities ≡ client) × (s.store.max_records ≡ max_records) };
 }
@@ -49,6 +57,7 @@ impl Session {
         Ok(Session {
             store: ZoneStore::new(alloc),
             abilities,
+            gathering: None,
             ended: false,
         })
     }
@@ -60,11 +69,12 @@ impl Session {
         self.ended
     }
 
-    /// Processes a line, which has no line end, and appends its reply to `out`.
+    /// Processes a line, which has no line end, and appends its reply to `out`. A line that a
+    /// `zone` command takes has no reply, unless it is the last one.
     ///
     /// Where an allocation fails during a `zone`, an `add` or a `find`, the reply is `err Memory`
-    /// and nothing changes. An error says that the space for a short reply could not be reserved:
-    /// then too nothing has changed.
+    /// and nothing changes; the lines that a `zone` takes are taken nevertheless. An error says
+    /// that the space for a short reply could not be reserved: then too nothing has changed.
     pub fn process_line(
         &mut self,
         alloc: Global,
@@ -80,16 +90,51 @@ impl Session {
             return Ok(());
         }
         out.reserve(MAX_SHORT_REPLY_LEN)?;
-        let start = out.len();
-        if self.perform(alloc, read_command(line), out).is_ok() {
+        match self.gathering.take() {
+            Some(mut gathering) => {
+                gathering.push(line);
+                self.gather(alloc, gathering, out);
+            }
+            None => self.obey(alloc, read_command(line), out),
+        }
+        Ok(())
+    }
+
+    /// Processes the end of the input, and appends the reply of a `zone` command whose lines are
+    /// fewer than it takes: they are its text.
+    ///
+    /// Where an allocation fails the reply is `err Memory`. An error says that the space for a
+    /// short reply could not be reserved: then nothing has changed.
+    pub fn finish(&mut self, alloc: Global, out: &mut Vec<u8>) -> Result<(), AllocError>
+        ensures ok { OnOk result (AppendsReply session_protocol self.old Item.end_of_input
+            out.old.items self.new out.new.items) }
+        ensures err { OnErr result (self.new ≡ self.old) }
+        ensures err_out { OnErr result (out.new.items ≡ out.old.items) }
+    {
+        if self.has_ended() {
             return Ok(());
         }
-        out.truncate(start);
-        write_refusal(out, "Memory")
+        out.reserve(MAX_SHORT_REPLY_LEN)?;
+        if let Some(mut gathering) = self.gathering.take() {
+            gathering.end();
+            self.gather(alloc, gathering, out);
+        }
+        Ok(())
+    }
+
+    // Carries a command out and appends its reply.
+    fn obey(&mut self, alloc: Global, command: Command<'_>, out: &mut Vec<u8>)
+        requires { vec_len out.old + MAX_SHORT_REPLY_LEN ≤ vec_capacity out.old }
+        ensures { AppendsStep (request_step (meaning_of command.entry) self.old)
+            out.old.items self.new out.new.items }
+    {
+        if self.perform(alloc, command, out).is_err() {
+            write_refusal(out, "Memory").unwrap();
+        }
     }
 
     // Carries a command out and appends its reply. An error says that an allocation failed: then
-    // the session is as it was, and `out` may have a part of a reply.
+    // the session and `out` are as they were.
     fn perform(
         &mut self,
         alloc: Global,
@@ -97,20 +142,22 @@ impl Session {
         out: &mut Vec<u8>,
     ) -> Result<(), AllocError>
         requires { vec_len out.old + MAX_SHORT_REPLY_LEN ≤ vec_capacity out.old }
-        ensures ok { OnOk result (out.new.items
-            ≡ out.old.items ++ (outcome_of (meaning_of command.entry) self.old).reply) }
-        ensures after { OnOk result
-            (self.new ≡ (outcome_of (meaning_of command.entry) self.old).state) }
+        ensures ok { OnOk result (AppendsStep (request_step (meaning_of command.entry) self.old)
+            out.old.items self.new out.new.items) }
         ensures err { OnErr result (self.new ≡ self.old) }
-        ensures err_out { OnErr result (StartsWith out.new.items out.old.items) }
-        ensures allocates { OnErr result (IsTrue (allocates (meaning_of command.entry))) }
+        ensures err_out { OnErr result (out.new.items ≡ out.old.items) }
+        ensures allocates { OnErr result ((request_step (meaning_of command.entry) self.old).failure
+            ≡ Some (refuses (codes "Memory") self.old)) }
         ensures capacity { vec_capacity out.old ≤ vec_capacity out.new }
     {
         match command {
             Command::Nothing => Ok(()),
             Command::Unknown => write_refusal(out, "K1"),
             Command::TooLong => write_refusal(out, "K2"),
-            Command::Zone(apex) => self.load_zone(alloc, apex, out),
+            Command::Zone(apex, lines) => {
+                self.gather(alloc, Gathering::new(alloc, apex, lines), out);
+                Ok(())
+            }
             Command::Add(record) => self.add_record(alloc, record, out),
             Command::Find(uri) => self.find(alloc, uri, out),
             Command::Quit => {
@@ -120,24 +167,75 @@ impl Session {
         }
     }
 
-    // `zone APEX 0`: loads a zone without records.
-    fn load_zone(&mut self, alloc: Global, apex: &[u8], out: &mut Vec<u8>) -> Result<(), AllocError>
+    // Takes more lines for a zone, or, where all are taken, loads it and appends the reply.
+    fn gather(&mut self, alloc: Global, gathering: Gathering, out: &mut Vec<u8>)
         requires { vec_len out.old + MAX_SHORT_REPLY_LEN ≤ vec_capacity out.old }
-        ensures ok { OnOk result
-            (out.new.items ≡ out.old.items ++ (zone_outcome apex.now self.old).reply) }
-        ensures after { OnOk result (self.new ≡ (zone_outcome apex.now self.old).state) }
-        ensures err { OnErr result (self.new ≡ self.old) }
-        ensures err_out { OnErr result (StartsWith out.new.items out.old.items) }
+        ensures done { AppendsStep (gathering_step gathering self.old)
+            out.old.items self.new out.new.items }
         ensures capacity { vec_capacity out.old ≤ vec_capacity out.new }
     {
-        let apex = match Name::from_text(alloc, apex, &Name::root(alloc)) {
-            Ok(apex) => apex,
-            Err(NameFault::Memory) => return Err(AllocError),
-            Err(fault) => return write_refusal(out, fault.code()),
-        };
-        let text = match read_zone(alloc, &[], &apex) {
+        if !gathering.is_complete() {
+            self.gathering = Some(gathering);
+            return;
+        }
+        self.gathering = None;
+        if self
+            .load_gathered(alloc, gathering.into_gathered(), out)
+            .is_err()
+        {
+            write_refusal(out, "Memory").unwrap();
+        }
+    }
+
+    // Loads the zone whose lines were taken, and appends the reply.
+    fn load_gathered(
+        &mut self,
+        alloc: Global,
+        gathered: Gathered,
+        out: &mut Vec<u8>,
+    ) -> Result<(), AllocError>
+        requires { vec_len out.old + MAX_SHORT_REPLY_LEN ≤ vec_capacity out.old }
+        ensures ok { OnOk result
+            (out.new.items ≡ out.old.items ++ (zone_outcome gathered self.old).reply) }
+        ensures after { OnOk result (self.new ≡ (zone_outcome gathered self.old).state) }
+        ensures err { OnErr result (self.new ≡ self.old) }
+        ensures err_out { OnErr result (out.new.items ≡ out.old.items) }
+        ensures allocates { OnErr result (IsTrue (keeps_lines gathered)) }
+        ensures capacity { vec_capacity out.old ≤ vec_capacity out.new }
+    {
+        match gathered {
+            Gathered::Lines(zone) => self.load_zone(alloc, &zone, out),
+            Gathered::BadApex(fault) => write_refusal(out, fault.code()),
+            Gathered::LongLine => write_refusal(out, "K2"),
+            Gathered::Lost => write_refusal(out, "Memory"),
+        }
+    }
+
+    // Loads the zone of a text.
+    fn load_zone(
+        &mut self,
+        alloc: Global,
+        zone: &ZoneLines,
+        out: &mut Vec<u8>,
+    ) -> Result<(), AllocError>
+        requires { vec_len out.old + MAX_SHORT_REPLY_LEN ≤ vec_capacity out.old }
+        ensures ok { OnOk result (out.new.items ≡ out.old.items
+            ++ (text_outcome (zone_of zone.now.text zone.now.apex) self.old).reply) }
+        ensures after { OnOk result
+            (self.new ≡ (text_outcome (zone_of zone.now.text zone.now.apex) self.old).state) }
+        ensures err { OnErr result (self.new ≡ self.old) }
+        ensures err_out { OnErr result (out.new.items ≡ out.old.items) }
+        ensures capacity { vec_capacity out.old ≤ vec_capacity out.new }
+    {
+        let text = match read_zone(alloc, zone.text(), zone.apex()) {
             Ok(text) => text,
-            Err(_) => return Err(AllocError),
+            Err(
+                ZoneFault {
+                    cause: ZoneCause::Memory,
+                    ..
+                },
+            ) => return Err(AllocError),
+            Err(fault) => return write_zone_refusal(out, fault.line, fault.code()),
         };
         match self.store.load(&text) {
             Ok(changed) => {
@@ -164,7 +262,7 @@ impl Session {
             (out.new.items ≡ out.old.items ++ (add_outcome text.now self.old).reply) }
         ensures after { OnOk result (self.new ≡ (add_outcome text.now self.old).state) }
         ensures err { OnErr result (self.new ≡ self.old) }
-        ensures err_out { OnErr result (StartsWith out.new.items out.old.items) }
+        ensures err_out { OnErr result (out.new.items ≡ out.old.items) }
         ensures capacity { vec_capacity out.old ≤ vec_capacity out.new }
     {
         let record = match read_record(alloc, text, &Name::root(alloc)) {
@@ -191,7 +289,7 @@ impl Session {
     fn find(&self, alloc: Global, uri: &[u8], out: &mut Vec<u8>) -> Result<(), AllocError>
         ensures ok { OnOk result
             (out.new.items ≡ out.old.items ++ (find_outcome uri.now self.now).reply) }
-        ensures err { OnErr result (StartsWith out.new.items out.old.items) }
+        ensures err { OnErr result (out.new.items ≡ out.old.items) }
         ensures capacity { vec_capacity out.old ≤ vec_capacity out.new }
     {
         let question = match Uri::parse(alloc, uri) {

@@ -2,6 +2,7 @@ use crate::command::MAX_LINE_LEN;
 // Sessions over streams of the tests' own.
 pub mod process;
 mod streams;
+mod zones;
 
 use self::streams::{Failing, Paper, Pieces, blank, replies, whole};
 use crate::serve::{Ended, MAX_READS, ServeFault, serve, serve_within};
@@ -102,7 +103,7 @@ fn each_line_has_its_reply(rt: HostRuntime) -> Result<(), Fail> {
             b"err K1\nerr K1\nerr K1\nerr K1\n",
         ),
         (
-            b"zone a.\nzone a. 1\nzone a. 0 0\nzone a. x\n",
+            b"zone a.\nzone a. 1048577\nzone a. 0 0\nzone a. x\n",
             b"err K1\nerr K1\nerr K1\nerr K1\n",
         ),
         (b"zone a. 000\n", b"ok zone 0 0 0 0\n"),

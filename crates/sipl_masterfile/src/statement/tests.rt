@@ -1,7 +1,7 @@
 use super::{Statement, read_statement};
 use crate::ZoneCause;
 use sipl_names::{Name, NameFault};
-use sipl_records::{Data, Record, Sequence, next_field};
+use sipl_records::{Data, Record, Sequence};
 use std::alloc::Global;
 use std::process::Abort;
 
@@ -13,10 +13,10 @@ fn name(rt: &impl Abort, alloc: Global, text: &[u8]) -> Name {
 // `last.example.com.`. A line that begins with a space is indented.
 fn read(rt: &impl Abort, alloc: Global, line: &[u8]) -> Result<Statement, ZoneCause> {
     let mut fields = Vec::new(alloc);
-    let mut rest = line;
-    while let Some((field, tail)) = next_field(rest) {
-        fields.push(field).expect(rt, "memory");
-        rest = tail;
+    for field in line.split(|octet| *octet == b' ') {
+        if !field.is_empty() {
+            fields.push(field).expect(rt, "memory");
+        }
     }
     let origin = name(rt, alloc, b"example.com.");
     let last = name(rt, alloc, b"last.example.com.");

@@ -1,7 +1,7 @@
 use Rattle.std.proofs.Common.{◌≡◌, true, false, ap, sym, ◌∙◌, rules}
 use Rattle.std.specs.List.{list_any}
 use Rattle.sipl_zonestore.proofs.Keys.{contains-is}
-use Rattle.sipl_zonestore.proofs.ChangedKeys.{append_key, keep_known, keep_same}
+use Rattle.sipl_zonestore.proofs.ChangedKeys.{among-none, append_key, keep_known, keep_same}
 use Rattle.sipl_zonestore.proofs.compare.push_if_changed.Goals as goal
 use Rattle.sipl_zonestore.proofs.compare.push_if_changed.Goals.{else-not-contains-via-then-not-contains+else-is_changed, else-not-contains-via-else-not-contains}
 
@@ -18,3 +18,7 @@ returns-else-not-contains c = λ before held. elim c.else-not-contains.branch [
       let known : c.contains.result ≡ true = search (rules, w.if-not-contains) in
       keep_known _ _ before _ _ c.in-Some.key held (sym c.in_ok-key.ensures ∙ c.in-Some.is) (sym (contains-is c.args.keys.now.items c.in-Some.key) ∙ ap (list_any _) (sym c.deref.ensures.value) ∙ sym c.contains.ensures.value ∙ known)
 ]
+
+-- a record in no set
+pub returns-in_default : goal.returns-in_default
+returns-in_default c = λ before held. held ∙ sym (among-none _ _ before _ (sym c.in_ok-key.ensures ∙ c.in_default.is))

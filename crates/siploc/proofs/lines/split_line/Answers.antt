@@ -1,4 +1,4 @@
-use Rattle.std.proofs.Common.{◌≡◌, ℕ, ◌+◌, ◌<◌, take, length, get_or, sym, subst, eq-eqb, arith}
+use Rattle.std.proofs.Common.{◌+◌, ◌<◌, take, length, get_or, sym, subst, eq-eqb, arith}
 use Rattle.std.proofs.lemmas.List.{take_rest}
 use Rattle.std.proofs.lemmas.Bool.{eqb-true}
 use Rattle.siploc.specs.Machine.{EndsLine}

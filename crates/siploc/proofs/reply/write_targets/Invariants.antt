@@ -1,12 +1,11 @@
-use Rattle.std.proofs.Common.{◌≡◌, ◌+◌, ◌≤◌, ◌++◌, drop, vec_capacity}
-use Rattle.std.specs.Io.{StartsWith}
+use Rattle.std.proofs.Common.{◌≡◌, ◌+◌, ◌-◌, ◌*◌, ◌≤◌, ◌++◌, drop, length, vec_len, vec_capacity}
 use Rattle.siploc.specs.ReplyText.{target_lines}
 use Rattle.siploc.proofs.reply.write_targets.Given as goal
 
--- the lines so far, and those of the targets left, are those of all
+-- the lines so far, and those of the targets left, are those of all, and there is space for these
 abbrev pub invariant-loop-target : goal.invariant-loop-target
 invariant-loop-target l =
     (l.number ≡ l.target-index + 1)
     × (l.out.items ++ target_lines l.number (drop l.target-index l.targets) ≡ l.fn.out.items ++ target_lines 1 l.targets)
-    × StartsWith l.out.items l.fn.out.items
+    × (vec_len l.out + 94 * (length l.targets - l.target-index) + 29 ≤ vec_capacity l.out)
     × (vec_capacity l.fn.out ≤ vec_capacity l.out)

@@ -1,5 +1,4 @@
-use Rattle.std.proofs.Common.{◌≡◌, ◌+◌, ◌<◌, length, arith, false-eqb, ◌∙◌, ap}
-use Rattle.std.specs.Vec.{vec_len}
+use Rattle.std.proofs.Common.{◌≡◌, ◌+◌, ◌<◌, length, arith, false-eqb, ap}
 use Rattle.sipl_masterfile.specs.Entries.{entries_at}
 use Rattle.sipl_masterfile.proofs.Scanning.{next-read}
 use Rattle.sipl_masterfile.proofs.entries.Entries.next_entry.Goals as goal

@@ -1,0 +1,4 @@
+pub mod Ends
+pub mod Lasting
+pub mod Runs
+pub mod Steps

@@ -1,0 +1,4 @@
+pub mod Board
+pub mod BoardFault
+pub mod Events
+pub mod Holds

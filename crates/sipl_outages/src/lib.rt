@@ -1,0 +1,15 @@
+//! Holds and the clock: endpoints that are left out for a time after they failed (RFC 3263, 4.3),
+//! and the present time.
+//!
+//! Times are milliseconds that the caller passes in, from 0 to 2^52. Only a hold of an endpoint
+//! that is not held allocates.
+#![tactic(auto)]
+
+mod board;
+mod fault;
+pub mod laws;
+#[cfg(test)]
+mod tests;
+
+pub use board::{Board, MAX_HOLDS, MAX_TIME};
+pub use fault::BoardFault;

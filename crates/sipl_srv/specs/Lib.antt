@@ -1,0 +1,5 @@
+pub mod Offers
+pub mod Draws
+pub mod DrawsFault
+pub mod Order
+pub mod Shares

@@ -1,0 +1,12 @@
+-- What holds where a call fails.
+use Rattle.std.proofs.Common.{◌≡◌, true, is_err, Result, Ok, Err, OnErr}
+
+-- what is said of an error holds where there is one
+pub at_error : {T E : Type 0} (r : Result T E) (P : Type 0) → is_err r ≡ true → OnErr r P → P
+at_error (Ok x) P failed fact = cc
+at_error (Err e) P failed fact = fact
+
+-- two facts of an error give a third
+pub on_err_both : {T E P Q R : Type 0} (r : Result T E) → (P → Q → R) → OnErr r P → OnErr r Q → OnErr r R
+on_err_both (Ok x) both first second = tt
+on_err_both (Err e) both first second = both first second
