@@ -1,5 +1,5 @@
 -- Sets of records (RFC 2181, 5).
-use Rattle.std.specs.Prelude.{Bool, true, false, ◌&&◌, List, [], ◌∷◌, Option, Some, option_map, if◌then◌else◌, ◌==◌}
+use Rattle.std.specs.Prelude.{Bool, true, false, ◌&&◌, ◌||◌, List, [], ◌∷◌, Option, Some, option_map, is_some, if◌then◌else◌, ◌==◌}
 use Rattle.std.specs.Option.{option_map_or}
 use Rattle.sipl_names.specs.Labels.{same_name}
 use Rattle.sipl_records.specs.declared.data.Data.{Data}
@@ -41,6 +41,17 @@ key_of r = option_map (λ kind. record { name = r.owner; kind = kind }) (kind_of
 -- whether two records are in one set: equal owners, and data of one kind
 abbrev pub shares_set : Record → Record → Bool
 shares_set a b = same_name a.owner b.owner && has_same_kind a.value b.value
+
+-- whether the data are of a kind
+abbrev pub has_some_kind : Data → Bool
+has_some_kind value = is_some (kind_of value)
+
+-- RFC 1034, 3.6.2, and RFC 2181, 10.1: an alias has no other data beside it; so two records conflict
+-- that have one owner and some kind each, at least one of them an alias
+abbrev pub conflicts : Record → Record → Bool
+conflicts a b =
+    same_name a.owner b.owner && has_some_kind a.value && has_some_kind b.value
+    && (has_kind Alias a.value || has_kind Alias b.value)
 
 -- RFC 2181, 5: the data of one owner and kind, in the order of the records
 abbrev pub set_of : List Record → Key → List Data

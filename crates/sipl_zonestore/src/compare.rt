@@ -1,56 +1,48 @@
 //! The keys whose sets an edit changes.
-ghost use Rattle.std.specs.Prelude.{◌≡◌, ◌<◌, List, [], ◌∷◌, ◌++◌, length, MatchOption, IfSome, IfOk, OnOk, option_to_list};
-ghost use Rattle.sipl_records.specs.declared.record.Record.{Record};
-ghost use Rattle.sipl_records.specs.Sets.{set_of, key_of};
-ghost use Rattle.sipl_zonestore.specs.Store.{records_after_load, records_within};
-ghost use Rattle.sipl_zonestore.specs.Changes.{changed_keys, changed_among, is_changed};
+ghost use Rattle.std.specs.Prelude.{◌≡◌, IfOk, option_to_list};
+ghost use Rattle.sipl_records.specs.Sets.{key_of};
 
-use sipl_masterfile::ZoneText;
+use crate::sets::SetTable;
 use sipl_names::Name;
 use sipl_records::{Data, Key, Record};
 use std::alloc::{AllocError, Global};
 
-// The keys of the sets that loading the zone into the records changes.
-pub(crate) fn changed_by_load(
-    alloc: Global,
-    zone: &ZoneText,
-    records: &[Record],
-) -> Result<Vec<Key>, AllocError>
-    ensures { IfOk result
-        (λ keys. keys.items ≡ changed_keys records.now (records_after_load zone.now records.now)) }
+// The key of the set that the record is in, if it is in one.
+pub(crate) fn own_key(alloc: Global, record: &Record) -> Result<Vec<Key>, AllocError>
+    ensures { IfOk result (λ keys. keys.items ≡ option_to_list (key_of record.now)) }
 {
     let mut keys = Vec::new(alloc);
-    let text = zone.records();
-    push_changed_within(alloc, &mut keys, zone.apex(), records, records, text)?;
-    push_changed_within(alloc, &mut keys, zone.apex(), text, records, text)?;
-    Ok(keys)
-}
-
-// The key of the set that adding the record changes.
-pub(crate) fn changed_by_add(alloc: Global, new: &Record) -> Result<Vec<Key>, AllocError>
-    ensures { IfOk result (λ keys. keys.items ≡ option_to_list (key_of new.now)) }
-{
-    let mut keys = Vec::new(alloc);
-    if let Some(key) = new.key(alloc)? {
+    if let Some(key) = record.key(alloc)? {
         keys.push(key)?;
     }
     Ok(keys)
 }
 
-// Appends the keys of those records whose owners are within the apex, as `push_if_changed` does.
-fn push_changed_within(
+// The keys of the sets that change where the records within the apex are replaced by a text, whose
+// sets are `new`.
+pub(crate) fn changed_within(
+    alloc: Global,
+    apex: &Name,
+    records: &[Record],
+    text: &[Record],
+    old: &SetTable,
+    new: &SetTable,
+) -> Result<Vec<Key>, AllocError> {
+    let mut keys = Vec::new(alloc);
+    push_changed(alloc, &mut keys, apex, records, old, new)?;
+    push_added(alloc, &mut keys, text, old, new)?;
+    Ok(keys)
+}
+
+// Appends the keys of the old records within the apex whose sets differ.
+fn push_changed(
     alloc: Global,
     keys: &mut Vec<Key>,
     apex: &Name,
     records: &[Record],
-    old: &[Record],
-    new: &[Record],
-) -> Result<(), AllocError>
-    ensures { OnOk result ((before : List Record)
-        → keys.old.items ≡ changed_among old.now new.now before
-        → keys.new.items
-        ≡ changed_among old.now new.now (before ++ records_within apex.now records.now)) }
-{
+    old: &SetTable,
+    new: &SetTable,
+) -> Result<(), AllocError> {
     for record in records {
         if record.owner.is_within(apex) {
             push_if_changed(alloc, keys, record, old, new)?;
@@ -59,56 +51,54 @@ fn push_changed_within(
     Ok(())
 }
 
-// Appends the record's key, where it is not among the keys yet and its set differs between the old
-// records and the new ones.
+// Appends the keys of the text's records that had no set.
+fn push_added(
+    alloc: Global,
+    keys: &mut Vec<Key>,
+    text: &[Record],
+    old: &SetTable,
+    new: &SetTable,
+) -> Result<(), AllocError> {
+    for record in text {
+        push_if_added(alloc, keys, record, old, new)?;
+    }
+    Ok(())
+}
+
+// Appends the record's key, where the record is the first of its set and the set differs.
 fn push_if_changed(
     alloc: Global,
     keys: &mut Vec<Key>,
-    next: &Record,
-    old: &[Record],
-    new: &[Record],
-) -> Result<(), AllocError>
-    ensures { OnOk result ((before : List Record)
-        → keys.old.items ≡ changed_among old.now new.now before
-        → keys.new.items ≡ changed_among old.now new.now (before ++ next.now ∷ [])) }
-{
-    if let Some(key) = next.key(alloc)? {
-        if !keys.contains(&key) && is_changed(old, new, &key) {
+    record: &Record,
+    old: &SetTable,
+    new: &SetTable,
+) -> Result<(), AllocError> {
+    if let Some(key) = record.key(alloc)? {
+        let values = old.values(&key);
+        if is_first(&record.value, values) && *values != *new.values(&key) {
             keys.push(key)?;
         }
     }
     Ok(())
 }
 
-// Whether the key's set differs between the old records and the new ones.
-fn is_changed(old: &[Record], new: &[Record], key: &Key) -> bool
-    ensures { result ≡ is_changed old.now new.now key.now }
-{
-    let mut left = old;
-    let mut right = new;
-    while let Some((value, rest)) = first_of(left, key) {
-        match first_of(right, key) {
-            Some((other, others)) if *value == *other => right = others,
-            _ => return true,
+// Appends the record's key, where the record is the first of its set and the key had no set.
+fn push_if_added(
+    alloc: Global,
+    keys: &mut Vec<Key>,
+    record: &Record,
+    old: &SetTable,
+    new: &SetTable,
+) -> Result<(), AllocError> {
+    if let Some(key) = record.key(alloc)? {
+        if old.values(&key).is_empty() && is_first(&record.value, new.values(&key)) {
+            keys.push(key)?;
         }
-        left = rest;
     }
-    first_of(right, key).is_some()
+    Ok(())
 }
 
-// The first datum of the key's set, and the records after it.
-fn first_of<'a>(records: &'a [Record], key: &Key) -> Option<(&'a Data, &'a [Record])>
-    ensures first { MatchOption result
-        (set_of records.now key.now ≡ [])
-        (λ first. set_of records.now key.now ≡ first.0.now ∷ set_of first.1.now key.now) }
-    ensures shorter { IfSome result (λ first. length first.1.now < length records.now) }
-{
-    let mut rest = records;
-    while let [record, tail @ ..] = rest {
-        if record.has_key(key) {
-            return Some((&record.value, tail));
-        }
-        rest = tail;
-    }
-    None
+// Whether the datum is the first of the set. No record is there twice, so one record of the set is.
+fn is_first(value: &Data, set: &[Data]) -> bool {
+    set.first().is_some_and(|first| *value == *first)
 }
