@@ -16,7 +16,7 @@ pub record Numbered : Type 0 where
 
 -- what always holds: the table has the sets of the records, and no number is above 2^52
 pub record IsIndexed (records : List Record) (sets : List NumberedSet) (next : ℕ) : Type 0 where
-  pub agrees : HasSets sets records
+  pub has_sets : HasSets sets records
   pub last : next ≤ 2 ^ 52 + 1
 
 -- the records become these, unless too few numbers are left

@@ -1,6 +1,14 @@
 //! The keys whose sets an edit changes.
-ghost use Rattle.std.specs.Prelude.{◌≡◌, IfOk, option_to_list};
+ghost use Rattle.std.specs.Prelude.{◌≡◌, [], ◌++◌, List, true, false, IfOk, OnOk};
+ghost use Rattle.std.specs.List.{list_all};
+ghost use Rattle.std.specs.Option.{option_to_list};
+ghost use Rattle.sipl_names.specs.Labels.{Labels, is_within};
+ghost use Rattle.sipl_records.specs.declared.record.Record.{Record};
 ghost use Rattle.sipl_records.specs.Sets.{key_of};
+ghost use Rattle.sipl_masterfile.specs.Zones.{has_repeats};
+ghost use Rattle.sipl_zonestore.specs.Store.{records_outside, records_within};
+ghost use Rattle.sipl_zonestore.specs.Changes.{changed_among, changed_keys};
+ghost use Rattle.sipl_zonestore.specs.SetTable.{HasSets, is_first, changed_in, added_in};
 
 use crate::sets::SetTable;
 use sipl_names::Name;
@@ -8,11 +16,11 @@ use sipl_records::{Data, Key, Record};
 use std::alloc::{AllocError, Global};
 
 // The key of the set that the record is in, if it is in one.
-pub(crate) fn own_key(alloc: Global, record: &Record) -> Result<Vec<Key>, AllocError>
-    ensures { IfOk result (λ keys. keys.items ≡ option_to_list (key_of record.now)) }
+pub(crate) fn own_key(alloc: Global, changed: &Record) -> Result<Vec<Key>, AllocError>
+    ensures { IfOk result (λ keys. keys.items ≡ option_to_list (key_of changed.now)) }
 {
     let mut keys = Vec::new(alloc);
-    if let Some(key) = record.key(alloc)? {
+    if let Some(key) = changed.key(alloc)? {
         keys.push(key)?;
     }
     Ok(keys)
@@ -27,7 +35,15 @@ pub(crate) fn changed_within(
     text: &[Record],
     old: &SetTable,
     new: &SetTable,
-) -> Result<Vec<Key>, AllocError> {
+) -> Result<Vec<Key>, AllocError>
+    requires distinct { has_repeats records.now ≡ false }
+    requires text_distinct { has_repeats text.now ≡ false }
+    requires within { list_all (λ r. is_within r.owner apex.now) text.now ≡ true }
+    requires sets { HasSets old.now records.now }
+    requires text_sets { HasSets new.now text.now }
+    ensures { IfOk result (λ keys. keys.items
+        ≡ changed_keys records.now (records_outside apex.now records.now ++ text.now)) }
+{
     let mut keys = Vec::new(alloc);
     push_changed(alloc, &mut keys, apex, records, old, new)?;
     push_added(alloc, &mut keys, text, old, new)?;
@@ -42,7 +58,13 @@ fn push_changed(
     records: &[Record],
     old: &SetTable,
     new: &SetTable,
-) -> Result<(), AllocError> {
+) -> Result<(), AllocError>
+    requires distinct { has_repeats records.now ≡ false }
+    requires sets { HasSets old.now records.now }
+    ensures { OnOk result ((text : List Record) → HasSets new.now text
+        → keys.old.items ≡ changed_among records.now text []
+        → keys.new.items ≡ changed_among records.now text (records_within apex.now records.now)) }
+{
     for record in records {
         if record.owner.is_within(apex) {
             push_if_changed(alloc, keys, record, old, new)?;
@@ -58,7 +80,15 @@ fn push_added(
     text: &[Record],
     old: &SetTable,
     new: &SetTable,
-) -> Result<(), AllocError> {
+) -> Result<(), AllocError>
+    requires distinct { has_repeats text.now ≡ false }
+    requires sets { HasSets new.now text.now }
+    ensures { OnOk result ((apex : Labels) (records : List Record) → HasSets old.now records
+        → list_all (λ r. is_within r.owner apex) text.now ≡ true
+        → keys.old.items ≡ changed_among records text.now (records_within apex records)
+        → keys.new.items ≡ changed_among records text.now
+        (records_within apex records ++ text.now)) }
+{
     for record in text {
         push_if_added(alloc, keys, record, old, new)?;
     }
@@ -69,13 +99,16 @@ fn push_added(
 fn push_if_changed(
     alloc: Global,
     keys: &mut Vec<Key>,
-    record: &Record,
+    next: &Record,
     old: &SetTable,
     new: &SetTable,
-) -> Result<(), AllocError> {
-    if let Some(key) = record.key(alloc)? {
+) -> Result<(), AllocError>
+    ensures { OnOk result
+        (keys.new.items ≡ keys.old.items ++ changed_in old.now new.now next.now) }
+{
+    if let Some(key) = next.key(alloc)? {
         let values = old.values(&key);
-        if is_first(&record.value, values) && *values != *new.values(&key) {
+        if is_first(&next.value, values) && *values != *new.values(&key) {
             keys.push(key)?;
         }
     }
@@ -86,12 +119,15 @@ fn push_if_changed(
 fn push_if_added(
     alloc: Global,
     keys: &mut Vec<Key>,
-    record: &Record,
+    next: &Record,
     old: &SetTable,
     new: &SetTable,
-) -> Result<(), AllocError> {
-    if let Some(key) = record.key(alloc)? {
-        if old.values(&key).is_empty() && is_first(&record.value, new.values(&key)) {
+) -> Result<(), AllocError>
+    ensures { OnOk result
+        (keys.new.items ≡ keys.old.items ++ added_in old.now new.now next.now) }
+{
+    if let Some(key) = next.key(alloc)? {
+        if old.values(&key).is_empty() && is_first(&next.value, new.values(&key)) {
             keys.push(key)?;
         }
     }
@@ -99,6 +135,8 @@ fn push_if_added(
 }
 
 // Whether the datum is the first of the set. No record is there twice, so one record of the set is.
-fn is_first(value: &Data, set: &[Data]) -> bool {
-    set.first().is_some_and(|first| *value == *first)
+fn is_first(value: &Data, values: &[Data]) -> bool
+    ensures { result ≡ is_first value.now values.now }
+{
+    values.first().is_some_and(|first| *value == *first)
 }

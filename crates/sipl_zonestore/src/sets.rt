@@ -1,9 +1,10 @@
 //! The record sets of a store (RFC 2181, 5) by their keys, with their numbers.
-ghost use Rattle.std.specs.Prelude.{◌≡◌, [], true, not, IfSome, MatchOption, OnOk, OnErr, if◌then◌else◌, ◌↔◌, ◌≢◌, IsTrue};
+ghost use Rattle.std.specs.Prelude.{◌≡◌, [], false, OnOk, OnErr, if◌then◌else◌};
+ghost use Rattle.std.specs.List.{position_from};
 ghost use Rattle.sipl_names.specs.Labels.{is_within};
 ghost use Rattle.sipl_records.specs.declared.record.Key.{Key};
 ghost use Rattle.sipl_records.specs.Sets.{same_key};
-ghost use Rattle.sipl_zonestore.specs.SetTable.{content_of, no_content, pushed, without, renumbered};
+ghost use Rattle.sipl_zonestore.specs.SetTable.{content_of, no_content, has_set, pushed, without, renumbered};
 
 use sipl_names::Name;
 use sipl_records::{Data, Key};
@@ -58,8 +59,8 @@ impl SetTable {
     pub(crate) fn values(&self, key: &Key) -> &[Data]
         ensures { result.now ≡ (content_of self.now key.now).values }
     {
-        match self.sets.iter().find(|set| set.key == *key) {
-            Some(set) => &set.values,
+        match self.position(key) {
+            Some(place) => &self.sets[place].values,
             None => &[],
         }
     }
@@ -68,8 +69,8 @@ impl SetTable {
     pub(crate) fn number(&self, key: &Key) -> u64
         ensures { result ≡ (content_of self.now key.now).number }
     {
-        match self.sets.iter().find(|set| set.key == *key) {
-            Some(set) => set.number,
+        match self.position(key) {
+            Some(place) => self.sets[place].number,
             None => 0,
         }
     }
@@ -117,7 +118,7 @@ impl SetTable {
 
     // Numbers the key's set, if it has one, and returns whether it does. Does not allocate.
     pub(crate) fn set_number(&mut self, key: &Key, number: u64) -> bool
-        ensures found { IsTrue result ↔ ((content_of self.old key.now).values ≢ []) }
+        ensures found { result ≡ has_set self.old key.now }
         ensures numbered { (other : Key) → content_of self.new other
             ≡ (if same_key key.now other then renumbered number (content_of self.old other)
             else content_of self.old other) }
@@ -151,6 +152,7 @@ impl SetTable {
 
     // The place of the key's set.
     fn position(&self, key: &Key) -> Option<usize>
+        ensures { result ≡ position_from (λ s. same_key s.key key.now) 0 self.now }
     {
         self.sets.iter().position(|set| set.key == *key)
     }
