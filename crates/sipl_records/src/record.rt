@@ -32,7 +32,7 @@ impl Record {
     }
 
     /// Whether the two records cannot both be in a zone: an alias has no other data beside it at its
-    /// owner (RFC 1034, 3.6.2; RFC 2181, 10.1).
+    /// owner (RFC 1034, 3.6.2; RFC 2181, 10.1). Data of which nothing is kept are accepted beside it.
     pub fn conflicts_with(&self, other: &Record) -> bool
         ensures { result ≡ conflicts self.now other.now }
     {
