@@ -51,6 +51,14 @@ all-filter_weaker p p' q weaker (x ∷ xs) all =
       | inr left ↦ rw left rest
     ]
 
+-- each element that passes a test passes it
+pub all-kept : {X : Type 0} (q : X → Bool) (xs : List X) → list_all q (filter q xs) ≡ true
+all-kept q [] = refl
+all-kept q (x ∷ xs) = elim (cases_Bool (q x)) [
+  | inl kept ↦ rw kept (rw kept (all-kept q xs))
+  | inr left ↦ rw left (all-kept q xs)
+]
+
 pub any-filter : {X : Type 0} (p q : X → Bool) (xs : List X) → list_any p xs ≡ false → list_any p (filter q xs) ≡ false
 any-filter p q [] none = refl
 any-filter p q (x ∷ xs) none = elim (cases_Bool (q x)) [
@@ -63,6 +71,12 @@ pub none-at : {X : Type 0} (p : X → Bool) (xs : List X) → list_any p xs ≡ 
 none-at p [] none k d inside = absurd (omega arith)
 none-at p (x ∷ xs) none zero d inside = or_left (p x) (list_any p xs) none
 none-at p (x ∷ xs) none (suc k) d inside = none-at p xs (or_right (p x) (list_any p xs) none) k d (omega arith)
+
+-- each element passes, at each place
+pub all-at : {X : Type 0} (p : X → Bool) (xs : List X) (k : ℕ) (d : X) → k < length xs → list_all p xs ≡ true → p (get_or xs k d) ≡ true
+all-at p [] k d inside all = absurd (omega arith)
+all-at p (x ∷ xs) zero d inside all = and_first (p x) (list_all p xs) all
+all-at p (x ∷ xs) (suc k) d inside all = all-at p xs k d (omega arith) (and_second (p x) (list_all p xs) all)
 
 -- a count of those that pass another test is no greater
 pub count-filter-le : {X : Type 0} (p q : X → Bool) (xs : List X) → count_by p (filter q xs) ≤ count_by p xs

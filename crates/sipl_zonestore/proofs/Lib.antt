@@ -5,4 +5,9 @@ pub mod SameSets
 pub mod SetTables
 pub mod SetEdits
 pub mod ChangedKeys
+pub mod Scans
+pub mod TableSteps
 pub mod Numbering
+pub mod Replacing
+pub mod Consistency
+pub mod Runs

@@ -61,7 +61,7 @@ pub record IsKept (old new : List Record) (next : ℕ) (numbers : Key → ℕ) (
   pub same : set_of old key ≡ set_of new key
   pub number : number_after old new next numbers key ≡ numbers key
 
-taken : (old new : List Record) (next : ℕ) (numbers : Key → ℕ) (key : Key) (n : ℕ) → is_empty (set_of new key) ≡ false → position_from (λ other. same_key other key) next (numbered_keys old new) ≡ Some n → IsTaken old new next numbers key
+pub taken : (old new : List Record) (next : ℕ) (numbers : Key → ℕ) (key : Key) (n : ℕ) → is_empty (set_of new key) ≡ false → position_from (λ other. same_key other key) next (numbered_keys old new) ≡ Some n → IsTaken old new next numbers key
 taken old new next numbers key n filled found =
     let number : number_after old new next numbers key ≡ n = rw found refl in
     let low : next ≤ n = from-le (λ other. same_key other key) next n (numbered_keys old new) found in

@@ -43,8 +43,8 @@ from-some p i (x ∷ xs) some = elim (cases_Bool (p x)) [
 -- one more element
 pub from-append : {X : Type 0} (p : X → Bool) (i : ℕ) (xs : List X) (y : X) → position_from p i (xs ++ y ∷ []) ≡ option_or (position_from p i xs) (if p y then Some (i + length xs) else None)
 from-append p i [] y = elim (cases_Bool (p y)) [
-  | inl here ↦ rw (here, here) (ap (λ n. Some n) (omega arith))
-  | inr other ↦ rw (other, other) refl
+  | inl here ↦ rw here (ap (λ n. Some n) (omega arith))
+  | inr other ↦ rw other refl
 ]
 from-append p i (x ∷ xs) y = elim (cases_Bool (p x)) [
   | inl here ↦ rw here refl

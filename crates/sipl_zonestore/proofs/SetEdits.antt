@@ -1,7 +1,8 @@
 -- What edits of a table of record sets do to its look-ups.
-use Rattle.std.proofs.Common.{◌≡◌, ◌≢◌, ℕ, zero, suc, ◌+◌, ◌<◌, ◌≤◌, Bool, true, false, not, ◌&&◌, List, [], ◌∷◌, ◌++◌, length, get_or, set, Option, None, Some, if◌then◌else◌, cond, refl, ap, subst, sym, ◌∙◌, inl, inr, arith}
+use Rattle.std.proofs.Common.{◌≡◌, ◌≢◌, ℕ, zero, suc, ◌+◌, ◌<◌, ◌≤◌, Bool, true, false, not, ◌&&◌, List, [], ◌∷◌, ◌++◌, length, get_or, set, Option, None, Some, if◌then◌else◌, cond, refl, ap, subst, sym, ◌∙◌, inl, inr, arith, ◌==◌}
 use Rattle.std.specs.List.{filter, list_any, list_all, position_from}
 use Rattle.std.proofs.lemmas.Bool.{cases_Bool}
+use Rattle.std.proofs.lemmas.Bool.Decides.{nat_tests}
 use Rattle.sipl_names.specs.Labels.{is_within}
 use Rattle.sipl_records.specs.declared.data.Data.{Data}
 use Rattle.sipl_records.specs.declared.record.Key.{Key}
@@ -11,6 +12,26 @@ use Rattle.sipl_zonestore.specs.Numbers.{is_empty}
 use Rattle.sipl_zonestore.specs.SetTable.{NumberedSet, Content, no_content, carried, content_of, are_filled, pushed, without, renumbered, has_set}
 use Rattle.sipl_zonestore.proofs.Elements.{and_first, and_second}
 use Rattle.sipl_zonestore.proofs.SetTables.{IsAt, at-below, content-at, key-at, content-none, content-set, content-push, content-append, content-filter, any-filter_key, filled-at, filled-filter, is_empty-push}
+
+-- a set at a place, seen from outside
+pub seen : (items sets : List NumberedSet) (place : ℕ) (s t : NumberedSet) → items ≡ sets → s ≡ t → t ≡ get_or items place t → s ≡ get_or sets place s
+seen items sets place s t whole same here = same ∙ here ∙ (λ i. get_or (whole i) place (sym same i))
+
+-- a place within a list, as a count of its elements says it
+pub below_items : (items sets : List NumberedSet) (place n : ℕ) → items ≡ sets → n ≡ length items → place < length sets → place < n
+below_items items sets place n whole counted below = omega (arith, ap length whole)
+
+pub empty-len : (values : List Data) (n : ℕ) → n ≡ length values → (n == 0) ≡ is_empty values
+empty-len [] n counted = rw counted refl
+empty-len (value ∷ values) n counted = grind (arith, nat_tests)
+
+-- the set that a search found has the key
+pub key-here : (sets : List NumberedSet) (key : Key) (place : ℕ) (s : NumberedSet) → IsAt sets key place → s ≡ get_or sets place s → same_key key s.key ≡ true
+key-here sets key place s spot here = (same_key-Decides key s.key).1 (sym (ap (λ t. t.key) here ∙ key-at sets key place s spot))
+
+-- the set at a place has data
+pub filled-here : (items : List NumberedSet) (place : ℕ) (s t : NumberedSet) → s ≡ get_or items place t → place < length items → are_filled items ≡ true → is_empty s.values ≡ false
+filled-here items place s t here below filled = ap (λ u. is_empty u.values) here ∙ filled-at items place t below filled
 
 -- the set that a search found
 pub number-found : (sets : List NumberedSet) (key : Key) (place : ℕ) (s : NumberedSet) → IsAt sets key place → s ≡ get_or sets place s → are_filled sets ≡ true → s.number ≡ (content_of sets key).number

@@ -8,7 +8,7 @@ use Rattle.sipl_records.specs.Sets.{same_key}
 use Rattle.sipl_records.proofs.Keys.{same_key-Decides, same_key-refl}
 use Rattle.sipl_zonestore.specs.Numbers.{number_of, is_empty}
 use Rattle.sipl_zonestore.specs.SetTable.{NumberedSet, Content, no_content, carried, content_of, numbers_of, are_filled}
-use Rattle.sipl_zonestore.proofs.Positions.{from-le}
+use Rattle.sipl_zonestore.proofs.Positions.{from-le, none-from}
 use Rattle.sipl_zonestore.proofs.Elements.{or_left, or_right, and_first, and_second}
 
 -- the set at this place is the first of the key
@@ -47,7 +47,10 @@ key-at [] key place d spot = absurd spot
 key-at (s ∷ sets) key zero d spot = (same_key-Decides s.key key).0 spot
 key-at (s ∷ sets) key (suc place) d spot = key-at sets key place d spot.1
 
--- no set has the key
+-- no set has the key where a search finds none
+pub missing : (sets : List NumberedSet) (key : Key) → position_from (λ s. same_key s.key key) 0 sets ≡ None → list_any (λ s. same_key s.key key) sets ≡ false
+missing sets key none = none-from (λ s. same_key s.key key) 0 sets none
+
 pub content-none : (sets : List NumberedSet) (key : Key) → list_any (λ s. same_key s.key key) sets ≡ false → content_of sets key ≡ no_content
 content-none [] key none = refl
 content-none (s ∷ sets) key none =

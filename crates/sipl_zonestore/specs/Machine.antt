@@ -4,7 +4,7 @@ use Rattle.std.specs.Option.{option_or}
 use Rattle.sipl_records.specs.declared.record.Key.{Key}
 use Rattle.sipl_zonestore.specs.Store.{Zones, no_zones}
 use Rattle.sipl_zonestore.specs.Edits.{Edit, after, refusal_of}
-use Rattle.sipl_zonestore.specs.Numbers.{number_after, next_after, number_refusal}
+use Rattle.sipl_zonestore.specs.Numbers.{numbered_keys, number_after, next_after, number_refusal}
 use Rattle.sipl_zonestore.specs.declared.fault.StoreFault.{StoreFault}
 
 -- zones whose sets are numbered, with the next number
@@ -16,6 +16,10 @@ pub record NumberedZones : Type 0 where
 -- nothing is loaded, and no number but those before this one was taken
 abbrev pub numbered_from : ℕ → NumberedZones
 numbered_from next = record { zones = no_zones; numbers = λ key. 0; next = next }
+
+-- the keys whose sets an edit numbers
+abbrev pub taken_keys : Edit → NumberedZones → List Key
+taken_keys edit state = numbered_keys state.zones.records (after edit state.zones).records
 
 -- the state after an edit that is accepted
 abbrev pub after_accepted : Edit → NumberedZones → NumberedZones
