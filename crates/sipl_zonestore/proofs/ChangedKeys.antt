@@ -117,11 +117,16 @@ keys-part p p' q drops agrees (r ∷ records) = elim (cases_Bool (q r)) [
   | inr fails ↦ rw fails (left_out p p' (key_of r) r records (filter q records) refl (λ key own. drops r key own fails) (keys-part p p' q drops agrees records))
 ]
 
+-- a text within a zone has no set outside it
+pub text-none : (apex : List (List ℕ)) (text : List Record) (key : Key) → list_all (λ r. is_within r.owner apex) text ≡ true → is_within key.name apex ≡ false → set_of text key ≡ []
+text-none apex text key all outside =
+    ap (λ rs. set_of rs key) (sym (filter-all (λ r. is_within r.owner apex) text all)) ∙ set_of-filter_dropped (λ r. is_within r.owner apex) key (λ r of. rw (has_key-name key r of) outside) text
+
 -- a set outside a zone is that of the old records
 pub set-outside : (apex : List (List ℕ)) (old text : List Record) (key : Key) → list_all (λ r. is_within r.owner apex) text ≡ true → is_within key.name apex ≡ false → set_of (records_outside apex old ++ text) key ≡ set_of old key
 set-outside apex old text key all outside =
     let kept : set_of (records_outside apex old) key ≡ set_of old key = set_of-filter_kept (λ r. not (is_within r.owner apex)) key (λ r of. rw (has_key-name key r of, outside) refl) old in
-    let none : set_of text key ≡ [] = ap (λ rs. set_of rs key) (sym (filter-all (λ r. is_within r.owner apex) text all)) ∙ set_of-filter_dropped (λ r. is_within r.owner apex) key (λ r of. rw (has_key-name key r of) outside) text in
+    let none : set_of text key ≡ [] = text-none apex text key all outside in
     set_of-append (records_outside apex old) text key ∙ rw (kept, none) (append-nil (set_of old key))
 
 -- and one within it that of the text

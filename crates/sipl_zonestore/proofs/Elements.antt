@@ -1,5 +1,5 @@
 -- Tests of some element, and of each.
-use Rattle.std.proofs.Common.{◌≡◌, ℕ, ◌<◌, ◌≤◌, suc, zero, Bool, true, false, ◌&&◌, ◌||◌, List, [], ◌∷◌, length, get_or, refl, ap, sym, ◌∙◌, inl, inr, arith}
+use Rattle.std.proofs.Common.{◌≡◌, ℕ, ◌<◌, ◌≤◌, suc, zero, Bool, true, false, ◌&&◌, ◌||◌, List, [], ◌∷◌, length, if◌then◌else◌, get_or, refl, ap, sym, ◌∙◌, inl, inr, arith}
 use Rattle.std.specs.List.{filter, list_any, list_all, count_by}
 use Rattle.std.proofs.lemmas.Bool.{cases_Bool}
 use Rattle.std.proofs.lemmas.List.Elements.{filter_agree}
@@ -29,6 +29,13 @@ and_first false b h = h
 pub and_second : (a b : Bool) → (a && b) ≡ true → b ≡ true
 and_second true b h = h
 and_second false b h = let never : false ≡ true = h in cc
+
+-- what a choice is, where its test is known
+pub chosen-first : {X : Type 0} (b : Bool) (x y z : X) → z ≡ (if b then x else y) → b ≡ true → z ≡ x
+chosen-first b x y z is holds = is ∙ rw holds refl
+
+pub chosen-second : {X : Type 0} (b : Bool) (x y z : X) → z ≡ (if b then x else y) → b ≡ false → z ≡ y
+chosen-second b x y z is fails = is ∙ rw fails refl
 
 pub all-weaker : {X : Type 0} (p q : X → Bool) → ((x : X) → p x ≡ true → q x ≡ true) → (xs : List X) → list_all p xs ≡ true → list_all q xs ≡ true
 all-weaker p q weaker [] all = refl

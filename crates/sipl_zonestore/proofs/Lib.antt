@@ -9,5 +9,7 @@ pub mod Scans
 pub mod TableSteps
 pub mod Numbering
 pub mod Replacing
+pub mod Recorded
+pub mod Limits
 pub mod Consistency
 pub mod Runs

@@ -17,8 +17,9 @@ use Rattle.sipl_zonestore.specs.Store.{records_outside}
 use Rattle.sipl_zonestore.specs.Changes.{is_changed, changed_keys}
 use Rattle.sipl_zonestore.specs.Numbers.{is_empty, number_of, numbered_keys, number_after, next_after, number_refusal}
 use Rattle.sipl_zonestore.specs.SetTable.{NumberedSet, Content, no_content, carried, content_of, numbers_of, has_set, numbered_content, HasSets}
-use Rattle.sipl_zonestore.proofs.ChangedKeys.{set-outside, set-inside, stays}
+use Rattle.sipl_zonestore.proofs.ChangedKeys.{set-outside, set-inside, stays, text-none}
 use Rattle.sipl_zonestore.proofs.Numbering.{numbered-none_same, numbered-none_empty}
+use Rattle.sipl_zonestore.proofs.Elements.{chosen-first, chosen-second}
 use Rattle.sipl_zonestore.proofs.Positions.{from-none}
 use Rattle.sipl_zonestore.proofs.SetTables.{number_of-numbers_of}
 
@@ -56,9 +57,9 @@ pub replaced-sets : (apex : List (List ℕ)) (old text : List Record) (next : �
 replaced-sets apex old text next sets text_sets numbered replaced keys is key = within_case (is_within key.name apex) refl where
   within_case : (b : Bool) → is_within key.name apex ≡ b → (content_of replaced key).values ≡ set_of (records_outside apex old ++ text) key
   within_case true inside =
-      ap (λ (c : Content). c.values) (is.put key ∙ rw inside (is.taken key)) ∙ ap (λ (c : Content). c.values) (is.made key) ∙ sym (set-inside apex old text key inside)
+      ap (λ (c : Content). c.values) (chosen-first _ _ _ _ (is.put key) inside ∙ is.taken key) ∙ ap (λ (c : Content). c.values) (is.made key) ∙ sym (set-inside apex old text key inside)
   within_case false outside =
-      ap (λ (c : Content). c.values) (is.put key ∙ rw outside refl) ∙ is.has_sets key ∙ sym (set-outside apex old text key is.within outside)
+      ap (λ (c : Content). c.values) (chosen-second _ _ _ _ (is.put key) outside) ∙ is.has_sets key ∙ sym (set-outside apex old text key is.within outside)
 
 -- and the numbers that they take
 pub replaced-number : (apex : List (List ℕ)) (old text : List Record) (next : ℕ) (sets text_sets numbered replaced : List NumberedSet) (keys : List Key) → IsReplacement apex old text next sets text_sets numbered replaced keys → (key : Key) → (content_of replaced key).number ≡ number_after old (records_outside apex old ++ text) next (number_of (numbers_of sets)) key
@@ -73,11 +74,11 @@ replaced-number apex old text next sets text_sets numbered replaced keys is key 
   outside_empty false outside left = rw left (sym (number_of-numbers_of sets key))
   within_case : (b : Bool) → is_within key.name apex ≡ b → (content_of replaced key).number ≡ number_after old (records_outside apex old ++ text) next (number_of (numbers_of sets)) key
   within_case true inside =
-      ap (λ (c : Content). c.number) (is.put key ∙ rw inside (is.taken key))
+      ap (λ (c : Content). c.number) (chosen-first _ _ _ _ (is.put key) inside ∙ is.taken key)
       ∙ ap (λ ks. (carried (unwrap_or (position_from (λ other. same_key other key) next (filter (has_set text_sets) ks)) (content_of text_sets key).number) (content_of text_sets key).values).number) is.changed
       ∙ rw (filter-numbered apex old text sets text_sets is.within is.made, is.made key) (inside_empty (is_empty (set_of text key)) refl (ap is_empty (set-inside apex old text key inside)))
   within_case false outside =
-      ap (λ (c : Content). c.number) (is.put key ∙ rw outside refl)
+      ap (λ (c : Content). c.number) (chosen-second _ _ _ _ (is.put key) outside)
       ∙ outside_empty (is_empty (set_of (records_outside apex old ++ text) key)) outside refl
       ∙ ap (λ place. unwrap_or place (if is_empty (set_of (records_outside apex old ++ text) key) then 0 else number_of (numbers_of sets) key)) (sym (from-none (λ other. same_key other key) next (numbered_keys old (records_outside apex old ++ text)) (numbered-none_same old (records_outside apex old ++ text) key (stays apex old text key is.within outside))))
 
@@ -93,3 +94,9 @@ accepted-numbers old new next count counted few =
     let enough : nat_lt (2 ^ 52 + 1) (next + length (numbered_keys old new)) ≡ false = is_enough next count (length (numbered_keys old new)) counted few in rw enough refl where
       is_enough : (next count n : ℕ) → count ≡ n → next + count ≤ 2 ^ 52 + 1 → nat_lt (2 ^ 52 + 1) (next + n) ≡ false
       is_enough next count n counted few = grind (arith, nat_tests)
+
+-- the numbered sets of a text are within the zone too
+pub numbered-none : (apex : List (List ℕ)) (text : List Record) (sets text_sets numbered : List NumberedSet) (keys : List Key) (next : ℕ) → list_all (λ r. is_within r.owner apex) text ≡ true → ((key : Key) → content_of text_sets key ≡ carried (content_of sets key).number (set_of text key)) → ((key : Key) → content_of numbered key ≡ numbered_content text_sets keys next key) → (key : Key) → is_within key.name apex ≡ false → content_of numbered key ≡ no_content
+numbered-none apex text sets text_sets numbered keys next all made taken key outside =
+    let none : (content_of text_sets key).values ≡ [] = ap (λ (c : Content). c.values) (made key) ∙ text-none apex text key all outside in
+    taken key ∙ ap (carried (unwrap_or (position_from (λ other. same_key other key) next (filter (has_set text_sets) keys)) (content_of text_sets key).number)) none

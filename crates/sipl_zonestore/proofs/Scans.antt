@@ -140,3 +140,7 @@ step-added old text sets new apex i r distinct has has' all inside here =
             ∙ choice (list_any (has_key key) old) (list_any (has_key key) (take i text)) (is_changed old text key) (λ none _. added-differs old text key none (any-at (has_key key) text i r inside here (own_key r key own)))
           in
           rw (has key, has' key, test) (among-step old text (records_within apex old ++ take i text) r key (list_any (has_key key) old || list_any (has_key key) (take i text)) own before)
+
+-- what one record's key adds
+pub changed_in-some : (old new : List NumberedSet) (r : Record) (key : Key) (b : Bool) → key_of r ≡ Some key → (is_first r.value (content_of old key).values && not (pointwise same_data (content_of old key).values (content_of new key).values)) ≡ b → changed_in old new r ≡ cond b (key ∷ []) []
+changed_in-some old new r key b own test = rw (own, test) refl

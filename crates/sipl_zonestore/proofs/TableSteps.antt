@@ -2,6 +2,7 @@
 use Rattle.std.proofs.Common.{◌≡◌, ℕ, zero, suc, ◌+◌, ◌^◌, ◌<◌, ◌≤◌, Bool, true, false, not, ◌&&◌, List, [], ◌∷◌, ◌++◌, length, take, get_or, Option, None, Some, if◌then◌else◌, cond, refl, ap, sym, ◌∙◌, inl, inr, arith, append-nil, length-append}
 use Rattle.std.specs.List.{filter, list_any, position_from, IsDistinct}
 use Rattle.std.specs.Option.{option_or, unwrap_or}
+use mir.Val.{bool_byte}
 use Rattle.std.proofs.lemmas.Bool.{cases_Bool}
 use Rattle.std.proofs.lemmas.List.{take_more}
 use Rattle.std.proofs.lemmas.List.Elements.{filter_more}
@@ -9,11 +10,11 @@ use Rattle.std.proofs.lemmas.Map.Keys.{apart_from_distinct}
 use Rattle.sipl_records.specs.declared.data.Data.{Data}
 use Rattle.sipl_records.specs.declared.record.Record.{Record}
 use Rattle.sipl_records.specs.declared.record.Key.{Key}
-use Rattle.sipl_records.specs.Sets.{has_key, set_of, same_key, key_of}
+use Rattle.sipl_records.specs.Sets.{has_key, set_of, same_data, same_key, key_of}
 use Rattle.sipl_records.proofs.Keys.{same_key-Decides, has_key-key_of, is_key}
 use Rattle.sipl_records.proofs.Sets.{set_of-append}
 use Rattle.sipl_zonestore.specs.Numbers.{is_empty}
-use Rattle.sipl_zonestore.specs.SetTable.{NumberedSet, Content, carried, content_of, pushed, renumbered, has_set, numbered_content}
+use Rattle.sipl_zonestore.specs.SetTable.{NumberedSet, Content, carried, content_of, pushed, renumbered, has_set, keys_left, numbered_content}
 use Rattle.sipl_zonestore.proofs.Elements.{any-filter}
 use Rattle.sipl_zonestore.proofs.Positions.{from-append, from-none}
 use Rattle.sipl_zonestore.proofs.SetTables.{is_empty-push}
@@ -95,3 +96,38 @@ taken-le p (key ∷ keys) (suc i) = elim (cases_Bool (p key)) [
   | inl kept ↦ rw kept (omega (arith, taken-le p keys i))
   | inr left ↦ rw left (taken-le p keys i)
 ]
+
+-- before the first key is numbered
+pub numbered-start : (sets : List NumberedSet) (next : ℕ) (key : Key) → content_of sets key ≡ numbered_content sets [] next key
+numbered-start [] next key = refl
+numbered-start (s ∷ sets) next key = elim (cases_Bool (same_key s.key key)) [
+  | inl here ↦ rw here (kept (is_empty s.values) refl)
+  | inr other ↦ rw other (numbered-start sets next key)
+] where
+  kept : (b : Bool) → is_empty s.values ≡ b → carried s.number s.values ≡ carried (carried s.number s.values).number s.values
+  kept true empty = rw empty refl
+  kept false filled = rw filled refl
+
+-- how many keys were numbered
+pub counted-next : (p : Key → Bool) (keys : List Key) (i : ℕ) (key : Key) (b : Bool) → i < length keys → key ≡ get_or keys i key → p key ≡ b → length (filter p (take (i + 1) keys)) ≡ length (filter p (take i keys)) + cond b 1 0
+counted-next p keys i key true inside here passes = rw (filter-next p keys i key inside here, passes) (length-append (filter p (take i keys)) (key ∷ []))
+counted-next p keys i key false inside here fails = rw (filter-next p keys i key inside here, fails) (length-append (filter p (take i keys)) [])
+
+is_empty-filter : (p : Data → Bool) (values : List Data) → not (is_empty (filter p values)) ≡ list_any p values
+is_empty-filter p [] = refl
+is_empty-filter p (value ∷ values) = elim (cases_Bool (p value)) [
+  | inl kept ↦ rw kept refl
+  | inr left ↦ rw left (is_empty-filter p values)
+]
+
+-- whether a set has data beside one
+pub keys_left-length : (sets : List NumberedSet) (r : Record) (key : Key) (b : Bool) → key_of r ≡ Some key → list_any (λ other. not (same_data r.value other)) (content_of sets key).values ≡ b → length (keys_left sets r) ≡ cond b 1 0
+keys_left-length sets r key b own test = rw (own, is_empty-filter (λ other. not (same_data r.value other)) (content_of sets key).values, test) (one b) where
+  one : (b : Bool) → length (cond b (key ∷ []) []) ≡ cond b 1 0
+  one true = refl
+  one false = refl
+
+-- a truth value as a number
+pub bool_byte-is : (b : Bool) → bool_byte b ≡ cond b 1 0
+bool_byte-is true = refl
+bool_byte-is false = refl

@@ -59,6 +59,12 @@ renumbered number content = carried number content.values
 abbrev pub has_set : List NumberedSet → Key → Bool
 has_set sets key = not (is_empty (content_of sets key).values)
 
+-- the key of a record, where its set has other data
+abbrev pub keys_left : List NumberedSet → Record → List Key
+keys_left sets r =
+    filter (λ key. not (is_empty (without r.value (content_of sets key)).values))
+    (option_to_list (key_of r))
+
 -- the content of a key once the sets of these keys take the numbers from this one on, in order
 abbrev pub numbered_content : List NumberedSet → List Key → ℕ → Key → Content
 numbered_content sets keys next key =

@@ -1,10 +1,11 @@
 //! The keys whose sets an edit changes.
-ghost use Rattle.std.specs.Prelude.{◌≡◌, [], ◌++◌, List, true, false, IfOk, OnOk};
+ghost use Rattle.std.specs.Prelude.{◌≡◌, [], ◌++◌, List, true, false, not, IfOk, OnOk};
 ghost use Rattle.std.specs.List.{list_all};
 ghost use Rattle.std.specs.Option.{option_to_list};
 ghost use Rattle.sipl_names.specs.Labels.{Labels, is_within};
 ghost use Rattle.sipl_records.specs.declared.record.Record.{Record};
-ghost use Rattle.sipl_records.specs.Sets.{key_of};
+ghost use Rattle.sipl_records.specs.Sets.{key_of, same_data};
+ghost use lib.Pointwise.{pointwise};
 ghost use Rattle.sipl_masterfile.specs.Zones.{has_repeats};
 ghost use Rattle.sipl_zonestore.specs.Store.{records_outside, records_within};
 ghost use Rattle.sipl_zonestore.specs.Changes.{changed_among, changed_keys};
@@ -108,7 +109,7 @@ fn push_if_changed(
 {
     if let Some(key) = next.key(alloc)? {
         let values = old.values(&key);
-        if is_first(&next.value, values) && *values != *new.values(&key) {
+        if is_first(&next.value, values) && is_other_set(values, new.values(&key)) {
             keys.push(key)?;
         }
     }
@@ -139,4 +140,11 @@ fn is_first(value: &Data, values: &[Data]) -> bool
     ensures { result ≡ is_first value.now values.now }
 {
     values.first().is_some_and(|first| *value == *first)
+}
+
+// Whether the sets differ.
+fn is_other_set(a: &[Data], b: &[Data]) -> bool
+    ensures { result ≡ not (pointwise same_data a.now b.now) }
+{
+    *a != *b
 }

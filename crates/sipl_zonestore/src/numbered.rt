@@ -9,11 +9,12 @@ ghost use Rattle.sipl_zonestore.specs.Store.{records_outside};
 ghost use Rattle.sipl_zonestore.specs.Edits.{records_without};
 ghost use Rattle.sipl_zonestore.specs.NumberedRecords.{IsReplaced};
 
-use crate::MAX_NUMBER;
 use crate::compare::{changed_within, own_key};
 use crate::edits::{copy_records, replace_records};
 use crate::fault::StoreFault;
-use crate::numbers::{check_numbers, count_numbered, number_sets, sets_of};
+use crate::numbers::{
+    check_numbers, count_numbered, number_sets, push_to_set, remove_from_set, sets_of,
+};
 use crate::sets::SetTable;
 use sipl_names::Name;
 use sipl_records::{Data, Key, Record, Sequence};
@@ -114,13 +115,9 @@ impl NumberedRecords {
         let keys = own_key(self.alloc, new)?;
         let copy = new.dup(self.alloc)?;
         self.records.reserve(1)?;
-        if let Some(key) = new.key(self.alloc)? {
-            check_numbers(self.next, 1)?;
-            let value = new.value.dup(self.alloc)?;
-            self.sets.push(self.alloc, key, self.next, value)?;
-            self.next += 1;
-        }
+        let next = push_to_set(self.alloc, &mut self.sets, self.next, new)?;
         self.records.push_reserved(copy);
+        self.next = next;
         Ok(Sequence::from_vec(keys))
     }
 
@@ -130,15 +127,9 @@ impl NumberedRecords {
         ensures { IsReplaced (records_without old.now self.old.records) self.old self.new result }
     {
         let keys = own_key(self.alloc, old)?;
-        if let Some(key) = old.key(self.alloc)? {
-            let is_shared = self.sets.values(&key).iter().any(|other| old.value != *other);
-            check_numbers(self.next, usize::from(is_shared))?;
-            self.sets.remove(&key, &old.value);
-            if self.sets.set_number(&key, self.next) {
-                self.next += 1;
-            }
-        }
+        let next = remove_from_set(self.alloc, &mut self.sets, self.next, old)?;
         self.records.retain(|record| *old != *record);
+        self.next = next;
         Ok(Sequence::from_vec(keys))
     }
 }
