@@ -13,3 +13,4 @@ pub mod Recorded
 pub mod Limits
 pub mod Consistency
 pub mod Runs
+pub mod Editing

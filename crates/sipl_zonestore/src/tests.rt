@@ -348,7 +348,8 @@ fn looks_at_data_are_counted(rt: HostRuntime) {
     let server1 = key(&rt, alloc, "server1.example.com.", Kind::Address4);
     let (number, set) = store.set(&server1);
     assert_eq!(rt; number, 3);
-    assert!(rt; *set == [Data::Address4(0xC000_0201), Data::Address4(0xC000_0203)]);
+    let values = [Data::Address4(0xC000_0201), Data::Address4(0xC000_0203)];
+    assert!(rt; *set == *values.as_slice());
     assert_eq!(rt; store.looks(), 1);
     let (number, set) = store.set(&key(&rt, alloc, "server1.example.com.", Kind::Address6));
     assert_eq!(rt; number, 0);

@@ -10,8 +10,8 @@ use Rattle.sipl_zonestore.specs.SetTable.{numbers_of}
 use Rattle.sipl_zonestore.proofs.Recorded.{taken_out, removed-sets, refused, refused-remove}
 use Rattle.sipl_zonestore.proofs.numbered.NumberedRecords.remove.Goals as goal
 
-pub invariant_of-self : goal.invariant_of-self
-invariant_of-self c =
+pub invariant_of-self-2 : goal.invariant_of-self-2
+invariant_of-self-2 c =
     let kept : c.retain.new.self.items ≡ records_without c.args.old.now c.self.inside.records.items = filter_same _ (λ (r : Record). not (same_record c.args.old.now r)) _ (λ x b f k. search (rules, same_record_is)) _ _ c.retain.ensures.filtered in
     record {
       has_sets = λ key. removed-sets c.self.inside.records.items c.args.old.now c.self.inside.next c.self.inside.sets c.remove_from_set.new.sets c.self.invariant.has_sets c.in_ok-next.ensures.content key ∙ ap (λ rs. set_of rs key) (sym kept);

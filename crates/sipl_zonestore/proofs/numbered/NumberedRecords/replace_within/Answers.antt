@@ -52,4 +52,4 @@ returns c =
         put = c.in_ok-replace_within.ensures.replaced;
       }
     in
-    rw (← c.self.view_is) (replaced c.args.apex.now c.self.inside.records.items c.args.text.now c.replace_records.new.records.items c.self.inside.next _ c.count_numbered-count.result c.self.inside.sets c.in_ok-sets.sets c.number_sets.new.sets c.replace_within.new.self c.in_ok-keys.keys.items is (c.replace_records.ensures ∙ (λ i. records_outside c.args.apex.now (c.in_ok-reserve.ensures.items i) ++ c.in_ok-copies.ensures i)) (c.count_numbered-count.ensures ∙ ap (λ keys. length (filter (has_set c.in_ok-sets.sets) keys)) c.deref-2.ensures.value) refl c.in_ok-check_numbers.ensures)
+    rw (c.from_vec.ensures, ← c.self.view_is) (replaced c.args.apex.now c.self.inside.records.items c.args.text.now c.replace_records.new.records.items c.self.inside.next _ c.count_numbered-count.result c.self.inside.sets c.in_ok-sets.sets c.number_sets.new.sets c.replace_within.new.self c.in_ok-keys.keys.items is (c.replace_records.ensures ∙ (λ i. records_outside c.args.apex.now (c.in_ok-reserve.ensures.items i) ++ c.in_ok-copies.ensures i)) (c.count_numbered-count.ensures ∙ ap (λ keys. length (filter (has_set c.in_ok-sets.sets) keys)) c.deref-2.ensures.value) refl c.in_ok-check_numbers.ensures)
