@@ -7,10 +7,14 @@ use Rattle.std.proofs.lemmas.Bool.{cases_Bool}
 use Rattle.std.proofs.lemmas.List.Elements.{filter_agree, filter-append, filter_more, filter_passes, filter_map-append, All-contains}
 use Rattle.std.proofs.lemmas.List.Folds.{list_any-append}
 use Rattle.std.proofs.lemmas.Map.Views.{Contains-from_any}
-use Rattle.sipl_names.specs.Labels.{is_within}
+use Rattle.sipl_names.specs.Labels.{same_name, is_within}
+use Rattle.sipl_names.proofs.SameName.{same_name_decides}
+use Rattle.sipl_records.specs.declared.data.Data.{Data}
+use Rattle.sipl_records.proofs.SameData.{same_data-Decides, same_record-Decides}
+use Rattle.sipl_zonestore.specs.Edits.{records_without}
 use Rattle.sipl_records.specs.declared.record.Record.{Record}
 use Rattle.sipl_records.specs.declared.record.Key.{Key}
-use Rattle.sipl_records.specs.Sets.{has_key, set_of, same_data, same_key, key_of}
+use Rattle.sipl_records.specs.Sets.{has_key, set_of, same_data, same_key, same_record, key_of}
 use Rattle.sipl_records.specs.Unique.{unique}
 use Rattle.sipl_records.proofs.Filters.{filter-none, filter-other, filter-all, list_any-filter}
 use Rattle.sipl_records.proofs.Keys.{same_key-Decides, same_key-refl, same_key-sym, is_key, has_key-key_of, key_of-name}
@@ -27,12 +31,25 @@ respects : (p : Key → Bool) (a b : Key) → same_key a b ≡ true → p a ≡ 
 respects p a b same = ap p ((same_key-Decides a b).0 same)
 
 -- a key is among those that pass a test which it passes itself where it is among all
-kept-any : (p : Key → Bool) (key : Key) → p key ≡ true → (keys : List Key) → list_any (λ other. same_key other key) (filter p keys) ≡ list_any (λ other. same_key other key) keys
+pub kept-any : (p : Key → Bool) (key : Key) → p key ≡ true → (keys : List Key) → list_any (λ other. same_key other key) (filter p keys) ≡ list_any (λ other. same_key other key) keys
 kept-any p key passes keys =
     list_any-filter (λ other. same_key other key) p (λ other fails. elim (cases_Bool (same_key other key)) [
       | inl same ↦ let never : true ≡ false = sym passes ∙ sym (respects p other key same) ∙ fails in cc
       | inr differs ↦ differs
     ]) keys
+
+-- and among none of them where it fails it
+pub failed-none : (p : Key → Bool) (key : Key) → p key ≡ false → (keys : List Key) → list_any (λ other. same_key other key) (filter p keys) ≡ false
+failed-none p key fails [] = refl
+failed-none p key fails (first ∷ keys) = elim (cases_Bool (p first)) [
+  | inl holds ↦
+      let other : same_key first key ≡ false = elim (cases_Bool (same_key first key)) [
+        | inl same ↦ let never : true ≡ false = sym holds ∙ respects p first key same ∙ fails in cc
+        | inr other ↦ other
+      ] in
+      rw (holds, other) (failed-none p key fails keys)
+  | inr left ↦ rw left (failed-none p key fails keys)
+]
 
 -- one more record without a key
 pub among-none : (old new before : List Record) (r : Record) → key_of r ≡ None → changed_among old new (before ++ r ∷ []) ≡ changed_among old new before
@@ -100,18 +117,30 @@ keys-part p p' q drops agrees (r ∷ records) = elim (cases_Bool (q r)) [
   | inr fails ↦ rw fails (left_out p p' (key_of r) r records (filter q records) refl (λ key own. drops r key own fails) (keys-part p p' q drops agrees records))
 ]
 
--- a set outside a zone stays as it is
-stays : (apex : List (List ℕ)) (old text : List Record) (key : Key) → list_all (λ r. is_within r.owner apex) text ≡ true → is_within key.name apex ≡ false → is_changed old (records_outside apex old ++ text) key ≡ false
-stays apex old text key all outside =
-    let kept : set_of (records_outside apex old) key ≡ set_of old key = set_of-filter_kept (λ r. not (is_within r.owner apex)) key (λ r of. rw (has_key-name key r of, outside) refl) old in
-    let none : set_of text key ≡ [] = ap (λ rs. set_of rs key) (sym (filter-all (λ r. is_within r.owner apex) text all)) ∙ set_of-filter_dropped (λ r. is_within r.owner apex) key (λ r of. rw (has_key-name key r of) outside) text in
-    rw (set_of-append (records_outside apex old) text key, kept, none, append-nil (set_of old key), same_set-refl (set_of old key)) refl
+-- a text within a zone has no set outside it
+pub text-none : (apex : List (List ℕ)) (text : List Record) (key : Key) → list_all (λ r. is_within r.owner apex) text ≡ true → is_within key.name apex ≡ false → set_of text key ≡ []
+text-none apex text key all outside =
+    ap (λ rs. set_of rs key) (sym (filter-all (λ r. is_within r.owner apex) text all)) ∙ set_of-filter_dropped (λ r. is_within r.owner apex) key (λ r of. rw (has_key-name key r of) outside) text
 
--- a set within it is that of the text
-of_text : (apex : List (List ℕ)) (old text : List Record) (key : Key) → is_within key.name apex ≡ true → is_changed old (records_outside apex old ++ text) key ≡ is_changed old text key
-of_text apex old text key inside =
+-- a set outside a zone is that of the old records
+pub set-outside : (apex : List (List ℕ)) (old text : List Record) (key : Key) → list_all (λ r. is_within r.owner apex) text ≡ true → is_within key.name apex ≡ false → set_of (records_outside apex old ++ text) key ≡ set_of old key
+set-outside apex old text key all outside =
+    let kept : set_of (records_outside apex old) key ≡ set_of old key = set_of-filter_kept (λ r. not (is_within r.owner apex)) key (λ r of. rw (has_key-name key r of, outside) refl) old in
+    let none : set_of text key ≡ [] = text-none apex text key all outside in
+    set_of-append (records_outside apex old) text key ∙ rw (kept, none) (append-nil (set_of old key))
+
+-- and one within it that of the text
+pub set-inside : (apex : List (List ℕ)) (old text : List Record) (key : Key) → is_within key.name apex ≡ true → set_of (records_outside apex old ++ text) key ≡ set_of text key
+set-inside apex old text key inside =
     let gone : set_of (records_outside apex old) key ≡ [] = set_of-filter_dropped (λ r. not (is_within r.owner apex)) key (λ r of. rw (has_key-name key r of, inside) refl) old in
-    rw (set_of-append (records_outside apex old) text key, gone) refl
+    set_of-append (records_outside apex old) text key ∙ rw gone refl
+
+-- so a set outside it stays as it is
+pub stays : (apex : List (List ℕ)) (old text : List Record) (key : Key) → list_all (λ r. is_within r.owner apex) text ≡ true → is_within key.name apex ≡ false → is_changed old (records_outside apex old ++ text) key ≡ false
+stays apex old text key all outside = rw (set-outside apex old text key all outside, same_set-refl (set_of old key)) refl
+
+of_text : (apex : List (List ℕ)) (old text : List Record) (key : Key) → is_within key.name apex ≡ true → is_changed old (records_outside apex old ++ text) key ≡ is_changed old text key
+of_text apex old text key inside = ap (λ set. not (pointwise same_data (set_of old key) set)) (set-inside apex old text key inside)
 
 both_within : (apex : List (List ℕ)) (old text : List Record) → filter (λ r. is_within r.owner apex) (old ++ (records_outside apex old ++ text)) ≡ records_within apex old ++ records_within apex text
 both_within apex old text =
@@ -147,22 +176,93 @@ pushed old r key = elim (cases_Bool (has_key key r)) [
   | inr fails ↦ rw (set_of-append old (r ∷ []) key, fails, append-nil (set_of old key), same_set-refl (set_of old key)) (sym fails ∙ has_key-key_of key r)
 ]
 
-own_changed : (old : List Record) (r : Record) (own : Option Key) → key_of r ≡ own → filter (λ key. is_key key own) (unique same_key (filter_map key_of (old ++ (old ++ r ∷ [])))) ≡ option_to_list own
-own_changed old r None is = filter-none (λ key. false) (λ key. refl) (unique same_key (filter_map key_of (old ++ (old ++ r ∷ []))))
-own_changed old r (Some key) is =
-    let keys : List Key = filter_map key_of (old ++ (old ++ r ∷ [])) in
-    let here : has_key key r ≡ true = has_key-key_of key r ∙ rw is (same_key-refl key) in
-    let last : list_any (has_key key) (old ++ r ∷ []) ≡ true = list_any-append (has_key key) old (r ∷ []) ∙ or_second (list_any (has_key key) old) _ (or_first (has_key key r) false here) in
-    let among : list_any (has_key key) (old ++ (old ++ r ∷ [])) ≡ true = list_any-append (has_key key) old (old ++ r ∷ []) ∙ or_second (list_any (has_key key) old) _ last in
-    filter_agree (same_key key) (λ other. same_key other key) (same_key-sym key) (unique same_key keys)
-    ∙ unique-filter same_key (λ other. same_key other key) (respects (λ other. same_key other key)) keys
-    ∙ one_key key keys
-    ∙ rw (list_any-filter_map key (old ++ (old ++ r ∷ [])), among) refl
+own_changed : (records : List Record) (own : Option Key) → ((key : Key) → own ≡ Some key → list_any (has_key key) records ≡ true) → filter (λ key. is_key key own) (unique same_key (filter_map key_of records)) ≡ option_to_list own
+own_changed records None there = filter-none (λ key. false) (λ key. refl) (unique same_key (filter_map key_of records))
+own_changed records (Some key) there =
+    filter_agree (same_key key) (λ other. same_key other key) (same_key-sym key) (unique same_key (filter_map key_of records))
+    ∙ unique-filter same_key (λ other. same_key other key) (respects (λ other. same_key other key)) (filter_map key_of records)
+    ∙ one_key key (filter_map key_of records)
+    ∙ rw (list_any-filter_map key records, there key refl) refl
+
+-- where only the set of one record changes, and the record is there before or after
+changed-own : (old new : List Record) (r : Record) → ((key : Key) → is_changed old new key ≡ is_key key (key_of r)) → ((key : Key) → key_of r ≡ Some key → list_any (has_key key) (old ++ new) ≡ true) → changed_keys old new ≡ option_to_list (key_of r)
+changed-own old new r only there =
+    filter_agree (is_changed old new) (λ key. is_key key (key_of r)) only (unique same_key (filter_map key_of (old ++ new))) ∙ own_changed (old ++ new) (key_of r) there
 
 -- adding a record changes its set, and no other
 pub changed-add : (old : List Record) (r : Record) → changed_keys old (old ++ r ∷ []) ≡ option_to_list (key_of r)
 changed-add old r =
-    filter_agree (is_changed old (old ++ r ∷ [])) (λ key. is_key key (key_of r)) (pushed old r) (unique same_key (filter_map key_of (old ++ (old ++ r ∷ [])))) ∙ own_changed old r (key_of r) refl
+    changed-own old (old ++ r ∷ []) r (pushed old r) (λ key own. list_any-append (has_key key) old (old ++ r ∷ []) ∙ or_second (list_any (has_key key) old) _ (list_any-append (has_key key) old (r ∷ []) ∙ or_second (list_any (has_key key) old) _ (or_first (has_key key r) false (has_key-key_of key r ∙ rw own (same_key-refl key)))))
+
+-- a list with a value differs from the one without it
+without-differs : (value : Data) (set : List Data) → list_any (same_data value) set ≡ true → pointwise same_data set (filter (λ other. not (same_data value other)) set) ≡ false
+without-differs value set some = elim (cases_Bool (pointwise same_data set (filter (λ other. not (same_data value other)) set))) [
+  | inr differs ↦ differs
+  | inl same ↦
+      let never : true ≡ false = sym some ∙ ap (list_any (same_data value)) (same_set-true set (filter (λ other. not (same_data value other)) set) same) ∙ none_left set in cc
+] where
+  none_left : (values : List Data) → list_any (same_data value) (filter (λ other. not (same_data value other)) values) ≡ false
+  none_left [] = refl
+  none_left (first ∷ values) = elim (cases_Bool (same_data value first)) [
+    | inl gone ↦ rw gone (none_left values)
+    | inr left ↦ rw left (rw left (none_left values))
+  ]
+
+-- the set of a record that is removed is without its data
+pub set_of-without : (r : Record) (records : List Record) (key : Key) → has_key key r ≡ true → set_of (records_without r records) key ≡ filter (λ other. not (same_data r.value other)) (set_of records key)
+set_of-without r [] key own = refl
+set_of-without r (first ∷ records) key own =
+    let rest : set_of (records_without r records) key ≡ filter (λ other. not (same_data r.value other)) (set_of records key) = set_of-without r records key own in
+    elim (cases_Bool (has_key key first)) [
+      | inl there ↦
+          let owners : same_name r.owner first.owner ≡ true = (same_name_decides r.owner first.owner).1 (has_key-name key r own ∙ sym (has_key-name key first there)) in
+          rw (owners, there) (data_case (same_data r.value first.value) there rest)
+      | inr elsewhere ↦ rw elsewhere (other_case (same_record r first) elsewhere rest)
+    ] where
+      data_case : (b : Bool) → has_key key first ≡ true → set_of (records_without r records) key ≡ filter (λ other. not (same_data r.value other)) (set_of records key) → set_of (cond (not b) (first ∷ records_without r records) (records_without r records)) key ≡ cond (not b) (first.value ∷ filter (λ other. not (same_data r.value other)) (set_of records key)) (filter (λ other. not (same_data r.value other)) (set_of records key))
+      data_case true there rest = rest
+      data_case false there rest = rw there (ap (λ set. first.value ∷ set) rest)
+      other_case : (b : Bool) → has_key key first ≡ false → set_of (records_without r records) key ≡ filter (λ other. not (same_data r.value other)) (set_of records key) → set_of (cond (not b) (first ∷ records_without r records) (records_without r records)) key ≡ filter (λ other. not (same_data r.value other)) (set_of records key)
+      other_case true elsewhere rest = rest
+      other_case false elsewhere rest = rw elsewhere rest
+
+-- and each other set stays
+pub set_of-others : (r : Record) (records : List Record) (key : Key) → has_key key r ≡ false → set_of (records_without r records) key ≡ set_of records key
+set_of-others r records key other =
+    set_of-filter_kept (λ first. not (same_record r first)) key (λ first there. elim (cases_Bool (same_record r first)) [
+      | inl same ↦ let never : true ≡ false = sym there ∙ ap (has_key key) (sym ((same_record-Decides r first).0 same)) ∙ other in cc
+      | inr apart ↦ rw apart refl
+    ]) records
+
+value-there : (r : Record) (records : List Record) (key : Key) → has_key key r ≡ true → list_any (same_record r) records ≡ true → list_any (same_data r.value) (set_of records key) ≡ true
+value-there r [] key own some = cc
+value-there r (first ∷ records) key own some = elim (cases_Bool (same_record r first)) [
+  | inl same ↦
+      let equal : r ≡ first = (same_record-Decides r first).0 same in
+      let there : has_key key first ≡ true = ap (has_key key) (sym equal) ∙ own in
+      rw there (or_first (same_data r.value first.value) _ ((same_data-Decides r.value first.value).1 (ap (λ (s : Record). s.value) equal)))
+  | inr other ↦ elim (cases_Bool (has_key key first)) [
+      | inl there ↦ rw there (or_second (same_data r.value first.value) _ (value-there r records key own (rw other at some)))
+      | inr elsewhere ↦ rw elsewhere (value-there r records key own (rw other at some))
+    ]
+]
+
+removed : (records : List Record) (r : Record) → list_any (same_record r) records ≡ true → (key : Key) → is_changed records (records_without r records) key ≡ is_key key (key_of r)
+removed records r some key = elim (cases_Bool (has_key key r)) [
+  | inl own ↦ rw (set_of-without r records key own, without-differs r.value (set_of records key) (value-there r records key own some)) (sym own ∙ has_key-key_of key r)
+  | inr other ↦ rw (set_of-others r records key other, same_set-refl (set_of records key)) (sym other ∙ has_key-key_of key r)
+]
+
+-- removing a record changes its set, and no other
+pub changed-remove : (records : List Record) (r : Record) → list_any (same_record r) records ≡ true → changed_keys records (records_without r records) ≡ option_to_list (key_of r)
+changed-remove records r some =
+    changed-own records (records_without r records) r (removed records r some) (λ key own. list_any-append (has_key key) records (records_without r records) ∙ or_first (list_any (has_key key) records) _ (record-there key (has_key-key_of key r ∙ rw own (same_key-refl key)) records some)) where
+      record-there : (key : Key) → has_key key r ≡ true → (rs : List Record) → list_any (same_record r) rs ≡ true → list_any (has_key key) rs ≡ true
+      record-there key own [] some = cc
+      record-there key own (first ∷ rs) some = elim (cases_Bool (same_record r first)) [
+        | inl same ↦ or_first (has_key key first) (list_any (has_key key) rs) (ap (has_key key) (sym ((same_record-Decides r first).0 same)) ∙ own)
+        | inr other ↦ or_second (has_key key first) (list_any (has_key key) rs) (record-there key own rs (rw other at some))
+      ]
 
 not_false : (b : Bool) → not b ≡ true → b ≡ false
 not_false true e = sym e
@@ -196,6 +296,14 @@ some_record old new key other = elim (cases_Bool (list_any (has_key key) (old ++
       absurd (other (set_of-none key old (or_left (list_any (has_key key) old) _ neither) ∙ sym (set_of-none key new (or_right (list_any (has_key key) old) _ neither))))
 ]
 
+-- a key whose set differs is among the changed keys
+pub changed-any : (old new : List Record) (key : Key) → is_changed old new key ≡ true → list_any (λ other. same_key other key) (changed_keys old new) ≡ true
+changed-any old new key differs =
+    kept-any (is_changed old new) key differs (unique same_key (filter_map key_of (old ++ new)))
+    ∙ list_any-unique same_key same_key-trans (filter_map key_of (old ++ new)) key
+    ∙ list_any-filter_map key (old ++ new)
+    ∙ some_record old new key (differs-true old new key differs)
+
 -- the changed keys are exactly those whose set differs
 pub changed_keys-exact : (old new : List Record) (key : Key) → Contains (changed_keys old new) key ↔ (set_of old key ≢ set_of new key)
 changed_keys-exact old new key =
@@ -208,17 +316,3 @@ changed_keys-exact old new key =
 pub changed_keys-once : (old new : List Record) → IsDistinct same_key (changed_keys old new)
 changed_keys-once old new =
     subst (λ keys. IsDistinct same_key keys) (sym (unique-filter same_key (is_changed old new) (respects (is_changed old new)) (filter_map key_of (old ++ new)))) (IsDistinct-unique same_key (filter (is_changed old new) (filter_map key_of (old ++ new))))
-
--- a further key is appended
-pub append_key : (old new before : List Record) (keys after : List Key) (r : Record) (key : Key) → keys ≡ changed_among old new before → key_of r ≡ Some key → list_any (λ other. same_key other key) keys ≡ false → is_changed old new key ≡ true → after ≡ keys ++ key ∷ [] → after ≡ changed_among old new (before ++ r ∷ [])
-append_key old new before keys after r key held own unknown differs after_is =
-    after_is ∙ ap (λ ks. ks ++ key ∷ []) held ∙ sym (among-push old new before r key own (ap (list_any (λ other. same_key other key)) (sym held) ∙ unknown) differs)
-
--- or it is among them
-pub keep_known : (old new before : List Record) (keys : List Key) (r : Record) (key : Key) → keys ≡ changed_among old new before → key_of r ≡ Some key → list_any (λ other. same_key other key) keys ≡ true → keys ≡ changed_among old new (before ++ r ∷ [])
-keep_known old new before keys r key held own known =
-    held ∙ sym (among-known old new before r key own (ap (list_any (λ other. same_key other key)) (sym held) ∙ known))
-
--- or its set stays
-pub keep_same : (old new before : List Record) (keys : List Key) (r : Record) (key : Key) → keys ≡ changed_among old new before → key_of r ≡ Some key → is_changed old new key ≡ false → keys ≡ changed_among old new (before ++ r ∷ [])
-keep_same old new before keys r key held own same = held ∙ sym (among-same old new before r key own same)

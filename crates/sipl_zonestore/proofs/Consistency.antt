@@ -1,23 +1,29 @@
 -- Accepted edits keep the store consistent.
-use Rattle.std.proofs.Common.{◌≡◌, ◌≢◌, ℕ, ◌+◌, ◌≤◌, Bool, true, false, not, ◌&&◌, ◌||◌, List, [], ◌∷◌, ◌++◌, Option, None, Some, if◌then◌else◌, get_or, cond, refl, ap, sym, ◌∙◌, inl, inr, nat_eq, nat_le, nat_lt, arith, length-append}
-use Rattle.std.specs.List.{filter, list_any, list_all, count_by, AllPairs}
+use Rattle.std.proofs.Common.{◌≡◌, ◌≢◌, ℕ, zero, suc, ◌+◌, ◌^◌, ◌<◌, ◌≤◌, Bool, true, false, not, ◌&&◌, ◌||◌, List, [], ◌∷◌, ◌++◌, length, Option, None, Some, if◌then◌else◌, get_or, cond, refl, ap, subst, sym, ◌∙◌, inl, inr, nat_eq, nat_le, nat_lt, arith, length-append}
+use Rattle.std.specs.List.{filter, list_any, list_all, count_by, AllPairs, All}
 use Rattle.std.proofs.lemmas.Bool.{cases_Bool}
-use Rattle.std.proofs.lemmas.Bool.Decides.{Decides-eqb, Decides-like, same_from_decides, nat_tests}
+use Rattle.std.proofs.lemmas.Bool.Decides.{nat_tests}
+use Rattle.std.proofs.lemmas.List.Elements.{All-nil, All-cons, All-append}
 use Rattle.std.proofs.lemmas.List.Folds.{list_any-append, list_all-append}
+use Rattle.std.proofs.lemmas.List.Kept.{AllPairs-cons, AllPairs-filter}
 use Rattle.std.proofs.lemmas.List.Quantifiers.{all_pairs_push}
-use Rattle.std.proofs.lemmas.List.Sums.{sum_by-append}
+use Rattle.std.proofs.lemmas.List.Sums.{sum_by-append, length-filter, count_by-le-length}
 use Rattle.sipl_names.specs.Labels.{same_name, is_within}
 use Rattle.sipl_names.proofs.SameName.{same_name_decides}
+use Rattle.sipl_records.specs.declared.kind.Kind.TheVariants.{Alias}
 use Rattle.sipl_records.specs.declared.record.Record.{Record}
 use Rattle.sipl_records.specs.declared.record.Key.{Key}
-use Rattle.sipl_records.specs.Sets.{same_record, key_of, shares_set}
-use Rattle.sipl_records.proofs.SameData.{same_record-sym}
+use Rattle.sipl_records.specs.Sets.{conflicts, has_kind, has_some_kind, same_record, key_of, shares_set}
 use Rattle.sipl_records.proofs.Keys.{same_name-sym, shares_set-Decides, shares_set-Some}
+use Rattle.sipl_records.proofs.SameData.{same_record-sym}
 use Rattle.sipl_masterfile.specs.Zones.{Zone, IsZone, has_repeats, sets_fit}
 use Rattle.sipl_zonestore.specs.declared.fault.StoreFault.{StoreFault}
-use Rattle.sipl_zonestore.specs.Store.{Zones, overlaps, is_covered, records_outside, apexes_after_load, records_after_load, after_load, load_refusal, after_add, add_refusal}
+use Rattle.sipl_zonestore.specs.Numbers.{IsNumbered, number_after, next_after, number_refusal}
+use Rattle.sipl_zonestore.specs.Store.{Zones, Store, number_in, overlaps, is_covered, records_outside, apexes_after_load, apexes_without, records_after_load}
+use Rattle.sipl_zonestore.specs.Edits.{Edit, load, unload, add, remove, after, refusal_of, records_without}
 use Rattle.sipl_zonestore.specs.Consistent.{IsConsistent}
-use Rattle.sipl_zonestore.proofs.Elements.{or_left, or_right, or_first, or_second, and_first, and_second, all-weaker, all-both, all-filter_weaker, any-filter, none-at, count-filter-le, count-same}
+use Rattle.sipl_zonestore.proofs.Numbering.{numbered-after}
+use Rattle.sipl_zonestore.proofs.Elements.{or_left, or_right, or_first, or_second, and_first, and_second, all-weaker, all-both, all-kept, all-filter_weaker, any-filter, none-at, count-filter-le, count-same}
 
 or_swapped : (a b : Bool) → (a || b) ≡ (b || a)
 or_swapped true true = refl
@@ -67,7 +73,7 @@ covered_new p apexes apex here = elim (cases_Bool (list_any (same_name apex) ape
   | inr fresh ↦ rw fresh (list_any-append p apexes (apex ∷ []) ∙ or_second (list_any p apexes) _ (or_first (p apex) false here))
 ]
 
-repeats-filter : (q : Record → Bool) (records : List Record) → has_repeats records ≡ false → has_repeats (filter q records) ≡ false
+pub repeats-filter : (q : Record → Bool) (records : List Record) → has_repeats records ≡ false → has_repeats (filter q records) ≡ false
 repeats-filter q [] distinct = refl
 repeats-filter q (r ∷ records) distinct =
     let rest : has_repeats (filter q records) ≡ false = repeats-filter q records (or_right (list_any (same_record r) records) (has_repeats records) distinct) in
@@ -195,23 +201,147 @@ fit_after_add records r below fits =
       one_count true = refl
       one_count false = refl
 
+and_swapped : (n : Bool) (a b x y : Bool) → (n && a && b && (x || y)) ≡ (n && b && a && (y || x))
+and_swapped true true true true true = refl
+and_swapped true true true true false = refl
+and_swapped true true true false true = refl
+and_swapped true true true false false = refl
+and_swapped true true false x y = refl
+and_swapped true false true x y = refl
+and_swapped true false false x y = refl
+and_swapped false a b x y = refl
+
+conflicts-sym : (a b : Record) → conflicts a b ≡ conflicts b a
+conflicts-sym a b =
+    rw (same_name-sym a.owner b.owner) (and_swapped (same_name b.owner a.owner) (has_some_kind a.value) (has_some_kind b.value) (has_kind Alias a.value) (has_kind Alias b.value))
+
+-- records that conflict have one owner
+conflicts-owner : (a b : Record) → same_name a.owner b.owner ≡ false → conflicts a b ≡ false
+conflicts-owner a b other = rw other refl
+
+-- records of two zones do not conflict
+other_zone : (apex : List (List ℕ)) (a b : Record) → is_within a.owner apex ≡ false → is_within b.owner apex ≡ true → conflicts a b ≡ false
+other_zone apex a b outside inside = elim (cases_Bool (same_name a.owner b.owner)) [
+  | inl same ↦ let never : true ≡ false = sym inside ∙ ap (λ name. is_within name apex) (sym ((same_name_decides a.owner b.owner).0 same)) ∙ outside in cc
+  | inr other ↦ conflicts-owner a b other
+]
+
+-- two lists, each of whose pairs are related, and the elements of one to those of the other
+pairs-append : {X : Type 0} (R : X → X → Type 0) (P Q : X → Bool) → ((x y : X) → P x ≡ true → Q y ≡ true → R x y) → (xs ys : List X) → list_all P xs ≡ true → list_all Q ys ≡ true → AllPairs R xs → AllPairs R ys → AllPairs R (xs ++ ys)
+pairs-append R P Q across [] ys passes passes' apart apart' = apart'
+pairs-append {X} R P Q across (x ∷ xs) ys passes passes' apart apart' =
+    let here : P x ≡ true = and_first (P x) (list_all P xs) passes in
+    let own : All (R x) xs = λ k d inside. apart 0 (suc k) d (omega arith) (omega arith) in
+    let rest : AllPairs R (xs ++ ys) = pairs-append R P Q across xs ys (and_second (P x) (list_all P xs) passes) passes' (λ i j d below inside. apart (suc i) (suc j) d (omega arith) (omega arith)) apart' in
+    AllPairs-cons R x (xs ++ ys) (All-append (R x) xs ys own (related x here ys passes')) rest where
+      related : (x : X) → P x ≡ true → (ys : List X) → list_all Q ys ≡ true → All (R x) ys
+      related x here [] all = All-nil (R x)
+      related x here (y ∷ ys) all = All-cons (R x) y ys (across x y here (and_first (Q y) (list_all Q ys) all)) (related x here ys (and_second (Q y) (list_all Q ys) all))
+
+-- no record conflicts with one of another zone
+aliases_after_load : (apex : List (List ℕ)) (records text : List Record) → list_all (λ r. is_within r.owner apex) text ≡ true → AllPairs (λ a b. conflicts a b ≡ false) records → AllPairs (λ a b. conflicts a b ≡ false) text → AllPairs (λ a b. conflicts a b ≡ false) (records_outside apex records ++ text)
+aliases_after_load apex records text all apart apart' =
+    pairs-append (λ a b. conflicts a b ≡ false) (λ r. not (is_within r.owner apex)) (λ r. is_within r.owner apex) (λ a b outside inside. other_zone apex a b (was_false _ outside) inside) (records_outside apex records) text (all-kept (λ r. not (is_within r.owner apex)) records) all (AllPairs-filter (λ a b. conflicts a b ≡ false) (λ r. not (is_within r.owner apex)) records apart) apart' where
+      was_false : (b : Bool) → not b ≡ true → b ≡ false
+      was_false true h = sym h
+      was_false false h = refl
+
+-- nor does one that is added
+aliases_after_add : (records : List Record) (r : Record) → list_any (conflicts r) records ≡ false → AllPairs (λ a b. conflicts a b ≡ false) records → AllPairs (λ a b. conflicts a b ≡ false) (records ++ r ∷ [])
+aliases_after_add records r none apart =
+    all_pairs_push (λ a b. conflicts a b ≡ false) records r apart (λ k d inside. conflicts-sym (get_or records k d) r ∙ none-at (conflicts r) records none k d inside)
+
+-- what is covered by a zone that stays is covered
+covered_by_others : (apex owner : List (List ℕ)) (apexes : List (List (List ℕ))) → is_within owner apex ≡ false → is_covered apexes owner ≡ true → is_covered (apexes_without apex apexes) owner ≡ true
+covered_by_others apex owner [] outside some = some
+covered_by_others apex owner (first ∷ apexes) outside some = elim (cases_Bool (same_name apex first)) [
+  | inl same ↦
+      let apart : is_within owner first ≡ false = ap (is_within owner) (sym ((same_name_decides apex first).0 same)) ∙ outside in
+      rw same (covered_by_others apex owner apexes outside (rw apart at some))
+  | inr other ↦ rw other (kept (is_within owner first) some)
+] where
+  kept : (b : Bool) → (b || is_covered apexes owner) ≡ true → (b || is_covered (apexes_without apex apexes) owner) ≡ true
+  kept true some = refl
+  kept false some = covered_by_others apex owner apexes outside some
+
+covered_after_unload : (apex : List (List ℕ)) (apexes : List (List (List ℕ))) (records : List Record) → list_all (λ (r : Record). is_covered apexes r.owner) records ≡ true → list_all (λ (r : Record). is_covered (apexes_without apex apexes) r.owner) (records_outside apex records) ≡ true
+covered_after_unload apex apexes records covered =
+    all-filter_weaker (λ (r : Record). is_covered apexes r.owner) (λ r. is_covered (apexes_without apex apexes) r.owner) (λ r. not (is_within r.owner apex)) (λ r out some. covered_by_others apex r.owner apexes (was_false _ out) some) records covered where
+      was_false : (b : Bool) → not b ≡ true → b ≡ false
+      was_false true h = sym h
+      was_false false h = refl
+
+-- sets of fewer records fit too
+fit-filter : (q : Record → Bool) (records : List Record) → sets_fit records ≡ true → sets_fit (filter q records) ≡ true
+fit-filter q records fits =
+    all-filter_weaker (λ r. nat_le (count_by (shares_set r) records) 32) (λ r. nat_le (count_by (shares_set r) (filter q records)) 32) q (λ r kept fit. fewer _ _ (count-filter-le (shares_set r) q records) fit) records fits where
+      fewer : (m n : ℕ) → m ≤ n → nat_le n 32 ≡ true → nat_le m 32 ≡ true
+      fewer m n less fit = grind (arith, nat_tests)
+
+-- and there are no more of them
+filter-limit : (q : Record → Bool) (records : List Record) (max_records : ℕ) → length records ≤ max_records → length (filter q records) ≤ max_records
+filter-limit q records max_records below = omega (arith, length-filter q records, count_by-le-length q records)
+
 few : (n max_records : ℕ) → nat_lt max_records n ≡ false → n ≤ max_records
 few n max_records not_more = grind (arith, nat_tests)
 
 still_few : (m n max_records : ℕ) → m ≡ n + 1 → nat_le max_records n ≡ false → m ≤ max_records
 still_few m n max_records one_longer below = grind (arith, nat_tests)
 
-pub consistent-new : (max_records : ℕ) → IsConsistent (record { zones = record { apexes = []; records = [] }; max_records = max_records })
-consistent-new max_records = record {
+-- what always holds of zones of at most this many records
+pub record AreConsistent (max_records : ℕ) (zones : Zones) : Type 0 where
+  pub apart : AllPairs (λ a b. overlaps a b ≡ false) zones.apexes
+  pub apexes_distinct : AllPairs (λ a b. a ≢ b) zones.apexes
+  pub covered : list_all (λ (r : Record). is_covered zones.apexes r.owner) zones.records ≡ true
+  pub records_distinct : has_repeats zones.records ≡ false
+  pub sets_fit : sets_fit zones.records ≡ true
+  pub aliases : AllPairs (λ a b. conflicts a b ≡ false) zones.records
+  pub limit : length zones.records ≤ max_records
+
+pub consistent-zones : (store : Store) → IsConsistent store → AreConsistent store.max_records store.zones
+consistent-zones store held = record {
+  apart = held.apart;
+  apexes_distinct = held.apexes_distinct;
+  covered = held.covered;
+  records_distinct = held.records_distinct;
+  sets_fit = held.sets_fit;
+  aliases = held.aliases;
+  limit = held.limit;
+}
+
+-- a store of such zones, whose sets are numbered
+pub consistent-store : (store : Store) → AreConsistent store.max_records store.zones → IsNumbered store.zones.records (number_in store) store.next → IsConsistent store
+consistent-store store held numbered = record {
+  apart = held.apart;
+  apexes_distinct = held.apexes_distinct;
+  covered = held.covered;
+  records_distinct = held.records_distinct;
+  sets_fit = held.sets_fit;
+  aliases = held.aliases;
+  limit = held.limit;
+  numbered = numbered;
+}
+
+pub consistent-new : (max_records next : ℕ) → 1 ≤ next → next ≤ 2 ^ 52 → IsConsistent (record { zones = record { apexes = []; records = [] }; max_records = max_records; numbers = []; next = next; looks = 0 })
+consistent-new max_records next first last = record {
   apart = λ i j d below inside. absurd (omega arith);
   apexes_distinct = λ i j d below inside. absurd (omega arith);
   covered = refl;
   records_distinct = refl;
   sets_fit = refl;
+  aliases = λ i j d below inside. absurd (omega arith);
   limit = omega arith;
+  numbered = record { empty = λ key. (λ none. refl, λ empty. refl); below = λ key. omega arith; one_key = λ a b same some. absurd (some refl); last = omega arith };
 }
 
-pub consistent-load : (max_records : ℕ) (zone : Zone) (zones : Zones) → IsZone zone → IsConsistent (record { zones = zones; max_records = max_records }) → load_refusal max_records zone zones ≡ None → IsConsistent (record { zones = after_load zone zones; max_records = max_records })
+-- the zone that is loaded is one that a text gives
+abbrev pub IsGood : Edit → Type 0
+IsGood (load zone) = IsZone zone
+IsGood (unload apex) = Unit {0}
+IsGood (add r) = Unit {0}
+IsGood (remove r) = Unit {0}
+
+consistent-load : (max_records : ℕ) (zone : Zone) (zones : Zones) → IsZone zone → AreConsistent max_records zones → refusal_of max_records (load zone) zones ≡ None → AreConsistent max_records (after (load zone) zones)
 consistent-load max_records zone zones ok before refusal =
     let first = accepted _ _ _ refusal in
     let second = accepted _ _ _ first.1 in
@@ -224,26 +354,68 @@ consistent-load max_records zone zones ok before refusal =
       covered = list_all-append (λ (r : Record). is_covered apexes r.owner) (records_outside zone.apex zones.records) zone.records ∙ rw old new;
       records_distinct = repeats-append (records_outside zone.apex zones.records) zone.records (repeats-filter (λ r. not (is_within r.owner zone.apex)) zones.records before.records_distinct) ok.distinct (apart_from_text zone.apex zones.records zone.records ok.within);
       sets_fit = fit_after_load zone.apex zones.records zone.records ok.within before.sets_fit ok.fits;
+      aliases = aliases_after_load zone.apex zones.records zone.records ok.within before.aliases ok.aliases;
       limit = few _ _ second.0;
     }
 
--- the same of the apexes and the records that a load leaves
-pub consistent-loaded : (max_records : ℕ) (zone : Zone) (zones : Zones) (apexes : List (List (List ℕ))) (records : List Record) → IsZone zone → IsConsistent (record { zones = zones; max_records = max_records }) → load_refusal max_records zone zones ≡ None → apexes ≡ apexes_after_load zone.apex zones.apexes → records ≡ records_after_load zone zones.records → IsConsistent (record { zones = record { apexes = apexes; records = records }; max_records = max_records })
-consistent-loaded max_records zone zones apexes records ok before refusal apexes_are records_are =
-    rw (apexes_are, records_are) (consistent-load max_records zone zones ok before refusal)
+consistent-unload : (max_records : ℕ) (apex : List (List ℕ)) (zones : Zones) → AreConsistent max_records zones → AreConsistent max_records (after (unload apex) zones)
+consistent-unload max_records apex zones before =
+    let outside : Record → Bool = λ r. not (is_within r.owner apex) in
+    record {
+      apart = AllPairs-filter (λ a b. overlaps a b ≡ false) (λ other. not (same_name apex other)) zones.apexes before.apart;
+      apexes_distinct = AllPairs-filter (λ a b. a ≢ b) (λ other. not (same_name apex other)) zones.apexes before.apexes_distinct;
+      covered = covered_after_unload apex zones.apexes zones.records before.covered;
+      records_distinct = repeats-filter outside zones.records before.records_distinct;
+      sets_fit = fit-filter outside zones.records before.sets_fit;
+      aliases = AllPairs-filter (λ a b. conflicts a b ≡ false) outside zones.records before.aliases;
+      limit = filter-limit outside zones.records max_records before.limit;
+    }
 
-pub consistent-add : (max_records : ℕ) (r : Record) (zones : Zones) → IsConsistent (record { zones = zones; max_records = max_records }) → add_refusal max_records r zones ≡ None → IsConsistent (record { zones = after_add r zones; max_records = max_records })
+consistent-add : (max_records : ℕ) (r : Record) (zones : Zones) → AreConsistent max_records zones → refusal_of max_records (add r) zones ≡ None → AreConsistent max_records (after (add r) zones)
 consistent-add max_records r zones before refusal =
     let first = accepted _ _ _ refusal in
     let second = accepted _ _ _ first.1 in
     let third = accepted _ _ _ second.1 in
     let fourth = accepted _ _ _ third.1 in
+    let fifth = accepted _ _ _ fourth.1 in
     let here : is_covered zones.apexes r.owner ≡ true = was_true _ first.0 in
     record {
       apart = before.apart;
       apexes_distinct = before.apexes_distinct;
       covered = list_all-append (λ (r : Record). is_covered zones.apexes r.owner) zones.records (r ∷ []) ∙ rw (before.covered, here) refl;
       records_distinct = repeats-append zones.records (r ∷ []) before.records_distinct refl (apart_from_one zones.records r second.0);
-      sets_fit = fit_after_add zones.records r third.0 before.sets_fit;
-      limit = still_few _ _ _ (length-append zones.records (r ∷ [])) fourth.0;
+      sets_fit = fit_after_add zones.records r fourth.0 before.sets_fit;
+      aliases = aliases_after_add zones.records r third.0 before.aliases;
+      limit = still_few _ _ _ (length-append zones.records (r ∷ [])) fifth.0;
     }
+
+consistent-remove : (max_records : ℕ) (r : Record) (zones : Zones) → AreConsistent max_records zones → AreConsistent max_records (after (remove r) zones)
+consistent-remove max_records r zones before =
+    let others : Record → Bool = λ other. not (same_record r other) in
+    record {
+      apart = before.apart;
+      apexes_distinct = before.apexes_distinct;
+      covered = all-filter_weaker (λ (r : Record). is_covered zones.apexes r.owner) (λ r. is_covered zones.apexes r.owner) others (λ r kept some. some) zones.records before.covered;
+      records_distinct = repeats-filter others zones.records before.records_distinct;
+      sets_fit = fit-filter others zones.records before.sets_fit;
+      aliases = AllPairs-filter (λ a b. conflicts a b ≡ false) others zones.records before.aliases;
+      limit = filter-limit others zones.records max_records before.limit;
+    }
+
+-- an edit that is accepted keeps zones consistent
+pub consistent-after : (max_records : ℕ) (edit : Edit) (zones : Zones) → IsGood edit → AreConsistent max_records zones → refusal_of max_records edit zones ≡ None → AreConsistent max_records (after edit zones)
+consistent-after max_records (load zone) zones good before refusal = consistent-load max_records zone zones good before refusal
+consistent-after max_records (unload apex) zones good before refusal = consistent-unload max_records apex zones before
+consistent-after max_records (add r) zones good before refusal = consistent-add max_records r zones before refusal
+consistent-after max_records (remove r) zones good before refusal = consistent-remove max_records r zones before
+
+abbrev Triple : Type 0
+Triple = List Record × (Key → ℕ) × ℕ
+
+-- a store whose edit was accepted, as its fields are then
+pub consistent-edited : (edit : Edit) (old new : Store) → IsGood edit → IsConsistent old → refusal_of old.max_records edit old.zones ≡ None → number_refusal old.zones.records (after edit old.zones).records old.next ≡ None → new.zones ≡ after edit old.zones → new.max_records ≡ old.max_records → new.next ≡ next_after old.zones.records (after edit old.zones).records old.next → ((key : Key) → number_in new key ≡ number_after old.zones.records (after edit old.zones).records old.next (number_in old) key) → IsConsistent new
+consistent-edited edit old new good held accepted enough zones limit next numbers =
+    let records : List Record = (after edit old.zones).records in
+    let all : IsNumbered (after edit old.zones).records (number_after old.zones.records (after edit old.zones).records old.next (number_in old)) (next_after old.zones.records (after edit old.zones).records old.next) = numbered-after old.zones.records (after edit old.zones).records old.next (number_in old) held.numbered enough in
+    let kept : IsNumbered new.zones.records (number_in new) new.next = subst (λ (p : Triple). IsNumbered p.0 p.1 p.2) (λ i. ((sym zones i).records, (λ key. sym (numbers key) i), sym next i)) all in
+    consistent-store new (rw (zones, limit) (consistent-after old.max_records edit old.zones good (consistent-zones old held) accepted)) kept

@@ -1,5 +1,5 @@
 -- Tests of some element, and of each.
-use Rattle.std.proofs.Common.{◌≡◌, ℕ, ◌<◌, ◌≤◌, suc, zero, Bool, true, false, ◌&&◌, ◌||◌, List, [], ◌∷◌, length, get_or, refl, ap, sym, ◌∙◌, inl, inr, arith}
+use Rattle.std.proofs.Common.{◌≡◌, ℕ, ◌<◌, ◌≤◌, suc, zero, Bool, true, false, ◌&&◌, ◌||◌, List, [], ◌∷◌, length, if◌then◌else◌, get_or, refl, ap, sym, ◌∙◌, inl, inr, arith}
 use Rattle.std.specs.List.{filter, list_any, list_all, count_by}
 use Rattle.std.proofs.lemmas.Bool.{cases_Bool}
 use Rattle.std.proofs.lemmas.List.Elements.{filter_agree}
@@ -30,6 +30,13 @@ pub and_second : (a b : Bool) → (a && b) ≡ true → b ≡ true
 and_second true b h = h
 and_second false b h = let never : false ≡ true = h in cc
 
+-- what a choice is, where its test is known
+pub chosen-first : {X : Type 0} (b : Bool) (x y z : X) → z ≡ (if b then x else y) → b ≡ true → z ≡ x
+chosen-first b x y z is holds = is ∙ rw holds refl
+
+pub chosen-second : {X : Type 0} (b : Bool) (x y z : X) → z ≡ (if b then x else y) → b ≡ false → z ≡ y
+chosen-second b x y z is fails = is ∙ rw fails refl
+
 pub all-weaker : {X : Type 0} (p q : X → Bool) → ((x : X) → p x ≡ true → q x ≡ true) → (xs : List X) → list_all p xs ≡ true → list_all q xs ≡ true
 all-weaker p q weaker [] all = refl
 all-weaker p q weaker (x ∷ xs) all =
@@ -51,6 +58,14 @@ all-filter_weaker p p' q weaker (x ∷ xs) all =
       | inr left ↦ rw left rest
     ]
 
+-- each element that passes a test passes it
+pub all-kept : {X : Type 0} (q : X → Bool) (xs : List X) → list_all q (filter q xs) ≡ true
+all-kept q [] = refl
+all-kept q (x ∷ xs) = elim (cases_Bool (q x)) [
+  | inl kept ↦ rw kept (rw kept (all-kept q xs))
+  | inr left ↦ rw left (all-kept q xs)
+]
+
 pub any-filter : {X : Type 0} (p q : X → Bool) (xs : List X) → list_any p xs ≡ false → list_any p (filter q xs) ≡ false
 any-filter p q [] none = refl
 any-filter p q (x ∷ xs) none = elim (cases_Bool (q x)) [
@@ -63,6 +78,12 @@ pub none-at : {X : Type 0} (p : X → Bool) (xs : List X) → list_any p xs ≡ 
 none-at p [] none k d inside = absurd (omega arith)
 none-at p (x ∷ xs) none zero d inside = or_left (p x) (list_any p xs) none
 none-at p (x ∷ xs) none (suc k) d inside = none-at p xs (or_right (p x) (list_any p xs) none) k d (omega arith)
+
+-- each element passes, at each place
+pub all-at : {X : Type 0} (p : X → Bool) (xs : List X) (k : ℕ) (d : X) → k < length xs → list_all p xs ≡ true → p (get_or xs k d) ≡ true
+all-at p [] k d inside all = absurd (omega arith)
+all-at p (x ∷ xs) zero d inside all = and_first (p x) (list_all p xs) all
+all-at p (x ∷ xs) (suc k) d inside all = all-at p xs k d (omega arith) (and_second (p x) (list_all p xs) all)
 
 -- a count of those that pass another test is no greater
 pub count-filter-le : {X : Type 0} (p q : X → Bool) (xs : List X) → count_by p (filter q xs) ≤ count_by p xs

@@ -12,7 +12,7 @@ use Rattle.sipl_records.proofs.Same.{same_key_decides}
 pub same_key-trans : (a b c : Key) → same_key a b ≡ true → same_key b c ≡ true → same_key a c ≡ true
 same_key-trans a b c ab bc = (same_key-Decides a c).1 ((same_key-Decides a b).0 ab ∙ (same_key-Decides b c).0 bc)
 
-derived : (a b : Key) → eq-value.it a b ≡ same_key a b
+pub derived : (a b : Key) → eq-value.it a b ≡ same_key a b
 derived a b = same_from_decides (eq-value.it a b) (same_key a b) (same_key_decides a b) (same_key-Decides a b)
 
 -- a search by `==`

@@ -1,6 +1,16 @@
 pub mod Elements
 pub mod Keys
+pub mod Positions
 pub mod SameSets
+pub mod SetTables
+pub mod SetEdits
 pub mod ChangedKeys
+pub mod Scans
+pub mod TableSteps
+pub mod Numbering
+pub mod Replacing
+pub mod Recorded
 pub mod Limits
 pub mod Consistency
+pub mod Runs
+pub mod Editing

@@ -1,0 +1,85 @@
+-- What an edit does to a store, from what it does to its records.
+use Rattle.std.proofs.Common.{◌≡◌, ◌≢◌, ℕ, ◌+◌, List, Option, None, Some, Result, Ok, Err, refl, ap, subst, sym, ◌∙◌}
+use Rattle.std.specs.Prelude.{OnOk, OnErr}
+use Rattle.std.specs.Option.{option_or}
+use Rattle.sipl_records.specs.declared.record.Record.{Record}
+use Rattle.sipl_records.specs.declared.record.Key.{Key}
+use Rattle.sipl_zonestore.specs.declared.fault.StoreFault.{StoreFault}
+use Rattle.sipl_zonestore.specs.declared.fault.StoreFault.TheVariants.{Memory}
+use Rattle.sipl_zonestore.specs.Store.{Zones, Store, number_in}
+use Rattle.sipl_zonestore.specs.Edits.{Edit, after, refusal_of}
+use Rattle.sipl_zonestore.specs.Changes.{changed_keys}
+use Rattle.sipl_zonestore.specs.Numbers.{number_after, next_after, number_refusal}
+use Rattle.sipl_zonestore.specs.NumberedRecords.{Numbered, IsReplaced}
+use Rattle.sipl_zonestore.specs.Edited.{IsEdited, store_refusal}
+use Rattle.sipl_zonestore.specs.Consistent.{IsConsistent}
+use Rattle.sipl_zonestore.proofs.Consistency.{IsGood, consistent-edited}
+
+-- the records of a store, with their numbers
+abbrev pub part : Store → Numbered
+part store = record { records = store.zones.records; numbers = store.numbers; next = store.next }
+
+second : (first second : Option StoreFault) (fault : StoreFault) → first ≡ None → second ≡ Some fault → option_or first second ≡ Some fault
+second None other fault none is = is
+second (Some first) other fault none is = cc
+
+second_none : (first second : Option StoreFault) → first ≡ None → second ≡ None → option_or first second ≡ None
+second_none None other none is = is
+second_none (Some first) other none is = cc
+
+first_some : (first second : Option StoreFault) (fault : StoreFault) → first ≡ Some fault → option_or first second ≡ Some fault
+first_some None other fault is = cc
+first_some (Some first) other fault is = is
+
+first_none : (first second : Option StoreFault) → option_or first second ≡ None → first ≡ None
+first_none None other none = refl
+first_none (Some first) other none = cc
+
+both_none : (first second : Option StoreFault) → option_or first second ≡ None → second ≡ None
+both_none None other none = none
+both_none (Some first) other none = cc
+
+-- an edit that the zones accept is what the records say
+pub edited : (edit : Edit) (old new : Store) (result : Result (List Key) StoreFault) → refusal_of old.max_records edit old.zones ≡ None → IsReplaced (after edit old.zones).records (part old) (part new) result → OnOk result (new.zones.apexes ≡ (after edit old.zones).apexes) → OnErr result (new.zones.apexes ≡ old.zones.apexes) → new.max_records ≡ old.max_records → new.looks ≡ old.looks → IsEdited edit old new result
+edited edit old new (Ok keys) accepted is apexes _ limit looks = record {
+  accepted = second_none (refusal_of old.max_records edit old.zones) (number_refusal old.zones.records (after edit old.zones).records old.next) accepted is.accepted;
+  after = λ i. record { apexes = apexes i; records = is.after i };
+  changed = is.changed ∙ ap (changed_keys old.zones.records) (sym is.after);
+  numbers = λ key. is.numbers key ∙ ap (λ records. number_after old.zones.records records old.next (number_in old) key) (sym is.after);
+  next = is.next ∙ ap (λ records. next_after old.zones.records records old.next) (sym is.after);
+  refused = tt;
+  unchanged = tt;
+  limit = limit;
+  looks = looks;
+}
+edited edit old new (Err fault) accepted is _ apexes limit looks = record {
+  accepted = tt;
+  after = tt;
+  changed = tt;
+  numbers = tt;
+  next = tt;
+  refused = λ some. second (refusal_of old.max_records edit old.zones) (number_refusal old.zones.records (after edit old.zones).records old.next) fault accepted (is.refused some);
+  unchanged = λ i. record { zones = record { apexes = apexes i; records = (is.unchanged i).records }; max_records = limit i; numbers = (is.unchanged i).numbers; next = (is.unchanged i).next; looks = looks i };
+  limit = limit;
+  looks = looks;
+}
+
+-- one that the zones refuse
+pub refused-edit : (edit : Edit) (store : Store) (fault : StoreFault) → refusal_of store.max_records edit store.zones ≡ Some fault → IsEdited edit store store (Err fault)
+refused-edit edit store fault why = record {
+  accepted = tt;
+  after = tt;
+  changed = tt;
+  numbers = tt;
+  next = tt;
+  refused = λ some. first_some (refusal_of store.max_records edit store.zones) (number_refusal store.zones.records (after edit store.zones).records store.next) fault why;
+  unchanged = refl;
+  limit = refl;
+  looks = refl;
+}
+
+-- a store is consistent after an edit
+pub consistent : (edit : Edit) (old new : Store) (result : Result (List Key) StoreFault) → IsGood edit → IsConsistent old → IsEdited edit old new result → IsConsistent new
+consistent edit old new (Ok keys) good held is =
+    consistent-edited edit old new good held (first_none (refusal_of old.max_records edit old.zones) _ is.accepted) (both_none (refusal_of old.max_records edit old.zones) (number_refusal old.zones.records (after edit old.zones).records old.next) is.accepted) is.after is.limit (is.next ∙ ap (λ (zones : Zones). next_after old.zones.records zones.records old.next) is.after) (λ key. is.numbers key ∙ ap (λ (zones : Zones). number_after old.zones.records zones.records old.next (number_in old) key) is.after)
+consistent edit old new (Err fault) good held is = subst IsConsistent (sym is.unchanged) held
