@@ -1,9 +1,9 @@
 -- The zone of a master file (RFC 1035, 5.1); entries are not supported yet.
-use Rattle.std.specs.Prelude.{◌≡◌, ℕ, ◌+◌, Bool, true, false, not, ◌||◌, List, [], ◌∷◌, Option, None, Some, Result, Ok, Err, count_by, nat_le, if◌then◌else◌, ◌==◌}
+use Rattle.std.specs.Prelude.{◌≡◌, ℕ, ◌+◌, Bool, true, false, not, ◌||◌, List, [], ◌∷◌, Option, None, Some, Result, Ok, Err, AllPairs, count_by, nat_le, if◌then◌else◌, ◌==◌}
 use Rattle.std.specs.List.{list_any, list_all}
 use Rattle.sipl_names.specs.Labels.{Octets, Labels, is_within}
 use Rattle.sipl_records.specs.Parts.{parts, split_once}
-use Rattle.sipl_records.specs.Sets.{same_record, shares_set}
+use Rattle.sipl_records.specs.Sets.{conflicts, same_record, shares_set}
 use Rattle.sipl_records.specs.declared.record.Record.{Record}
 use Rattle.sipl_masterfile.specs.declared.fault.ZoneFault.{ZoneFault}
 use Rattle.sipl_masterfile.specs.declared.fault.ZoneCause.TheVariants.{MissingField}
@@ -31,6 +31,7 @@ pub record IsZone (zone : Zone) : Type 0 where
   pub within : list_all (λ r. is_within r.owner zone.apex) zone.records ≡ true
   pub distinct : has_repeats zone.records ≡ false
   pub fits : sets_fit zone.records ≡ true
+  pub aliases : AllPairs (λ a b. conflicts a b ≡ false) zone.records
 
 -- RFC 1035, 5.1: a space, a tab; and a CR before a line's end
 abbrev pub is_blank : ℕ → Bool

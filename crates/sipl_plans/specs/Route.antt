@@ -38,6 +38,7 @@ answer look name kind = look (key name kind)
 abbrev pub addresses_in : List Data → List Address
 addresses_in [] = []
 addresses_in (data_address4 n ∷ set) = v4 n ∷ addresses_in set
+addresses_in (_ ∷ set) = addresses_in set
 
 -- RFC 3263, 4.2: a name's addresses, in the order of the families
 abbrev pub addresses : Look → Labels → Families → List Address

@@ -92,8 +92,8 @@ fn addresses4(alloc: Global, records: &[Record], name: &Name) -> Result<Vec<Addr
     let mut found = Vec::new(alloc);
     for record in records {
         if record.owner == *name {
-            match &record.value {
-                Data::Address4(number) => found.push(Address::V4(*number))?,
+            if let Data::Address4(number) = &record.value {
+                found.push(Address::V4(*number))?;
             }
         }
     }

@@ -2,6 +2,7 @@ pub mod Filters
 pub mod Unique
 pub mod Sets
 pub mod Same
+pub mod SameData
 pub mod Keys
 pub mod Parts
 pub mod Groups

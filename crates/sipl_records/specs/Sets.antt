@@ -1,9 +1,10 @@
 -- Sets of records (RFC 2181, 5).
-use Rattle.std.specs.Prelude.{Bool, true, false, ◌&&◌, List, [], ◌∷◌, Option, Some, option_map, if◌then◌else◌, ◌==◌}
-use Rattle.std.specs.Option.{option_map_or}
-use Rattle.sipl_names.specs.Labels.{same_name}
+use Rattle.std.specs.Prelude.{Bool, true, false, ◌&&◌, ◌||◌, List, [], ◌∷◌, Option, None, Some, option_map, if◌then◌else◌, nat_eq, ◌==◌}
+use Rattle.std.specs.Option.{is_some, option_map_or}
+use lib.Pointwise.{pointwise}
+use Rattle.sipl_names.specs.Labels.{Octets, same_name}
 use Rattle.sipl_records.specs.declared.data.Data.{Data}
-use Rattle.sipl_records.specs.declared.data.Data.TheVariants.{Address4 as data_address4}
+use Rattle.sipl_records.specs.declared.data.Data.TheVariants.{Address4 as data_address4, Address6 as data_address6, Alias as data_alias, Service as data_service, Pointer as data_pointer, Bare as data_bare}
 use Rattle.sipl_records.specs.declared.kind.Kind.{Kind}
 use Rattle.sipl_records.specs.declared.kind.Kind.TheVariants.{Address4, Address6, Alias, Service, Pointer}
 use Rattle.sipl_records.specs.declared.record.Record.{Record}
@@ -12,6 +13,11 @@ use Rattle.sipl_records.specs.declared.record.Key.{Key}
 -- the table of kinds: the kind of the set that the data are in, none for data that are in no set
 abbrev pub kind_of : Data → Option Kind
 kind_of (data_address4 n) = Some Address4
+kind_of (data_address6 n) = Some Address6
+kind_of (data_alias name) = Some Alias
+kind_of (data_service priority weight port target) = Some Service
+kind_of (data_pointer order preference flags services regexp replacement) = Some Pointer
+kind_of data_bare = None
 
 -- whether two kinds are one
 abbrev pub same_kind : Kind → Kind → Bool
@@ -42,6 +48,17 @@ key_of r = option_map (λ kind. record { name = r.owner; kind = kind }) (kind_of
 abbrev pub shares_set : Record → Record → Bool
 shares_set a b = same_name a.owner b.owner && has_same_kind a.value b.value
 
+-- whether the data are of some kind: those of other types, of which nothing is kept, are of none
+abbrev pub has_some_kind : Data → Bool
+has_some_kind value = is_some (kind_of value)
+
+-- RFC 1034, 3.6.2, and RFC 2181, 10.1: an alias has no other data beside it; so two records conflict
+-- that have one owner and some kind each, at least one of them an alias
+abbrev pub conflicts : Record → Record → Bool
+conflicts a b =
+    same_name a.owner b.owner && has_some_kind a.value && has_some_kind b.value
+    && (has_kind Alias a.value || has_kind Alias b.value)
+
 -- RFC 2181, 5: the data of one owner and kind, in the order of the records
 abbrev pub set_of : List Record → Key → List Data
 set_of [] key = []
@@ -51,9 +68,23 @@ set_of (r ∷ records) key = if has_key key r then r.value ∷ set_of records ke
 abbrev pub same_key : Key → Key → Bool
 same_key a b = same_name a.name b.name && same_kind a.kind b.kind
 
--- whether two data are the same
+-- whether two strings have the same octets
+abbrev pub same_octets : Octets → Octets → Bool
+same_octets = pointwise nat_eq
+
+-- whether two data are the same: names without case, as they are kept, and strings octet by octet
 abbrev pub same_data : Data → Data → Bool
 same_data (data_address4 m) (data_address4 n) = m == n
+same_data (data_address6 m) (data_address6 n) = m == n
+same_data (data_alias a) (data_alias b) = same_name a b
+same_data (data_service priority weight port target) (data_service priority' weight' port' target') =
+    priority == priority' && weight == weight' && port == port' && same_name target target'
+same_data (data_pointer order preference flags services regexp replacement) (data_pointer order' preference' flags' services' regexp' replacement') =
+    order == order' && preference == preference' && same_octets flags flags'
+    && same_octets services services' && same_octets regexp regexp'
+    && same_name replacement replacement'
+same_data data_bare data_bare = true
+same_data _ _ = false
 
 -- whether two records are the same: equal owners, without case, and the same data
 abbrev pub same_record : Record → Record → Bool

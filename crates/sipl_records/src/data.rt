@@ -2,13 +2,40 @@ ghost use Rattle.std.specs.Prelude.{◌≡◌, IfOk};
 ghost use Rattle.sipl_records.specs.Sets.{has_kind, has_same_kind, kind_of};
 
 use crate::kind::Kind;
+use crate::sequence::Sequence;
+use sipl_names::Name;
 use std::alloc::{AllocError, Global};
 
-/// The data of a record: what it states about its owner (RFC 1035, 3.2.1).
+/// The data of a record: what it states about its owner (RFC 1035, 3.2.1). Two data are equal where
+/// they are of one type and their fields are equal: names without case, since they are kept in lower
+/// case, and strings octet by octet.
 #[derive(Debug, PartialEq, Eq, Drop)]
 pub enum Data {
     /// An IPv4 address (RFC 1035, 3.4.1), its first octet the highest of the number.
     Address4(u32),
+    /// An IPv6 address (RFC 3596, 2.2), its first octet the highest of the number.
+    Address6(u128),
+    /// The canonical name of an alias (RFC 1035, 3.3.1).
+    Alias(Name),
+    /// A server of a service (RFC 2782).
+    Service {
+        priority: u16,
+        weight: u16,
+        port: u16,
+        target: Name,
+    },
+    /// A pointer to a domain's services (RFC 3403, 4.1). Flags, services and regexp are character
+    /// strings (RFC 1035, 3.3).
+    Pointer {
+        order: u16,
+        preference: u16,
+        flags: Sequence<u8>,
+        services: Sequence<u8>,
+        regexp: Sequence<u8>,
+        replacement: Name,
+    },
+    /// The data of a record of any other type, of which nothing is kept.
+    Bare,
 }
 
 impl Data {
@@ -18,6 +45,11 @@ impl Data {
     {
         match self {
             Data::Address4(_) => Some(Kind::Address4),
+            Data::Address6(_) => Some(Kind::Address6),
+            Data::Alias(_) => Some(Kind::Alias),
+            Data::Service { .. } => Some(Kind::Service),
+            Data::Pointer { .. } => Some(Kind::Pointer),
+            Data::Bare => None,
         }
     }
 
@@ -35,12 +67,41 @@ impl Data {
         self.kind().is_some_and(|kind| other.has_kind(kind))
     }
 
-    /// A copy of the data.
+    /// A copy of the data. Allocates only for names and strings.
     pub fn dup(&self, alloc: Global) -> Result<Self, AllocError>
         ensures { IfOk result (λ copy. copy ≡ self.now) }
     {
-        match self {
-            Data::Address4(address) => Ok(Data::Address4(*address)),
-        }
+        Ok(match self {
+            Data::Address4(address) => Data::Address4(*address),
+            Data::Address6(address) => Data::Address6(*address),
+            Data::Alias(name) => Data::Alias(name.dup(alloc)?),
+            Data::Service {
+                priority,
+                weight,
+                port,
+                target,
+            } => Data::Service {
+                priority: *priority,
+                weight: *weight,
+                port: *port,
+                target: target.dup(alloc)?,
+            },
+            Data::Pointer {
+                order,
+                preference,
+                flags,
+                services,
+                regexp,
+                replacement,
+            } => Data::Pointer {
+                order: *order,
+                preference: *preference,
+                flags: flags.dup(alloc)?,
+                services: services.dup(alloc)?,
+                regexp: regexp.dup(alloc)?,
+                replacement: replacement.dup(alloc)?,
+            },
+            Data::Bare => Data::Bare,
+        })
     }
 }

@@ -1,5 +1,5 @@
 ghost use Rattle.std.specs.Prelude.{◌≡◌, IfOk};
-ghost use Rattle.sipl_records.specs.Sets.{has_key, key_of, shares_set};
+ghost use Rattle.sipl_records.specs.Sets.{conflicts, has_key, key_of, shares_set};
 
 use crate::data::Data;
 use crate::kind::Kind;
@@ -29,6 +29,17 @@ impl Record {
         ensures { result ≡ shares_set self.now other.now }
     {
         self.owner == other.owner && self.value.has_same_kind(&other.value)
+    }
+
+    /// Whether the two records cannot both be in a zone: an alias has no other data beside it at its
+    /// owner (RFC 1034, 3.6.2; RFC 2181, 10.1). Data of which nothing is kept are accepted beside it.
+    pub fn conflicts_with(&self, other: &Record) -> bool
+        ensures { result ≡ conflicts self.now other.now }
+    {
+        let (Some(kind), Some(other_kind)) = (self.value.kind(), other.value.kind()) else {
+            return false;
+        };
+        (kind == Kind::Alias || other_kind == Kind::Alias) && self.owner == other.owner
     }
 
     /// The key of the set that the record is in; `None` where it is in no set.

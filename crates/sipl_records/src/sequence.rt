@@ -1,10 +1,15 @@
-ghost use Rattle.std.specs.Prelude.{◌≡◌, [], length, IsTrue, ◌↔◌};
+ghost use Rattle.std.specs.Prelude.{◌≡◌, [], length, IsTrue, IfOk, ◌↔◌};
+ghost use Rattle.std.specs.Cmp.Lexicographic.{pointwise, lists_equiv, lists_per};
 ghost use Rattle.std.specs.Slice.Iter.{iter_rest};
 
+use std::alloc::{AllocError, Global};
 use std::marker::Model;
 use std::slice::Iter;
 
-/// Values in order, made from a `Vec` and turned back into it. Contracts see it as a list.
+/// Values in order, made from a `Vec` and turned back into it. Contracts see it as a list. Two
+/// sequences are equal where they are as long and their values are equal one by one. A
+/// `Sequence<u8>` is a string of octets, of any value each, such as a character string of a record
+/// (RFC 1035, 3.3).
 #[derive(Debug, Drop)]
 pub struct Sequence<T> {
     items: Vec<T>,
@@ -60,4 +65,29 @@ impl<T> Sequence<T> {
     {
         self.items.is_empty()
     }
+}
+
+impl<T: Copy> Sequence<T> {
+    /// A copy of the values, in their order.
+    pub fn dup(&self, alloc: Global) -> Result<Self, AllocError>
+        ensures { IfOk result (λ copy. copy ≡ self.now) }
+    {
+        Ok(Sequence {
+            items: Vec::from_slice(alloc, &self.items)?,
+        })
+    }
+}
+
+impl<T: PartialEq> PartialEq for Sequence<T> {
+    ghost eq = { pointwise T.eq };
+
+    ghost laws = { lists_per T.laws };
+
+    fn eq(&self, other: &Self) -> bool {
+        self.items == other.items
+    }
+}
+
+impl<T: Eq> Eq for Sequence<T> {
+    ghost laws = { lists_equiv T.Eq.laws };
 }

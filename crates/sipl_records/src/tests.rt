@@ -8,10 +8,11 @@ use crate::record::{Key, Record};
 use crate::sequence::Sequence;
 use sipl_names::Name;
 use std::alloc::Global;
+use std::process::Abort;
 use std::test::Fail;
 
 // Compares two records: `==` is true exactly where they are equal.
-#[tactic(auto, using(sipl_names::proofs::SameName::same_name_decides))]
+#[tactic(auto, using(crate::proofs::Same::same_record_decides))]
 fn same_record(a: &Record, b: &Record) -> bool
     ensures { IsTrue result ↔ (a.now ≡ b.now) }
 {
@@ -43,6 +44,7 @@ fn is_key_among(keys: &[Key], key: &Key) -> bool
 }
 
 // Compares two data: `==` is true exactly where they are equal.
+#[tactic(auto, using(crate::proofs::Same::same_data_decides))]
 fn same_data(a: &Data, b: &Data) -> bool
     ensures { IsTrue result ↔ (a.now ≡ b.now) }
 {
@@ -63,6 +65,73 @@ fn record(alloc: Global, owner: &[u8], address: u32) -> Result<Record, Fail> {
         owner: Name::from_text(alloc, owner, &root)?,
         value: Data::Address4(address),
     })
+}
+
+fn name(rt: &impl Abort, alloc: Global, text: &str) -> Name {
+    Name::from_text(alloc, text.as_bytes(), &Name::root(alloc)).expect(rt, "a name")
+}
+
+fn string(rt: &impl Abort, alloc: Global, text: &str) -> Sequence<u8> {
+    Sequence::from_vec(Vec::from_slice(alloc, text.as_bytes()).expect(rt, "a string"))
+}
+
+fn service(rt: &impl Abort, alloc: Global, numbers: [u16; 3], target: &str) -> Data {
+    let [priority, weight, port] = numbers;
+    Data::Service {
+        priority,
+        weight,
+        port,
+        target: name(rt, alloc, target),
+    }
+}
+
+// A pointer of these flags, services and regexp.
+fn pointer(
+    rt: &impl Abort,
+    alloc: Global,
+    numbers: [u16; 2],
+    strings: [&str; 3],
+    replacement: &str,
+) -> Data {
+    let [order, preference] = numbers;
+    let [flags, services, regexp] = strings;
+    Data::Pointer {
+        order,
+        preference,
+        flags: string(rt, alloc, flags),
+        services: string(rt, alloc, services),
+        regexp: string(rt, alloc, regexp),
+        replacement: name(rt, alloc, replacement),
+    }
+}
+
+// How many of `different_data` there are.
+const DIFFERENT: usize = 19;
+
+// Data of each type, of which no two are equal: data of one type differ in one field, or in two
+// that are exchanged.
+fn different_data(rt: &impl Abort, alloc: Global, index: usize) -> Data {
+    match index {
+        0 => Data::Address4(1),
+        1 => Data::Address4(2),
+        2 => Data::Address6(1),
+        3 => Data::Address6(1 << 64),
+        4 => Data::Alias(name(rt, alloc, "a.")),
+        5 => Data::Alias(name(rt, alloc, "b.")),
+        6 => service(rt, alloc, [1, 2, 3], "a."),
+        7 => service(rt, alloc, [2, 1, 3], "a."),
+        8 => service(rt, alloc, [1, 3, 2], "a."),
+        9 => service(rt, alloc, [1, 2, 3], "b."),
+        10 => pointer(rt, alloc, [1, 2], ["s", "SIP+D2U", ""], "a."),
+        11 => pointer(rt, alloc, [2, 1], ["s", "SIP+D2U", ""], "a."),
+        12 => pointer(rt, alloc, [1, 2], ["S", "SIP+D2U", ""], "a."),
+        13 => pointer(rt, alloc, [1, 2], ["s", "sip+d2u", ""], "a."),
+        14 => pointer(rt, alloc, [1, 2], ["s", "SIP+D2T", ""], "a."),
+        15 => pointer(rt, alloc, [1, 2], ["s", "SIP+D2U", "!a!b!"], "a."),
+        16 => pointer(rt, alloc, [1, 2], ["", "SIP+D2U", "s"], "a."),
+        17 => pointer(rt, alloc, [1, 2], ["s", "SIP+D2U", ""], "."),
+        _ => Data::Bare,
+    }
 }
 
 // The key of the records of this owner and kind.
@@ -221,12 +290,105 @@ fn record_has_the_key_of_its_owner_and_kind(rt: HostRuntime) -> Result<(), Fail>
 }
 
 #[test]
-fn data_have_one_kind(rt: HostRuntime) {
-    let data = Data::Address4(0xC000_0201);
-    assert!(rt; data.has_kind(Kind::Address4));
-    for kind in [Kind::Address6, Kind::Alias, Kind::Service, Kind::Pointer] {
-        assert!(rt; !data.has_kind(kind), "{kind}");
+fn data_are_equal_where_type_and_fields_are(rt: HostRuntime) {
+    let alloc = rt.alloc();
+    for row in 0..DIFFERENT {
+        let data = different_data(&rt, alloc, row);
+        for other in 0..DIFFERENT {
+            let is_same = same_data(&data, &different_data(&rt, alloc, other));
+            assert_eq!(rt; is_same, row == other, "rows {row} and {other}");
+        }
+        let copy = data.dup(alloc).expect(&rt, "a copy");
+        assert!(rt; same_data(&copy, &data), "row {row}");
     }
+}
+
+#[test]
+fn names_of_data_are_equal_without_case(rt: HostRuntime) {
+    let alloc = rt.alloc();
+    let (upper, lower) = ("SIP.Example.COM.", "sip.example.com.");
+    for (a, b) in [
+        (
+            Data::Alias(name(&rt, alloc, upper)),
+            Data::Alias(name(&rt, alloc, lower)),
+        ),
+        (
+            service(&rt, alloc, [1, 2, 3], upper),
+            service(&rt, alloc, [1, 2, 3], lower),
+        ),
+        (
+            pointer(&rt, alloc, [1, 2], ["", "", ""], upper),
+            pointer(&rt, alloc, [1, 2], ["", "", ""], lower),
+        ),
+    ] {
+        assert!(rt; same_data(&a, &b));
+    }
+}
+
+#[test]
+fn data_have_the_kind_of_their_type_only(rt: HostRuntime) {
+    let alloc = rt.alloc();
+    let kinds = [
+        Kind::Address4,
+        Kind::Address6,
+        Kind::Alias,
+        Kind::Service,
+        Kind::Pointer,
+    ];
+    for (row, own) in [(0, 0), (3, 1), (5, 2), (6, 3), (10, 4), (18, 5)] {
+        let data = different_data(&rt, alloc, row);
+        assert_eq!(rt; data.kind(), kinds.get(own).copied(), "row {row}");
+        for (index, kind) in kinds.into_iter().enumerate() {
+            assert_eq!(rt; data.has_kind(kind), index == own, "row {row}, {kind}");
+        }
+    }
+}
+
+#[test]
+fn aliases_conflict_with_data_of_some_kind(rt: HostRuntime) {
+    let alloc = rt.alloc();
+    // Rows of `different_data`: two aliases, an address, a server, a pointer and bare data.
+    for (row, other, is_conflict) in [
+        (4, 5, true),
+        (4, 4, true),
+        (4, 0, true),
+        (4, 2, true),
+        (4, 6, true),
+        (4, 10, true),
+        (4, 18, false),
+        (0, 1, false),
+        (0, 6, false),
+        (0, 18, false),
+        (18, 18, false),
+    ] {
+        let data = Record {
+            owner: name(&rt, alloc, "www.example.com."),
+            value: different_data(&rt, alloc, row),
+        };
+        for (owner, is_owner) in [("WWW.example.com.", true), ("example.com.", false)] {
+            let beside = Record {
+                owner: name(&rt, alloc, owner),
+                value: different_data(&rt, alloc, other),
+            };
+            let expected = is_conflict && is_owner;
+            assert_eq!(rt; data.conflicts_with(&beside), expected, "rows {row} and {other}");
+            assert_eq!(rt; beside.conflicts_with(&data), expected, "rows {other} and {row}");
+        }
+    }
+}
+
+#[test]
+fn data_of_other_types_are_in_no_set(rt: HostRuntime) -> Result<(), Fail> {
+    let alloc = rt.alloc();
+    let bare = Record {
+        owner: name(&rt, alloc, "example.com."),
+        value: Data::Bare,
+    };
+    assert!(rt; bare.key(alloc)?.is_none());
+    assert!(rt; !bare.shares_set(&bare));
+    assert!(rt; !bare.has_key(&key(alloc, b"example.com.", Kind::Address4)?));
+    assert!(rt; same_record(&bare.dup(alloc)?, &bare));
+    Ok(())
 }
 
 #[test]
@@ -281,5 +443,11 @@ fn sequence_keeps_values_in_order(rt: HostRuntime) -> Result<(), Fail> {
     assert_eq!(rt; sequence.iter().copied().max(), Some(3));
     assert_eq!(rt; sequence.into_vec().as_slice(), [3u8, 1, 2].as_slice());
     assert!(rt; Sequence::<u8>::from_vec(Vec::new(rt.alloc())).is_empty());
+    let sequence = string(&rt, rt.alloc(), "abc");
+    let copy = sequence.dup(rt.alloc())?;
+    assert_eq!(rt; copy.as_slice(), b"abc".as_slice());
+    assert!(rt; sequence == copy);
+    assert!(rt; sequence != string(&rt, rt.alloc(), "ab"));
+    assert!(rt; sequence != string(&rt, rt.alloc(), "abC"));
     Ok(())
 }

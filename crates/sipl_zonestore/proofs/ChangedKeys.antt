@@ -27,12 +27,25 @@ respects : (p : Key → Bool) (a b : Key) → same_key a b ≡ true → p a ≡ 
 respects p a b same = ap p ((same_key-Decides a b).0 same)
 
 -- a key is among those that pass a test which it passes itself where it is among all
-kept-any : (p : Key → Bool) (key : Key) → p key ≡ true → (keys : List Key) → list_any (λ other. same_key other key) (filter p keys) ≡ list_any (λ other. same_key other key) keys
+pub kept-any : (p : Key → Bool) (key : Key) → p key ≡ true → (keys : List Key) → list_any (λ other. same_key other key) (filter p keys) ≡ list_any (λ other. same_key other key) keys
 kept-any p key passes keys =
     list_any-filter (λ other. same_key other key) p (λ other fails. elim (cases_Bool (same_key other key)) [
       | inl same ↦ let never : true ≡ false = sym passes ∙ sym (respects p other key same) ∙ fails in cc
       | inr differs ↦ differs
     ]) keys
+
+-- and among none of them where it fails it
+pub failed-none : (p : Key → Bool) (key : Key) → p key ≡ false → (keys : List Key) → list_any (λ other. same_key other key) (filter p keys) ≡ false
+failed-none p key fails [] = refl
+failed-none p key fails (first ∷ keys) = elim (cases_Bool (p first)) [
+  | inl holds ↦
+      let other : same_key first key ≡ false = elim (cases_Bool (same_key first key)) [
+        | inl same ↦ let never : true ≡ false = sym holds ∙ respects p first key same ∙ fails in cc
+        | inr other ↦ other
+      ] in
+      rw (holds, other) (failed-none p key fails keys)
+  | inr left ↦ rw left (failed-none p key fails keys)
+]
 
 -- one more record without a key
 pub among-none : (old new before : List Record) (r : Record) → key_of r ≡ None → changed_among old new (before ++ r ∷ []) ≡ changed_among old new before
@@ -195,6 +208,14 @@ some_record old new key other = elim (cases_Bool (list_any (has_key key) (old ++
       let neither : (list_any (has_key key) old || list_any (has_key key) new) ≡ false = sym (list_any-append (has_key key) old new) ∙ none in
       absurd (other (set_of-none key old (or_left (list_any (has_key key) old) _ neither) ∙ sym (set_of-none key new (or_right (list_any (has_key key) old) _ neither))))
 ]
+
+-- a key whose set differs is among the changed keys
+pub changed-any : (old new : List Record) (key : Key) → is_changed old new key ≡ true → list_any (λ other. same_key other key) (changed_keys old new) ≡ true
+changed-any old new key differs =
+    kept-any (is_changed old new) key differs (unique same_key (filter_map key_of (old ++ new)))
+    ∙ list_any-unique same_key same_key-trans (filter_map key_of (old ++ new)) key
+    ∙ list_any-filter_map key (old ++ new)
+    ∙ some_record old new key (differs-true old new key differs)
 
 -- the changed keys are exactly those whose set differs
 pub changed_keys-exact : (old new : List Record) (key : Key) → Contains (changed_keys old new) key ↔ (set_of old key ≢ set_of new key)

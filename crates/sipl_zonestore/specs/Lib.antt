@@ -1,5 +1,12 @@
 pub mod StoreFault
-pub mod Store
 pub mod Changes
+pub mod Numbers
+pub mod Store
+pub mod Looks
+pub mod Edits
+pub mod Edited
 pub mod Consistent
+pub mod Machine
+pub mod SetTable
+pub mod NumberedRecords
 pub use Rattle.sipl_masterfile.specs.Zones

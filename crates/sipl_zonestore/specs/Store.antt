@@ -1,22 +1,29 @@
 -- The store: which zones are loaded, and the records in the order of their addition.
-use Rattle.std.specs.Prelude.{ℕ, Bool, ◌&&◌, ◌||◌, not, List, [], ◌∷◌, ◌++◌, length, filter, count_by, Option, None, Some, nat_lt, nat_le, if◌then◌else◌}
+use Rattle.std.specs.Prelude.{ℕ, Bool, ◌&&◌, ◌||◌, not, List, [], ◌∷◌, ◌++◌, filter, if◌then◌else◌}
 use Rattle.std.specs.List.{list_any}
 use Rattle.sipl_names.specs.Labels.{Labels, same_name, is_within}
-use Rattle.sipl_records.specs.Sets.{same_record, shares_set}
 use Rattle.sipl_records.specs.declared.record.Record.{Record}
+use Rattle.sipl_records.specs.declared.record.Key.{Key}
 use Rattle.sipl_masterfile.specs.Zones.{Zone}
-use Rattle.sipl_zonestore.specs.declared.fault.StoreFault.{StoreFault}
-use Rattle.sipl_zonestore.specs.declared.fault.StoreFault.TheVariants.{Overlap, NoZone, Duplicate, SetFull, StoreFull}
+use Rattle.sipl_zonestore.specs.Numbers.{SetNumber, number_of}
 
 -- the apexes of the loaded zones, and all records, each in the order of addition
 pub record Zones : Type 0 where
   pub apexes : List Labels
   pub records : List Record
 
--- what callers see of a store: its zones, and the maximum of its records
+-- what callers see of a store: its zones, the maximum of its records, the numbers of its sets, the
+-- next number, and how many looks at its data were counted
 pub record Store : Type 0 where
   pub zones : Zones
   pub max_records : ℕ
+  pub numbers : List SetNumber
+  pub next : ℕ
+  pub looks : ℕ
+
+-- the number of a key's set in a store
+abbrev pub number_in : Store → Key → ℕ
+number_in store key = number_of store.numbers key
 
 -- nothing is loaded
 abbrev pub no_zones : Zones
@@ -47,29 +54,6 @@ abbrev pub apexes_after_load : Labels → List Labels → List Labels
 apexes_after_load apex apexes =
     if list_any (same_name apex) apexes then apexes else apexes ++ apex ∷ []
 
--- the store once a zone is loaded
-abbrev pub after_load : Zone → Zones → Zones
-after_load zone zones =
-    record {
-      apexes = apexes_after_load zone.apex zones.apexes;
-      records = records_after_load zone zones.records;
-    }
-
--- the fault of loading a zone, in a store of at most this many records
-abbrev pub load_refusal : ℕ → Zone → Zones → Option StoreFault
-load_refusal max_records zone zones =
-    if list_any (overlaps zone.apex) zones.apexes then Some Overlap
-    else (if nat_lt max_records (length (records_after_load zone zones.records)) then Some StoreFull
-    else None)
-
--- the store once a record is added: it is last
-abbrev pub after_add : Record → Zones → Zones
-after_add r zones = record { apexes = zones.apexes; records = zones.records ++ r ∷ [] }
-
--- the fault of adding a record, in a store of at most this many records
-abbrev pub add_refusal : ℕ → Record → Zones → Option StoreFault
-add_refusal max_records r zones =
-    if not (is_covered zones.apexes r.owner) then Some NoZone
-    else (if list_any (same_record r) zones.records then Some Duplicate
-    else (if nat_le 32 (count_by (shares_set r) zones.records) then Some SetFull
-    else (if nat_le max_records (length zones.records) then Some StoreFull else None)))
+-- the apexes without this one
+abbrev pub apexes_without : Labels → List Labels → List Labels
+apexes_without apex apexes = filter (λ other. not (same_name apex other)) apexes

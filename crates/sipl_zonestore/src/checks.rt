@@ -1,9 +1,12 @@
 //! The faults of edits.
-ghost use Rattle.std.specs.Prelude.{◌≡◌, ◌≤◌, length, Some, None, MatchResult};
+ghost use Rattle.std.specs.Prelude.{◌≡◌, ◌≤◌, ℕ, true, false, length, Some, None, MatchResult};
 ghost use Rattle.std.specs.List.{count_by, list_any};
-ghost use Rattle.sipl_records.specs.Sets.{same_record, shares_set};
-ghost use Rattle.sipl_zonestore.specs.Store.{load_refusal, add_refusal, overlaps, is_covered, records_outside};
+ghost use Rattle.sipl_records.specs.Sets.{conflicts, same_record, shares_set};
+ghost use Rattle.sipl_names.specs.Labels.{same_name};
+ghost use Rattle.sipl_zonestore.specs.Edits.{refusal_of, load, unload, add, remove};
+ghost use Rattle.sipl_zonestore.specs.Store.{overlaps, is_covered, records_outside};
 
+use crate::edits::has_apex;
 use crate::fault::StoreFault;
 use sipl_masterfile::ZoneText;
 use sipl_names::Name;
@@ -18,9 +21,9 @@ pub(crate) fn check_load(
 ) -> Result<(), StoreFault>
     requires { length records.now ≤ max_records }
     ensures { MatchResult result
-        (λ _. load_refusal max_records zone.now
+        (λ _. refusal_of max_records (load zone.now)
         (record { apexes = apexes.now; records = records.now }) ≡ None)
-        (λ fault. load_refusal max_records zone.now
+        (λ fault. refusal_of max_records (load zone.now)
         (record { apexes = apexes.now; records = records.now }) ≡ Some fault) }
 {
     let apex = zone.apex();
@@ -34,6 +37,39 @@ pub(crate) fn check_load(
     Ok(())
 }
 
+// The fault of unloading the zone of this apex, if there is one.
+pub(crate) fn check_unload(apex: &Name, apexes: &[Name]) -> Result<(), StoreFault>
+    ensures { MatchResult result
+        (λ _. list_any (same_name apex.now) apexes.now ≡ true)
+        (λ fault. (list_any (same_name apex.now) apexes.now ≡ false) × (fault ≡ StoreFault.NoZone)) }
+{
+    if !has_apex(apexes, apex) {
+        return Err(StoreFault::NoZone);
+    }
+    Ok(())
+}
+
+// The fault of removing the record from these, if there is one.
+pub(crate) fn check_remove(
+    old: &Record,
+    apexes: &[Name],
+    records: &[Record],
+) -> Result<(), StoreFault>
+    ensures { (max_records : ℕ) → MatchResult result
+        (λ _. refusal_of max_records (remove old.now)
+        (record { apexes = apexes.now; records = records.now }) ≡ None)
+        (λ fault. refusal_of max_records (remove old.now)
+        (record { apexes = apexes.now; records = records.now }) ≡ Some fault) }
+{
+    if !is_covered(apexes, &old.owner) {
+        return Err(StoreFault::NoZone);
+    }
+    if !has_record(records, old) {
+        return Err(StoreFault::Absent);
+    }
+    Ok(())
+}
+
 // The fault of adding the record beside these apexes and records, if there is one.
 pub(crate) fn check_add(
     max_records: usize,
@@ -42,9 +78,9 @@ pub(crate) fn check_add(
     records: &[Record],
 ) -> Result<(), StoreFault>
     ensures { MatchResult result
-        (λ _. add_refusal max_records new.now
+        (λ _. refusal_of max_records (add new.now)
         (record { apexes = apexes.now; records = records.now }) ≡ None)
-        (λ fault. add_refusal max_records new.now
+        (λ fault. refusal_of max_records (add new.now)
         (record { apexes = apexes.now; records = records.now }) ≡ Some fault) }
 {
     if !is_covered(apexes, &new.owner) {
@@ -52,6 +88,9 @@ pub(crate) fn check_add(
     }
     if has_record(records, new) {
         return Err(StoreFault::Duplicate);
+    }
+    if has_conflict(records, new) {
+        return Err(StoreFault::AliasBesideData);
     }
     if count_set(new, records) >= MAX_SET_LEN {
         return Err(StoreFault::SetFull);
@@ -88,6 +127,13 @@ fn has_record(records: &[Record], new: &Record) -> bool
     ensures { result ≡ list_any (same_record new.now) records.now }
 {
     records.iter().any(|other| *new == *other)
+}
+
+// Whether the record conflicts with one of these.
+fn has_conflict(records: &[Record], new: &Record) -> bool
+    ensures { result ≡ list_any (conflicts new.now) records.now }
+{
+    records.iter().any(|other| new.conflicts_with(other))
 }
 
 // How many records have owners outside the apex.

@@ -1,55 +1,69 @@
 //! The keys whose sets an edit changes.
-ghost use Rattle.std.specs.Prelude.{◌≡◌, ◌<◌, List, [], ◌∷◌, ◌++◌, length, MatchOption, IfSome, IfOk, OnOk, option_to_list};
+ghost use Rattle.std.specs.Prelude.{◌≡◌, [], ◌++◌, List, true, false, IfOk, OnOk};
+ghost use Rattle.std.specs.List.{list_all};
+ghost use Rattle.std.specs.Option.{option_to_list};
+ghost use Rattle.sipl_names.specs.Labels.{Labels, is_within};
 ghost use Rattle.sipl_records.specs.declared.record.Record.{Record};
-ghost use Rattle.sipl_records.specs.Sets.{set_of, key_of};
-ghost use Rattle.sipl_zonestore.specs.Store.{records_after_load, records_within};
-ghost use Rattle.sipl_zonestore.specs.Changes.{changed_keys, changed_among, is_changed};
+ghost use Rattle.sipl_records.specs.Sets.{key_of};
+ghost use Rattle.sipl_masterfile.specs.Zones.{has_repeats};
+ghost use Rattle.sipl_zonestore.specs.Store.{records_outside, records_within};
+ghost use Rattle.sipl_zonestore.specs.Changes.{changed_among, changed_keys};
+ghost use Rattle.sipl_zonestore.specs.SetTable.{HasSets, is_first, changed_in, added_in};
 
-use sipl_masterfile::ZoneText;
+use crate::sets::SetTable;
 use sipl_names::Name;
 use sipl_records::{Data, Key, Record};
 use std::alloc::{AllocError, Global};
 
-// The keys of the sets that loading the zone into the records changes.
-pub(crate) fn changed_by_load(
-    alloc: Global,
-    zone: &ZoneText,
-    records: &[Record],
-) -> Result<Vec<Key>, AllocError>
-    ensures { IfOk result
-        (λ keys. keys.items ≡ changed_keys records.now (records_after_load zone.now records.now)) }
+// The key of the set that the record is in, if it is in one.
+pub(crate) fn own_key(alloc: Global, changed: &Record) -> Result<Vec<Key>, AllocError>
+    ensures { IfOk result (λ keys. keys.items ≡ option_to_list (key_of changed.now)) }
 {
     let mut keys = Vec::new(alloc);
-    let text = zone.records();
-    push_changed_within(alloc, &mut keys, zone.apex(), records, records, text)?;
-    push_changed_within(alloc, &mut keys, zone.apex(), text, records, text)?;
-    Ok(keys)
-}
-
-// The key of the set that adding the record changes.
-pub(crate) fn changed_by_add(alloc: Global, new: &Record) -> Result<Vec<Key>, AllocError>
-    ensures { IfOk result (λ keys. keys.items ≡ option_to_list (key_of new.now)) }
-{
-    let mut keys = Vec::new(alloc);
-    if let Some(key) = new.key(alloc)? {
+    if let Some(key) = changed.key(alloc)? {
         keys.push(key)?;
     }
     Ok(keys)
 }
 
-// Appends the keys of those records whose owners are within the apex, as `push_if_changed` does.
-fn push_changed_within(
+// The keys of the sets that change where the records within the apex are replaced by a text, whose
+// sets are `new`.
+pub(crate) fn changed_within(
+    alloc: Global,
+    apex: &Name,
+    records: &[Record],
+    text: &[Record],
+    old: &SetTable,
+    new: &SetTable,
+) -> Result<Vec<Key>, AllocError>
+    requires distinct { has_repeats records.now ≡ false }
+    requires text_distinct { has_repeats text.now ≡ false }
+    requires within { list_all (λ r. is_within r.owner apex.now) text.now ≡ true }
+    requires sets { HasSets old.now records.now }
+    requires text_sets { HasSets new.now text.now }
+    ensures { IfOk result (λ keys. keys.items
+        ≡ changed_keys records.now (records_outside apex.now records.now ++ text.now)) }
+{
+    let mut keys = Vec::new(alloc);
+    push_changed(alloc, &mut keys, apex, records, old, new)?;
+    push_added(alloc, &mut keys, text, old, new)?;
+    Ok(keys)
+}
+
+// Appends the keys of the old records within the apex whose sets differ.
+fn push_changed(
     alloc: Global,
     keys: &mut Vec<Key>,
     apex: &Name,
     records: &[Record],
-    old: &[Record],
-    new: &[Record],
+    old: &SetTable,
+    new: &SetTable,
 ) -> Result<(), AllocError>
-    ensures { OnOk result ((before : List Record)
-        → keys.old.items ≡ changed_among old.now new.now before
-        → keys.new.items
-        ≡ changed_among old.now new.now (before ++ records_within apex.now records.now)) }
+    requires distinct { has_repeats records.now ≡ false }
+    requires sets { HasSets old.now records.now }
+    ensures { OnOk result ((text : List Record) → HasSets new.now text
+        → keys.old.items ≡ changed_among records.now text []
+        → keys.new.items ≡ changed_among records.now text (records_within apex.now records.now)) }
 {
     for record in records {
         if record.owner.is_within(apex) {
@@ -59,56 +73,70 @@ fn push_changed_within(
     Ok(())
 }
 
-// Appends the record's key, where it is not among the keys yet and its set differs between the old
-// records and the new ones.
+// Appends the keys of the text's records that had no set.
+fn push_added(
+    alloc: Global,
+    keys: &mut Vec<Key>,
+    text: &[Record],
+    old: &SetTable,
+    new: &SetTable,
+) -> Result<(), AllocError>
+    requires distinct { has_repeats text.now ≡ false }
+    requires sets { HasSets new.now text.now }
+    ensures { OnOk result ((apex : Labels) (records : List Record) → HasSets old.now records
+        → list_all (λ r. is_within r.owner apex) text.now ≡ true
+        → keys.old.items ≡ changed_among records text.now (records_within apex records)
+        → keys.new.items ≡ changed_among records text.now
+        (records_within apex records ++ text.now)) }
+{
+    for record in text {
+        push_if_added(alloc, keys, record, old, new)?;
+    }
+    Ok(())
+}
+
+// Appends the record's key, where the record is the first of its set and the set differs.
 fn push_if_changed(
     alloc: Global,
     keys: &mut Vec<Key>,
     next: &Record,
-    old: &[Record],
-    new: &[Record],
+    old: &SetTable,
+    new: &SetTable,
 ) -> Result<(), AllocError>
-    ensures { OnOk result ((before : List Record)
-        → keys.old.items ≡ changed_among old.now new.now before
-        → keys.new.items ≡ changed_among old.now new.now (before ++ next.now ∷ [])) }
+    ensures { OnOk result
+        (keys.new.items ≡ keys.old.items ++ changed_in old.now new.now next.now) }
 {
     if let Some(key) = next.key(alloc)? {
-        if !keys.contains(&key) && is_changed(old, new, &key) {
+        let values = old.values(&key);
+        if is_first(&next.value, values) && *values != *new.values(&key) {
             keys.push(key)?;
         }
     }
     Ok(())
 }
 
-// Whether the key's set differs between the old records and the new ones.
-fn is_changed(old: &[Record], new: &[Record], key: &Key) -> bool
-    ensures { result ≡ is_changed old.now new.now key.now }
+// Appends the record's key, where the record is the first of its set and the key had no set.
+fn push_if_added(
+    alloc: Global,
+    keys: &mut Vec<Key>,
+    next: &Record,
+    old: &SetTable,
+    new: &SetTable,
+) -> Result<(), AllocError>
+    ensures { OnOk result
+        (keys.new.items ≡ keys.old.items ++ added_in old.now new.now next.now) }
 {
-    let mut left = old;
-    let mut right = new;
-    while let Some((value, rest)) = first_of(left, key) {
-        match first_of(right, key) {
-            Some((other, others)) if *value == *other => right = others,
-            _ => return true,
+    if let Some(key) = next.key(alloc)? {
+        if old.values(&key).is_empty() && is_first(&next.value, new.values(&key)) {
+            keys.push(key)?;
         }
-        left = rest;
     }
-    first_of(right, key).is_some()
+    Ok(())
 }
 
-// The first datum of the key's set, and the records after it.
-fn first_of<'a>(records: &'a [Record], key: &Key) -> Option<(&'a Data, &'a [Record])>
-    ensures first { MatchOption result
-        (set_of records.now key.now ≡ [])
-        (λ first. set_of records.now key.now ≡ first.0.now ∷ set_of first.1.now key.now) }
-    ensures shorter { IfSome result (λ first. length first.1.now < length records.now) }
+// Whether the datum is the first of the set. No record is there twice, so one record of the set is.
+fn is_first(value: &Data, values: &[Data]) -> bool
+    ensures { result ≡ is_first value.now values.now }
 {
-    let mut rest = records;
-    while let [record, tail @ ..] = rest {
-        if record.has_key(key) {
-            return Some((&record.value, tail));
-        }
-        rest = tail;
-    }
-    None
+    values.first().is_some_and(|first| *value == *first)
 }

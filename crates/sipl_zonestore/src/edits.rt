@@ -36,7 +36,7 @@ pub(crate) fn new_apex(
 }
 
 // Whether the apex is among these.
-fn has_apex(apexes: &[Name], apex: &Name) -> bool
+pub(crate) fn has_apex(apexes: &[Name], apex: &Name) -> bool
     ensures { result ≡ list_any (same_name apex.now) apexes.now }
 {
     apexes.iter().any(|other| *apex == *other)

@@ -10,14 +10,20 @@ use std::fmt;
 pub enum StoreFault {
     /// S1: a loaded zone is strictly above the apex or strictly below it.
     Overlap,
-    /// S2: the owner is in no loaded zone.
+    /// S2: no zone of this apex is loaded, or the owner is in no loaded zone.
     NoZone,
     /// S3: the record is in the store already.
     Duplicate,
+    /// S4: no such record is in the store.
+    Absent,
+    /// S5: an alias would have other data beside it (RFC 1034, 3.6.2; RFC 2181, 10.1).
+    AliasBesideData,
     /// S6: the record's set has 32 records.
     SetFull,
     /// S7: the records would exceed the store's maximum.
     StoreFull,
+    /// S8: fewer set numbers up to 2^52 are left than the edit needs.
+    NumberSpent,
     /// An allocation failed.
     Memory,
 }
@@ -31,8 +37,11 @@ impl StoreFault {
             StoreFault::Overlap => "S1",
             StoreFault::NoZone => "S2",
             StoreFault::Duplicate => "S3",
+            StoreFault::Absent => "S4",
+            StoreFault::AliasBesideData => "S5",
             StoreFault::SetFull => "S6",
             StoreFault::StoreFull => "S7",
+            StoreFault::NumberSpent => "S8",
             StoreFault::Memory => "Memory",
         }
     }
@@ -47,10 +56,13 @@ impl fmt::Display for StoreFault {
     fn fmt<W: fmt::Write>(&self, f: &mut fmt::Formatter<W>) -> fmt::Result {
         f.write_str(match self {
             StoreFault::Overlap => "a loaded zone is above or below the apex",
-            StoreFault::NoZone => "the owner is in no loaded zone",
+            StoreFault::NoZone => "no such zone is loaded",
             StoreFault::Duplicate => "the record is in the store already",
+            StoreFault::Absent => "the record is not in the store",
+            StoreFault::AliasBesideData => "an alias has no other data beside it",
             StoreFault::SetFull => "the record's set is full",
             StoreFault::StoreFull => "the store is full",
+            StoreFault::NumberSpent => "no numbers are left",
             StoreFault::Memory => "out of memory",
         })
     }

@@ -1,29 +1,38 @@
-ghost use Rattle.std.specs.Prelude.{◌≡◌, ◌≢◌, Some, None, IfOk, IfErr, OnOk, OnErr};
-ghost use Rattle.sipl_zonestore.specs.Store.{no_zones, load_refusal, after_load, add_refusal, after_add};
-ghost use Rattle.sipl_zonestore.specs.Changes.{changed_keys};
+ghost use Rattle.std.specs.Prelude.{◌≡◌, ◌^◌, ◌≤◌, []};
+ghost use Rattle.std.specs.Borrow.{sem};
+ghost use Rattle.std.specs.Io.BufRead.{Rests};
+ghost use Rattle.sipl_records.specs.Sets.{set_of};
+ghost use Rattle.sipl_zonestore.specs.Store.{Store, number_in, no_zones};
+ghost use Rattle.sipl_zonestore.specs.Edits.{load, unload, add, remove};
+ghost use Rattle.sipl_zonestore.specs.Edited.{IsEdited};
+ghost use Rattle.sipl_zonestore.specs.Looks.{looked};
 ghost use Rattle.sipl_zonestore.specs.Consistent.{IsConsistent};
 
 use crate::MAX_RECORDS;
-use crate::checks::{check_add, check_load};
-use crate::compare::{changed_by_add, changed_by_load};
-use crate::edits::{copy_records, new_apex, replace_records};
+use crate::checks::{check_add, check_load, check_remove, check_unload};
+use crate::edits::new_apex;
 use crate::fault::StoreFault;
+use crate::numbered::NumberedRecords;
 use sipl_masterfile::ZoneText;
 use sipl_names::Name;
-use sipl_records::{Key, Record, Sequence};
+use sipl_records::{Data, Key, Record, Sequence};
 use std::alloc::Global;
 use std::marker::Model;
 
-/// The loaded zones and their records, seen as the list of their apexes and the list of all
-/// records, each in the order of addition. No zone is strictly within another (RFC 1034, 4.2),
-/// each owner is within a loaded zone, no record is there twice, and no set (RFC 2181, 5) has more
-/// than 32 records.
+/// The loaded zones and their records, seen as the list of their apexes, the list of all records,
+/// each in the order of addition, and a number for each record set (RFC 2181, 5). No zone is
+/// strictly within another (RFC 1034, 4.2), each owner is within a loaded zone, no record is there
+/// twice, no set has more than 32 records, and no alias has other data beside it (RFC 1034, 3.6.2).
+///
+/// A set takes a new number whenever it changes, so a set whose number stayed has not changed; the
+/// number is 0 exactly where the set is empty.
 #[derive(Drop)]
 pub struct ZoneStore {
     alloc: Global,
     max_records: usize,
     apexes: Vec<Name>,
-    records: Vec<Record>,
+    records: NumberedRecords,
+    looks: u64,
 }
 
 impl Model for ZoneStore {
@@ -33,97 +42,150 @@ impl Model for ZoneStore {
     ghost Value = { Store };
 
     ghost view = { λ s. record {
-      zones = record { apexes = s.apexes.items; records = s.records.items };
+      zones = record { apexes = s.apexes.items; records = s.records.records };
       max_records = s.max_records;
+      numbers = s.records.numbers;
+      next = s.records.next;
+      looks = s.looks;
     } };
 
     ghost invariant = { λ s. IsConsistent (record {
-      zones = record { apexes = s.apexes.items; records = s.records.items };
+      zones = record { apexes = s.apexes.items; records = s.records.records };
       max_records = s.max_records;
+      numbers = s.records.numbers;
+      next = s.records.next;
+      looks = s.looks;
     }) };
 }
 
 impl ZoneStore {
-    /// A store without zones, of at most 1,048,576 records (`MAX_RECORDS`). Does not allocate.
+    ghost use Rattle.sipl_zonestore.specs.contracts.store.ZoneStore.{the_row};
+
+    /// A store without zones, of at most 1,048,576 records (`MAX_RECORDS`), whose first number is
+    /// 1. Does not allocate.
     pub fn new(alloc: Global) -> Self
-        ensures empty { result.zones ≡ no_zones }
-        ensures limit { result.max_records ≡ 1048576 }
+        ensures { result ≡ record {
+            zones = no_zones; max_records = 1048576; numbers = []; next = 1; looks = 0;
+        } }
     {
-        ZoneStore::with_limit(alloc, MAX_RECORDS)
+        ZoneStore::with(alloc, 1, MAX_RECORDS)
     }
 
-    // A store without zones, of at most this many records.
-    pub(crate) fn with_limit(alloc: Global, max_records: usize) -> Self
-        ensures empty { result.zones ≡ no_zones }
-        ensures limit { result.max_records ≡ max_records }
+    /// A store without zones, of at most this many records, whose first number is `next`. Does not
+    /// allocate.
+    pub fn with(alloc: Global, next: u64, max_records: usize) -> Self
+        requires first { 1 ≤ next }
+        requires last { next ≤ 2 ^ 52 }
+        requires limit { max_records ≤ 1048576 }
+        ensures { result ≡ record {
+            zones = no_zones; max_records = max_records; numbers = []; next = next; looks = 0;
+        } }
     {
         ZoneStore {
             alloc,
             max_records,
             apexes: Vec::new(alloc),
-            records: Vec::new(alloc),
+            records: NumberedRecords::new(alloc, next),
+            looks: 0,
         }
     }
 
     /// Loads a zone: the records of its text replace those within its apex, and are last, and its
-    /// apex is last where it is new. Returns the keys of the sets that changed. Linear in the
-    /// number of all records for each record that the zone had and for each that it has.
+    /// apex is last where it is new. Returns the keys of the sets that changed, in the order of
+    /// their first places in the old records followed by the new ones; in this order those that
+    /// are not empty take the next numbers. Linear in the number of all records, with a look-up of
+    /// its set for each record that the zone had and for each that it has; a look-up is linear in
+    /// the number of sets.
     ///
     /// The fault is the first one: a loaded zone strictly above or below the apex (S1), more
-    /// records than the store's maximum (S7).
+    /// records than the store's maximum (S7), too few numbers (S8).
     pub fn load(&mut self, zone: &ZoneText) -> Result<Sequence<Key>, StoreFault>
-        ensures accepted { OnOk result
-            (load_refusal self.old.max_records zone.now self.old.zones ≡ None) }
-        ensures after { OnOk result (self.new.zones ≡ after_load zone.now self.old.zones) }
-        ensures changed { IfOk result
-            (λ keys. keys ≡ changed_keys self.old.zones.records self.new.zones.records) }
-        ensures refused { IfErr result (λ fault. fault ≢ StoreFault.Memory
-            → load_refusal self.old.max_records zone.now self.old.zones ≡ Some fault) }
-        ensures unchanged { OnErr result (self.new ≡ self.old) }
-        ensures limit { self.new.max_records ≡ self.old.max_records }
+        ensures { IsEdited (load zone.now) self.old self.new result }
     {
-        check_load(self.max_records, zone, &self.apexes, &self.records)?;
-        let keys = changed_by_load(self.alloc, zone, &self.records)?;
-        let text = copy_records(self.alloc, zone.records())?;
+        let records = self.records.as_slice();
+        check_load(self.max_records, zone, &self.apexes, records)?;
         let apex = new_apex(self.alloc, zone.apex(), &self.apexes)?;
         self.apexes.reserve(1)?;
-        self.records.reserve(text.len())?;
-        replace_records(&mut self.records, zone.apex(), text);
+        let keys = self.records.replace_within(zone.apex(), zone.records())?;
         if let Some(apex) = apex {
             self.apexes.push_reserved(apex);
         }
-        Ok(Sequence::from_vec(keys))
+        Ok(keys)
     }
 
-    /// Adds a record, which is last. Returns the keys of the sets that changed. Linear in the
-    /// number of all records.
+    /// Unloads the zone of this apex: the apex and all records within it are gone. Returns the keys
+    /// of the sets that changed, as `load` does. The cost is that of `load`.
+    ///
+    /// The fault is that the apex is not loaded (S2).
+    pub fn unload(&mut self, apex: &Name) -> Result<Sequence<Key>, StoreFault>
+        ensures { IsEdited (unload apex.now) self.old self.new result }
+    {
+        check_unload(apex, &self.apexes)?;
+        let keys = self.records.replace_within(apex, &[])?;
+        self.apexes.retain(|other| *apex != *other);
+        Ok(keys)
+    }
+
+    /// Adds a record, which is last. Returns the key of its set, if it is in one, which takes the
+    /// next number. Linear in the number of all records.
     ///
     /// The fault is the first one: an owner in no loaded zone (S2), a record that is in the store
-    /// already (S3), a set of 32 records (S6), as many records as the store's maximum (S7).
+    /// already (S3), an alias beside other data (S5), a set of 32 records (S6), as many records as
+    /// the store's maximum (S7), no number (S8).
     pub fn add(&mut self, new: &Record) -> Result<Sequence<Key>, StoreFault>
-        ensures accepted { OnOk result
-            (add_refusal self.old.max_records new.now self.old.zones ≡ None) }
-        ensures after { OnOk result (self.new.zones ≡ after_add new.now self.old.zones) }
-        ensures changed { IfOk result
-            (λ keys. keys ≡ changed_keys self.old.zones.records self.new.zones.records) }
-        ensures refused { IfErr result (λ fault. fault ≢ StoreFault.Memory
-            → add_refusal self.old.max_records new.now self.old.zones ≡ Some fault) }
-        ensures unchanged { OnErr result (self.new ≡ self.old) }
-        ensures limit { self.new.max_records ≡ self.old.max_records }
+        ensures { IsEdited (add new.now) self.old self.new result }
     {
-        check_add(self.max_records, new, &self.apexes, &self.records)?;
-        let keys = changed_by_add(self.alloc, new)?;
-        let copy = new.dup(self.alloc)?;
-        self.records.push(copy)?;
-        Ok(Sequence::from_vec(keys))
+        check_add(self.max_records, new, &self.apexes, self.records.as_slice())?;
+        self.records.push(new)
     }
 
-    /// All records, in the order of addition.
-    pub fn records(&self) -> &[Record]
-        ensures value { result.now ≡ self.now.zones.records }
+    /// Removes the record that is equal to this one. Returns the key of its set, if it is in one,
+    /// which takes the next number unless it is now empty. Linear in the number of all records.
+    ///
+    /// The fault is the first one: an owner in no loaded zone (S2), a record that is not in the
+    /// store (S4), no number (S8).
+    pub fn remove(&mut self, old: &Record) -> Result<Sequence<Key>, StoreFault>
+        ensures { IsEdited (remove old.now) self.old self.new result }
+    {
+        check_remove(old, &self.apexes, self.records.as_slice())?;
+        self.records.remove(old)
+    }
+
+    /// The number of the key's set and its data, in the order of addition; 0 and no data where it
+    /// is empty. Counts one look. Linear in the number of sets.
+    pub fn set(&mut self, key: &Key) -> (u64, &[Data])
+        ensures number { result.0 ≡ number_in self.old key.now }
+        ensures value { result.1.now ≡ set_of self.old.zones.records key.now }
+        ensures* looks { sem 𝓛 (Rests the_row self.entry (λ new. new ≡ looked self.old)) }
+    {
+        self.looks = self.looks.saturating_add(1);
+        (self.records.number(key), self.records.values(key))
+    }
+
+    /// The number of the key's set, 0 where it is empty. Counts no look. Linear in the number of
+    /// sets.
+    pub fn number(&self, key: &Key) -> u64
+        ensures number { result ≡ number_in self.now key.now }
         ensures consistent { IsConsistent self.now }
     {
-        &self.records
+        self.records.number(key)
+    }
+
+    /// All records, in the order of addition. Counts one look.
+    pub fn records(&mut self) -> &[Record]
+        ensures value { result.now ≡ self.old.zones.records }
+        ensures consistent { IsConsistent self.old }
+        ensures* looks { sem 𝓛 (Rests the_row self.entry (λ new. new ≡ looked self.old)) }
+    {
+        self.looks = self.looks.saturating_add(1);
+        self.records.as_slice()
+    }
+
+    /// How many looks at the data of the store were counted; at most 2^64 - 1.
+    pub fn looks(&self) -> u64
+        ensures { result ≡ self.now.looks }
+    {
+        self.looks
     }
 
     /// The apexes of the loaded zones, in the order of addition.

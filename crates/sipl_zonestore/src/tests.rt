@@ -29,7 +29,7 @@ fn add(
 
 // The zone `example.com.` with three records of two owners.
 fn example(rt: &impl Abort, alloc: Global, max_records: usize) -> ZoneStore {
-    let mut store = ZoneStore::with_limit(alloc, max_records);
+    let mut store = ZoneStore::with(alloc, 1, max_records);
     let changed = store
         .load(&zone(rt, alloc, "example.com."))
         .expect(rt, "loaded");
@@ -204,7 +204,7 @@ fn faults_print_codes_and_messages(rt: HostRuntime) {
             "S1",
             "a loaded zone is above or below the apex",
         ),
-        (StoreFault::NoZone, "S2", "the owner is in no loaded zone"),
+        (StoreFault::NoZone, "S2", "no such zone is loaded"),
         (
             StoreFault::Duplicate,
             "S3",

@@ -1,0 +1,139 @@
+-- The numbers that changed sets take.
+use Rattle.std.proofs.Common.{◌≡◌, ◌≢◌, ◌⊎◌, ℕ, ◌+◌, ◌^◌, ◌<◌, ◌≤◌, Bool, true, false, not, ◌&&◌, List, [], ◌∷◌, ◌++◌, length, Option, None, Some, if◌then◌else◌, cond, refl, ap, sym, ◌∙◌, inl, inr, arith, nat_lt}
+use Rattle.std.specs.Prelude.{◌↔◌}
+use Rattle.std.specs.List.{filter, filter_map, list_any, position_from, Contains}
+use Rattle.std.proofs.lemmas.Bool.{cases_Bool}
+use Rattle.std.proofs.lemmas.Bool.Decides.{nat_tests}
+use lib.Pointwise.{pointwise}
+use Rattle.sipl_records.specs.declared.data.Data.{Data}
+use Rattle.sipl_records.specs.declared.record.Record.{Record}
+use Rattle.sipl_records.specs.declared.record.Key.{Key}
+use Rattle.sipl_records.specs.Sets.{set_of, same_data, same_key, key_of}
+use Rattle.sipl_zonestore.specs.Changes.{is_changed, changed_keys}
+use Rattle.sipl_zonestore.specs.Numbers.{is_empty, numbered_keys, number_after, next_after, number_refusal, IsNumbered}
+use Rattle.sipl_zonestore.proofs.SameSets.{same_set-true}
+use Rattle.sipl_zonestore.proofs.ChangedKeys.{kept-any, failed-none, changed-any}
+use Rattle.sipl_records.proofs.Keys.{same_key-sym}
+use Rattle.sipl_zonestore.specs.declared.fault.StoreFault.TheVariants.{NumberSpent}
+use Rattle.sipl_zonestore.proofs.Positions.{from-le, from-lt, from-none, from-some, from-same}
+
+pub empty-is : (values : List Data) → is_empty values ≡ true → values ≡ []
+empty-is [] empty = refl
+empty-is (value ∷ values) empty = cc
+
+was_true : (b : Bool) → not b ≡ false → b ≡ true
+was_true true h = refl
+was_true false h = sym h
+
+pub unchanged-is : (old new : List Record) (key : Key) → is_changed old new key ≡ false → set_of old key ≡ set_of new key
+unchanged-is old new key same = same_set-true (set_of old key) (set_of new key) (was_true _ same)
+
+-- the keys that take a number are those whose set has changed and is not empty
+pub numbered-any : (old new : List Record) (key : Key) → is_changed old new key ≡ true → is_empty (set_of new key) ≡ false → list_any (λ other. same_key other key) (numbered_keys old new) ≡ true
+numbered-any old new key differs filled =
+    kept-any (λ key. not (is_empty (set_of new key))) key (rw filled refl) (changed_keys old new) ∙ changed-any old new key differs
+
+pub numbered-none_same : (old new : List Record) (key : Key) → is_changed old new key ≡ false → list_any (λ other. same_key other key) (numbered_keys old new) ≡ false
+numbered-none_same old new key same = elim (cases_Bool (is_empty (set_of new key))) [
+  | inl empty ↦ failed-none (λ key. not (is_empty (set_of new key))) key (rw empty refl) (changed_keys old new)
+  | inr filled ↦ kept-any (λ key. not (is_empty (set_of new key))) key (rw filled refl) (changed_keys old new) ∙ failed-none (is_changed old new) key same _
+]
+
+pub numbered-none_empty : (old new : List Record) (key : Key) → is_empty (set_of new key) ≡ true → list_any (λ other. same_key other key) (numbered_keys old new) ≡ false
+numbered-none_empty old new key empty =
+    failed-none (λ key. not (is_empty (set_of new key))) key (rw empty refl) (changed_keys old new)
+
+-- a set that has changed and is not empty takes one of the next numbers
+pub record IsTaken (old new : List Record) (next : ℕ) (numbers : Key → ℕ) (key : Key) : Type 0 where
+  pub filled : is_empty (set_of new key) ≡ false
+  pub found : position_from (λ other. same_key other key) next (numbered_keys old new) ≡ Some (number_after old new next numbers key)
+  pub from : next ≤ number_after old new next numbers key
+  pub below : number_after old new next numbers key < next_after old new next
+
+-- an empty set has the number 0
+pub record IsGone (old new : List Record) (next : ℕ) (numbers : Key → ℕ) (key : Key) : Type 0 where
+  pub empty : set_of new key ≡ []
+  pub zero_number : number_after old new next numbers key ≡ 0
+
+-- another one stays, and keeps its number
+pub record IsKept (old new : List Record) (next : ℕ) (numbers : Key → ℕ) (key : Key) : Type 0 where
+  pub filled : is_empty (set_of new key) ≡ false
+  pub same : set_of old key ≡ set_of new key
+  pub number : number_after old new next numbers key ≡ numbers key
+
+taken : (old new : List Record) (next : ℕ) (numbers : Key → ℕ) (key : Key) (n : ℕ) → is_empty (set_of new key) ≡ false → position_from (λ other. same_key other key) next (numbered_keys old new) ≡ Some n → IsTaken old new next numbers key
+taken old new next numbers key n filled found =
+    let number : number_after old new next numbers key ≡ n = rw found refl in
+    let low : next ≤ n = from-le (λ other. same_key other key) next n (numbered_keys old new) found in
+    let high : n < next + length (numbered_keys old new) = from-lt (λ other. same_key other key) next n (numbered_keys old new) found in
+    record { filled = filled; found = found ∙ ap (λ m. Some m) (sym number); from = omega (arith, number, low); below = omega (arith, number, high) }
+
+pub number-cases : (old new : List Record) (next : ℕ) (numbers : Key → ℕ) (key : Key) → IsTaken old new next numbers key ⊎ (IsGone old new next numbers key ⊎ IsKept old new next numbers key)
+number-cases old new next numbers key = elim (cases_Bool (is_empty (set_of new key))) [
+  | inl empty ↦ inr (inl (record { empty = empty-is (set_of new key) empty; zero_number = rw (from-none (λ other. same_key other key) next (numbered_keys old new) (numbered-none_empty old new key empty), empty) refl }))
+  | inr filled ↦ elim (cases_Bool (is_changed old new key)) [
+      | inl differs ↦
+          let some : (n : ℕ) × (position_from (λ other. same_key other key) next (numbered_keys old new) ≡ Some n) = from-some (λ other. same_key other key) next (numbered_keys old new) (numbered-any old new key differs filled) in
+          inl (taken old new next numbers key some.0 filled some.1)
+      | inr same ↦ inr (inr (record { filled = filled; same = unchanged-is old new key same; number = rw (from-none (λ other. same_key other key) next (numbered_keys old new) (numbered-none_same old new key same), filled) refl }))
+    ]
+]
+
+not_filled : (old new : List Record) (key : Key) → is_empty (set_of new key) ≡ false → set_of new key ≢ []
+not_filled old new key filled none = let never : true ≡ false = ap is_empty (sym none) ∙ filled in cc
+
+empty_after : (old new : List Record) (next : ℕ) (numbers : Key → ℕ) → IsNumbered old numbers next → (key : Key) → (number_after old new next numbers key ≡ 0) ↔ (set_of new key ≡ [])
+empty_after old new next numbers held key = elim (number-cases old new next numbers key) [
+  | inl taken ↦
+      let above : numbers key < next = held.below key in
+      (λ none. absurd (omega (arith, taken.from, above, none)), λ empty. absurd (not_filled old new key taken.filled empty))
+  | inr (inl gone) ↦ (λ none. gone.empty, λ empty. gone.zero_number)
+  | inr (inr kept) ↦
+      (λ none. sym kept.same ∙ (held.empty key).0 (sym kept.number ∙ none), λ empty. kept.number ∙ (held.empty key).1 (kept.same ∙ empty))
+]
+
+below_after : (old new : List Record) (next : ℕ) (numbers : Key → ℕ) → IsNumbered old numbers next → (key : Key) → number_after old new next numbers key < next_after old new next
+below_after old new next numbers held key =
+    let above : numbers key < next = held.below key in
+    elim (number-cases old new next numbers key) [
+      | inl taken ↦ taken.below
+      | inr (inl gone) ↦ omega (arith, gone.zero_number, above)
+      | inr (inr kept) ↦ omega (arith, kept.number, above)
+    ]
+
+-- a number that was taken is another one than each that was kept
+apart_after : (old new : List Record) (next : ℕ) (numbers : Key → ℕ) → IsNumbered old numbers next → (a b : Key) → IsTaken old new next numbers a → number_after old new next numbers a ≡ number_after old new next numbers b → number_after old new next numbers a ≢ 0 → same_key a b ≡ true
+apart_after old new next numbers held a b taken same some =
+    let above : numbers b < next = held.below b in
+    elim (number-cases old new next numbers b) [
+      | inl taken' ↦ from-same next (number_after old new next numbers a) (numbered_keys old new) a b taken.found (taken'.found ∙ ap (λ n. Some n) (sym same))
+      | inr (inl gone) ↦ absurd (some (same ∙ gone.zero_number))
+      | inr (inr kept) ↦ absurd (omega (arith, taken.from, same, kept.number, above))
+    ]
+
+one_key_after : (old new : List Record) (next : ℕ) (numbers : Key → ℕ) → IsNumbered old numbers next → (a b : Key) → number_after old new next numbers a ≡ number_after old new next numbers b → number_after old new next numbers a ≢ 0 → same_key a b ≡ true
+one_key_after old new next numbers held a b same some = elim (number-cases old new next numbers a) [
+  | inl taken ↦ apart_after old new next numbers held a b taken same some
+  | inr (inl gone) ↦ absurd (some gone.zero_number)
+  | inr (inr kept) ↦ elim (number-cases old new next numbers b) [
+      | inl taken' ↦ same_key-sym a b ∙ apart_after old new next numbers held b a taken' (sym same) (λ none. some (same ∙ none))
+      | inr (inl gone') ↦ absurd (some (same ∙ gone'.zero_number))
+      | inr (inr kept') ↦ held.one_key a b (sym kept.number ∙ same ∙ kept'.number) (λ none. some (kept.number ∙ none))
+    ]
+]
+
+enough : (next : ℕ) → (if nat_lt (2 ^ 52 + 1) next then Some NumberSpent else None) ≡ None → next ≤ 2 ^ 52 + 1
+enough next accepted = elim (cases_Bool (nat_lt (2 ^ 52 + 1) next)) [
+  | inl many ↦ let never : Some NumberSpent ≡ None = rw many at accepted in cc
+  | inr few ↦ grind (arith, nat_tests)
+]
+
+-- an accepted change keeps what holds of numbers
+pub numbered-after : (old new : List Record) (next : ℕ) (numbers : Key → ℕ) → IsNumbered old numbers next → number_refusal old new next ≡ None → IsNumbered new (number_after old new next numbers) (next_after old new next)
+numbered-after old new next numbers held accepted =
+    record {
+      empty = empty_after old new next numbers held;
+      below = below_after old new next numbers held;
+      one_key = one_key_after old new next numbers held;
+      last = enough (next_after old new next) accepted;
+    }

@@ -1,0 +1,30 @@
+-- What an edit does to a store.
+use Rattle.std.specs.Prelude.{◌≡◌, ◌≢◌, ℕ, List, Option, None, Some, Result, OnOk, OnErr, IfOk, IfErr}
+use Rattle.std.specs.Option.{option_or}
+use Rattle.sipl_records.specs.declared.record.Key.{Key}
+use Rattle.sipl_zonestore.specs.Store.{Store, number_in}
+use Rattle.sipl_zonestore.specs.Edits.{Edit, after, refusal_of}
+use Rattle.sipl_zonestore.specs.Changes.{changed_keys}
+use Rattle.sipl_zonestore.specs.Numbers.{number_after, next_after, number_refusal}
+use Rattle.sipl_zonestore.specs.declared.fault.StoreFault.{StoreFault}
+use Rattle.sipl_zonestore.specs.declared.fault.StoreFault.TheVariants.{Memory}
+
+-- the fault of an edit of a store: that of its zones, or else too few numbers are left
+abbrev pub store_refusal : Edit → Store → Option StoreFault
+store_refusal edit store =
+    option_or (refusal_of store.max_records edit store.zones)
+    (number_refusal store.zones.records (after edit store.zones).records store.next)
+
+-- An accepted edit changes the zones, returns the keys whose sets differ, and gives those of them
+-- that are not empty the next numbers. A refused one changes nothing.
+pub record IsEdited (edit : Edit) (old new : Store) (result : Result (List Key) StoreFault) : Type 0 where
+  pub accepted : OnOk result (store_refusal edit old ≡ None)
+  pub after : OnOk result (new.zones ≡ after edit old.zones)
+  pub changed : IfOk result (λ keys. keys ≡ changed_keys old.zones.records new.zones.records)
+  pub numbers : OnOk result ((key : Key) → number_in new key
+    ≡ number_after old.zones.records new.zones.records old.next (number_in old) key)
+  pub next : OnOk result (new.next ≡ next_after old.zones.records new.zones.records old.next)
+  pub refused : IfErr result (λ fault. fault ≢ Memory → store_refusal edit old ≡ Some fault)
+  pub unchanged : OnErr result (new ≡ old)
+  pub limit : new.max_records ≡ old.max_records
+  pub looks : new.looks ≡ old.looks
