@@ -70,11 +70,9 @@ refuses code state = keeps (refusal_line code) state
 -- the state after an accepted edit of its zones
 abbrev pub edited : Edit → SessionState → SessionState
 edited edit state =
-    record {
+    record state {
       zones = after edit state.zones;
       next = next_after state.zones.records (after edit state.zones).records state.next;
-      gathering = state.gathering;
-      ended = state.ended;
     }
 
 -- the fault of an edit of the zones
@@ -120,12 +118,7 @@ zone_outcome (Lines lines) state = text_outcome (zone_of lines.text lines.apex) 
 -- lines are taken from now on, or none
 abbrev pub with_gathering : Option Gathering → SessionState → SessionState
 with_gathering gathering state =
-    record {
-      zones = state.zones;
-      next = state.next;
-      gathering = gathering;
-      ended = state.ended;
-    }
+    record state { gathering = gathering }
 
 -- while lines are left to be taken there is no reply; it comes with the last of them
 abbrev pub gathering_outcome : Gathering → SessionState → Outcome
@@ -205,12 +198,7 @@ request_step (find uri) state = allocates (find_outcome uri state) state
 request_step quit state =
     certain (record {
       reply = codes "ok quit\n";
-      state = record {
-        zones = state.zones;
-        next = state.next;
-        gathering = state.gathering;
-        ended = true;
-      };
+      state = record state { ended = true };
     })
 
 -- what a line does: it is a command, or one of the lines that a zone takes
