@@ -1,7 +1,7 @@
 -- What a command that was read asks for.
 use Rattle.siploc.specs.declared.command.Command.{Command}
-use Rattle.siploc.specs.declared.command.Command.TheVariants.{Nothing, Unknown, TooLong, Zone, Add, Find, Quit}
-use Rattle.siploc.specs.Requests.{Request, nothing, unknown, too_long, zone, add, find, quit}
+use Rattle.siploc.specs.declared.command.Command.TheVariants.{Nothing, Unknown, TooLong, Zone, Drop, Add, Del, Find, Quit}
+use Rattle.siploc.specs.Requests.{Request, nothing, unknown, too_long, zone, drop, add, del, find, quit}
 
 -- the request of a command
 abbrev pub meaning_of : Command → Request
@@ -9,6 +9,8 @@ meaning_of Nothing = nothing
 meaning_of Unknown = unknown
 meaning_of TooLong = too_long
 meaning_of (Zone apex lines) = zone apex.now lines
+meaning_of (Drop apex) = drop apex.now
 meaning_of (Add text) = add text.now
+meaning_of (Del text) = del text.now
 meaning_of (Find uri) = find uri.now
 meaning_of Quit = quit

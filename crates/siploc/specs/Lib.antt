@@ -15,3 +15,4 @@ pub mod Gathering
 pub mod CommandMeaning
 pub mod ReplyText
 pub mod Session
+pub mod Checking

@@ -25,9 +25,9 @@ counts_line words numbers = words ++ flat_map number_field numbers ++ 10 ∷ []
 abbrev pub refusal_line : Octets → Octets
 refusal_line code = codes "err " ++ code ++ 10 ∷ []
 
--- the reply to a fault in a zone's text: the line on which its entry begins, and its code
-abbrev pub zone_refusal_line : ℕ → Octets → Octets
-zone_refusal_line line code = codes "err zone" ++ number_field line ++ word_field code ++ 10 ∷ []
+-- a fault in a zone's text, after words: the line on which its entry begins, and its code
+abbrev pub text_fault_line : Octets → ℕ → Octets → Octets
+text_fault_line words line code = words ++ number_field line ++ word_field code ++ 10 ∷ []
 
 -- the line of a target: its number from 1, its transport, address and port
 abbrev pub target_line : ℕ → Endpoint → Octets

@@ -11,7 +11,9 @@ pub data Request : Type 0 where
   unknown : Request
   too_long : Request
   zone : Octets → ℕ → Request
+  drop : Octets → Request
   add : Octets → Request
+  del : Octets → Request
   find : Octets → Request
   quit : Request
 
@@ -26,10 +28,20 @@ zone_request (apex ∷ count ∷ []) =
     elim (number_of count 1048576) [ Some lines ↦ zone apex lines | None ↦ unknown ]
 zone_request _ = unknown
 
+-- `drop APEX`
+abbrev pub drop_request : List Octets → Request
+drop_request (apex ∷ []) = drop apex
+drop_request _ = unknown
+
 -- `add RECORD`: the record is the line from the first field after the command on
 abbrev pub add_request : Octets → Request
 add_request [] = unknown
 add_request (c ∷ text) = add (c ∷ text)
+
+-- `del RECORD`: the record is as with `add`
+abbrev pub del_request : Octets → Request
+del_request [] = unknown
+del_request (c ∷ text) = del (c ∷ text)
 
 -- `find URI`
 abbrev pub find_request : List Octets → Request
@@ -45,9 +57,11 @@ quit_request _ = unknown
 abbrev pub command_request : Octets → List Octets → Octets → Request
 command_request word others line =
     if pointwise nat_eq word (codes "zone") then zone_request others
+    else (if pointwise nat_eq word (codes "drop") then drop_request others
     else (if pointwise nat_eq word (codes "add") then add_request (trim_start (after_field line))
+    else (if pointwise nat_eq word (codes "del") then del_request (trim_start (after_field line))
     else (if pointwise nat_eq word (codes "find") then find_request others
-    else (if pointwise nat_eq word (codes "quit") then quit_request others else unknown)))
+    else (if pointwise nat_eq word (codes "quit") then quit_request others else unknown)))))
 
 -- what the fields of a line ask for
 abbrev pub fields_request : List Octets → Octets → Request

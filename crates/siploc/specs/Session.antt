@@ -1,6 +1,9 @@
 -- What each item of a session does, and its reply.
-use Rattle.std.specs.Prelude.{◌≡◌, ◌⊎◌, ℕ, Bool, true, false, [], ◌∷◌, ◌++◌, length, Option, None, Some, Result, Ok, Err, codes, if◌then◌else◌, ◌==◌}
+use Rattle.std.specs.Prelude.{◌≡◌, ◌⊎◌, ℕ, Bool, true, false, List, [], ◌∷◌, ◌++◌, length, Option, None, Some, Result, Ok, Err, codes, if◌then◌else◌, ◌==◌}
+use Rattle.std.specs.Option.{option_or}
+use Rattle.sipl_names.specs.NameText.{name_of}
 use Rattle.sipl_names.specs.NameFault.{code_of as name_code}
+use Rattle.sipl_names.specs.declared.fault.NameFault.{NameFault}
 use Rattle.sipl_records.specs.Sets.{set_of}
 use Rattle.sipl_records.specs.declared.record.Record.{Record}
 use Rattle.sipl_masterfile.specs.Zones.{Zone, zone_of}
@@ -14,31 +17,34 @@ use Rattle.sipl_uri.specs.Uris.{question_of}
 use Rattle.sipl_uri.specs.declared.fault.UriFault.{UriFault}
 use Rattle.sipl_uri.specs.declared.question.Question.{Question}
 use Rattle.sipl_uri.specs.UriFault.{code_of as uri_code}
-use Rattle.sipl_zonestore.specs.Store.{Zones, no_zones, load_refusal, after_load, add_refusal, after_add}
+use Rattle.sipl_zonestore.specs.Store.{Zones, no_zones}
+use Rattle.sipl_zonestore.specs.Edits.{Edit, load, unload, add as insert, remove, after, refusal_of}
+use Rattle.sipl_zonestore.specs.Numbers.{next_after, number_refusal}
 use Rattle.sipl_zonestore.specs.Changes.{changed_keys}
 use Rattle.sipl_zonestore.specs.StoreFault.{code_of as store_code}
 use Rattle.sipl_zonestore.specs.declared.fault.StoreFault.{StoreFault}
 use Rattle.sipl_plans.specs.Plan.{plan}
-use Rattle.sipl_names.specs.Labels.{Octets}
+use Rattle.sipl_names.specs.Labels.{Octets, Labels}
 use Rattle.siploc.specs.Items.{Item, line, end_of_input}
 use Rattle.siploc.specs.Protocol.{Protocol}
-use Rattle.siploc.specs.Requests.{Request, nothing, unknown, too_long, zone, add, find, quit, request_of}
-use Rattle.siploc.specs.ReplyText.{counts_line, refusal_line, zone_refusal_line, answer_text}
+use Rattle.siploc.specs.Requests.{Request, nothing, unknown, too_long, zone, drop, add, del, find, quit, request_of}
+use Rattle.siploc.specs.ReplyText.{counts_line, refusal_line, text_fault_line, answer_text}
 use Rattle.siploc.specs.Gathering.{gathering_of, after_line, at_end, lost, keeps_lines}
 use Rattle.siploc.specs.declared.gather.Gathered.{Gathered}
 use Rattle.siploc.specs.declared.gather.Gathered.TheVariants.{Lines, BadApex, LongLine, Lost}
 use Rattle.siploc.specs.declared.gather.Gathering.{Gathering}
 
--- the state of a session: the zones that are loaded, the zone whose lines are being taken, and
--- whether the session has ended
+-- the state of a session: the zones that are loaded, the next number of a record set, the zone
+-- whose lines are being taken, and whether the session has ended
 pub record SessionState : Type 0 where
   pub zones : Zones
+  pub next : ℕ
   pub gathering : Option Gathering
   pub ended : Bool
 
 -- a session that has had no line
 abbrev pub new_session : SessionState
-new_session = record { zones = no_zones; gathering = None; ended = false }
+new_session = record { zones = no_zones; next = 1; gathering = None; ended = false }
 
 -- the abilities of the client that asks
 abbrev pub client : Client
@@ -61,28 +67,46 @@ keeps reply state = record { reply = reply; state = state }
 abbrev pub refuses : Octets → SessionState → Outcome
 refuses code state = keeps (refusal_line code) state
 
--- a reply, with these zones after it
-abbrev pub changes : Octets → Zones → SessionState → Outcome
-changes reply zones state =
-    record {
-      reply = reply;
-      state = record { zones = zones; gathering = state.gathering; ended = state.ended };
+-- the state after an accepted edit of its zones
+abbrev pub edited : Edit → SessionState → SessionState
+edited edit state =
+    record state {
+      zones = after edit state.zones;
+      next = next_after state.zones.records (after edit state.zones).records state.next;
     }
 
--- a zone is loaded, where the store does not refuse it
-abbrev pub load_outcome : Option StoreFault → Zone → SessionState → Outcome
-load_outcome (Some fault) text state = refuses (store_code fault) state
-load_outcome None text state =
-    changes
-    (counts_line (codes "ok zone")
-    (length text.records ∷ text.outside ∷ text.repeated
-    ∷ length (changed_keys state.zones.records (after_load text state.zones).records) ∷ []))
-    (after_load text state.zones) state
+-- the fault of an edit of the zones
+abbrev pub edit_refusal : Edit → SessionState → Option StoreFault
+edit_refusal edit state =
+    option_or (refusal_of max_records edit state.zones)
+    (number_refusal state.zones.records (after edit state.zones).records state.next)
+
+-- how many record sets an edit changes
+abbrev pub change_count : Edit → SessionState → ℕ
+change_count edit state =
+    length (changed_keys state.zones.records (after edit state.zones).records)
+
+-- an edit, unless it is refused: the reply ends with the number of sets that changed
+abbrev pub unless_refused : Option StoreFault → Octets → List ℕ → Edit → SessionState → Outcome
+unless_refused (Some fault) words counts edit state = refuses (store_code fault) state
+unless_refused None words counts edit state =
+    record {
+      reply = counts_line words (counts ++ change_count edit state ∷ []);
+      state = edited edit state;
+    }
+
+-- an edit, and its reply
+abbrev pub edit_outcome : Octets → List ℕ → Edit → SessionState → Outcome
+edit_outcome words counts edit state =
+    unless_refused (edit_refusal edit state) words counts edit state
 
 -- a zone's text is loaded; a fault in it is reported with its line
 abbrev pub text_outcome : Result Zone ZoneFault → SessionState → Outcome
-text_outcome (Err fault) state = keeps (zone_refusal_line fault.line (zone_code fault)) state
-text_outcome (Ok text) state = load_outcome (load_refusal max_records text state.zones) text state
+text_outcome (Err fault) state =
+    keeps (text_fault_line (codes "err zone") fault.line (zone_code fault)) state
+text_outcome (Ok text) state =
+    edit_outcome (codes "ok zone") (length text.records ∷ text.outside ∷ text.repeated ∷ [])
+    (load text) state
 
 -- `zone APEX COUNT`, once its lines are taken: the first of these that applies is reported
 abbrev pub zone_outcome : Gathered → SessionState → Outcome
@@ -94,7 +118,7 @@ zone_outcome (Lines lines) state = text_outcome (zone_of lines.text lines.apex) 
 -- lines are taken from now on, or none
 abbrev pub with_gathering : Option Gathering → SessionState → SessionState
 with_gathering gathering state =
-    record { zones = state.zones; gathering = gathering; ended = state.ended }
+    record state { gathering = gathering }
 
 -- while lines are left to be taken there is no reply; it comes with the last of them
 abbrev pub gathering_outcome : Gathering → SessionState → Outcome
@@ -102,23 +126,28 @@ gathering_outcome gathering state =
     if gathering.left == 0 then zone_outcome gathering.gathered (with_gathering None state)
     else keeps [] (with_gathering (Some gathering) state)
 
--- a record is added, where the store does not refuse it
-abbrev pub insert_outcome : Option StoreFault → Record → SessionState → Outcome
-insert_outcome (Some fault) r state = refuses (store_code fault) state
-insert_outcome None r state =
-    changes
-    (counts_line (codes "ok add")
-    (length (changed_keys state.zones.records (after_add r state.zones).records) ∷ []))
-    (after_add r state.zones) state
+-- the zone of an apex is unloaded
+abbrev pub unload_outcome : Result Labels NameFault → SessionState → Outcome
+unload_outcome (Err fault) state = refuses (name_code fault) state
+unload_outcome (Ok apex) state = edit_outcome (codes "ok drop") [] (unload apex) state
 
--- the record of a text is added
-abbrev pub record_outcome : Result Record ZoneFault → SessionState → Outcome
-record_outcome (Err fault) state = refuses (zone_code fault) state
-record_outcome (Ok r) state = insert_outcome (add_refusal max_records r state.zones) r state
+-- `drop APEX`: the apex is relative to the root
+abbrev pub drop_outcome : Octets → SessionState → Outcome
+drop_outcome apex state = unload_outcome (name_of apex []) state
+
+-- the record of a text is added or removed
+abbrev pub record_outcome : Octets → (Record → Edit) → Result Record ZoneFault → SessionState
+    → Outcome
+record_outcome words edit (Err fault) state = refuses (zone_code fault) state
+record_outcome words edit (Ok r) state = edit_outcome words [] (edit r) state
 
 -- `add RECORD`: names are relative to the root
 abbrev pub add_outcome : Octets → SessionState → Outcome
-add_outcome text state = record_outcome (record_of text []) state
+add_outcome text state = record_outcome (codes "ok add") (λ r. insert r) (record_of text []) state
+
+-- `del RECORD`: names are relative to the root
+abbrev pub del_outcome : Octets → SessionState → Outcome
+del_outcome text state = record_outcome (codes "ok del") (λ r. remove r) (record_of text []) state
 
 -- the plan of a question, from the records as they are
 abbrev pub question_outcome : Result Question UriFault → SessionState → Outcome
@@ -162,12 +191,14 @@ request_step (zone apex lines) state =
       outcome = gathering_outcome (gathering_of apex lines) state;
       failure = Some (gathering_outcome (lost lines) state);
     }
+request_step (drop apex) state = allocates (drop_outcome apex state) state
 request_step (add text) state = allocates (add_outcome text state) state
+request_step (del text) state = allocates (del_outcome text state) state
 request_step (find uri) state = allocates (find_outcome uri state) state
 request_step quit state =
     certain (record {
       reply = codes "ok quit\n";
-      state = record { zones = state.zones; gathering = state.gathering; ended = true };
+      state = record state { ended = true };
     })
 
 -- what a line does: it is a command, or one of the lines that a zone takes

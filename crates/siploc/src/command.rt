@@ -1,7 +1,7 @@
 // What a line of a session asks for.
 ghost use Rattle.std.specs.Prelude.{◌≡◌};
 ghost use Rattle.sipl_records.specs.Fields.{fields_of, trim_start};
-ghost use Rattle.siploc.specs.Requests.{add_request, find_request, quit_request, request_of, zone_request};
+ghost use Rattle.siploc.specs.Requests.{add_request, del_request, drop_request, find_request, quit_request, request_of, zone_request};
 ghost use Rattle.siploc.specs.CommandMeaning.{meaning_of};
 
 use sipl_records::{next_field, read_number, trim_start};
@@ -23,8 +23,12 @@ pub enum Command<'a> {
     TooLong,
     /// `zone APEX COUNT`: loads the zone whose text is in so many lines after it.
     Zone(&'a [u8], u64),
+    /// `drop APEX`: unloads a zone.
+    Drop(&'a [u8]),
     /// `add RECORD`: adds a record.
     Add(&'a [u8]),
+    /// `del RECORD`: removes a record.
+    Del(&'a [u8]),
     /// `find URI`: asks for the targets of a URI.
     Find(&'a [u8]),
     /// `quit`: ends the session.
@@ -46,7 +50,9 @@ pub fn read_command(line: &[u8]) -> Command<'_>
     };
     match word {
         b"zone" => zone_command(rest),
+        b"drop" => drop_command(rest),
         b"add" => add_command(trim_start(rest)),
+        b"del" => del_command(trim_start(rest)),
         b"find" => find_command(rest),
         b"quit" => quit_command(rest),
         _ => Command::Unknown,
@@ -72,6 +78,16 @@ fn zone_command(rest: &[u8]) -> Command<'_>
     }
 }
 
+// `drop APEX`.
+fn drop_command(rest: &[u8]) -> Command<'_>
+    ensures { meaning_of result ≡ drop_request (fields_of rest.now) }
+{
+    match next_field(rest) {
+        Some((apex, rest)) if next_field(rest).is_none() => Command::Drop(apex),
+        _ => Command::Unknown,
+    }
+}
+
 // `add RECORD`, where this is the line from the record on.
 fn add_command(text: &[u8]) -> Command<'_>
     ensures { meaning_of result ≡ add_request text.now }
@@ -80,6 +96,17 @@ fn add_command(text: &[u8]) -> Command<'_>
         Command::Unknown
     } else {
         Command::Add(text)
+    }
+}
+
+// `del RECORD`, where this is the line from the record on.
+fn del_command(text: &[u8]) -> Command<'_>
+    ensures { meaning_of result ≡ del_request text.now }
+{
+    if text.is_empty() {
+        Command::Unknown
+    } else {
+        Command::Del(text)
     }
 }
 

@@ -1,6 +1,7 @@
 //! A locator of SIP servers (RFC 3263): a session on standard input and output.
 #![tactic(auto)]
 
+mod check;
 mod command;
 mod gather;
 mod lines;

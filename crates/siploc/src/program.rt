@@ -1,7 +1,10 @@
-//! The program: its arguments, and a session on its standard streams.
+//! The program: its arguments, and what it does on its standard streams.
+use crate::check::check_zone;
 use crate::serve::{Ended, ServeFault, serve};
 use crate::session::Session;
 use crate::tapped::Tapped;
+use sipl_names::{Name, NameFault};
+use std::alloc::Global;
 use std::io::{ErrorKind, Input};
 use std::process::ExitCode;
 use std::rt::Env;
@@ -10,45 +13,64 @@ use std::{env, io};
 // The status of a call with wrong arguments.
 const WRONG_ARGUMENTS: u8 = 2;
 
-// Does what the arguments ask for. The status is 0, 1 after a fault, or 2 where the arguments are
-// wrong; for 1 and 2 one line on standard error gives the reason.
+// What the arguments ask for.
+#[derive(Drop)]
+enum Call {
+    // `run`: serves a session.
+    Run,
+    // `check APEX`: checks a zone's text.
+    Check(Name),
+}
+
+// Does what the arguments ask for. The status is 0, 1 after a fault or for a text that is not a
+// zone, or 2 where the arguments are wrong; for a fault and for 2 one line on standard error gives
+// the reason.
 pub(crate) fn start<R: Env + Input + Print + Eprint + AllocGlobal>(rt: &R) -> ExitCode {
-    match asks_run(rt) {
-        Ok(true) => run(rt),
-        Err(error) if error.kind() == ErrorKind::OutOfMemory => {
-            let _ = eprintln!(rt; "fault memory");
-            ExitCode::FAILURE
-        }
+    let outcome = match read_arguments(rt) {
+        Ok(Some(Call::Run)) => serve_streams(rt).map(|_| true),
+        Ok(Some(Call::Check(apex))) => check_streams(rt, &apex),
+        Err(error) if error.kind() == ErrorKind::OutOfMemory => Err(ServeFault::Memory),
         _ => {
             let _ = eprintln!(rt;
                 "usage: siploc run [SETTINGS] | check APEX | world [SETTINGS] | serve [SETTINGS]"
             );
-            ExitCode::from(WRONG_ARGUMENTS)
+            return ExitCode::from(WRONG_ARGUMENTS);
         }
-    }
-}
-
-// Whether the arguments are the one word `run`. An error says that one of them is not UTF-8, or
-// that an allocation failed.
-fn asks_run<R: Env + AllocGlobal>(rt: &R) -> io::Result<bool> {
-    let mut words = env::args(rt)?;
-    let _program = words.next();
-    let asks = match words.next() {
-        Some(word) => word.as_str() == "run",
-        None => false,
     };
-    Ok(asks && words.next().is_none())
-}
-
-// Serves a session, and writes a fault's code on standard error.
-fn run<R: Input + Print + Eprint + AllocGlobal>(rt: &R) -> ExitCode {
-    match serve_streams(rt) {
-        Ok(_) => ExitCode::SUCCESS,
+    match outcome {
+        Ok(true) => ExitCode::SUCCESS,
+        Ok(false) => ExitCode::FAILURE,
         Err(fault) => {
             let code = fault.code();
             let _ = eprintln!(rt; "fault {code}");
             ExitCode::FAILURE
         }
+    }
+}
+
+// What the arguments ask for, if they are right. An error says that one of them is not UTF-8, or
+// that an allocation failed.
+fn read_arguments<R: Env + AllocGlobal>(rt: &R) -> io::Result<Option<Call>> {
+    let mut words = env::args(rt)?;
+    let _program = words.next();
+    let call = match words.next() {
+        Some(word) if word.as_str() == "run" => Some(Call::Run),
+        Some(word) if word.as_str() == "check" => match words.next() {
+            Some(apex) => read_apex(rt.alloc(), apex.as_bytes())?,
+            None => None,
+        },
+        _ => None,
+    };
+    Ok(call.filter(|_| words.next().is_none()))
+}
+
+// The zone of this name, which is relative to the root, if it is one. An error says that an
+// allocation failed.
+fn read_apex(alloc: Global, text: &[u8]) -> io::Result<Option<Call>> {
+    match Name::from_text(alloc, text, &Name::root(alloc)) {
+        Ok(apex) => Ok(Some(Call::Check(apex))),
+        Err(NameFault::Memory) => Err(io::Error::from(ErrorKind::OutOfMemory)),
+        Err(_) => Ok(None),
     }
 }
 
@@ -59,6 +81,13 @@ fn serve_streams<R: Input + Print + AllocGlobal>(rt: &R) -> Result<Ended, ServeF
     let mut reader = Tapped::new(rt.reader());
     let mut writer = Tapped::new(io::writer(rt));
     serve(alloc, &mut reader, &mut writer, &mut session)
+}
+
+// Checks the zone on standard input, and reports on standard output. Returns whether it is a zone.
+fn check_streams<R: Input + Print + AllocGlobal>(rt: &R, apex: &Name) -> Result<bool, ServeFault> {
+    let mut reader = Tapped::new(rt.reader());
+    let mut writer = Tapped::new(io::writer(rt));
+    check_zone(rt.alloc(), &mut reader, &mut writer, apex)
 }
 
 #[cfg(test)]
@@ -94,11 +123,38 @@ mod tests {
     }
 
     #[test]
+    fn check_reports_the_counts_or_the_first_fault(rt: HostRuntime) -> Result<(), Fail> {
+        for (text, status, output) in [
+            (b"".as_slice(), 0, b"ok 0 0 0\n".as_slice()),
+            (b"; comment\r\n\r\n \t", 0, b"ok 0 0 0\n"),
+            (b"\n;\r\nx\ny", 1, b"err 3 Z2\n"),
+        ] {
+            let process = Process::new(rt.alloc(), &[b"siploc", b"check", b"example.com"], text);
+            assert!(rt; ends(process, status, output, b""));
+        }
+        Ok(())
+    }
+
+    #[test]
+    fn faults_of_a_check_print_their_code(rt: HostRuntime) -> Result<(), Fail> {
+        let mut process = Process::new(rt.alloc(), &[b"siploc", b"check", b"e."], b"x");
+        process.input_fails = true;
+        assert!(rt; ends(process, 1, b"", b"fault read\n"));
+        let mut process = Process::new(rt.alloc(), &[b"siploc", b"check", b"e."], b"");
+        process.is_closed = true;
+        assert!(rt; ends(process, 1, b"", b"fault write\n"));
+        Ok(())
+    }
+
+    #[test]
     fn wrong_arguments_print_the_usage(rt: HostRuntime) -> Result<(), Fail> {
-        let calls: [&[&[u8]]; 6] = [
+        let calls: [&[&[u8]]; 9] = [
             &[],
             &[b"siploc"],
             &[b"siploc", b"check"],
+            &[b"siploc", b"check", b"a..b"],
+            &[b"siploc", b"check", b"a.", b""],
+            &[b"siploc", b"check", b"\xFF"],
             &[b"siploc", b"RUN"],
             &[b"siploc", b"run", b""],
             &[b"siploc", b"run", b"\xFF"],

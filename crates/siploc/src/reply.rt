@@ -1,6 +1,6 @@
 // How replies are written.
 ghost use Rattle.std.specs.Prelude.{◌≡◌, ◌+◌, ◌*◌, ◌≤◌, [], ◌∷◌, ◌++◌, length, codes, IsOk, OnOk, OnErr, vec_len, vec_capacity};
-ghost use Rattle.siploc.specs.ReplyText.{answer_text, max_answer_len, counts_line, refusal_line, zone_refusal_line, number_field, target_line, target_lines};
+ghost use Rattle.siploc.specs.ReplyText.{answer_text, max_answer_len, counts_line, refusal_line, text_fault_line, number_field, target_line, target_lines};
 
 use itoa::Buffer;
 use sipl_choice::Endpoint;
@@ -60,17 +60,23 @@ pub fn write_refusal(out: &mut Vec<u8>, code: &str) -> Result<(), AllocError>
     write_line(out, b"err ", code.as_bytes())
 }
 
-/// Appends the reply to a fault in a zone's text, whose entry begins on this line. An error leaves
-/// `out` as it was.
-pub fn write_zone_refusal(out: &mut Vec<u8>, line: u64, code: &str) -> Result<(), AllocError>
-    ensures ok { OnOk result (out.new.items ≡ out.old.items ++ zone_refusal_line line code.now) }
+/// Appends words, the line on which a faulty entry of a zone's text begins, and the fault's code. An
+/// error leaves `out` as it was.
+pub fn write_text_fault(
+    out: &mut Vec<u8>,
+    words: &[u8],
+    line: u64,
+    code: &str,
+) -> Result<(), AllocError>
+    ensures ok { OnOk result
+        (out.new.items ≡ out.old.items ++ text_fault_line words.now line code.now) }
     ensures err { OnErr result (out.new.items ≡ out.old.items) }
     ensures capacity { vec_capacity out.old ≤ vec_capacity out.new }
-    ensures succeeds { vec_len out.old + 31 + length code.now ≤ vec_capacity out.old
-        → IsOk result }
+    ensures succeeds { vec_len out.old + length words.now + MAX_NUMBER_FIELD_LEN
+        + length code.now + 2 ≤ vec_capacity out.old → IsOk result }
 {
-    let words = b"err zone";
-    out.reserve(words.len() + MAX_NUMBER_FIELD_LEN + code.len() + 2)?;
+    let tail_len = MAX_NUMBER_FIELD_LEN + code.len() + 2;
+    out.reserve(words.len().saturating_add(tail_len))?;
     out.extend_from_slice(words).unwrap();
     write_number(out, line);
     out.push_reserved(b' ');

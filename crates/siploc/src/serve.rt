@@ -215,7 +215,7 @@ impl Server {
 }
 
 // Writes all of a text, if it has any, and flushes the writer. Returns whether that succeeded.
-fn send<W: Write>(writer: &mut Tapped<W>, text: &[u8]) -> bool
+pub(crate) fn send<W: Write>(writer: &mut Tapped<W>, text: &[u8]) -> bool
     ensures sent { OnTrue result (Appends (W.contents (tapped_inner writer.old))
         (W.contents (tapped_inner writer.new)) text.now) }
     ensures prefix { OnFalse result (AppendsPrefix (W.contents (tapped_inner writer.old))

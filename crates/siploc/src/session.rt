@@ -3,12 +3,12 @@ ghost use Rattle.siploc.specs.CommandMeaning.{meaning_of};
 ghost use Rattle.siploc.specs.Items.{Item};
 ghost use Rattle.siploc.specs.Replies.{AppendsReply};
 ghost use Rattle.siploc.specs.Gathering.{keeps_lines};
-ghost use Rattle.siploc.specs.Session.{AppendsStep, new_session, refuses, request_step, gathering_step, session_protocol, text_outcome, zone_outcome, add_outcome, find_outcome};
+ghost use Rattle.siploc.specs.Session.{AppendsStep, new_session, refuses, request_step, gathering_step, session_protocol, text_outcome, zone_outcome, drop_outcome, add_outcome, del_outcome, find_outcome};
 ghost use Rattle.sipl_masterfile.specs.Zones.{zone_of};
 
 use crate::command::{Command, read_command};
 use crate::gather::{Gathered, Gathering, ZoneLines};
-use crate::reply::{write_answer, write_counts, write_refusal, write_zone_refusal};
+use crate::reply::{write_answer, write_counts, write_refusal, write_text_fault};
 use sipl_choice::{Abilities, Families, Transport};
 use sipl_masterfile::{ZoneCause, ZoneFault, read_record, read_zone};
 use sipl_names::{Name, NameFault};
@@ -39,6 +39,7 @@ impl Model for Session {
 
     ghost view = { λ s. record {
       zones = s.store.zones;
+      next = s.store.next;
       gathering = s.gathering;
       ended = s.ended;
     } };
@@ -158,7 +159,9 @@ impl Session {
                 self.gather(alloc, Gathering::new(alloc, apex, lines), out);
                 Ok(())
             }
+            Command::Drop(apex) => self.unload_zone(alloc, apex, out),
             Command::Add(record) => self.add_record(alloc, record, out),
+            Command::Del(record) => self.remove_record(alloc, record, out),
             Command::Find(uri) => self.find(alloc, uri, out),
             Command::Quit => {
                 self.ended = true;
@@ -235,7 +238,7 @@ impl Session {
                     ..
                 },
             ) => return Err(AllocError),
-            Err(fault) => return write_zone_refusal(out, fault.line, fault.code()),
+            Err(fault) => return write_text_fault(out, b"err zone", fault.line, fault.code()),
         };
         match self.store.load(&text) {
             Ok(changed) => {
@@ -243,6 +246,36 @@ impl Session {
                 let changed = changed.len() as u64;
                 let counts = [records, text.outside(), text.repeated(), changed];
                 write_counts(out, b"ok zone", &counts);
+                Ok(())
+            }
+            Err(StoreFault::Memory) => Err(AllocError),
+            Err(fault) => write_refusal(out, fault.code()),
+        }
+    }
+
+    // `drop APEX`: unloads a zone.
+    fn unload_zone(
+        &mut self,
+        alloc: Global,
+        apex: &[u8],
+        out: &mut Vec<u8>,
+    ) -> Result<(), AllocError>
+        requires { vec_len out.old + MAX_SHORT_REPLY_LEN ≤ vec_capacity out.old }
+        ensures ok { OnOk result
+            (out.new.items ≡ out.old.items ++ (drop_outcome apex.now self.old).reply) }
+        ensures after { OnOk result (self.new ≡ (drop_outcome apex.now self.old).state) }
+        ensures err { OnErr result (self.new ≡ self.old) }
+        ensures err_out { OnErr result (out.new.items ≡ out.old.items) }
+        ensures capacity { vec_capacity out.old ≤ vec_capacity out.new }
+    {
+        let apex = match Name::from_text(alloc, apex, &Name::root(alloc)) {
+            Ok(apex) => apex,
+            Err(NameFault::Memory) => return Err(AllocError),
+            Err(fault) => return write_refusal(out, fault.code()),
+        };
+        match self.store.unload(&apex) {
+            Ok(changed) => {
+                write_counts(out, b"ok drop", &[changed.len() as u64]);
                 Ok(())
             }
             Err(StoreFault::Memory) => Err(AllocError),
@@ -285,11 +318,47 @@ impl Session {
         }
     }
 
-    // `find URI`: the targets of a URI, from the records as they are.
-    fn find(&self, alloc: Global, uri: &[u8], out: &mut Vec<u8>) -> Result<(), AllocError>
+    // `del RECORD`: removes a record.
+    fn remove_record(
+        &mut self,
+        alloc: Global,
+        text: &[u8],
+        out: &mut Vec<u8>,
+    ) -> Result<(), AllocError>
+        requires { vec_len out.old + MAX_SHORT_REPLY_LEN ≤ vec_capacity out.old }
         ensures ok { OnOk result
-            (out.new.items ≡ out.old.items ++ (find_outcome uri.now self.now).reply) }
-        ensures err { OnErr result (out.new.items ≡ out.old.items) }
+            (out.new.items ≡ out.old.items ++ (del_outcome text.now self.old).reply) }
+        ensures after { OnOk result (self.new ≡ (del_outcome text.now self.old).state) }
+        ensures err { OnErr result (self.new ≡ self.old) }
+        ensures err_out { OnErr result (out.new.items ≡ out.old.items) }
+        ensures capacity { vec_capacity out.old ≤ vec_capacity out.new }
+    {
+        let record = match read_record(alloc, text, &Name::root(alloc)) {
+            Ok(record) => record,
+            Err(
+                ZoneFault {
+                    cause: ZoneCause::Memory,
+                    ..
+                },
+            ) => return Err(AllocError),
+            Err(fault) => return write_refusal(out, fault.code()),
+        };
+        match self.store.remove(&record) {
+            Ok(changed) => {
+                write_counts(out, b"ok del", &[changed.len() as u64]);
+                Ok(())
+            }
+            Err(StoreFault::Memory) => Err(AllocError),
+            Err(fault) => write_refusal(out, fault.code()),
+        }
+    }
+
+    // `find URI`: the targets of a URI, from the records as they are.
+    fn find(&mut self, alloc: Global, uri: &[u8], out: &mut Vec<u8>) -> Result<(), AllocError>
+        ensures ok { OnOk result
+            (out.new.items ≡ out.old.items ++ (find_outcome uri.now self.old).reply) }
+        ensures err_out { OnErr result (out.new.items ≡ out.old.items) }
+        ensures unchanged { self.new ≡ self.old }
         ensures capacity { vec_capacity out.old ≤ vec_capacity out.new }
     {
         let question = match Uri::parse(alloc, uri) {
