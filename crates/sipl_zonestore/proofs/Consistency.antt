@@ -254,15 +254,17 @@ aliases_after_add records r none apart =
 -- what is covered by a zone that stays is covered
 covered_by_others : (apex owner : List (List ℕ)) (apexes : List (List (List ℕ))) → is_within owner apex ≡ false → is_covered apexes owner ≡ true → is_covered (apexes_without apex apexes) owner ≡ true
 covered_by_others apex owner [] outside some = some
-covered_by_others apex owner (first ∷ apexes) outside some = elim (cases_Bool (same_name apex first)) [
-  | inl same ↦
-      let apart : is_within owner first ≡ false = ap (is_within owner) (sym ((same_name_decides apex first).0 same)) ∙ outside in
-      rw same (covered_by_others apex owner apexes outside (rw apart at some))
-  | inr other ↦ rw other (kept (is_within owner first) some)
-] where
-  kept : (b : Bool) → (b || is_covered apexes owner) ≡ true → (b || is_covered (apexes_without apex apexes) owner) ≡ true
-  kept true some = refl
-  kept false some = covered_by_others apex owner apexes outside some
+covered_by_others apex owner (first ∷ apexes) outside some =
+    let rest : is_covered apexes owner ≡ true → is_covered (apexes_without apex apexes) owner ≡ true = covered_by_others apex owner apexes outside in
+    elim (cases_Bool (same_name apex first)) [
+      | inl same ↦
+          let apart : is_within owner first ≡ false = ap (is_within owner) (sym ((same_name_decides apex first).0 same)) ∙ outside in
+          rw same (rest (rw apart at some))
+      | inr other ↦ rw other (kept (is_within owner first) rest some)
+    ] where
+      kept : (b : Bool) → (is_covered apexes owner ≡ true → is_covered (apexes_without apex apexes) owner ≡ true) → (b || is_covered apexes owner) ≡ true → (b || is_covered (apexes_without apex apexes) owner) ≡ true
+      kept true rest some = refl
+      kept false rest some = rest some
 
 covered_after_unload : (apex : List (List ℕ)) (apexes : List (List (List ℕ))) (records : List Record) → list_all (λ (r : Record). is_covered apexes r.owner) records ≡ true → list_all (λ (r : Record). is_covered (apexes_without apex apexes) r.owner) (records_outside apex records) ≡ true
 covered_after_unload apex apexes records covered =

@@ -1,13 +1,16 @@
 -- What an edit does to a store, from what it does to its records.
-use Rattle.std.proofs.Common.{◌≡◌, ◌≢◌, ℕ, ◌+◌, List, Option, None, Some, Result, Ok, Err, refl, ap, subst, sym, ◌∙◌}
+use Rattle.std.proofs.Common.{◌≡◌, ◌≢◌, ℕ, ◌+◌, Bool, true, false, not, if◌then◌else◌, List, Option, None, Some, Result, Ok, Err, refl, ap, subst, sym, ◌∙◌}
 use Rattle.std.specs.Prelude.{OnOk, OnErr}
 use Rattle.std.specs.Option.{option_or}
+use Rattle.std.specs.List.{list_any}
+use Rattle.sipl_names.specs.Labels.{same_name}
+use Rattle.sipl_records.specs.Sets.{same_record}
 use Rattle.sipl_records.specs.declared.record.Record.{Record}
 use Rattle.sipl_records.specs.declared.record.Key.{Key}
 use Rattle.sipl_zonestore.specs.declared.fault.StoreFault.{StoreFault}
-use Rattle.sipl_zonestore.specs.declared.fault.StoreFault.TheVariants.{Memory}
-use Rattle.sipl_zonestore.specs.Store.{Zones, Store, number_in}
-use Rattle.sipl_zonestore.specs.Edits.{Edit, after, refusal_of}
+use Rattle.sipl_zonestore.specs.declared.fault.StoreFault.TheVariants.{Memory, NoZone, Absent}
+use Rattle.sipl_zonestore.specs.Store.{Zones, Store, number_in, is_covered}
+use Rattle.sipl_zonestore.specs.Edits.{Edit, load, unload, add, remove, after, refusal_of}
 use Rattle.sipl_zonestore.specs.Changes.{changed_keys}
 use Rattle.sipl_zonestore.specs.Numbers.{number_after, next_after, number_refusal}
 use Rattle.sipl_zonestore.specs.NumberedRecords.{Numbered, IsReplaced}
@@ -83,3 +86,39 @@ pub consistent : (edit : Edit) (old new : Store) (result : Result (List Key) Sto
 consistent edit old new (Ok keys) good held is =
     consistent-edited edit old new good held (first_none (refusal_of old.max_records edit old.zones) _ is.accepted) (both_none (refusal_of old.max_records edit old.zones) (number_refusal old.zones.records (after edit old.zones).records old.next) is.accepted) is.after is.limit (is.next ∙ ap (λ (zones : Zones). next_after old.zones.records zones.records old.next) is.after) (λ key. is.numbers key ∙ ap (λ (zones : Zones). number_after old.zones.records zones.records old.next (number_in old) key) is.after)
 consistent edit old new (Err fault) good held is = subst IsConsistent (sym is.unchanged) held
+
+-- a fact, whatever the result
+pub always-ok : {P : Type 0} (result : Result (List Key) StoreFault) → P → OnOk result P
+always-ok (Ok keys) p = p
+always-ok (Err fault) p = tt
+
+pub always-err : {P : Type 0} (result : Result (List Key) StoreFault) → P → OnErr result P
+always-err (Ok keys) p = tt
+always-err (Err fault) p = p
+
+-- a store by its parts
+abbrev pub store_of : List (List (List ℕ)) → Numbered → ℕ → ℕ → Store
+store_of apexes records max_records looks =
+    record { zones = record { apexes = apexes; records = records.records }; max_records = max_records; numbers = records.numbers; next = records.next; looks = looks }
+
+pub edited-with : (edit : Edit) (apexes apexes' : List (List (List ℕ))) (records records' : Numbered) (max_records looks : ℕ) (result : Result (List Key) StoreFault) → refusal_of max_records edit (record { apexes = apexes; records = records.records }) ≡ None → IsReplaced (after edit (record { apexes = apexes; records = records.records })).records records records' result → OnOk result (apexes' ≡ (after edit (record { apexes = apexes; records = records.records })).apexes) → OnErr result (apexes' ≡ apexes) → IsEdited edit (store_of apexes records max_records looks) (store_of apexes' records' max_records looks) result
+edited-with edit apexes apexes' records records' max_records looks result accepted is done kept =
+    edited edit (store_of apexes records max_records looks) (store_of apexes' records' max_records looks) result accepted is done kept refl refl
+
+-- a record that may be removed is there
+pub not_absent : (max_records : ℕ) (r : Record) (zones : Zones) → refusal_of max_records (remove r) zones ≡ None → list_any (same_record r) zones.records ≡ true
+not_absent max_records r zones accepted = covered_case (is_covered zones.apexes r.owner) accepted where
+  there : (b : Bool) → (if b then None else Some Absent) ≡ None → b ≡ true
+  there true accepted = refl
+  there false accepted = cc
+  covered_case : (b : Bool) → (if not b then Some NoZone else (if list_any (same_record r) zones.records then None else Some Absent)) ≡ None → list_any (same_record r) zones.records ≡ true
+  covered_case true accepted = there (list_any (same_record r) zones.records) accepted
+  covered_case false accepted = cc
+
+-- a zone that is loaded may be unloaded
+pub loaded : (max_records : ℕ) (apex : List (List ℕ)) (zones : Zones) → list_any (same_name apex) zones.apexes ≡ true → refusal_of max_records (unload apex) zones ≡ None
+loaded max_records apex zones there = rw there refl
+
+-- and another one may not
+pub not_loaded : (max_records : ℕ) (apex : List (List ℕ)) (zones : Zones) → list_any (same_name apex) zones.apexes ≡ false → refusal_of max_records (unload apex) zones ≡ Some NoZone
+not_loaded max_records apex zones none = rw none refl

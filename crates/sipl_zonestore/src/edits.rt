@@ -35,6 +35,16 @@ pub(crate) fn new_apex(
     Ok(Some(copy))
 }
 
+// Appends the apex, if there is one. Does not allocate.
+pub(crate) fn push_apex(apexes: &mut Vec<Name>, apex: Option<Name>)
+    requires { vec_len apexes.old + 1 ≤ vec_capacity apexes.old }
+    ensures { apexes.new.items ≡ apexes.old.items ++ option_to_list apex }
+{
+    if let Some(apex) = apex {
+        apexes.push_reserved(apex);
+    }
+}
+
 // Whether the apex is among these.
 pub(crate) fn has_apex(apexes: &[Name], apex: &Name) -> bool
     ensures { result ≡ list_any (same_name apex.now) apexes.now }

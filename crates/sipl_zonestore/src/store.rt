@@ -10,7 +10,7 @@ ghost use Rattle.sipl_zonestore.specs.Consistent.{IsConsistent};
 
 use crate::MAX_RECORDS;
 use crate::checks::{check_add, check_load, check_remove, check_unload};
-use crate::edits::new_apex;
+use crate::edits::{new_apex, push_apex};
 use crate::fault::StoreFault;
 use crate::numbered::NumberedRecords;
 use sipl_masterfile::ZoneText;
@@ -107,9 +107,7 @@ impl ZoneStore {
         let apex = new_apex(self.alloc, zone.apex(), &self.apexes)?;
         self.apexes.reserve(1)?;
         let keys = self.records.replace_within(zone.apex(), zone.records())?;
-        if let Some(apex) = apex {
-            self.apexes.push_reserved(apex);
-        }
+        push_apex(&mut self.apexes, apex);
         Ok(keys)
     }
 
