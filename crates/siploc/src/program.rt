@@ -136,6 +136,26 @@ mod tests {
     }
 
     #[test]
+    fn check_counts_the_records_of_a_zone(rt: HostRuntime) -> Result<(), Fail> {
+        let text = b"$TTL 1h\r
+@ IN SOA ns.example.com. host.example.com. (\r
+  1 7200 ; serial\r
+  900 1209600 300 )\r
+@ 300 IN MX 10 mail\r
+@ TXT \"a;b\"\r
+server1 A 192.0.2.1\r
+server1 A 192.0.2.1\r
+x.other.org. A 192.0.2.3";
+        let words: &[&[u8]] = &[b"siploc", b"check", b"example.com."];
+        assert!(rt; ends(Process::new(rt.alloc(), words, text), 0, b"ok 2 1 3\n", b""));
+        let text = b"@ A 192.0.2.1\n\n$INCLUDE x\n";
+        assert!(rt; ends(Process::new(rt.alloc(), words, text), 1, b"err 3 Z8\n", b""));
+        let text = b"@ TXT \"abc";
+        assert!(rt; ends(Process::new(rt.alloc(), words, text), 1, b"err 1 Z6\n", b""));
+        Ok(())
+    }
+
+    #[test]
     fn faults_of_a_check_print_their_code(rt: HostRuntime) -> Result<(), Fail> {
         let mut process = Process::new(rt.alloc(), &[b"siploc", b"check", b"e."], b"x");
         process.input_fails = true;

@@ -2,6 +2,7 @@ use crate::command::MAX_LINE_LEN;
 // Sessions over streams of the tests' own.
 pub mod process;
 mod streams;
+mod zone_files;
 mod zones;
 
 use self::streams::{Failing, Paper, Pieces, blank, replies, whole};
