@@ -30,11 +30,11 @@ both_swapped false a b = refl
 pub conflicts-sym : (a b : Record) → conflicts a b ≡ conflicts b a
 conflicts-sym a b =
     λ i. both i && or_swapped (has_kind Alias a.value) (has_kind Alias b.value) i where
-  owners : same_name a.owner b.owner ≡ same_name b.owner a.owner
-  owners = same_name-sym a.owner b.owner
+      owners : same_name a.owner b.owner ≡ same_name b.owner a.owner
+      owners = same_name-sym a.owner b.owner
 
-  both : (same_name a.owner b.owner && has_some_kind a.value && has_some_kind b.value) ≡ (same_name b.owner a.owner && has_some_kind b.value && has_some_kind a.value)
-  both = rw owners (both_swapped (same_name b.owner a.owner) (has_some_kind a.value) (has_some_kind b.value))
+      both : (same_name a.owner b.owner && has_some_kind a.value && has_some_kind b.value) ≡ (same_name b.owner a.owner && has_some_kind b.value && has_some_kind a.value)
+      both = rw owners (both_swapped (same_name b.owner a.owner) (has_some_kind a.value) (has_some_kind b.value))
 
 -- records that conflict have one owner
 pub conflicts-owner : (a b : Record) → conflicts a b ≡ true → a.owner ≡ b.owner

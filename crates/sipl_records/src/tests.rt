@@ -321,11 +321,20 @@ fn aliases_conflict_with_data_of_some_kind(rt: HostRuntime) {
     let alias = Some(Kind::Alias);
     for kind in KINDS {
         let is_conflict = kind.is_some();
-        assert_eq!(rt; do_conflict(&rt, rt.alloc(), "Example.com.", kind, alias), is_conflict);
-        assert_eq!(rt; do_conflict(&rt, rt.alloc(), "EXAMPLE.com.", alias, kind), is_conflict);
+        assert_eq!(rt;
+            do_conflict(&rt, rt.alloc(), "Example.com.", kind, alias),
+            is_conflict
+        );
+        assert_eq!(rt;
+            do_conflict(&rt, rt.alloc(), "EXAMPLE.com.", alias, kind),
+            is_conflict
+        );
         assert!(rt; !do_conflict(&rt, rt.alloc(), "www.example.com.", alias, kind));
         let is_alias = kind == alias;
-        assert_eq!(rt; do_conflict(&rt, rt.alloc(), "example.com.", kind, KINDS[0]), is_alias);
+        assert_eq!(rt;
+            do_conflict(&rt, rt.alloc(), "example.com.", kind, KINDS[0]),
+            is_alias
+        );
         assert!(rt; !do_conflict(&rt, rt.alloc(), "example.com.", kind, None));
     }
 }

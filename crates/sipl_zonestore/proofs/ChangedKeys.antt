@@ -222,6 +222,7 @@ set_of-without r (first ∷ records) key own =
       data_case : (b : Bool) → has_key key first ≡ true → set_of (records_without r records) key ≡ filter (λ other. not (same_data r.value other)) (set_of records key) → set_of (cond (not b) (first ∷ records_without r records) (records_without r records)) key ≡ cond (not b) (first.value ∷ filter (λ other. not (same_data r.value other)) (set_of records key)) (filter (λ other. not (same_data r.value other)) (set_of records key))
       data_case true there rest = rest
       data_case false there rest = rw there (ap (λ set. first.value ∷ set) rest)
+
       other_case : (b : Bool) → has_key key first ≡ false → set_of (records_without r records) key ≡ filter (λ other. not (same_data r.value other)) (set_of records key) → set_of (cond (not b) (first ∷ records_without r records) (records_without r records)) key ≡ filter (λ other. not (same_data r.value other)) (set_of records key)
       other_case true elsewhere rest = rest
       other_case false elsewhere rest = rw elsewhere rest
@@ -242,9 +243,9 @@ value-there r (first ∷ records) key own some = elim (cases_Bool (same_record r
       let there : has_key key first ≡ true = ap (has_key key) (sym equal) ∙ own in
       rw there (or_first (same_data r.value first.value) _ ((same_data-Decides r.value first.value).1 (ap (λ (s : Record). s.value) equal)))
   | inr other ↦ elim (cases_Bool (has_key key first)) [
-      | inl there ↦ rw there (or_second (same_data r.value first.value) _ (value-there r records key own (rw other at some)))
-      | inr elsewhere ↦ rw elsewhere (value-there r records key own (rw other at some))
-    ]
+    | inl there ↦ rw there (or_second (same_data r.value first.value) _ (value-there r records key own (rw other at some)))
+    | inr elsewhere ↦ rw elsewhere (value-there r records key own (rw other at some))
+  ]
 ]
 
 removed : (records : List Record) (r : Record) → list_any (same_record r) records ≡ true → (key : Key) → is_changed records (records_without r records) key ≡ is_key key (key_of r)

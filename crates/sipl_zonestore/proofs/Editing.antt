@@ -111,6 +111,7 @@ not_absent max_records r zones accepted = covered_case (is_covered zones.apexes 
   there : (b : Bool) → (if b then None else Some Absent) ≡ None → b ≡ true
   there true accepted = refl
   there false accepted = cc
+
   covered_case : (b : Bool) → (if not b then Some NoZone else (if list_any (same_record r) zones.records then None else Some Absent)) ≡ None → list_any (same_record r) zones.records ≡ true
   covered_case true accepted = there (list_any (same_record r) zones.records) accepted
   covered_case false accepted = cc

@@ -72,11 +72,11 @@ pub number-cases : (old new : List Record) (next : ℕ) (numbers : Key → ℕ) 
 number-cases old new next numbers key = elim (cases_Bool (is_empty (set_of new key))) [
   | inl empty ↦ inr (inl (record { empty = empty-is (set_of new key) empty; zero_number = rw (from-none (λ other. same_key other key) next (numbered_keys old new) (numbered-none_empty old new key empty), empty) refl }))
   | inr filled ↦ elim (cases_Bool (is_changed old new key)) [
-      | inl differs ↦
-          let some : (n : ℕ) × (position_from (λ other. same_key other key) next (numbered_keys old new) ≡ Some n) = from-some (λ other. same_key other key) next (numbered_keys old new) (numbered-any old new key differs filled) in
-          inl (taken old new next numbers key some.0 filled some.1)
-      | inr same ↦ inr (inr (record { filled = filled; same = unchanged-is old new key same; number = rw (from-none (λ other. same_key other key) next (numbered_keys old new) (numbered-none_same old new key same), filled) refl }))
-    ]
+    | inl differs ↦
+        let some : (n : ℕ) × (position_from (λ other. same_key other key) next (numbered_keys old new) ≡ Some n) = from-some (λ other. same_key other key) next (numbered_keys old new) (numbered-any old new key differs filled) in
+        inl (taken old new next numbers key some.0 filled some.1)
+    | inr same ↦ inr (inr (record { filled = filled; same = unchanged-is old new key same; number = rw (from-none (λ other. same_key other key) next (numbered_keys old new) (numbered-none_same old new key same), filled) refl }))
+  ]
 ]
 
 not_filled : (old new : List Record) (key : Key) → is_empty (set_of new key) ≡ false → set_of new key ≢ []
@@ -116,10 +116,10 @@ one_key_after old new next numbers held a b same some = elim (number-cases old n
   | inl taken ↦ apart_after old new next numbers held a b taken same some
   | inr (inl gone) ↦ absurd (some gone.zero_number)
   | inr (inr kept) ↦ elim (number-cases old new next numbers b) [
-      | inl taken' ↦ same_key-sym a b ∙ apart_after old new next numbers held b a taken' (sym same) (λ none. some (same ∙ none))
-      | inr (inl gone') ↦ absurd (some (same ∙ gone'.zero_number))
-      | inr (inr kept') ↦ held.one_key a b (sym kept.number ∙ same ∙ kept'.number) (λ none. some (kept.number ∙ none))
-    ]
+    | inl taken' ↦ same_key-sym a b ∙ apart_after old new next numbers held b a taken' (sym same) (λ none. some (same ∙ none))
+    | inr (inl gone') ↦ absurd (some (same ∙ gone'.zero_number))
+    | inr (inr kept') ↦ held.one_key a b (sym kept.number ∙ same ∙ kept'.number) (λ none. some (kept.number ∙ none))
+  ]
 ]
 
 enough : (next : ℕ) → (if nat_lt (2 ^ 52 + 1) next then Some NumberSpent else None) ≡ None → next ≤ 2 ^ 52 + 1

@@ -63,11 +63,11 @@ from-same i n (key ∷ keys) a b found found' = elim (cases_Bool (same_key key a
         | inr other' ↦ let later : i + 1 ≤ n = from-le (λ other. same_key other b) (i + 1) n keys (rw other' at found') in absurd (omega arith)
       ]
   | inr other ↦ elim (cases_Bool (same_key key b)) [
-      | inl here' ↦
-          let first : Some i ≡ Some n = rw here' at found' in
-          let same : i ≡ n = cc in
-          let later : i + 1 ≤ n = from-le (λ other. same_key other a) (i + 1) n keys (rw other at found) in
-          absurd (omega arith)
-      | inr other' ↦ from-same (i + 1) n keys a b (rw other at found) (rw other' at found')
-    ]
+    | inl here' ↦
+        let first : Some i ≡ Some n = rw here' at found' in
+        let same : i ≡ n = cc in
+        let later : i + 1 ≤ n = from-le (λ other. same_key other a) (i + 1) n keys (rw other at found) in
+        absurd (omega arith)
+    | inr other' ↦ from-same (i + 1) n keys a b (rw other at found) (rw other' at found')
+  ]
 ]

@@ -70,6 +70,7 @@ pushed-number old r next sets sets' has put key =
     ∙ ap (λ keys. unwrap_or (position_from (λ other. same_key other key) next keys) (if is_empty (set_of (old ++ r ∷ []) key) then 0 else number_of (numbers_of sets) key)) (sym (numbered-add old r)) where
       stays : has_key key r ≡ false → (content_of sets key).number ≡ (if is_empty (set_of (old ++ r ∷ []) key) then 0 else number_of (numbers_of sets) key)
       stays other = kept-number old (old ++ r ∷ []) sets key has (set_of-pushed old r key false other ∙ append-nil (set_of old key))
+
       own_case : (own : Option Key) (b : Bool) → key_of r ≡ own → has_key key r ≡ b → has_key key r ≡ is_key key (key_of r) → (if has_key key r then pushed next r.value (content_of sets key) else content_of sets key).number ≡ unwrap_or (position_from (λ other. same_key other key) next (option_to_list own)) (if is_empty (set_of (old ++ r ∷ []) key) then 0 else number_of (numbers_of sets) key)
       own_case None true is there same = let never : true ≡ false = sym there ∙ same ∙ ap (is_key key) is in cc
       own_case None false is other same = rw other (stays other)
@@ -107,10 +108,13 @@ removed-number old r next sets sets' has some put key =
     ∙ ap (λ keys. unwrap_or (position_from (λ other. same_key other key) next keys) (if is_empty (set_of (records_without r old) key) then 0 else number_of (numbers_of sets) key)) (sym (ap (filter (λ key. not (is_empty (set_of (records_without r old) key)))) (changed-remove old r some))) where
       left : Key → Bool
       left k = not (is_empty (set_of (records_without r old) k))
+
       stays : has_key key r ≡ false → (content_of sets key).number ≡ (if is_empty (set_of (records_without r old) key) then 0 else number_of (numbers_of sets) key)
       stays other = kept-number old (records_without r old) sets key has (set_of-others r old key other)
+
       values : has_key key r ≡ true → filter (λ other. not (same_data r.value other)) (content_of sets key).values ≡ set_of (records_without r old) key
       values there = ap (filter (λ other. not (same_data r.value other))) (has key) ∙ sym (set_of-without r old key there)
+
       empty_case : (own : Key) (b : Bool) → own ≡ key → is_empty (set_of (records_without r old) key) ≡ b → (if b then 0 else next) ≡ unwrap_or (position_from (λ other. same_key other key) next (filter (λ key. not (is_empty (set_of (records_without r old) key))) (own ∷ []))) (if is_empty (set_of (records_without r old) key) then 0 else number_of (numbers_of sets) key)
       empty_case own true same gone =
           let none : not (is_empty (set_of (records_without r old) own)) ≡ false = ap (λ k. not (is_empty (set_of (records_without r old) k))) same ∙ rw gone refl in rw (none, gone) refl
@@ -118,9 +122,11 @@ removed-number old r next sets sets' has some put key =
           let kept : not (is_empty (set_of (records_without r old) own)) ≡ true = ap (λ k. not (is_empty (set_of (records_without r old) k))) same ∙ rw left refl in
           let here : same_key own key ≡ true = ap (λ k. same_key k key) same ∙ same_key-refl key in
           rw (kept, here) refl
+
       other_case : (own : Key) (b : Bool) → same_key own key ≡ false → left own ≡ b → (content_of sets key).number ≡ (if is_empty (set_of (records_without r old) key) then 0 else number_of (numbers_of sets) key) → (content_of sets key).number ≡ unwrap_or (position_from (λ other. same_key other key) next (cond b (own ∷ []) [])) (if is_empty (set_of (records_without r old) key) then 0 else number_of (numbers_of sets) key)
       other_case own true apart is kept = rw apart kept
       other_case own false apart is kept = kept
+
       own_case : (own : Option Key) (b : Bool) → key_of r ≡ own → has_key key r ≡ b → has_key key r ≡ is_key key (key_of r) → (if has_key key r then renumbered next (without r.value (content_of sets key)) else content_of sets key).number ≡ unwrap_or (position_from (λ other. same_key other key) next (filter (λ key. not (is_empty (set_of (records_without r old) key))) (option_to_list own))) (if is_empty (set_of (records_without r old) key) then 0 else number_of (numbers_of sets) key)
       own_case None true is there same = let never : true ≡ false = sym there ∙ same ∙ ap (is_key key) is in cc
       own_case None false is other same = rw other (stays other)

@@ -48,6 +48,7 @@ filter-numbered apex old text sets text_sets all made =
       within_case : (key : Key) (b : Bool) → is_within key.name apex ≡ b → is_changed old (records_outside apex old ++ text) key ≡ true → has_set text_sets key ≡ not (is_empty (set_of (records_outside apex old ++ text) key))
       within_case key true inside differs = ap (λ (c : Content). not (is_empty c.values)) (made key) ∙ ap (λ set. not (is_empty set)) (sym (set-inside apex old text key inside))
       within_case key false outside differs = let never : true ≡ false = sym differs ∙ stays apex old text key all outside in cc
+
       agree : (key : Key) (b : Bool) → is_changed old (records_outside apex old ++ text) key ≡ b → (is_changed old (records_outside apex old ++ text) key && has_set text_sets key) ≡ (is_changed old (records_outside apex old ++ text) key && not (is_empty (set_of (records_outside apex old ++ text) key)))
       agree key true differs = rw differs (within_case key (is_within key.name apex) refl differs)
       agree key false same = rw same refl
@@ -66,12 +67,15 @@ pub replaced-number : (apex : List (List ℕ)) (old text : List Record) (next : 
 replaced-number apex old text next sets text_sets numbered replaced keys is key = within_case (is_within key.name apex) refl where
   new : List Record
   new = records_outside apex old ++ text
+
   inside_empty : (b : Bool) → is_empty (set_of text key) ≡ b → is_empty (set_of (records_outside apex old ++ text) key) ≡ b → (carried (unwrap_or (position_from (λ other. same_key other key) next (numbered_keys old (records_outside apex old ++ text))) (carried (content_of sets key).number (set_of text key)).number) (set_of text key)).number ≡ number_after old (records_outside apex old ++ text) next (number_of (numbers_of sets)) key
   inside_empty true empty gone = rw (empty, gone, from-none (λ other. same_key other key) next (numbered_keys old (records_outside apex old ++ text)) (numbered-none_empty old (records_outside apex old ++ text) key gone)) refl
   inside_empty false filled left = rw (filled, left) (ap (λ n. unwrap_or (position_from (λ other. same_key other key) next (numbered_keys old (records_outside apex old ++ text))) n) (sym (number_of-numbers_of sets key)))
+
   outside_empty : (b : Bool) → is_within key.name apex ≡ false → is_empty (set_of (records_outside apex old ++ text) key) ≡ b → (content_of sets key).number ≡ (if is_empty (set_of (records_outside apex old ++ text) key) then 0 else number_of (numbers_of sets) key)
   outside_empty true outside gone = rw gone (empty-number sets key (ap is_empty (is.has_sets key ∙ sym (set-outside apex old text key is.within outside)) ∙ gone))
   outside_empty false outside left = rw left (sym (number_of-numbers_of sets key))
+
   within_case : (b : Bool) → is_within key.name apex ≡ b → (content_of replaced key).number ≡ number_after old (records_outside apex old ++ text) next (number_of (numbers_of sets)) key
   within_case true inside =
       ap (λ (c : Content). c.number) (chosen-first _ _ _ _ (is.put key) inside ∙ is.taken key)

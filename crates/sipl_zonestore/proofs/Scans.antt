@@ -44,11 +44,11 @@ first-is (x ∷ records) zero r key distinct inside here own =
     rw there (ap (λ (s : Record). same_data r.value s.value) (sym here) ∙ same_data-refl r.value)
 first-is (x ∷ records) (suc i) r key distinct inside here own = elim (cases_Bool (has_key key x)) [
   | inl there ↦ rw there (elim (cases_Bool (same_data r.value x.value)) [
-      | inl same ↦
-          let apart : same_record x r ≡ false = ap (same_record x) here ∙ none-at (same_record x) records (or_left (list_any (same_record x) records) (has_repeats records) distinct) i r (omega arith) in
-          let never : true ≡ false = sym (same-in_set r x key (own_key r key own) there same) ∙ apart in cc
-      | inr other ↦ other
-    ])
+    | inl same ↦
+        let apart : same_record x r ≡ false = ap (same_record x) here ∙ none-at (same_record x) records (or_left (list_any (same_record x) records) (has_repeats records) distinct) i r (omega arith) in
+        let never : true ≡ false = sym (same-in_set r x key (own_key r key own) there same) ∙ apart in cc
+    | inr other ↦ other
+  ])
   | inr elsewhere ↦ rw elsewhere (first-is records i r key (or_right (list_any (same_record x) records) (has_repeats records) distinct) (omega arith) here own)
 ]
 
@@ -79,6 +79,7 @@ among-step old new before r key seen own there = elim (cases_Bool (is_changed ol
   nothing : (b : Bool) → changed_among old new before ++ cond (not b && false) (key ∷ []) [] ≡ changed_among old new before
   nothing true = append-nil (changed_among old new before)
   nothing false = append-nil (changed_among old new before)
+
   changed_case : (b : Bool) → list_any (has_key key) before ≡ b → is_changed old new key ≡ true → changed_among old new before ++ cond (not b && true) (key ∷ []) [] ≡ changed_among old new (before ++ r ∷ [])
   changed_case true some differs = append-nil (changed_among old new before) ∙ sym (among-known old new before r key own (known old new before key differs some))
   changed_case false none differs = sym (among-push old new before r key own (unknown old new before key none) differs)
@@ -125,19 +126,22 @@ step-added old text sets new apex i r distinct has has' all inside here =
     own_case (key_of r) refl ∙ ap (changed_among old text) (append_assoc (records_within apex old) (take i text) (r ∷ []) ∙ ap (λ rs. records_within apex old ++ rs) (sym more)) where
       more : take (i + 1) text ≡ take i text ++ r ∷ []
       more = take_more text i r inside ∙ ap (λ s. take i text ++ s ∷ []) (sym here)
+
       within : is_within r.owner apex ≡ true
       within = ap (λ (s : Record). is_within s.owner apex) here ∙ all-at (λ (s : Record). is_within s.owner apex) text i r inside all
+
       choice : (a b changed : Bool) → (a ≡ false → b ≡ false → changed ≡ true) → (not a && not b) ≡ (not (a || b) && changed)
       choice true b changed h = refl
       choice false true changed h = refl
       choice false false changed h = sym (h refl refl)
+
       own_case : (own : Option Key) → key_of r ≡ own → changed_among old text (records_within apex old ++ take i text) ++ filter (λ key. is_empty (content_of sets key).values && is_first r.value (content_of new key).values) (option_to_list own) ≡ changed_among old text ((records_within apex old ++ take i text) ++ r ∷ [])
       own_case None own = append-nil (changed_among old text (records_within apex old ++ take i text)) ∙ sym (among-none old text (records_within apex old ++ take i text) r own)
       own_case (Some key) own =
           let before : list_any (has_key key) (records_within apex old ++ take i text) ≡ (list_any (has_key key) old || list_any (has_key key) (take i text)) = list_any-append (has_key key) (records_within apex old) (take i text) ∙ ap (λ b. b || list_any (has_key key) (take i text)) (any-within apex old key (within-key apex r key own within)) in
           let test : (is_empty (set_of old key) && is_first r.value (set_of text key)) ≡ (not (list_any (has_key key) old || list_any (has_key key) (take i text)) && is_changed old text key) =
-            (λ j. set-empty old key j && first-is text i r key distinct inside here own j)
-            ∙ choice (list_any (has_key key) old) (list_any (has_key key) (take i text)) (is_changed old text key) (λ none _. added-differs old text key none (any-at (has_key key) text i r inside here (own_key r key own)))
+          (λ j. set-empty old key j && first-is text i r key distinct inside here own j)
+          ∙ choice (list_any (has_key key) old) (list_any (has_key key) (take i text)) (is_changed old text key) (λ none _. added-differs old text key none (any-at (has_key key) text i r inside here (own_key r key own)))
           in
           rw (has key, has' key, test) (among-step old text (records_within apex old ++ take i text) r key (list_any (has_key key) old || list_any (has_key key) (take i text)) own before)
 

@@ -111,6 +111,7 @@ without-gone sets key place value s spot here empty other =
       nothing : (values : List Data) → is_empty values ≡ true → no_content ≡ carried s.number values
       nothing [] empty = refl
       nothing (first ∷ values) empty = cc
+
       same_case : (b : Bool) → same_key key other ≡ b → (if not b then content_of (set sets place (record { key = s.key; number = s.number; values = others value s.values })) other else no_content) ≡ (if b then without value (content_of sets other) else content_of sets other)
       same_case true same =
           let now : carried s.number s.values ≡ content_of sets other = ap (λ t. carried t.number t.values) here ∙ sym (content-at sets key place s spot) ∙ ap (content_of sets) ((same_key-Decides key other).0 same) in
@@ -137,6 +138,7 @@ content-replaced apex sets text none key =
       outside true any apart = content-filter (λ k. not (is_within k.name apex)) sets key ∙ rw apart refl
       outside false any apart =
           none key apart ∙ sym (content-none (filter (λ s. not (is_within s.key.name apex)) sets) key any) ∙ content-filter (λ k. not (is_within k.name apex)) sets key ∙ rw apart refl
+
       within_case : (b : Bool) → is_within key.name apex ≡ b → (if list_any (λ s. same_key s.key key) (filter (λ s. not (is_within s.key.name apex)) sets) then content_of (filter (λ s. not (is_within s.key.name apex)) sets) key else content_of text key) ≡ (if b then content_of text key else content_of sets key)
       within_case true inside = rw (any-filter_key (λ k. not (is_within k.name apex)) sets key (rw inside refl)) refl
       within_case false apart = outside (list_any (λ s. same_key s.key key) (filter (λ s. not (is_within s.key.name apex)) sets)) refl apart

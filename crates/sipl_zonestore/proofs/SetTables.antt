@@ -115,9 +115,9 @@ content-filter q (s ∷ sets) key = elim (cases_Bool (same_key s.key key)) [
         | inr left ↦ rw (own ∙ left) (content-filter q sets key ∙ rw left refl)
       ]
   | inr other ↦ elim (cases_Bool (q s.key)) [
-      | inl kept ↦ rw (kept, other) (content-filter q sets key)
-      | inr left ↦ rw (left, other) (content-filter q sets key)
-    ]
+    | inl kept ↦ rw (kept, other) (content-filter q sets key)
+    | inr left ↦ rw (left, other) (content-filter q sets key)
+  ]
 ]
 
 -- and of a key that fails it there is none

@@ -78,6 +78,7 @@ numbered-step sets keys i next key other distinct inside here = elim (cases_Bool
     whole : (place : Option ℕ) → place ≡ option_or place None
     whole None = refl
     whole (Some n) = refl
+
   empty_case : (b : Bool) → same_key key other ≡ b → has_set sets key ≡ false → (if b then renumbered (next + length (filter (has_set sets) (take i keys))) (numbered_content sets (take i keys) next other) else numbered_content sets (take i keys) next other) ≡ numbered_content sets (take i keys) next other
   empty_case true same none = carried-empty _ _ (content_of sets other).values (was_true _ (ap (has_set sets) (sym ((same_key-Decides key other).0 same)) ∙ none)) where
     was_true : (b : Bool) → not b ≡ false → b ≡ true

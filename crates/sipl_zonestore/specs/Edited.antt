@@ -22,7 +22,7 @@ pub record IsEdited (edit : Edit) (old new : Store) (result : Result (List Key) 
   pub after : OnOk result (new.zones ≡ after edit old.zones)
   pub changed : IfOk result (λ keys. keys ≡ changed_keys old.zones.records new.zones.records)
   pub numbers : OnOk result ((key : Key) → number_in new key
-    ≡ number_after old.zones.records new.zones.records old.next (number_in old) key)
+      ≡ number_after old.zones.records new.zones.records old.next (number_in old) key)
   pub next : OnOk result (new.next ≡ next_after old.zones.records new.zones.records old.next)
   pub refused : IfErr result (λ fault. fault ≢ Memory → store_refusal edit old ≡ Some fault)
   pub unchanged : OnErr result (new ≡ old)

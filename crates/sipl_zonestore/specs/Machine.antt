@@ -27,7 +27,7 @@ after_accepted edit state =
     record {
       zones = after edit state.zones;
       numbers =
-        number_after state.zones.records (after edit state.zones).records state.next state.numbers;
+          number_after state.zones.records (after edit state.zones).records state.next state.numbers;
       next = next_after state.zones.records (after edit state.zones).records state.next;
     }
 

@@ -25,8 +25,8 @@ pub record IsReplaced (records : List Record) (old new : Numbered) (result : Res
   pub after : OnOk result (new.records ≡ records)
   pub changed : IfOk result (λ keys. keys ≡ changed_keys old.records records)
   pub numbers : OnOk result ((key : Key) → number_of new.numbers key
-    ≡ number_after old.records records old.next (number_of old.numbers) key)
+      ≡ number_after old.records records old.next (number_of old.numbers) key)
   pub next : OnOk result (new.next ≡ next_after old.records records old.next)
   pub refused : IfErr result (λ fault. fault ≢ Memory
-    → number_refusal old.records records old.next ≡ Some fault)
+      → number_refusal old.records records old.next ≡ Some fault)
   pub unchanged : OnErr result (new ≡ old)

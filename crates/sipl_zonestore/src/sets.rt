@@ -96,7 +96,11 @@ impl SetTable {
         }
         let mut values = Vec::new(alloc);
         values.push(value)?;
-        self.sets.push(RecordSet { key, number, values })?;
+        self.sets.push(RecordSet {
+            key,
+            number,
+            values,
+        })?;
         Ok(())
     }
 

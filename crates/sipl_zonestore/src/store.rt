@@ -65,7 +65,11 @@ impl ZoneStore {
     /// 1. Does not allocate.
     pub fn new(alloc: Global) -> Self
         ensures { result ≡ record {
-            zones = no_zones; max_records = 1048576; numbers = []; next = 1; looks = 0;
+          zones = no_zones;
+          max_records = 1048576;
+          numbers = [];
+          next = 1;
+          looks = 0;
         } }
     {
         ZoneStore::with(alloc, 1, MAX_RECORDS)
@@ -78,7 +82,11 @@ impl ZoneStore {
         requires last { next ≤ 2 ^ 52 }
         requires limit { max_records ≤ 1048576 }
         ensures { result ≡ record {
-            zones = no_zones; max_records = max_records; numbers = []; next = next; looks = 0;
+          zones = no_zones;
+          max_records = max_records;
+          numbers = [];
+          next = next;
+          looks = 0;
         } }
     {
         ZoneStore {

@@ -312,7 +312,10 @@ fn an_alias_has_no_data_beside_it(rt: HostRuntime) {
     let beside = add(&rt, alloc, &mut store, "server1 A 192.0.2.1").expect_err(&rt, "refused");
     assert!(rt; beside == StoreFault::AliasBesideData);
     assert!(rt; store.add(&alias(&rt, alloc)).expect_err(&rt, "refused") == StoreFault::Duplicate);
-    assert_eq!(rt; store.number(&key(&rt, alloc, "server1.example.com.", Kind::Alias)), 1);
+    assert_eq!(rt;
+        store.number(&key(&rt, alloc, "server1.example.com.", Kind::Alias)),
+        1
+    );
 }
 
 #[test]

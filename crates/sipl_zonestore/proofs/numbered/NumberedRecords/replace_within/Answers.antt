@@ -26,14 +26,14 @@ replace_within-requires c =
 pub invariant_of-self-2 : goal.invariant_of-self-2
 invariant_of-self-2 c =
     let is : IsReplacement c.args.apex.now c.self.inside.records.items c.args.text.now c.self.inside.next c.self.inside.sets c.in_ok-sets.sets c.number_sets.new.sets c.replace_within.new.self c.in_ok-keys.keys.items =
-      record {
-        within = c.requires.within;
-        has_sets = c.self.invariant.has_sets;
-        made = c.in_ok-sets.ensures;
-        changed = c.in_ok-keys.ensures ∙ (λ i. changed_keys (c.deref.ensures.value i) (records_outside c.args.apex.now (c.deref.ensures.value i) ++ c.args.text.now));
-        taken = λ key. c.number_sets.ensures key ∙ ap (λ keys. numbered_content c.in_ok-sets.sets keys c.self.inside.next key) c.deref-3.ensures.value;
-        put = c.in_ok-replace_within.ensures.replaced;
-      }
+    record {
+      within = c.requires.within;
+      has_sets = c.self.invariant.has_sets;
+      made = c.in_ok-sets.ensures;
+      changed = c.in_ok-keys.ensures ∙ (λ i. changed_keys (c.deref.ensures.value i) (records_outside c.args.apex.now (c.deref.ensures.value i) ++ c.args.text.now));
+      taken = λ key. c.number_sets.ensures key ∙ ap (λ keys. numbered_content c.in_ok-sets.sets keys c.self.inside.next key) c.deref-3.ensures.value;
+      put = c.in_ok-replace_within.ensures.replaced;
+    }
     in
     record {
       has_sets = λ key. replaced-sets c.args.apex.now c.self.inside.records.items c.args.text.now c.self.inside.next c.self.inside.sets c.in_ok-sets.sets c.number_sets.new.sets c.replace_within.new.self c.in_ok-keys.keys.items is key ∙ ap (λ rs. set_of rs key) (sym (c.replace_records.ensures ∙ (λ i. records_outside c.args.apex.now (c.in_ok-reserve.ensures.items i) ++ c.in_ok-copies.ensures i)));
@@ -43,13 +43,13 @@ invariant_of-self-2 c =
 pub returns : goal.returns
 returns c =
     let is : IsReplacement c.args.apex.now c.self.inside.records.items c.args.text.now c.self.inside.next c.self.inside.sets c.in_ok-sets.sets c.number_sets.new.sets c.replace_within.new.self c.in_ok-keys.keys.items =
-      record {
-        within = c.requires.within;
-        has_sets = c.self.invariant.has_sets;
-        made = c.in_ok-sets.ensures;
-        changed = c.in_ok-keys.ensures ∙ (λ i. changed_keys (c.deref.ensures.value i) (records_outside c.args.apex.now (c.deref.ensures.value i) ++ c.args.text.now));
-        taken = λ key. c.number_sets.ensures key ∙ ap (λ keys. numbered_content c.in_ok-sets.sets keys c.self.inside.next key) c.deref-3.ensures.value;
-        put = c.in_ok-replace_within.ensures.replaced;
-      }
+    record {
+      within = c.requires.within;
+      has_sets = c.self.invariant.has_sets;
+      made = c.in_ok-sets.ensures;
+      changed = c.in_ok-keys.ensures ∙ (λ i. changed_keys (c.deref.ensures.value i) (records_outside c.args.apex.now (c.deref.ensures.value i) ++ c.args.text.now));
+      taken = λ key. c.number_sets.ensures key ∙ ap (λ keys. numbered_content c.in_ok-sets.sets keys c.self.inside.next key) c.deref-3.ensures.value;
+      put = c.in_ok-replace_within.ensures.replaced;
+    }
     in
     rw (c.from_vec.ensures, ← c.self.view_is) (replaced c.args.apex.now c.self.inside.records.items c.args.text.now c.replace_records.new.records.items c.self.inside.next _ c.count_numbered-count.result c.self.inside.sets c.in_ok-sets.sets c.number_sets.new.sets c.replace_within.new.self c.in_ok-keys.keys.items is (c.replace_records.ensures ∙ (λ i. records_outside c.args.apex.now (c.in_ok-reserve.ensures.items i) ++ c.in_ok-copies.ensures i)) (c.count_numbered-count.ensures ∙ ap (λ keys. length (filter (has_set c.in_ok-sets.sets) keys)) c.deref-2.ensures.value) refl c.in_ok-check_numbers.ensures)
