@@ -12,6 +12,8 @@ mod sets;
 mod store;
 #[cfg(test)]
 mod tests;
+#[cfg(test)]
+mod zone_tests;
 
 pub use fault::StoreFault;
 pub use store::ZoneStore;

@@ -94,7 +94,7 @@ fn owners_follow_the_origin_and_the_record_before(rt: HostRuntime) {
         ("a A 192.0.2.2\n(b) A 192.0.2.1", "b.example.com."),
     ] {
         let zone = read(&rt, alloc, text.as_bytes()).expect(&rt, "a zone");
-        let last = zone.records().len() - 1;
+        let last = zone.records().len().saturating_sub(1);
         let value = Data::Address4(ADDRESS);
         assert!(rt;
             has_record(&rt, alloc, &zone, last, owner.as_bytes(), value),
@@ -282,8 +282,7 @@ fn each_prefix_of_a_text_is_a_zone_or_has_a_fault(rt: HostRuntime) {
         match read(&rt, alloc, &ZONE[..end]) {
             // What is read of the text is the beginning of what is read of all of it.
             Ok(zone) => {
-                let len = zone.records().len();
-                assert!(rt; zone.records() == &whole.records()[..len], "at {end}");
+                assert!(rt; whole.records().starts_with(zone.records()), "at {end}");
                 assert!(rt; zone.outside() <= whole.outside(), "at {end}");
                 assert!(rt; zone.repeated() <= whole.repeated(), "at {end}");
             }
