@@ -1,3 +1,5 @@
+ghost use Rattle.std.specs.Prelude.{◌≤◌};
+
 use crate::{MAX_NUMBER, MAX_RECORDS, StoreFault, ZoneStore};
 use sipl_masterfile::{ZoneText, read_record, read_zone};
 use sipl_names::Name;
@@ -28,7 +30,9 @@ fn add(
 }
 
 // The zone `example.com.` with three records of two owners.
-fn example(rt: &impl Abort, alloc: Global, max_records: usize) -> ZoneStore {
+fn example(rt: &impl Abort, alloc: Global, max_records: usize) -> ZoneStore
+    requires { max_records ≤ 1048576 }
+{
     let mut store = ZoneStore::with(alloc, 1, max_records);
     let changed = store
         .load(&zone(rt, alloc, "example.com."))

@@ -158,7 +158,14 @@ fn an_unloaded_zone_reports_its_keys(rt: HostRuntime) {
     assert!(rt; store.unload(&apex).expect_err(&rt, "refused") == StoreFault::NoZone);
     let changed = store.load(&zone(&rt, alloc, ZONE)).expect(&rt, "loaded");
     assert!(rt; are_keys(&rt, alloc, &changed, &keys));
-    assert!(rt; have_numbers(&rt, alloc, &store, &[("server2.example.com.", Kind::Address4, 8)]));
+    assert!(rt;
+        have_numbers(
+            &rt,
+            alloc,
+            &store,
+            &[("server2.example.com.", Kind::Address4, 8)]
+        )
+    );
 }
 
 #[test]
