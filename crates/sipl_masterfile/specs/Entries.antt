@@ -35,12 +35,17 @@ with_field begun octets = record begun { fields = begun.fields ++ octets ∷ [] 
 abbrev pub prepend_entry : Begun → List Entry → List Entry
 prepend_entry begun others = elim begun.fields [
   | [] ↦ others
-  | octets ∷ fields ↦ record { line = begun.line; is_indented = begun.is_indented; content = Ok (octets ∷ fields) } ∷ others
+  | octets ∷ fields ↦ record {
+    line = begun.line;
+    is_indented = begun.is_indented;
+    content = Ok (octets ∷ fields);
+  } ∷ others
 ]
 
 -- the entry that is faulty here, after which nothing is read
 abbrev pub faulty_entry : Begun → ZoneCause → List Entry
-faulty_entry begun cause = record { line = begun.line; is_indented = begun.is_indented; content = Err cause } ∷ []
+faulty_entry begun cause =
+    record { line = begun.line; is_indented = begun.is_indented; content = Err cause } ∷ []
 
 -- the entries that the tokens spell, the first of which has begun; this many parentheses are open
 -- in it, which join lines, and the tokens are in this line

@@ -23,7 +23,8 @@ pub record IsService (priority weight port : ℕ) (target : Labels) : Type 0 whe
   pub target_is_name : IsName target
 
 -- RFC 3403, 4.1: the data of `NAPTR` are two integers of 16 bits, three strings and a name
-pub record IsPointer (order preference : ℕ) (flags services regexp : Octets) (replacement : Labels) : Type 0 where
+pub record IsPointer (order preference : ℕ) (flags services regexp : Octets) (replacement : Labels)
+    : Type 0 where
   pub order_fits : order < 65536
   pub preference_fits : preference < 65536
   pub flags_are_string : IsString flags

@@ -31,4 +31,5 @@ begun_at line text fields = record (begin line (tokens 0 text)) { fields = octet
 -- the next entry has this fault, and nothing follows it
 pub record IsFaulty (entries : List Entry) (fault : ZoneFault) : Type 0 where
   pub is_indented : Bool
-  pub only : entries ≡ record { line = fault.line; is_indented = is_indented; content = Err fault.cause } ∷ []
+  pub only : entries
+      ≡ record { line = fault.line; is_indented = is_indented; content = Err fault.cause } ∷ []

@@ -52,7 +52,10 @@ first_token c text =
     else (if c == 41 then (closing, 0)
     else (if c == 59 then (comment, comment_len text)
     else (if c == 34
-    then elim (quoted_len false text) [ Some len ↦ (field (take len text), len + 1) | None ↦ (open_quote, length text) ]
+    then elim (quoted_len false text) [
+      | Some len ↦ (field (take len text), len + 1)
+      | None ↦ (open_quote, length text)
+    ]
     else (field (c ∷ take (field_len (c == 92) text) text), field_len (c == 92) text))))))
 
 -- the tokens of a text, where this many octets at its beginning belong to a token before it

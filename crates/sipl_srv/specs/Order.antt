@@ -51,7 +51,7 @@ candidates ranks places = weightless_first ranks (of_least_priority ranks places
 abbrev pub total_weight : List Rank → List ℕ → ℕ
 total_weight ranks places = sum_by (weight_at ranks) places
 
--- the first place whose running sum of weights, after the sum so far, is at least the number
+-- the first place whose running sum of weights, which goes on from this sum, is at least the number
 abbrev pub first_reaching : List Rank → ℕ → ℕ → List ℕ → Option ℕ
 first_reaching ranks number sum [] = None
 first_reaching ranks number sum (place ∷ places) =

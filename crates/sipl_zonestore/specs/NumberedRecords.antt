@@ -20,7 +20,8 @@ pub record IsIndexed (records : List Record) (sets : List NumberedSet) (next : �
   pub last : next ≤ 2 ^ 52 + 1
 
 -- the records become these, unless too few numbers are left
-pub record IsReplaced (records : List Record) (old new : Numbered) (result : Result (List Key) StoreFault) : Type 0 where
+pub record IsReplaced (records : List Record) (old new : Numbered)
+    (result : Result (List Key) StoreFault) : Type 0 where
   pub accepted : OnOk result (number_refusal old.records records old.next ≡ None)
   pub after : OnOk result (new.records ≡ records)
   pub changed : IfOk result (λ keys. keys ≡ changed_keys old.records records)

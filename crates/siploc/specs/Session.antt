@@ -178,7 +178,9 @@ abbrev pub gathering_step : Gathering → SessionState → Step
 gathering_step gathering state =
     record {
       outcome = gathering_outcome gathering state;
-      failure = if keeps_lines gathering.gathered then Some (gathering_outcome (lost gathering.left) state) else None;
+      failure =
+          if keeps_lines gathering.gathered then Some (gathering_outcome (lost gathering.left) state)
+          else None;
     }
 
 -- what a request does

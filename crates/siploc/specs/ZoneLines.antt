@@ -1,4 +1,4 @@
--- A zone whose lines are taken: its apex, and the text so far.
+-- A zone whose lines are taken: its apex, and the text of those that were.
 use Rattle.sipl_names.specs.Labels.{Octets, Labels}
 
 -- the text is each line followed by LF

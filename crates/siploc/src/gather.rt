@@ -7,7 +7,7 @@ use sipl_names::{Name, NameFault};
 use std::alloc::{AllocError, Global};
 use std::marker::Model;
 
-/// A zone whose lines are taken: its apex, and its text so far, each line followed by LF.
+/// A zone whose lines are taken: its apex, and the text of those that were, each followed by LF.
 #[derive(Drop)]
 pub struct ZoneLines {
     apex: Name,
@@ -25,7 +25,7 @@ impl Model for ZoneLines {
 /// What is gathered of a zone's lines.
 #[derive(Drop)]
 pub enum Gathered {
-    /// The apex, and the lines so far.
+    /// The apex, and the lines that were taken.
     Lines(ZoneLines),
     /// The apex is no name.
     BadApex(NameFault),
@@ -35,7 +35,7 @@ pub enum Gathered {
     Lost,
 }
 
-/// The lines that a `zone` command takes: how many are left, and what is gathered so far.
+/// The lines that a `zone` command takes: how many are left, and what the others gave.
 #[derive(Drop)]
 pub struct Gathering {
     left: u64,
@@ -50,7 +50,7 @@ impl ZoneLines {
         &self.apex
     }
 
-    /// The lines so far, each followed by LF.
+    /// The lines that were taken, each followed by LF.
     pub fn text(&self) -> &[u8]
         ensures { result.now ≡ self.now.text }
     {
