@@ -1,6 +1,6 @@
 -- Durations, cut at the octets that are not digits.
-use Rattle.std.proofs.Common.{◌≡◌, ℕ, zero, suc, ◌+◌, ◌-◌, ◌*◌, ◌<◌, ◌≤◌, Bool, true, false, not, ◌&&◌, List, [], ◌∷◌, Option, Some, None, length, take, drop, get_or, refl, sym, ap, ◌∙◌, arith, add-one, option_map, nat_le, nat_lt, if◌then◌else◌}
-use Rattle.std.specs.Prelude.{IfSome, IfNone}
+use Rattle.std.proofs.Common.{◌≡◌, ℕ, zero, suc, ◌+◌, ◌-◌, ◌*◌, ◌<◌, ◌≤◌, Bool, true, false, not, ◌&&◌, [], ◌∷◌, Option, Some, None, length, take, drop, get_or, refl, sym, ap, ◌∙◌, arith, add-one, option_map, nat_le, nat_lt, if◌then◌else◌}
+use Rattle.std.specs.Prelude.{IfSome}
 use Rattle.std.specs.Char.{is_ascii_digit}
 use Rattle.std.specs.List.{position, position_or_len}
 use Rattle.std.specs.Option.{option_and_then}
@@ -12,7 +12,7 @@ use Rattle.std.proofs.lemmas.List.{take_rest}
 use Rattle.std.proofs.Math.Nat.{mul-le-mul, mul-le-mul_left}
 use Rattle.sipl_names.specs.Labels.{Octets}
 use Rattle.sipl_records.specs.Numbers.{number_of}
-use Rattle.sipl_masterfile.specs.Ttl.{Duration, unit_of, prepend_digit, durations, seconds_of, sum_of, BeginsWithDuration}
+use Rattle.sipl_masterfile.specs.Ttl.{unit_of, prepend_digit, durations, sum_of, BeginsWithDuration}
 
 -- whether an octet is not a digit
 abbrev pub is_other : ℕ → Bool

@@ -3,7 +3,7 @@ use Rattle.std.proofs.Common.{◌≡◌, ℕ, zero, suc, ◌+◌, ◌-◌, ◌�
 use Rattle.sipl_names.specs.Labels.{Octets}
 use Rattle.sipl_masterfile.specs.Tokens.{Token, blank, line_end, opening, closing, comment, field, open_quote, first_token, tokens}
 use Rattle.sipl_masterfile.specs.Entries.{Entry, Begun, begin, prepend_entry, faulty_entry, with_field, entries_from, entries_of}
-use Rattle.sipl_masterfile.specs.declared.fault.ZoneCause.TheVariants.{Parenthesis, OpenQuote}
+use Rattle.sipl_masterfile.specs.declared.fault.ZoneCause.TheVariants.{Parenthesis}
 
 if_le : {A : Type 0} (b : Bool) (n : ℕ) (x y : List A) → length x ≤ n → length y ≤ n → length (if b then x else y) ≤ n
 if_le true n x y first second = first

@@ -1,5 +1,5 @@
 -- The text of a printed record is one entry.
-use Rattle.std.proofs.Common.{◌≡◌, ℕ, zero, suc, ◌+◌, ◌*◌, ◌/◌, ◌%◌, ◌^◌, ◌<◌, ◌≤◌, Bool, true, false, not, ◌&&◌, ◌||◌, List, [], ◌∷◌, ◌++◌, Option, None, Some, Ok, length, map, take, drop, refl, sym, ap, ◌∙◌, arith, append-nil, append_assoc, length-append, nat_eq, nat_le, ◌==◌, codes, decimal, flat_map, option_map, if◌then◌else◌}
+use Rattle.std.proofs.Common.{◌≡◌, ℕ, zero, suc, ◌+◌, ◌/◌, ◌%◌, ◌^◌, ◌<◌, Bool, true, false, not, ◌&&◌, ◌||◌, List, [], ◌∷◌, ◌++◌, Option, None, Some, Ok, length, map, drop, refl, sym, ap, ◌∙◌, arith, append-nil, append_assoc, length-append, nat_eq, nat_le, ◌==◌, codes, decimal, flat_map, option_map, if◌then◌else◌}
 use Rattle.std.proofs.Math.Seq.{take-append_seam, drop-append_seam}
 use Rattle.std.proofs.lemmas.Bool.Decides.{nat_tests}
 use Rattle.std.proofs.lemmas.Fmt.{digits_decimal}
@@ -18,11 +18,11 @@ use Rattle.sipl_records.specs.declared.data.Data.TheVariants.{Address4, Address6
 use Rattle.sipl_records.specs.declared.record.Record.{Record}
 use Rattle.sipl_records.proofs.RoundTrip.{number_of_text-text_of}
 use Rattle.sipl_records.proofs.Ipv6Prints.{address6_of_text-text_of}
-use Rattle.sipl_masterfile.specs.Tokens.{Token, blank, field, ends_field, field_len, quoted_len, tokens}
-use Rattle.sipl_masterfile.specs.Entries.{Entry, Begun, begins_blank, prepend_entry, with_field, entries_from, entries_of}
-use Rattle.sipl_masterfile.specs.RecordPrint.{IsString, IsData, IsRecord, Written, plain, quoted, unquoted, spelled, printed_string, written_data, written_record, spaced, record_text, entry_of_record}
+use Rattle.sipl_masterfile.specs.Tokens.{blank, field, ends_field, field_len, quoted_len, tokens}
+use Rattle.sipl_masterfile.specs.Entries.{Begun, begins_blank, prepend_entry, with_field, entries_from, entries_of}
+use Rattle.sipl_masterfile.specs.RecordPrint.{IsString, IsData, IsRecord, Written, plain, quoted, unquoted, spelled, printed_string, written_data, spaced, record_text, entry_of_record}
 use Rattle.sipl_masterfile.proofs.PrintedFields.{number_of-decimal}
-use Rattle.sipl_masterfile.proofs.Scanning.{BeginsWithToken, begins-field, begins-quoted}
+use Rattle.sipl_masterfile.proofs.Scanning.{begins-field, begins-quoted}
 
 -- octets that neither end a field nor a quoted one, where an escape may have begun; it has ended
 abbrev is_plain : Bool → Octets → Bool

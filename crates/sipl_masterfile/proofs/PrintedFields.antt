@@ -9,7 +9,7 @@ use Rattle.std.proofs.lemmas.Str.Parse.{numerals_by_value, tells_all_ascii_digit
 use lib.Pointwise.{pointwise, bytes_decides}
 use Rattle.sipl_names.specs.Labels.{Octets, Labels, IsName}
 use Rattle.sipl_names.specs.NamePrint.{is_special, text_of}
-use Rattle.sipl_names.specs.NameText.{Symbol, octet, symbols, name_of}
+use Rattle.sipl_names.specs.NameText.{octet, symbols, name_of}
 use Rattle.sipl_names.specs.declared.fault.NameFault.{NameFault}
 use Rattle.sipl_names.proofs.RoundTrip.{name_of-text_of, printed_octets_read}
 use Rattle.sipl_records.specs.Numbers.{number_of}
@@ -26,7 +26,6 @@ use Rattle.sipl_masterfile.specs.Rdata.{data_of}
 use Rattle.sipl_masterfile.specs.Statements.{is_directive, from_type, directive_or_record, statement_of}
 use Rattle.sipl_masterfile.specs.declared.fault.ZoneCause.{ZoneCause}
 use Rattle.sipl_masterfile.specs.declared.fault.ZoneCause.TheVariants.{InName, BadNumber, BadAddress}
-use Rattle.sipl_masterfile.specs.declared.statement.Statement.{Statement}
 use Rattle.sipl_masterfile.specs.declared.statement.Statement.TheVariants as statement
 
 -- numbers

@@ -1,5 +1,5 @@
 -- A printed record reads back.
-use Rattle.std.proofs.Common.{◌≡◌, false, List, [], ◌∷◌, None, Result, Ok, Err, ap, ◌∙◌, if◌then◌else◌}
+use Rattle.std.proofs.Common.{◌≡◌, false, List, None, Result, Ok, Err, ap, ◌∙◌, if◌then◌else◌}
 use Rattle.sipl_names.specs.Labels.{Octets, Labels}
 use Rattle.sipl_records.specs.declared.record.Record.{Record}
 use Rattle.sipl_masterfile.specs.RecordPrint.{IsRecord, record_fields, record_text}

@@ -3,7 +3,6 @@ use Rattle.std.specs.Prelude.{◌≡◌, ℕ, ◌<◌, List, [], ◌∷◌, leng
 use Rattle.std.specs.Option.{ok_or}
 use Rattle.sipl_names.specs.Labels.{Octets, Labels}
 use Rattle.sipl_names.specs.NameText.{Symbol, octet, dot, bad_escape, symbols, name_of}
-use Rattle.sipl_names.specs.declared.fault.NameFault.{NameFault}
 use Rattle.sipl_names.specs.declared.fault.NameFault.TheVariants.{BadEscape}
 use Rattle.sipl_records.specs.Ipv4.{number_of_text}
 use Rattle.sipl_records.specs.Ipv6.{address6_of_text}

@@ -1,5 +1,5 @@
 -- Accepted edits keep the store consistent.
-use Rattle.std.proofs.Common.{◌≡◌, ◌≢◌, ℕ, zero, suc, ◌+◌, ◌^◌, ◌<◌, ◌≤◌, Bool, true, false, not, ◌&&◌, ◌||◌, List, [], ◌∷◌, ◌++◌, length, Option, None, Some, if◌then◌else◌, get_or, cond, refl, ap, subst, sym, ◌∙◌, inl, inr, nat_eq, nat_le, nat_lt, arith, length-append}
+use Rattle.std.proofs.Common.{◌≡◌, ◌≢◌, ℕ, suc, ◌+◌, ◌^◌, ◌≤◌, Bool, true, false, not, ◌&&◌, ◌||◌, List, [], ◌∷◌, ◌++◌, length, Option, None, Some, if◌then◌else◌, get_or, cond, refl, ap, subst, sym, ◌∙◌, inl, inr, nat_le, nat_lt, arith, length-append}
 use Rattle.std.specs.List.{filter, list_any, list_all, count_by, AllPairs, All}
 use Rattle.std.proofs.lemmas.Bool.{cases_Bool}
 use Rattle.std.proofs.lemmas.Bool.Decides.{nat_tests}
@@ -19,8 +19,8 @@ use Rattle.sipl_records.proofs.SameData.{same_record-sym}
 use Rattle.sipl_masterfile.specs.Zones.{Zone, IsZone, has_repeats, sets_fit}
 use Rattle.sipl_zonestore.specs.declared.fault.StoreFault.{StoreFault}
 use Rattle.sipl_zonestore.specs.Numbers.{IsNumbered, number_after, next_after, number_refusal}
-use Rattle.sipl_zonestore.specs.Store.{Zones, Store, number_in, overlaps, is_covered, records_outside, apexes_after_load, apexes_without, records_after_load}
-use Rattle.sipl_zonestore.specs.Edits.{Edit, load, unload, add, remove, after, refusal_of, records_without}
+use Rattle.sipl_zonestore.specs.Store.{Zones, Store, number_in, overlaps, is_covered, records_outside, apexes_after_load, apexes_without}
+use Rattle.sipl_zonestore.specs.Edits.{Edit, load, unload, add, remove, after, refusal_of}
 use Rattle.sipl_zonestore.specs.Consistent.{IsConsistent}
 use Rattle.sipl_zonestore.proofs.Numbering.{numbered-after}
 use Rattle.sipl_zonestore.proofs.Elements.{or_left, or_right, or_first, or_second, and_first, and_second, all-weaker, all-both, all-kept, all-filter_weaker, any-filter, none-at, count-filter-le, count-same}

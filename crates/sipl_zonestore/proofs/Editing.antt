@@ -1,5 +1,5 @@
 -- What an edit does to a store, from what it does to its records.
-use Rattle.std.proofs.Common.{◌≡◌, ◌≢◌, ℕ, ◌+◌, Bool, true, false, not, if◌then◌else◌, List, Option, None, Some, Result, Ok, Err, refl, ap, subst, sym, ◌∙◌}
+use Rattle.std.proofs.Common.{◌≡◌, ℕ, Bool, true, false, not, if◌then◌else◌, List, Option, None, Some, Result, Ok, Err, refl, ap, subst, sym, ◌∙◌}
 use Rattle.std.specs.Prelude.{OnOk, OnErr}
 use Rattle.std.specs.Option.{option_or}
 use Rattle.std.specs.List.{list_any}
@@ -8,13 +8,13 @@ use Rattle.sipl_records.specs.Sets.{same_record}
 use Rattle.sipl_records.specs.declared.record.Record.{Record}
 use Rattle.sipl_records.specs.declared.record.Key.{Key}
 use Rattle.sipl_zonestore.specs.declared.fault.StoreFault.{StoreFault}
-use Rattle.sipl_zonestore.specs.declared.fault.StoreFault.TheVariants.{Memory, NoZone, Absent}
+use Rattle.sipl_zonestore.specs.declared.fault.StoreFault.TheVariants.{NoZone, Absent}
 use Rattle.sipl_zonestore.specs.Store.{Zones, Store, number_in, is_covered}
-use Rattle.sipl_zonestore.specs.Edits.{Edit, load, unload, add, remove, after, refusal_of}
+use Rattle.sipl_zonestore.specs.Edits.{Edit, unload, remove, after, refusal_of}
 use Rattle.sipl_zonestore.specs.Changes.{changed_keys}
 use Rattle.sipl_zonestore.specs.Numbers.{number_after, next_after, number_refusal}
 use Rattle.sipl_zonestore.specs.NumberedRecords.{Numbered, IsReplaced}
-use Rattle.sipl_zonestore.specs.Edited.{IsEdited, store_refusal}
+use Rattle.sipl_zonestore.specs.Edited.{IsEdited}
 use Rattle.sipl_zonestore.specs.Consistent.{IsConsistent}
 use Rattle.sipl_zonestore.proofs.Consistency.{IsGood, consistent-edited}
 

@@ -1,10 +1,8 @@
 -- Records whose sets are numbered, once records have changed.
-use Rattle.std.proofs.Common.{◌≡◌, ◌≢◌, ℕ, ◌+◌, ◌^◌, ◌<◌, ◌≤◌, Bool, true, false, not, List, [], ◌∷◌, ◌++◌, length, Option, None, Some, Ok, Err, if◌then◌else◌, cond, refl, ap, sym, ◌∙◌, inl, inr, arith, append-nil}
+use Rattle.std.proofs.Common.{◌≡◌, ◌≢◌, ℕ, ◌+◌, ◌^◌, ◌<◌, ◌≤◌, Bool, true, false, not, List, [], ◌∷◌, ◌++◌, length, Option, None, Some, Ok, Err, if◌then◌else◌, cond, refl, ap, sym, ◌∙◌, arith, append-nil}
 use Rattle.std.specs.List.{filter, list_any, list_all, position_from}
 use Rattle.std.specs.Option.{option_to_list, unwrap_or}
-use Rattle.std.proofs.lemmas.Bool.{cases_Bool}
 use Rattle.sipl_names.specs.Labels.{is_within}
-use Rattle.sipl_records.specs.declared.data.Data.{Data}
 use Rattle.sipl_records.specs.declared.record.Record.{Record}
 use Rattle.sipl_records.specs.declared.record.Key.{Key}
 use Rattle.sipl_records.specs.Sets.{has_key, set_of, same_data, same_key, same_record, key_of}
@@ -17,13 +15,11 @@ use Rattle.sipl_zonestore.specs.Edits.{records_without}
 use Rattle.sipl_zonestore.specs.Changes.{changed_keys}
 use Rattle.sipl_zonestore.specs.Numbers.{is_empty, number_of, numbered_keys, number_after, next_after, number_refusal}
 use Rattle.sipl_zonestore.specs.SetTable.{NumberedSet, Content, carried, content_of, numbers_of, pushed, without, renumbered, keys_left, has_set, HasSets}
-use Rattle.sipl_zonestore.specs.NumberedRecords.{Numbered, IsReplaced, IsIndexed}
+use Rattle.sipl_zonestore.specs.NumberedRecords.{Numbered, IsReplaced}
 use Rattle.sipl_zonestore.proofs.ChangedKeys.{changed-add, changed-remove, set_of-without, set_of-others}
-use Rattle.sipl_zonestore.proofs.Numbering.{numbered-none_empty}
 use Rattle.sipl_zonestore.proofs.Elements.{chosen-first, chosen-second}
-use Rattle.sipl_zonestore.proofs.Positions.{from-none}
 use Rattle.sipl_zonestore.proofs.SetTables.{number_of-numbers_of, is_empty-push}
-use Rattle.sipl_zonestore.proofs.Replacing.{IsReplacement, empty-number, accepted-numbers, refused-numbers, replaced-sets, replaced-number, filter-numbered}
+use Rattle.sipl_zonestore.proofs.Replacing.{IsReplacement, empty-number, accepted-numbers, refused-numbers, replaced-number, filter-numbered}
 
 -- the number of a set that stays
 kept-number : (old new : List Record) (sets : List NumberedSet) (key : Key) → HasSets sets old → set_of new key ≡ set_of old key → (content_of sets key).number ≡ (if is_empty (set_of new key) then 0 else number_of (numbers_of sets) key)

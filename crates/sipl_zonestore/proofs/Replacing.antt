@@ -1,12 +1,11 @@
 -- The sets and the numbers of records that replace those of a zone.
-use Rattle.std.proofs.Common.{◌≡◌, ℕ, ◌+◌, ◌^◌, ◌<◌, ◌≤◌, Bool, true, false, not, ◌&&◌, List, [], ◌∷◌, ◌++◌, length, Option, None, Some, if◌then◌else◌, cond, refl, ap, sym, ◌∙◌, inl, inr, append-nil, arith, nat_lt}
-use Rattle.std.specs.List.{filter, filter_map, list_any, list_all, position_from}
+use Rattle.std.proofs.Common.{◌≡◌, ℕ, ◌+◌, ◌^◌, ◌<◌, ◌≤◌, Bool, true, false, not, ◌&&◌, List, [], ◌∷◌, ◌++◌, length, None, Some, if◌then◌else◌, refl, ap, sym, ◌∙◌, inl, inr, arith, nat_lt}
+use Rattle.std.specs.List.{filter, filter_map, list_all, position_from}
 use Rattle.std.specs.Option.{unwrap_or}
 use Rattle.std.proofs.lemmas.Bool.{cases_Bool}
 use Rattle.std.proofs.lemmas.Bool.Decides.{nat_tests}
 use Rattle.std.proofs.lemmas.List.Elements.{filter_agree}
 use Rattle.sipl_names.specs.Labels.{is_within}
-use Rattle.sipl_records.specs.declared.data.Data.{Data}
 use Rattle.sipl_records.specs.declared.record.Record.{Record}
 use Rattle.sipl_records.specs.declared.record.Key.{Key}
 use Rattle.sipl_records.specs.Sets.{set_of, same_key, key_of}
@@ -15,7 +14,7 @@ use Rattle.sipl_records.proofs.Filters.{filter-filter}
 use Rattle.sipl_zonestore.specs.declared.fault.StoreFault.TheVariants.{NumberSpent}
 use Rattle.sipl_zonestore.specs.Store.{records_outside}
 use Rattle.sipl_zonestore.specs.Changes.{is_changed, changed_keys}
-use Rattle.sipl_zonestore.specs.Numbers.{is_empty, number_of, numbered_keys, number_after, next_after, number_refusal}
+use Rattle.sipl_zonestore.specs.Numbers.{is_empty, number_of, numbered_keys, number_after, number_refusal}
 use Rattle.sipl_zonestore.specs.SetTable.{NumberedSet, Content, no_content, carried, content_of, numbers_of, has_set, numbered_content, HasSets}
 use Rattle.sipl_zonestore.proofs.ChangedKeys.{set-outside, set-inside, stays, text-none}
 use Rattle.sipl_zonestore.proofs.Numbering.{numbered-none_same, numbered-none_empty}

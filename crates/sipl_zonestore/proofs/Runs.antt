@@ -1,8 +1,8 @@
 -- Numbers over lists of edits.
-use Rattle.std.proofs.Common.{◌≡◌, ◌≢◌, ◌⊎◌, ℕ, ◌+◌, ◌^◌, ◌<◌, ◌≤◌, Bool, true, false, not, List, [], ◌∷◌, length, Option, None, Some, refl, ap, sym, ◌∙◌, inl, inr, arith}
+use Rattle.std.proofs.Common.{◌≡◌, ◌⊎◌, ℕ, ◌+◌, ◌^◌, ◌<◌, ◌≤◌, true, false, List, [], ◌∷◌, Option, None, Some, refl, ap, sym, ◌∙◌, inl, inr, arith}
 use Rattle.std.specs.Option.{option_or}
 use Rattle.std.specs.Cmp.{IsEquivalence}
-use Rattle.std.specs.List.{filter, list_any, position_from, Contains}
+use Rattle.std.specs.List.{list_any, position_from, Contains}
 use Rattle.std.proofs.lemmas.Bool.{cases_Bool}
 use Rattle.std.proofs.lemmas.Bool.Decides.{Decides-like}
 use Rattle.std.proofs.lemmas.Map.Views.{list_any-from_Contains}
@@ -13,10 +13,10 @@ use Rattle.sipl_records.proofs.Keys.{same_key-Decides}
 use Rattle.sipl_records.proofs.Unique.{equivalence_from_decides}
 use Rattle.sipl_zonestore.specs.declared.fault.StoreFault.{StoreFault}
 use Rattle.sipl_zonestore.specs.Edits.{Edit, after, refusal_of}
-use Rattle.sipl_zonestore.specs.Numbers.{is_empty, numbered_keys, number_after, number_refusal, IsNumbered}
+use Rattle.sipl_zonestore.specs.Numbers.{is_empty, numbered_keys, number_refusal, IsNumbered}
 use Rattle.sipl_zonestore.specs.Machine.{NumberedZones, numbered_from, taken_keys, after_accepted, refusal_in, after_unless, after_edits}
 use Rattle.sipl_zonestore.proofs.Positions.{from-some, from-same}
-use Rattle.sipl_zonestore.proofs.Numbering.{IsTaken, IsGone, IsKept, taken, number-cases, numbered-none_empty, numbered-after}
+use Rattle.sipl_zonestore.proofs.Numbering.{IsTaken, taken, number-cases, numbered-none_empty, numbered-after}
 
 flipped : IsEquivalence (λ a b. same_key b a)
 flipped = equivalence_from_decides (λ a b. same_key b a) (λ a b. Decides-like (same_key b a) (λ e. sym e) (λ e. sym e) (same_key-Decides b a))

@@ -1,5 +1,5 @@
 -- The changed keys, found record by record: each key once, at the first record of its set.
-use Rattle.std.proofs.Common.{◌≡◌, ◌≢◌, ℕ, zero, suc, ◌+◌, ◌<◌, Bool, true, false, not, ◌&&◌, ◌||◌, List, [], ◌∷◌, ◌++◌, length, take, get_or, Option, None, Some, cond, refl, ap, subst, sym, ◌∙◌, inl, inr, arith, append-nil, append_assoc}
+use Rattle.std.proofs.Common.{◌≡◌, ℕ, zero, suc, ◌+◌, ◌<◌, Bool, true, false, not, ◌&&◌, ◌||◌, List, [], ◌∷◌, ◌++◌, length, take, get_or, Option, None, Some, cond, refl, ap, sym, ◌∙◌, inl, inr, arith, append-nil, append_assoc}
 use Rattle.std.specs.List.{filter, filter_map, list_any, list_all}
 use Rattle.std.specs.Option.{option_to_list}
 use lib.Pointwise.{pointwise}
@@ -7,13 +7,12 @@ use Rattle.std.proofs.lemmas.Bool.{cases_Bool}
 use Rattle.std.proofs.lemmas.List.{take_more}
 use Rattle.std.proofs.lemmas.List.Folds.{list_any-append}
 use Rattle.sipl_names.specs.Labels.{is_within}
-use Rattle.sipl_records.specs.declared.data.Data.{Data}
 use Rattle.sipl_records.specs.declared.record.Record.{Record}
 use Rattle.sipl_records.specs.declared.record.Key.{Key}
 use Rattle.sipl_records.specs.Sets.{has_key, set_of, same_data, same_key, same_record, key_of}
 use Rattle.sipl_records.specs.Unique.{unique}
 use Rattle.sipl_records.proofs.Filters.{list_any-filter}
-use Rattle.sipl_records.proofs.Keys.{same_key-Decides, same_key-refl, has_key-key_of, key_of-name}
+use Rattle.sipl_records.proofs.Keys.{same_key-refl, has_key-key_of, key_of-name}
 use Rattle.sipl_records.proofs.SameData.{same_data-refl, same_data-Decides, same_record-Decides}
 use Rattle.sipl_records.proofs.Sets.{has_key-name}
 use Rattle.sipl_records.proofs.Unique.{list_any-unique}
@@ -22,7 +21,7 @@ use Rattle.sipl_zonestore.specs.Numbers.{is_empty}
 use Rattle.sipl_zonestore.specs.Store.{records_within}
 use Rattle.sipl_zonestore.specs.Changes.{is_changed, changed_among}
 use Rattle.sipl_zonestore.specs.SetTable.{NumberedSet, content_of, HasSets, is_first, changed_in, added_in}
-use Rattle.sipl_zonestore.proofs.Elements.{or_left, or_right, or_first, or_second, and_first, and_second, any-filter, none-at, all-at}
+use Rattle.sipl_zonestore.proofs.Elements.{or_left, or_right, or_first, or_second, any-filter, none-at, all-at}
 use Rattle.sipl_zonestore.proofs.Keys.{same_key-trans, list_any-filter_map}
 use Rattle.sipl_zonestore.proofs.SameSets.{same_set-true}
 use Rattle.sipl_zonestore.proofs.ChangedKeys.{kept-any, among-none, among-known, among-same, among-push, within-more}

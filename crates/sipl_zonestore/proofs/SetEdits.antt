@@ -1,13 +1,13 @@
 -- What edits of a table of record sets do to its look-ups.
-use Rattle.std.proofs.Common.{◌≡◌, ◌≢◌, ℕ, zero, suc, ◌+◌, ◌<◌, ◌≤◌, Bool, true, false, not, ◌&&◌, List, [], ◌∷◌, ◌++◌, length, get_or, set, Option, None, Some, if◌then◌else◌, cond, refl, ap, subst, sym, ◌∙◌, inl, inr, arith, ◌==◌}
-use Rattle.std.specs.List.{filter, list_any, list_all, position_from}
+use Rattle.std.proofs.Common.{◌≡◌, ℕ, zero, suc, ◌<◌, Bool, true, false, not, List, [], ◌∷◌, ◌++◌, length, get_or, set, if◌then◌else◌, refl, ap, sym, ◌∙◌, inl, inr, arith, ◌==◌}
+use Rattle.std.specs.List.{filter, list_any}
 use Rattle.std.proofs.lemmas.Bool.{cases_Bool}
 use Rattle.std.proofs.lemmas.Bool.Decides.{nat_tests}
 use Rattle.sipl_names.specs.Labels.{is_within}
 use Rattle.sipl_records.specs.declared.data.Data.{Data}
 use Rattle.sipl_records.specs.declared.record.Key.{Key}
 use Rattle.sipl_records.specs.Sets.{same_key, same_data}
-use Rattle.sipl_records.proofs.Keys.{same_key-Decides, same_key-refl, same_key-sym}
+use Rattle.sipl_records.proofs.Keys.{same_key-Decides}
 use Rattle.sipl_zonestore.specs.Numbers.{is_empty}
 use Rattle.sipl_zonestore.specs.SetTable.{NumberedSet, Content, no_content, carried, content_of, are_filled, pushed, without, renumbered, has_set}
 use Rattle.sipl_zonestore.proofs.Elements.{and_first, and_second}

@@ -1,11 +1,11 @@
 -- Look-ups in tables of record sets.
-use Rattle.std.proofs.Common.{◌≡◌, ◌≢◌, ℕ, zero, suc, ◌+◌, ◌<◌, ◌≤◌, Bool, true, false, not, ◌&&◌, List, [], ◌∷◌, ◌++◌, length, get_or, set, Option, None, Some, if◌then◌else◌, cond, refl, ap, subst, sym, ◌∙◌, inl, inr, arith}
-use Rattle.std.specs.List.{filter, list_any, list_all, position_from}
+use Rattle.std.proofs.Common.{◌≡◌, ℕ, zero, suc, ◌+◌, ◌<◌, ◌≤◌, Bool, true, false, not, List, [], ◌∷◌, ◌++◌, length, get_or, set, None, Some, if◌then◌else◌, refl, ap, sym, ◌∙◌, inl, inr, arith}
+use Rattle.std.specs.List.{filter, list_any, position_from}
 use Rattle.std.proofs.lemmas.Bool.{cases_Bool}
 use Rattle.sipl_records.specs.declared.data.Data.{Data}
 use Rattle.sipl_records.specs.declared.record.Key.{Key}
 use Rattle.sipl_records.specs.Sets.{same_key}
-use Rattle.sipl_records.proofs.Keys.{same_key-Decides, same_key-refl}
+use Rattle.sipl_records.proofs.Keys.{same_key-Decides}
 use Rattle.sipl_zonestore.specs.Numbers.{number_of, is_empty}
 use Rattle.sipl_zonestore.specs.SetTable.{NumberedSet, Content, no_content, carried, content_of, numbers_of, are_filled}
 use Rattle.sipl_zonestore.proofs.Positions.{from-le, none-from}

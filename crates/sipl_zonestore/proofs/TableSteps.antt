@@ -1,5 +1,5 @@
 -- Tables that are made of records, and numbered, one by one.
-use Rattle.std.proofs.Common.{◌≡◌, ℕ, zero, suc, ◌+◌, ◌^◌, ◌<◌, ◌≤◌, Bool, true, false, not, ◌&&◌, List, [], ◌∷◌, ◌++◌, length, take, get_or, Option, None, Some, if◌then◌else◌, cond, refl, ap, sym, ◌∙◌, inl, inr, arith, append-nil, length-append}
+use Rattle.std.proofs.Common.{◌≡◌, ℕ, zero, suc, ◌+◌, ◌<◌, ◌≤◌, Bool, true, false, not, List, [], ◌∷◌, ◌++◌, length, take, get_or, Option, None, Some, if◌then◌else◌, cond, refl, ap, sym, ◌∙◌, inl, inr, arith, append-nil, length-append}
 use Rattle.std.specs.List.{filter, list_any, position_from, IsDistinct}
 use Rattle.std.specs.Option.{option_or, unwrap_or}
 use mir.Val.{bool_byte}
@@ -10,7 +10,7 @@ use Rattle.std.proofs.lemmas.Map.Keys.{apart_from_distinct}
 use Rattle.sipl_records.specs.declared.data.Data.{Data}
 use Rattle.sipl_records.specs.declared.record.Record.{Record}
 use Rattle.sipl_records.specs.declared.record.Key.{Key}
-use Rattle.sipl_records.specs.Sets.{has_key, set_of, same_data, same_key, key_of}
+use Rattle.sipl_records.specs.Sets.{set_of, same_data, same_key, key_of}
 use Rattle.sipl_records.proofs.Keys.{same_key-Decides, has_key-key_of, is_key}
 use Rattle.sipl_records.proofs.Sets.{set_of-append}
 use Rattle.sipl_zonestore.specs.Numbers.{is_empty}

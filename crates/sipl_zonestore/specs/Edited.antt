@@ -1,5 +1,5 @@
 -- What an edit does to a store.
-use Rattle.std.specs.Prelude.{◌≡◌, ◌≢◌, ℕ, List, Option, None, Some, Result, OnOk, OnErr, IfOk, IfErr}
+use Rattle.std.specs.Prelude.{◌≡◌, ◌≢◌, List, Option, None, Some, Result, OnOk, OnErr, IfOk, IfErr}
 use Rattle.std.specs.Option.{option_or}
 use Rattle.sipl_records.specs.declared.record.Key.{Key}
 use Rattle.sipl_zonestore.specs.Store.{Store, number_in}

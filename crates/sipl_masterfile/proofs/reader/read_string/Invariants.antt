@@ -1,4 +1,4 @@
-use Rattle.std.proofs.Common.{◌≡◌, ◌+◌, ◌≤◌, length, min, vec_len, vec_capacity}
+use Rattle.std.proofs.Common.{◌+◌, ◌≤◌, length, min, vec_len, vec_capacity}
 use Rattle.sipl_masterfile.proofs.Strings.{IsReadTo}
 use Rattle.sipl_masterfile.proofs.reader.read_string.Given as goal
 

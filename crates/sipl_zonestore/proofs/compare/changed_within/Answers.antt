@@ -1,4 +1,4 @@
-use Rattle.std.proofs.Common.{◌≡◌, ◌++◌, ap, sym, ◌∙◌}
+use Rattle.std.proofs.Common.{◌++◌, ap, sym, ◌∙◌}
 use Rattle.sipl_names.specs.Labels.{is_within}
 use Rattle.sipl_records.proofs.Filters.{filter-all}
 use Rattle.sipl_zonestore.specs.Store.{records_within}

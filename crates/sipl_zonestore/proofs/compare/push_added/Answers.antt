@@ -1,4 +1,4 @@
-use Rattle.std.proofs.Common.{◌≡◌, ◌++◌, take, ap, sym, ◌∙◌, append-nil}
+use Rattle.std.proofs.Common.{◌++◌, ap, sym, ◌∙◌, append-nil}
 use Rattle.sipl_zonestore.specs.Changes.{changed_among}
 use Rattle.sipl_zonestore.specs.Store.{records_within}
 use Rattle.sipl_zonestore.specs.SetTable.{added_in}

@@ -1,4 +1,4 @@
-use Rattle.std.proofs.Common.{◌≡◌, [], ◌++◌, true, false, take, ap, sym, ◌∙◌}
+use Rattle.std.proofs.Common.{◌≡◌, [], ◌++◌, true, false, ap, sym, ◌∙◌}
 use Rattle.sipl_names.specs.Labels.{is_within}
 use Rattle.sipl_zonestore.specs.Changes.{changed_among}
 use Rattle.sipl_zonestore.specs.SetTable.{changed_in}

@@ -1,5 +1,4 @@
-use Rattle.std.proofs.Common.{◌≡◌, ◌+◌, true, false, length, take, if◌then◌else◌, ap, sym, ◌∙◌, arith}
-use Rattle.std.specs.List.{filter}
+use Rattle.std.proofs.Common.{◌≡◌, true, false, take, if◌then◌else◌, sym, ◌∙◌, arith}
 use Rattle.sipl_records.specs.Sets.{same_key}
 use Rattle.sipl_zonestore.specs.SetTable.{has_set, renumbered}
 use Rattle.sipl_zonestore.proofs.TableSteps.{numbered-start, numbered-step, counted-next, taken-le, has_set-same}

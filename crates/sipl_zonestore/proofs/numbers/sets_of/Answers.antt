@@ -1,4 +1,4 @@
-use Rattle.std.proofs.Common.{◌≡◌, ap, sym, ◌∙◌}
+use Rattle.std.proofs.Common.{sym, ◌∙◌}
 use Rattle.sipl_zonestore.proofs.TableSteps.{made-none, made-some}
 use Rattle.sipl_zonestore.proofs.numbers.sets_of.Goals as goal
 use Rattle.sipl_zonestore.proofs.numbers.sets_of.Goals.{in-Some+in_ok-value+in_ok-push, in_default}

@@ -1,5 +1,4 @@
-use Rattle.std.proofs.Common.{sym, ap, ◌∙◌}
-use Rattle.sipl_zonestore.specs.Numbers.{number_of}
+use Rattle.std.proofs.Common.{sym, ◌∙◌}
 use Rattle.sipl_zonestore.proofs.SetTables.{number_of-numbers_of}
 use Rattle.sipl_zonestore.proofs.numbered.NumberedRecords.number.Goals as goal
 

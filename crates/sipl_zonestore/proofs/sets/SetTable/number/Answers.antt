@@ -1,5 +1,5 @@
-use Rattle.std.proofs.Common.{◌≡◌, ◌<◌, length, get_or, subst, sym, ap, ◌∙◌}
-use Rattle.sipl_zonestore.proofs.SetTables.{missing, IsAt, at-position, at-below, content-none}
+use Rattle.std.proofs.Common.{sym, ap, ◌∙◌}
+use Rattle.sipl_zonestore.proofs.SetTables.{missing, at-position, at-below, content-none}
 use Rattle.sipl_zonestore.proofs.SetEdits.{below_items, seen, number-found}
 use Rattle.sipl_zonestore.proofs.sets.SetTable.number.Goals as goal
 

@@ -1,5 +1,4 @@
-use Rattle.std.proofs.Common.{◌≡◌, ◌<◌, length, get_or, subst, refl, sym, ap, ◌∙◌}
-use Rattle.sipl_zonestore.specs.SetTable.{pushed}
+use Rattle.std.proofs.Common.{sym, ◌∙◌}
 use Rattle.sipl_zonestore.proofs.SetTables.{missing, at-position, at-below, filled-set, is_empty-push}
 use Rattle.sipl_zonestore.proofs.SetEdits.{below_items, seen, pushed-at, pushed-none}
 use Rattle.sipl_zonestore.proofs.sets.SetTable.push.Goals as goal

@@ -1,4 +1,4 @@
-use Rattle.std.proofs.Common.{◌≡◌, ◌<◌, true, false, not, List, length, get_or, set, subst, refl, sym, ap, ◌∙◌, rules, arith}
+use Rattle.std.proofs.Common.{◌≡◌, true, not, set, refl, sym, ◌∙◌, rules, arith}
 use Rattle.std.specs.List.{filter}
 use Rattle.std.proofs.lemmas.Fn.{filter_same}
 use Rattle.sipl_records.specs.declared.data.Data.{Data}
@@ -7,7 +7,7 @@ use Rattle.sipl_records.proofs.Same.{same_data_is}
 use Rattle.sipl_zonestore.specs.Numbers.{is_empty}
 use Rattle.sipl_zonestore.specs.SetTable.{NumberedSet, without}
 use Rattle.sipl_zonestore.proofs.Keys.{derived}
-use Rattle.sipl_zonestore.proofs.SetTables.{missing, at-position, at-below, key-at, filled-set, filled-at}
+use Rattle.sipl_zonestore.proofs.SetTables.{missing, at-position, at-below, filled-set}
 use Rattle.sipl_zonestore.proofs.SetEdits.{below_items, seen, changed-none, without-at, without-gone, filled-gone, empty-len, key-here}
 use Rattle.sipl_zonestore.proofs.sets.SetTable.remove.Goals as goal
 

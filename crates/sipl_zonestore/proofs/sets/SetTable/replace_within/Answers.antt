@@ -1,9 +1,9 @@
-use Rattle.std.proofs.Common.{◌≡◌, ◌++◌, not, List, subst, refl, sym, ap, ◌∙◌, rules}
+use Rattle.std.proofs.Common.{◌≡◌, not, rules}
 use Rattle.std.specs.List.{filter}
 use Rattle.std.proofs.lemmas.Fn.{filter_same}
 use Rattle.sipl_names.specs.Labels.{is_within}
 use Rattle.sipl_zonestore.specs.SetTable.{NumberedSet}
-use Rattle.sipl_zonestore.proofs.SetTables.{missing, filled-append, filled-filter}
+use Rattle.sipl_zonestore.proofs.SetTables.{filled-append, filled-filter}
 use Rattle.sipl_zonestore.proofs.SetEdits.{content-replaced}
 use Rattle.sipl_zonestore.proofs.sets.SetTable.replace_within.Goals as goal
 

@@ -1,6 +1,6 @@
-use Rattle.std.proofs.Common.{◌≡◌, ◌<◌, length, get_or, subst, refl, sym, ap, ◌∙◌}
+use Rattle.std.proofs.Common.{refl, sym, ◌∙◌}
 use Rattle.sipl_zonestore.specs.SetTable.{renumbered}
-use Rattle.sipl_zonestore.proofs.SetTables.{missing, at-position, at-below, filled-set, filled-at}
+use Rattle.sipl_zonestore.proofs.SetTables.{missing, at-position, at-below, filled-set}
 use Rattle.sipl_zonestore.proofs.SetEdits.{below_items, seen, has_set-found, has_set-none, changed-none, numbered-at, filled-here}
 use Rattle.sipl_zonestore.proofs.sets.SetTable.set_number.Goals as goal
 

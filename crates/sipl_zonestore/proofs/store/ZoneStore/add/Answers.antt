@@ -1,4 +1,4 @@
-use Rattle.std.proofs.Common.{◌≡◌, refl, ap, sym, ◌∙◌}
+use Rattle.std.proofs.Common.{refl}
 use Rattle.sipl_zonestore.specs.Edits.{add}
 use Rattle.sipl_zonestore.proofs.Editing.{always-ok, always-err, store_of, edited-with, consistent}
 use Rattle.sipl_zonestore.proofs.store.ZoneStore.add.Goals as goal

@@ -1,4 +1,4 @@
-use Rattle.std.proofs.Common.{◌≡◌, ◌++◌, Ok, ap, subst, sym, ◌∙◌}
+use Rattle.std.proofs.Common.{◌≡◌, ◌++◌, Ok, subst, ◌∙◌}
 use Rattle.std.specs.Option.{option_to_list}
 use Rattle.sipl_zonestore.specs.Store.{records_outside, apexes_after_load}
 use Rattle.sipl_zonestore.specs.Edits.{load}

@@ -1,4 +1,4 @@
-use Rattle.std.proofs.Common.{◌≡◌, refl, ap, sym, ◌∙◌}
+use Rattle.std.proofs.Common.{refl}
 use Rattle.std.proofs.lemmas.Result.{err_from_is_err_and}
 use Rattle.sipl_zonestore.specs.Edits.{remove}
 use Rattle.sipl_zonestore.proofs.Editing.{always-ok, always-err, store_of, edited-with, consistent, not_absent, refused-edit}

@@ -1,4 +1,4 @@
-use Rattle.std.proofs.Common.{◌≡◌, not, Ok, refl, ap, subst, sym, ◌∙◌, append-nil, rules}
+use Rattle.std.proofs.Common.{not, Ok, subst, append-nil, rules}
 use Rattle.std.proofs.lemmas.Fn.{filter_same}
 use Rattle.sipl_names.specs.Labels.{same_name}
 use Rattle.sipl_zonestore.specs.Store.{records_outside}
