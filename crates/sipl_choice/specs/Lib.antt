@@ -1,4 +1,5 @@
 pub mod Transports
+pub mod ServiceNames
 pub mod Endpoints
 pub mod AbilitiesFault
 pub mod Abilities

@@ -1,103 +1,100 @@
--- SIP URIs `sip:HOST:PORT` (RFC 3261, 19.1.1): the question that a text asks, or its first fault.
-use Rattle.std.specs.Prelude.{ℕ, Bool, false, not, ◌||◌, ◌&&◌, [], ◌∷◌, Option, None, Some, Result, Ok, Err, option_map, codes, nat_eq, if◌then◌else◌, ◌==◌}
-use Rattle.std.specs.Option.{option_and_then}
-use Rattle.std.specs.List.{list_all, list_any}
+-- SIP and SIPS URIs (RFC 3261, 19.1.1): the question that a text asks, or its first fault.
+use Rattle.std.specs.Prelude.{ℕ, Bool, true, false, ◌&&◌, [], Option, None, Some, Result, Ok, Err, codes, count_by, nat_le, if◌then◌else◌, ◌==◌}
+use Rattle.std.specs.List.{list_all}
+use Rattle.std.specs.Option.{unwrap_or}
 use Rattle.std.specs.Str.{str_to_ascii_lowercase}
-use Rattle.std.specs.Char.{is_ascii_alphabetic, is_ascii_alphanumeric, is_ascii_graphic}
-use lib.Pointwise.{pointwise}
-use Rattle.sipl_names.specs.Labels.{Octets, Labels, top_label_of}
-use Rattle.sipl_names.specs.NameText.{name_of}
-use Rattle.sipl_records.specs.declared.address.Address.TheVariants.{V4}
-use Rattle.sipl_records.specs.Ipv4.{number_of_text}
+use Rattle.sipl_names.specs.Labels.{Octets}
 use Rattle.sipl_records.specs.Numbers.{number_of}
 use Rattle.sipl_records.specs.Parts.{split_once}
+use Rattle.sipl_choice.specs.declared.transport.Transport.{Transport}
+use Rattle.sipl_choice.specs.declared.transport.Transport.TheVariants.{Udp, Tcp, Tls, Sctp}
 use Rattle.sipl_uri.specs.declared.question.Question.{Question}
 use Rattle.sipl_uri.specs.declared.question.Target.{Target}
-use Rattle.sipl_uri.specs.declared.question.Target.TheVariants.{Numeric, Domain}
 use Rattle.sipl_uri.specs.declared.fault.UriFault.{UriFault}
-use Rattle.sipl_uri.specs.declared.fault.UriFault.TheVariants.{Scheme, Characters, Host, Port}
+use Rattle.sipl_uri.specs.declared.fault.UriFault.TheVariants.{Scheme, Characters, Host, Port, SipsTransport}
+use Rattle.sipl_uri.specs.UriOctets.{is_uri_octet}
+use Rattle.sipl_uri.specs.Hosts.{host_of}
+use Rattle.sipl_uri.specs.UriParts.{Parts, parts_of}
+use Rattle.sipl_uri.specs.Params.{Settings, no_settings, same_text, take_params}
 
--- whether the octet is one of these
-abbrev pub is_one_of : Octets → ℕ → Bool
-is_one_of octets c = list_any (λ octet. c == octet) octets
+-- whether the scheme is `sips`: it is `sip` or `sips`, in either case
+abbrev pub security_of : Octets → Option Bool
+security_of scheme =
+    if same_text (str_to_ascii_lowercase scheme) (codes "sip") then Some false
+    else (if same_text (str_to_ascii_lowercase scheme) (codes "sips") then Some true else None)
 
--- RFC 3261, 25.1: an octet of a label is a letter, a digit or a hyphen; an underscore is allowed too
-abbrev pub is_label_octet : ℕ → Bool
-is_label_octet c = is_ascii_alphanumeric c || is_one_of (codes "-_") c
-
--- RFC 3261, 25.1: dots separate the labels of a hostname
-abbrev pub is_hostname_octet : ℕ → Bool
-is_hostname_octet c = is_label_octet c || is_one_of (codes ".") c
-
--- RFC 3261, 25.1: an octet of a URI is a printable character of ASCII other than `"`, `<` and `>`
-abbrev pub is_uri_octet : ℕ → Bool
-is_uri_octet c = is_ascii_graphic c && not (is_one_of (codes "\"<>") c)
-
--- the delimiters of user information, parameters and headers, which are not supported yet
-abbrev pub is_unsupported_delimiter : ℕ → Bool
-is_unsupported_delimiter c = is_one_of (codes "@;?") c
-
--- whether a URI that is supported can have the octet after its scheme
-abbrev pub is_supported_octet : ℕ → Bool
-is_supported_octet c = is_uri_octet c && not (is_unsupported_delimiter c)
-
--- whether a label begins with a letter
-abbrev pub begins_with_letter : Octets → Bool
-begins_with_letter [] = false
-begins_with_letter (c ∷ label) = is_ascii_alphabetic c
-
--- RFC 3261, 25.1: whether the label next to the root begins with a letter, as a hostname's does
-abbrev pub has_alphabetic_top : Labels → Bool
-has_alphabetic_top labels =
-    elim (top_label_of labels) [ Some label ↦ begins_with_letter label | None ↦ false ]
-
--- RFC 3261, 25.1: the name of a hostname, which is absolute
-abbrev pub hostname_of : Octets → Option Labels
-hostname_of text =
-    if list_all is_hostname_octet text
-    then elim (name_of text []) [
-      | Ok labels ↦ if has_alphabetic_top labels then Some labels else None
-      | Err fault ↦ None
-    ] else None
-
--- RFC 3261, 25.1: a host is an IPv4 address or a hostname
-abbrev pub host_of : Octets → Option Target
-host_of text = elim (number_of_text text) [
-  | Some n ↦ Some (Numeric (V4 n))
-  | None ↦ option_map (λ labels. Domain labels) (hostname_of text)
-]
-
--- RFC 3261, 25.1: a port is a number, here from 1 to 65,535
+-- a port is a number, here from 1 to 65,535
 abbrev pub port_of : Octets → Option ℕ
 port_of digits =
     elim (number_of digits 65535) [ Some port ↦ (if port == 0 then None else Some port) | None ↦ None ]
 
--- the question of a target and a port
-abbrev pub question_for : Target → ℕ → Question
-question_for target port =
-    record { secure = false; target = target; port = Some port; transport = None }
+-- the port after the colon, if there is one
+abbrev pub port_part : Option Octets → Result (Option ℕ) UriFault
+port_part None = Ok None
+port_part (Some digits) = elim (port_of digits) [ Some port ↦ Ok (Some port) | None ↦ Err Port ]
 
--- the question of a target and its port, or that there is no port
-abbrev pub question_at : Target → Option ℕ → Result Question UriFault
-question_at target None = Err Port
-question_at target (Some port) = Ok (question_for target port)
+-- RFC 3261, 26.2.2: with `sips`, TCP is TLS over TCP; UDP and SCTP cannot be secure here
+abbrev pub transport_with : Bool → Transport → Option Transport
+transport_with false transport = Some transport
+transport_with true Tcp = Some Tls
+transport_with true Tls = Some Tls
+transport_with true Udp = None
+transport_with true Sctp = None
 
--- the question of a host and the digits after its colon, or the fault of the host, then of the port
-abbrev pub hostport_question : Octets → Option Octets → Result Question UriFault
-hostport_question host digits = elim (host_of host) [
-  | Some target ↦ question_at target (option_and_then port_of digits)
-  | None ↦ Err Host
-]
+-- the question of a target, a port and a transport, if one is given: its fault is the last
+abbrev pub question_over : Bool → Target → Option ℕ → Option Transport
+    → Result Question UriFault
+question_over secure target port None =
+    Ok (record { secure = secure; target = target; port = port; transport = None })
+question_over secure target port (Some transport) =
+    elim (transport_with secure transport) [
+      | Some used ↦
+        Ok (record { secure = secure; target = target; port = port; transport = Some used })
+      | None ↦ Err SipsTransport
+    ]
 
--- the question of the text after the scheme's colon (58 is `:`): the fault of an octet comes first
-abbrev pub question_after_scheme : Octets → Result Question UriFault
-question_after_scheme text =
-    if list_all is_supported_octet text
-    then hostport_question (split_once 58 text).0 (split_once 58 text).1 else Err Characters
+-- the question of a host and a port with what the parameters say: the target is `maddr`, if it is
+-- given, otherwise the host
+abbrev pub question_with : Bool → Target → Option ℕ → Settings → Result Question UriFault
+question_with secure host port settings =
+    question_over secure (unwrap_or settings.target host) port settings.transport
 
--- the question of a URI: the fault of the scheme, which is `sip` in either case, comes first
+-- the question of a host and a port: the fault of a parameter comes first
+abbrev pub question_at : Bool → Target → Option ℕ → Result Settings UriFault
+    → Result Question UriFault
+question_at secure host port (Err fault) = Err fault
+question_at secure host port (Ok settings) = question_with secure host port settings
+
+-- the question of a host: the fault of the port comes first
+abbrev pub question_to : Bool → Target → Result (Option ℕ) UriFault → Result Settings UriFault
+    → Result Question UriFault
+question_to secure host (Err fault) settings = Err fault
+question_to secure host (Ok port) settings = question_at secure host port settings
+
+-- the question of the parts of a URI: the fault of the host comes first
+abbrev pub question_of_parts : Bool → Parts → Result Question UriFault
+question_of_parts secure parts =
+    elim (host_of parts.host) [
+      | Some host ↦
+        question_to secure host (port_part parts.port) (take_params parts.params no_settings)
+      | None ↦ Err Host
+    ]
+
+-- whether the octets after the scheme's colon are allowed: at most one is `@` (64)
+abbrev pub has_allowed_octets : Octets → Bool
+has_allowed_octets text = list_all is_uri_octet text && nat_le (count_by (λ c. c == 64) text) 1
+
+-- the question of the text after the scheme's colon: the fault of an octet comes first
+abbrev pub question_after_scheme : Bool → Octets → Result Question UriFault
+question_after_scheme secure text =
+    if has_allowed_octets text then question_of_parts secure (parts_of text) else Err Characters
+
+-- the question of a scheme and the text after its colon (58 is `:`), if there is one
+abbrev pub question_of_split : Octets × Option Octets → Result Question UriFault
+question_of_split (scheme, None) = Err Scheme
+question_of_split (scheme, Some text) =
+    elim (security_of scheme) [ Some secure ↦ question_after_scheme secure text | None ↦ Err Scheme ]
+
+-- the question of a URI: the fault of the scheme comes first
 abbrev pub question_of : Octets → Result Question UriFault
-question_of uri =
-    if pointwise nat_eq (str_to_ascii_lowercase (split_once 58 uri).0) (codes "sip")
-    then elim (split_once 58 uri).1 [ Some text ↦ question_after_scheme text | None ↦ Err Scheme ]
-    else Err Scheme
+question_of uri = question_of_split (split_once 58 uri)
