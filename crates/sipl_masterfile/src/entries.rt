@@ -132,3 +132,6 @@ fn read_fields<'a>(
     }
     Ok((rest, line_ends))
 }
+
+#[cfg(test)]
+mod tests;

@@ -3,8 +3,6 @@
 
 mod by_owner;
 mod entries;
-#[cfg(test)]
-mod entry_tests;
 mod fault;
 mod intake;
 pub mod laws;
