@@ -2,7 +2,7 @@
 use Rattle.std.specs.Prelude.{◌≡◌, ℕ, ◌≤◌, Bool, true, false, List, [], ◌++◌, Option, None, Some, codes, decimal, IsTrue, IfSome}
 use Rattle.std.specs.List.{AllByRecursion, list_all}
 use Rattle.sipl_names.specs.Labels.{Octets, Labels, IsName}
-use Rattle.sipl_names.specs.NameText.{text_of}
+use Rattle.sipl_names.specs.NamePrint.{text_of}
 use Rattle.sipl_records.specs.Addresses.{IsAddress, text_of_address}
 use Rattle.sipl_records.specs.declared.address.Address.TheVariants.{V4, V6}
 use Rattle.sipl_choice.specs.Transports.{transport_text}
