@@ -1,5 +1,5 @@
 -- Hosts (RFC 3261, 25.1): the target that a text names, if it is a host.
-use Rattle.std.specs.Prelude.{Bool, false, [], ◌∷◌, Option, None, Some, Result, Ok, Err, option_map, if◌then◌else◌, ◌==◌}
+use Rattle.std.specs.Prelude.{Bool, false, [], ◌∷◌, Option, None, Some, Ok, Err, option_map, if◌then◌else◌, ◌==◌}
 use Rattle.std.specs.Option.{option_or}
 use Rattle.std.specs.List.{list_all}
 use Rattle.std.specs.Char.{is_ascii_alphabetic}

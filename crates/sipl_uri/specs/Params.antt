@@ -1,5 +1,5 @@
 -- The parameters of a URI (RFC 3261, 19.1.1): what they say, or the first fault.
-use Rattle.std.specs.Prelude.{Bool, true, false, List, [], ◌∷◌, Option, None, Some, Result, Ok, Err, codes, nat_eq, if◌then◌else◌}
+use Rattle.std.specs.Prelude.{Bool, List, [], ◌∷◌, Option, None, Some, Result, Ok, Err, codes, nat_eq, if◌then◌else◌}
 use Rattle.std.specs.List.{list_any}
 use Rattle.std.specs.Str.{str_to_ascii_lowercase}
 use lib.Pointwise.{pointwise}
@@ -88,7 +88,7 @@ take_param param settings =
     elim param.name [
       | [] ↦ Err Characters
       | c ∷ name ↦ if list_any (same_text (c ∷ name)) settings.names then Err Repeated
-        else take_value param (with_name (c ∷ name) settings)
+          else take_value param (with_name (c ∷ name) settings)
     ]
 
 -- parameters from left to right, up to the first fault

@@ -1,5 +1,5 @@
 -- Questions as URIs (RFC 3261, 19.1.1).
-use Rattle.std.specs.Prelude.{◌≡◌, ℕ, ◌≤◌, Bool, true, false, List, [], ◌++◌, Option, None, Some, codes, decimal, IsTrue, IfSome}
+use Rattle.std.specs.Prelude.{◌≡◌, ℕ, ◌≤◌, Bool, true, false, [], ◌++◌, Option, None, Some, codes, decimal, IsTrue, IfSome}
 use Rattle.std.specs.List.{AllByRecursion, list_all}
 use Rattle.sipl_names.specs.Labels.{Octets, Labels, IsName}
 use Rattle.sipl_names.specs.NamePrint.{text_of}

@@ -1,5 +1,5 @@
 -- SIP and SIPS URIs (RFC 3261, 19.1.1): the question that a text asks, or its first fault.
-use Rattle.std.specs.Prelude.{ℕ, Bool, true, false, ◌&&◌, [], Option, None, Some, Result, Ok, Err, codes, count_by, nat_le, if◌then◌else◌, ◌==◌}
+use Rattle.std.specs.Prelude.{ℕ, Bool, true, false, ◌&&◌, Option, None, Some, Result, Ok, Err, codes, count_by, nat_le, if◌then◌else◌, ◌==◌}
 use Rattle.std.specs.List.{list_all}
 use Rattle.std.specs.Option.{unwrap_or}
 use Rattle.std.specs.Str.{str_to_ascii_lowercase}
@@ -49,7 +49,7 @@ question_over secure target port None =
 question_over secure target port (Some transport) =
     elim (transport_with secure transport) [
       | Some used ↦
-        Ok (record { secure = secure; target = target; port = port; transport = Some used })
+          Ok (record { secure = secure; target = target; port = port; transport = Some used })
       | None ↦ Err SipsTransport
     ]
 
@@ -76,7 +76,7 @@ abbrev pub question_of_parts : Bool → Parts → Result Question UriFault
 question_of_parts secure parts =
     elim (host_of parts.host) [
       | Some host ↦
-        question_to secure host (port_part parts.port) (take_params parts.params no_settings)
+          question_to secure host (port_part parts.port) (take_params parts.params no_settings)
       | None ↦ Err Host
     ]
 
