@@ -2,6 +2,12 @@ pub mod Same
 pub mod Octets
 pub mod Splits
 pub mod Hostnames
-pub mod Hosts
 pub mod Ports
+pub mod AddressOctets
+pub mod Hosts
+pub mod Hostports
+pub mod ParamTexts
+pub mod TakenParams
+pub mod Delimiters
+pub mod Meanings
 pub mod Grammar

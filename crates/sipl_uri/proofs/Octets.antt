@@ -1,12 +1,13 @@
 -- Octets of labels, hosts and URIs, and texts of such octets.
 use Rattle.std.proofs.Common.{◌≡◌, ℕ, Bool, true, false, not, ◌&&◌, ◌||◌, [], ◌∷◌, suc, zero, ◌<◌, refl, sym, ap, subst, ◌∙◌, arith, inl, inr, nat_eq}
 use Rattle.std.specs.List.{list_all}
-use Rattle.std.specs.Char.{to_ascii_lowercase, is_ascii_digit, is_ascii_alphabetic, is_ascii_alphanumeric}
+use Rattle.std.specs.Char.{to_ascii_lowercase, is_ascii_digit, is_ascii_alphabetic, is_ascii_alphanumeric, is_ascii_graphic}
 use Rattle.std.specs.Str.{str_to_ascii_lowercase, all_ascii_digits}
 use Rattle.std.proofs.lemmas.Bool.{cases_Bool, cases_lt, and_parts, and_from, or_left, eqb-true}
 use Rattle.std.proofs.lemmas.Bool.Decides.{nat_tests}
 use Rattle.sipl_names.specs.Labels.{Octets}
-use Rattle.sipl_uri.specs.Uris.{is_label_octet, is_hostname_octet, is_uri_octet, is_supported_octet, begins_with_letter}
+use Rattle.sipl_uri.specs.UriOctets.{is_uri_octet, is_free_octet, is_param_octet, is_label_octet, is_hostname_octet}
+use Rattle.sipl_uri.specs.Hosts.{begins_with_letter}
 
 -- what one test says of each octet of a text, a weaker one says too
 pub list_all-weaker : (p q : ℕ → Bool) → ((c : ℕ) → p c ≡ true → q c ≡ true) → (text : Octets) → list_all p text ≡ true → list_all q text ≡ true
@@ -16,7 +17,7 @@ list_all-weaker p q weaker (c ∷ text) all =
     and_from (q c) (list_all q text) (weaker c parts.0) (list_all-weaker p q weaker text parts.1)
 
 -- whether each number below this one that passes the first test passes the second
-abbrev implies_below : ℕ → (ℕ → Bool) → (ℕ → Bool) → Bool
+abbrev pub implies_below : ℕ → (ℕ → Bool) → (ℕ → Bool) → Bool
 implies_below zero p q = true
 implies_below (suc n) p q = (not (p n) || q n) && implies_below n p q
 
@@ -24,7 +25,7 @@ implied_here : (a b : Bool) → (not a || b) ≡ true → a ≡ true → b ≡ t
 implied_here true b e a_true = e
 implied_here false b e a_true = cc
 
-implied : (n : ℕ) (p q : ℕ → Bool) → implies_below n p q ≡ true → (c : ℕ) → c < n → p c ≡ true → q c ≡ true
+pub implied : (n : ℕ) (p q : ℕ → Bool) → implies_below n p q ≡ true → (c : ℕ) → c < n → p c ≡ true → q c ≡ true
 implied zero p q e c below = absurd (omega arith)
 implied (suc n) p q e c below =
     let parts = and_parts (not (p n) || q n) (implies_below n p q) e in
@@ -39,11 +40,17 @@ implied (suc n) p q e c below =
 small : (c : ℕ) → is_hostname_octet c ≡ true → c < 128
 small c host = grind (arith, nat_tests)
 
-pub supported : (c : ℕ) → is_hostname_octet c ≡ true → is_supported_octet c ≡ true
-supported c host = implied 128 is_hostname_octet is_supported_octet refl c (small c host) host
+pub hostname_param : (c : ℕ) → is_hostname_octet c ≡ true → is_param_octet c ≡ true
+hostname_param c host = implied 128 is_hostname_octet is_param_octet refl c (small c host) host
 
 pub no_colon : (c : ℕ) → is_hostname_octet c ≡ true → not (nat_eq c 58) ≡ true
 no_colon c host = implied 128 is_hostname_octet (λ k. not (nat_eq k 58)) refl c (small c host) host
+
+pub no_bracket : (c : ℕ) → is_hostname_octet c ≡ true → nat_eq c 91 ≡ false
+no_bracket c host = elim (cases_Bool (nat_eq c 91)) [
+  | inl is ↦ let absent : false ≡ true = sym (ap is_hostname_octet (eqb-true c 91 is)) ∙ host in cc
+  | inr other ↦ other
+]
 
 -- an octet of a hostname begins no escape
 pub no_backslash : (c : ℕ) → is_hostname_octet c ≡ true → nat_eq c 92 ≡ false
@@ -87,8 +94,50 @@ digits_of_hostname (c ∷ text) all =
     let parts = and_parts (is_ascii_digit c) (all_ascii_digits text) all in
     and_from _ _ (of_hostname c (digit_of_label c parts.0)) (digits_of_hostname text parts.1)
 
-pub uri_octets : (text : Octets) → list_all is_supported_octet text ≡ true → list_all is_uri_octet text ≡ true
-uri_octets = list_all-weaker is_supported_octet is_uri_octet (λ c both. (and_parts (is_uri_octet c) _ both).0)
+-- an octet of a URI is one of ASCII
+small_uri : (c : ℕ) → is_uri_octet c ≡ true → c < 128
+small_uri c uri =
+    let graphic = (and_parts (is_ascii_graphic c) _ uri).0 in
+    grind (arith, nat_tests)
+
+small_free : (c : ℕ) → is_free_octet c ≡ true → c < 128
+small_free c free = small_uri c (and_parts (is_uri_octet c) _ free).0
+
+small_param : (c : ℕ) → is_param_octet c ≡ true → c < 128
+small_param c param = small_uri c (and_parts (is_uri_octet c) _ param).0
+
+-- an octet of user information or headers is one of a URI other than `@`
+pub free_uri : (c : ℕ) → is_free_octet c ≡ true → is_uri_octet c ≡ true
+free_uri c free = (and_parts (is_uri_octet c) _ free).0
+
+pub free_no_at : (c : ℕ) → is_free_octet c ≡ true → not (nat_eq c 64) ≡ true
+free_no_at c free = implied 128 is_free_octet (λ k. not (nat_eq k 64)) refl c (small_free c free) free
+
+pub uri_free : (c : ℕ) → (is_uri_octet c && not (nat_eq c 64)) ≡ true → is_free_octet c ≡ true
+uri_free c both = implied 128 (λ k. is_uri_octet k && not (nat_eq k 64)) is_free_octet refl c (small_uri c (and_parts (is_uri_octet c) _ both).0) both
+
+-- an octet of a parameter is one of user information, and no other delimiter
+pub param_free : (c : ℕ) → is_param_octet c ≡ true → is_free_octet c ≡ true
+param_free c param = implied 128 is_param_octet is_free_octet refl c (small_param c param) param
+
+pub param_no_semicolon : (c : ℕ) → is_param_octet c ≡ true → not (nat_eq c 59) ≡ true
+param_no_semicolon c param = implied 128 is_param_octet (λ k. not (nat_eq k 59)) refl c (small_param c param) param
+
+pub param_no_question : (c : ℕ) → is_param_octet c ≡ true → not (nat_eq c 63) ≡ true
+param_no_question c param = implied 128 is_param_octet (λ k. not (nat_eq k 63)) refl c (small_param c param) param
+
+pub free_param : (c : ℕ) → ((is_free_octet c && not (nat_eq c 63)) && not (nat_eq c 59)) ≡ true → is_param_octet c ≡ true
+free_param c each =
+    let free = (and_parts (is_free_octet c) _ (and_parts (is_free_octet c && not (nat_eq c 63)) _ each).0).0 in
+    implied 128 (λ k. (is_free_octet k && not (nat_eq k 63)) && not (nat_eq k 59)) is_param_octet refl c (small_free c free) each
+
+-- what two tests say of each octet of a text, their conjunction says
+pub list_all-both : (p q : ℕ → Bool) (text : Octets) → list_all p text ≡ true → list_all q text ≡ true → list_all (λ c. p c && q c) text ≡ true
+list_all-both p q [] all others = refl
+list_all-both p q (c ∷ text) all others =
+    let first = and_parts (p c) (list_all p text) all in
+    let second = and_parts (q c) (list_all q text) others in
+    and_from _ _ (and_from _ _ first.0 second.0) (list_all-both p q text first.1 second.1)
 
 -- letters are letters in lower case
 letter-lower : (c : ℕ) → is_ascii_alphabetic (to_ascii_lowercase c) ≡ is_ascii_alphabetic c
