@@ -93,11 +93,10 @@ no_ats text all = list_all-weaker is_free_octet (λ c. not (nat_eq c 64)) free_n
 uri_text : (text : Octets) → list_all is_free_octet text ≡ true → list_all is_uri_octet text ≡ true
 uri_text text all = list_all-weaker is_free_octet is_uri_octet free_uri text all
 
-after_at : Octets → Octets × Option Octets → Octets
+abbrev after_at : Octets → Octets × Option Octets → Octets
 after_at text cut = elim cut.1 [ Some rest ↦ rest | None ↦ text ]
 
 reads_userinfo : (front rest : Octets) → list_all is_free_octet front ≡ true → list_all is_free_octet rest ≡ true → ReadsUserinfo (front ++ 64 ∷ rest) rest
-unfolding after_at
 reads_userinfo front rest free all =
     let count : ats (front ++ 64 ∷ rest) ≡ 1 = ats-append front (64 ∷ rest) (no_ats front free) ∙ (ats-here 64 rest refl ∙ ap (λ (n : ℕ). 1 + n) (ats-lacks rest (no_ats rest all))) in
     record {
@@ -106,7 +105,6 @@ reads_userinfo front rest free all =
     }
 
 reads_no_userinfo : (rest : Octets) → list_all is_free_octet rest ≡ true → ReadsUserinfo rest rest
-unfolding after_at
 reads_no_userinfo rest all =
     let count : ats rest ≡ 0 = ats-lacks rest (no_ats rest all) in
     record {

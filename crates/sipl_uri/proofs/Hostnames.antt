@@ -132,7 +132,7 @@ spelled (c ∷ next ∷ text) label read all good e =
     ]
 
 -- the last label is next to the root
-top_label_of-last : (labels : Labels) (top : Octets) → top_label_of (labels ++ top ∷ []) ≡ Some top
+pub top_label_of-last : (labels : Labels) (top : Octets) → top_label_of (labels ++ top ∷ []) ≡ Some top
 top_label_of-last [] top = refl
 top_label_of-last (label ∷ []) top = refl
 top_label_of-last (label ∷ next ∷ labels) top = top_label_of-last (next ∷ labels) top
@@ -140,7 +140,7 @@ top_label_of-last (label ∷ next ∷ labels) top = top_label_of-last (next ∷ 
 abbrev top_test : Option Octets → Bool
 top_test top = elim top [ Some label ↦ begins_with_letter label | None ↦ false ]
 
-has_alphabetic_top-lower : (domains : List Octets) (top : Octets) → has_alphabetic_top (map str_to_ascii_lowercase (domains ++ top ∷ [])) ≡ begins_with_letter top
+pub has_alphabetic_top-lower : (domains : List Octets) (top : Octets) → has_alphabetic_top (map str_to_ascii_lowercase (domains ++ top ∷ [])) ≡ begins_with_letter top
 has_alphabetic_top-lower domains top =
     ap (λ (labels : Labels). has_alphabetic_top labels) (map-append str_to_ascii_lowercase domains (top ∷ []))
     ∙ ap top_test (top_label_of-last (map str_to_ascii_lowercase domains) (str_to_ascii_lowercase top))
@@ -212,7 +212,7 @@ labels_from-part (c ∷ part) label rest all =
     ∙ ap (λ (l : Octets). labels_from l (symbols 0 rest)) (append_assoc label (c ∷ []) part)
 
 -- a label has no fault
-label_fault-None : (label : Octets) → IsDomainLabel label → label_fault label ≡ None
+pub label_fault-None : (label : Octets) → IsDomainLabel label → label_fault label ≡ None
 label_fault-None label is =
     let nonempty = is.nonempty in
     let short = is.short in

@@ -11,3 +11,6 @@ pub mod TakenParams
 pub mod Delimiters
 pub mod Meanings
 pub mod Grammar
+pub mod AddressBounds
+pub mod Askable
+pub mod Printing

@@ -36,7 +36,7 @@ transport_named-text Tls = refl
 transport_named-text Sctp = refl
 
 -- the transport that is used in place of the one that is given, if one is
-pub IsUsed : Bool → Option Transport → Option Transport → Type 0
+abbrev pub IsUsed : Bool → Option Transport → Option Transport → Type 0
 IsUsed secure None used = used ≡ None
 IsUsed secure (Some transport) used = (x : Transport) × (transport_with secure transport ≡ Some x) × (used ≡ Some x)
 
@@ -46,13 +46,11 @@ pub record Asks (secure : Bool) (target : Target) (port : Option ℕ) (transport
   pub same : record { secure = secure; target = target; port = port; transport = used } ≡ question
 
 question_over-by : (secure : Bool) (target : Target) (port : Option ℕ) (transport : Transport) (used : Option Transport) (question : Question) → transport_with secure transport ≡ used → elim used as (λ _. Result Question UriFault) [ Some x ↦ Ok (record { secure = secure; target = target; port = port; transport = Some x }) | None ↦ Err SipsTransport ] ≡ Ok question → Asks secure target port (Some transport) question
-unfolding IsUsed
 question_over-by secure target port transport (Some x) question e same = record { used = Some x; is_used = (x, e, refl); same = cc }
 question_over-by secure target port transport None question e same = cc
 
 -- the question that is asked over a transport
 pub question_over-is : (secure : Bool) (target : Target) (port : Option ℕ) (transport : Option Transport) (question : Question) → question_over secure target port transport ≡ Ok question → Asks secure target port transport question
-unfolding IsUsed
 question_over-is secure target port None question same = record { used = None; is_used = refl; same = cc }
 question_over-is secure target port (Some transport) question same = question_over-by secure target port transport (transport_with secure transport) question refl same
 
@@ -75,7 +73,6 @@ some_used x used is none = let absent : ◌≡◌ {A = Option Transport} (Some x
 
 -- the transport of a URI
 pub transport-is : (secure : Bool) (param : Option Param) (given used : Option Transport) → IsGiven transport_of_value param None given → IsUsed secure given used → IsTransportOf secure param used
-unfolding IsUsed
 transport-is secure None given used is means = subst (λ (o : Option Transport). IsUsed secure o used) is means
 transport-is secure (Some param) given used is means =
     let value = transport_value param.value is.0 is.1 in

@@ -37,7 +37,7 @@ implied (suc n) p q e c below =
     ]
 
 -- an octet of a hostname is one of ASCII
-small : (c : ℕ) → is_hostname_octet c ≡ true → c < 128
+pub small : (c : ℕ) → is_hostname_octet c ≡ true → c < 128
 small c host = grind (arith, nat_tests)
 
 pub hostname_param : (c : ℕ) → is_hostname_octet c ≡ true → is_param_octet c ≡ true

@@ -1,0 +1,5 @@
+use Rattle.sipl_uri.proofs.Printing.{length-question_text}
+use Rattle.sipl_uri.proofs.laws.question_text_has_at_most_1030_octets.Goals as goal
+
+pub returns : goal.returns
+returns c = length-question_text
