@@ -124,7 +124,13 @@ take_other param before after other another named fresh same =
       target = given_elsewhere target_of_value (same_text param.name (codes "maddr")) param before.target before.target another refl;
     })
 
-take_by : (param : Param) (before after : Settings) (seen transport maddr : Bool) → list_any (same_text param.name) before.names ≡ seen → same_text param.name (codes "transport") ≡ transport → same_text param.name (codes "maddr") ≡ maddr → IsNamed param → (if seen then Err Repeated else (if transport then with_transport (transport_of_value param.value) (with_name param.name before) else (if maddr then with_target (target_of_value param.value) (with_name param.name before) else Ok (with_name param.name before)))) ≡ Ok after → TakesOne param before after
+-- the value of a parameter, which may be a transport or a target
+abbrev take_kind : Bool → Bool → Param → Settings → Result Settings UriFault
+take_kind transport maddr param settings =
+    if transport then with_transport (transport_of_value param.value) settings
+    else (if maddr then with_target (target_of_value param.value) settings else Ok settings)
+
+take_by : (param : Param) (before after : Settings) (seen transport maddr : Bool) → list_any (same_text param.name) before.names ≡ seen → same_text param.name (codes "transport") ≡ transport → same_text param.name (codes "maddr") ≡ maddr → IsNamed param → (if seen then Err Repeated else take_kind transport maddr param (with_name param.name before)) ≡ Ok after → TakesOne param before after
 take_by param before after true transport maddr e f g named same = cc
 take_by param before after false true maddr e f g named same = take_transport param before after (transport_of_value param.value) refl f named e same
 take_by param before after false false true e f g named same = take_target param before after (target_of_value param.value) refl f g named e same
@@ -204,7 +210,7 @@ readable_rest : {A : Type 0} (read : Option Octets → Option A) (here : Bool) (
 readable_rest read true param others alone is = subst (λ (o : Option Param). IsReadable read o) (sym (alone refl)) tt
 readable_rest read false param others alone is = is
 
-takeable_by : (param : Param) (before : Settings) (seen transport maddr : Bool) → seen ≡ false → (transport ≡ true → (x : Transport) × (transport_of_value param.value ≡ Some x)) → (maddr ≡ true → (x : Target) × (target_of_value param.value ≡ Some x)) → (after : Settings) × ((if seen then Err Repeated else (if transport then with_transport (transport_of_value param.value) (with_name param.name before) else (if maddr then with_target (target_of_value param.value) (with_name param.name before) else Ok (with_name param.name before)))) ≡ Ok after)
+takeable_by : (param : Param) (before : Settings) (seen transport maddr : Bool) → seen ≡ false → (transport ≡ true → (x : Transport) × (transport_of_value param.value ≡ Some x)) → (maddr ≡ true → (x : Target) × (target_of_value param.value ≡ Some x)) → (after : Settings) × ((if seen then Err Repeated else take_kind transport maddr param (with_name param.name before)) ≡ Ok after)
 takeable_by param before true transport maddr e f g = cc
 takeable_by param before false true maddr e f g =
     let read = f refl in
