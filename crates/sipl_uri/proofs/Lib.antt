@@ -14,3 +14,6 @@ pub mod Grammar
 pub mod AddressBounds
 pub mod Askable
 pub mod Printing
+pub mod SeenNames
+pub mod ParamSteps
+pub mod WrittenParts

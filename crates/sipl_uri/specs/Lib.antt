@@ -6,3 +6,5 @@ pub mod Params
 pub mod Uris
 pub mod Grammar
 pub mod QuestionText
+pub mod SettingsView
+pub mod Appended

@@ -5,18 +5,23 @@ use std::alloc::AllocError;
 use std::error::Error;
 use std::fmt;
 
-/// Why a text is not a supported URI.
+/// Why a text is not a URI that asks a question.
 #[derive(Clone, Copy, Debug, PartialEq, Eq, Hash)]
 pub enum UriFault {
-    /// U1: the scheme is not `sip`.
+    /// U1: the scheme is neither `sip` nor `sips`.
     Scheme,
-    /// U7: an octet that is not allowed in a URI, or one of `@`, `;` and `?`, which are not
-    /// supported yet.
-    Characters,
-    /// U2: the host is neither an address nor a hostname.
+    /// U2: a host, or the value of `maddr`, is neither an address nor a hostname.
     Host,
-    /// U3: the port is missing, or is not a number from 1 to 65,535.
+    /// U3: the port is not a number from 1 to 65,535.
     Port,
+    /// U4: the value of `transport` is not `udp`, `tcp`, `sctp` or `tls`.
+    Transport,
+    /// U5: a parameter is given twice.
+    Repeated,
+    /// U6: `sips` over UDP or SCTP.
+    SipsTransport,
+    /// U7: an octet that is not allowed in a URI, a second `@`, or a parameter without a name.
+    Characters,
     /// An allocation failed.
     Memory,
 }
@@ -28,9 +33,12 @@ impl UriFault {
     {
         match self {
             UriFault::Scheme => "U1",
-            UriFault::Characters => "U7",
             UriFault::Host => "U2",
             UriFault::Port => "U3",
+            UriFault::Transport => "U4",
+            UriFault::Repeated => "U5",
+            UriFault::SipsTransport => "U6",
+            UriFault::Characters => "U7",
             UriFault::Memory => "Memory",
         }
     }
@@ -44,10 +52,13 @@ impl fmt::Display for UriFault {
 
     fn fmt<W: fmt::Write>(&self, f: &mut fmt::Formatter<W>) -> fmt::Result {
         f.write_str(match self {
-            UriFault::Scheme => "the scheme is not sip",
-            UriFault::Characters => "an octet is not allowed in the URI",
-            UriFault::Host => "the host is neither an address nor a hostname",
+            UriFault::Scheme => "the scheme is neither sip nor sips",
+            UriFault::Host => "a host is neither an address nor a hostname",
             UriFault::Port => "the port is not a number from 1 to 65535",
+            UriFault::Transport => "the transport is not udp, tcp, sctp or tls",
+            UriFault::Repeated => "a parameter is given twice",
+            UriFault::SipsTransport => "sips is not possible over this transport",
+            UriFault::Characters => "an octet is not allowed, or a parameter has no name",
             UriFault::Memory => "out of memory",
         })
     }

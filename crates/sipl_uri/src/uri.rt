@@ -1,70 +1,118 @@
-ghost use Rattle.std.specs.Prelude.{◌≡◌, ◌≢◌, Ok, Err, IfOk, IfErr, IsSome};
+ghost use Rattle.std.specs.Prelude.{◌≡◌, ◌≢◌, ◌==◌, Ok, Err, count_by, IfOk, IfErr};
+ghost use Rattle.std.specs.Option.{option_copied};
 ghost use Rattle.std.specs.List.{list_all};
-ghost use Rattle.sipl_uri.specs.Uris.{question_of, question_after_scheme, port_of, is_supported_octet};
+ghost use Rattle.sipl_uri.specs.UriOctets.{is_uri_octet};
+ghost use Rattle.sipl_uri.specs.Uris.{question_of, question_after_scheme, question_with, security_of, transport_with, port_of, port_part, has_allowed_octets};
 
 use crate::fault::UriFault;
 use crate::host::read_host;
-use crate::octet::is_supported_octet;
-use crate::question::Question;
+use crate::octet::is_uri_octet;
+use crate::params::{Settings, read_params};
+use crate::parts::split_parts;
+use crate::question::{Question, Target};
+use sipl_choice::Transport;
 use sipl_records::{read_number, split_once};
 use std::alloc::Global;
 
-/// A SIP URI in text (RFC 3261, 19.1.1). Only the form `sip:HOST:PORT` is supported yet.
+/// A SIP or SIPS URI in text (RFC 3261, 19.1.1).
 pub struct Uri;
 
 impl Uri {
-    /// Reads a URI and returns the question that it asks: its scheme is `sip` in either case, its
-    /// host an IPv4 address or a hostname, which is an absolute name, its port a number from 1 to
-    /// 65,535. Which text asks which question is the grammar of RFC 3261, 25.1
-    /// ([`crate::laws::questions_match_the_grammar`]).
+    /// Reads a URI and returns the question that it asks (RFC 3263, 4). Which text asks which
+    /// question is this grammar ([`crate::laws::questions_match_the_grammar`]; RFC 3261, 25.1):
     ///
-    /// The fault is the first of these: another scheme, or none (U1); an octet that is not allowed
-    /// in a URI, or one of `@`, `;` and `?`, which are not supported yet (U7); a host that is
-    /// neither an address nor a hostname (U2); no port, or an invalid one (U3).
+    /// ```text
+    /// uri   = scheme ":" [ userinfo "@" ] host [ ":" port ] *( ";" param ) [ "?" headers ]
+    /// param = pname [ "=" pvalue ]
+    /// host  = IPv4address / "[" IPv6address "]" / hostname
+    /// ```
+    ///
+    /// - The scheme is `sip` or `sips`, in either case.
+    /// - The octets of user information and of headers are not looked into. Without `@`, and after
+    ///   it, the first `?` begins the headers.
+    /// - The host ends at the first colon that is not within brackets. A hostname is an absolute
+    ///   name; its last label begins with a letter. As an extension, its labels may have
+    ///   underscores, and hyphens at their ends.
+    /// - The port is a number from 1 to 65,535.
+    /// - The TARGET is the value of `maddr`, if it is given, otherwise the host, which is checked
+    ///   all the same. `transport` is `udp`, `tcp`, `sctp` or `tls`, in either case; with `sips`,
+    ///   `tcp` is TLS over TCP. Other parameters are accepted. Names are compared without case.
+    ///
+    /// The fault is the first of these: another scheme, or none (U1); an octet after it that is not
+    /// allowed in a URI, or a second `@` (U7); the host (U2); the port (U3); those of the
+    /// parameters from left to right, and of each an empty name (U7), the name of an earlier one
+    /// (U5), then its value: another transport, or none (U4), a `maddr` that is not a host, or none
+    /// (U2); `sips` over UDP or SCTP (U6).
     pub fn parse(alloc: Global, bytes: &[u8]) -> Result<Question, UriFault>
         ensures read { IfOk result (λ question. question_of bytes.now ≡ Ok question) }
         ensures refused { IfErr result
             (λ fault. fault ≢ UriFault.Memory → question_of bytes.now ≡ Err fault) }
-        ensures direct { IfOk result (λ question. IsSome question.port) }
     {
-        let (scheme, Some(rest)) = split_once(bytes, b':') else {
+        let (scheme, Some(text)) = split_once(bytes, b':') else {
             return Err(UriFault::Scheme);
         };
-        if !scheme.eq_ignore_ascii_case(b"sip") {
-            return Err(UriFault::Scheme);
-        }
-        read_after_scheme(alloc, rest)
+        let secure = read_scheme(scheme).ok_or(UriFault::Scheme)?;
+        read_after_scheme(alloc, secure, text)
+    }
+}
+
+// Whether the scheme is `sips`: it is `sip` or `sips`, in either case.
+fn read_scheme(scheme: &[u8]) -> Option<bool>
+    ensures { result ≡ security_of scheme.now }
+{
+    if scheme.eq_ignore_ascii_case(b"sip") {
+        Some(false)
+    } else if scheme.eq_ignore_ascii_case(b"sips") {
+        Some(true)
+    } else {
+        None
     }
 }
 
 // Reads the text after the scheme's colon.
-fn read_after_scheme(alloc: Global, text: &[u8]) -> Result<Question, UriFault>
-    ensures read { IfOk result (λ question. question_after_scheme text.now ≡ Ok question) }
-    ensures refused { IfErr result
-        (λ fault. fault ≢ UriFault.Memory → question_after_scheme text.now ≡ Err fault) }
-    ensures direct { IfOk result (λ question. IsSome question.port) }
+fn read_after_scheme(alloc: Global, secure: bool, text: &[u8]) -> Result<Question, UriFault>
+    ensures read { IfOk result
+        (λ question. question_after_scheme secure text.now ≡ Ok question) }
+    ensures refused { IfErr result (λ fault. fault ≢ UriFault.Memory
+        → question_after_scheme secure text.now ≡ Err fault) }
 {
-    if !has_supported_octets(text) {
+    if !has_allowed_octets(text) {
         return Err(UriFault::Characters);
     }
-    let (host, digits) = split_once(text, b':');
-    let target = read_host(alloc, host)?;
-    let Some(port) = digits.and_then(|digits| read_port(digits)) else {
-        return Err(UriFault::Port);
-    };
-    Ok(Question {
-        secure: false,
-        target,
-        port: Some(port),
-        transport: None,
-    })
+    let parts = split_parts(text);
+    let host = read_host(alloc, parts.host)?;
+    let port = read_port_part(parts.port)?;
+    let settings = read_params(alloc, parts.params)?;
+    question_with(secure, host, port, settings)
 }
 
-// Whether a URI that is supported can have each of the octets after its scheme.
-fn has_supported_octets(text: &[u8]) -> bool
-    ensures { result ≡ list_all is_supported_octet text.now }
+// Whether a URI can have each of the octets after its scheme, and at most one is `@`.
+fn has_allowed_octets(text: &[u8]) -> bool
+    ensures { result ≡ has_allowed_octets text.now }
 {
-    text.iter().all(|octet| is_supported_octet(*octet))
+    has_uri_octets(text) && count_at_signs(text) <= 1
+}
+
+fn has_uri_octets(text: &[u8]) -> bool
+    ensures { result ≡ list_all is_uri_octet text.now }
+{
+    text.iter().all(|octet| is_uri_octet(*octet))
+}
+
+fn count_at_signs(text: &[u8]) -> usize
+    ensures { result ≡ count_by (λ octet. octet == 64) text.now }
+{
+    text.iter().filter(|octet| **octet == b'@').count()
+}
+
+// Reads the port, where there is a colon.
+fn read_port_part(digits: Option<&[u8]>) -> Result<Option<u16>, UriFault>
+    ensures { result ≡ port_part (option_copied digits.entry) }
+{
+    match digits {
+        Some(digits) => Ok(Some(read_port(digits).ok_or(UriFault::Port)?)),
+        None => Ok(None),
+    }
 }
 
 // Reads a port.
@@ -76,4 +124,36 @@ fn read_port(digits: &[u8]) -> Option<u16>
         return None;
     }
     Some(port as u16)
+}
+
+// The question of a host and a port with what the parameters say.
+fn question_with(
+    secure: bool,
+    host: Target,
+    port: Option<u16>,
+    settings: Settings,
+) -> Result<Question, UriFault>
+    ensures { result ≡ question_with secure host port settings }
+{
+    let transport = match settings.transport() {
+        Some(transport) => Some(transport_with(secure, transport).ok_or(UriFault::SipsTransport)?),
+        None => None,
+    };
+    Ok(Question {
+        secure,
+        target: settings.into_target().unwrap_or(host),
+        port,
+        transport,
+    })
+}
+
+// The transport that is used (RFC 3261, 26.2.2): with `sips`, TCP is TLS over TCP.
+fn transport_with(secure: bool, transport: Transport) -> Option<Transport>
+    ensures { result ≡ transport_with secure transport }
+{
+    match (secure, transport) {
+        (false, _) => Some(transport),
+        (true, Transport::Tcp | Transport::Tls) => Some(Transport::Tls),
+        (true, Transport::Udp | Transport::Sctp) => None,
+    }
 }
