@@ -1,5 +1,5 @@
 -- Where a request is sent: the transport, and the servers with their addresses (RFC 3263, 4).
-use Rattle.std.specs.Prelude.{ℕ, Bool, true, false, not, List, [], ◌∷◌, map, filter, Option, None, Some, if◌then◌else◌}
+use Rattle.std.specs.Prelude.{ℕ, ◌≤◌, Bool, true, false, not, List, [], ◌∷◌, length, map, filter, Option, None, Some, if◌then◌else◌}
 use Rattle.std.specs.List.{list_any}
 use Rattle.sipl_names.specs.Labels.{Labels}
 use Rattle.sipl_records.specs.declared.address.Address.{Address}
@@ -27,6 +27,11 @@ use Rattle.sipl_plans.specs.declared.answer.Reason.TheVariants.{NotAvailable, No
 use Rattle.sipl_plans.specs.declared.layout.Layout.{Layout}
 use Rattle.sipl_plans.specs.declared.layout.Layout.TheVariants.{Refused, Servers}
 use Rattle.sipl_plans.specs.declared.layout.Source.{Source}
+
+-- whether a layout has at most 32 servers, as many as a set has records
+abbrev pub HasFewServers : Layout → Type 0
+HasFewServers (Refused reason) = Unit {0}
+HasFewServers (Servers transport servers) = length servers ≤ 32
 
 -- what is known of the records: the data of each key
 abbrev pub Look : Type 0
@@ -153,11 +158,11 @@ route_by_service look name secure client =
 abbrev pub route_to_name : Look → Labels → Question → Client → Layout
 route_to_name look name question client = elim question.port [
   | Some port ↦ let transport = transport_of question in
-    route_over client transport
-    (sole_server transport port (addresses look name client.families))
+      route_over client transport
+      (sole_server transport port (addresses look name client.families))
   | None ↦ elim question.transport [
     | Some transport ↦ route_over client transport
-      (offered look name client.families transport (offer_over look name transport))
+        (offered look name client.families transport (offer_over look name transport))
     | None ↦ route_by_service look name question.secure client
   ]
 ]
@@ -166,7 +171,7 @@ route_to_name look name question client = elim question.port [
 abbrev pub route : Look → Question → Client → Layout
 route look question client = elim question.target [
   | Numeric address ↦ let transport = transport_of question in
-    route_over client transport
-    (sole_server transport (port_of question transport) (address ∷ []))
+      route_over client transport
+      (sole_server transport (port_of question transport) (address ∷ []))
   | Domain name ↦ route_to_name look name question client
 ]

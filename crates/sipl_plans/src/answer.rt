@@ -10,6 +10,8 @@ use std::fmt;
 pub enum Reason {
     /// No server has an address.
     NoAddress,
+    /// The domain's SRV records say that it does not offer the service (RFC 2782).
+    NotAvailable,
     /// The client does not support the transport.
     NoTransport,
 }
@@ -30,6 +32,7 @@ impl Reason {
     {
         match self {
             Reason::NoAddress => "NoAddress",
+            Reason::NotAvailable => "NotAvailable",
             Reason::NoTransport => "NoTransport",
         }
     }

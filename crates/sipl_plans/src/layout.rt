@@ -1,12 +1,14 @@
-ghost use Rattle.std.specs.Prelude.{◌≡◌, ◌++◌, [], ◌∷◌, if◌then◌else◌, IfOk, OnOk};
-ghost use Rattle.std.specs.List.{flat_map, list_any};
+ghost use Rattle.std.specs.Prelude.{◌≡◌, ◌<◌, ◌++◌, [], ◌∷◌, length, slice_get, if◌then◌else◌, IfOk, OnOk};
+ghost use Rattle.std.specs.List.{All, filter_map, flat_map, list_any};
 ghost use Rattle.sipl_records.specs.Unique.{unique};
 ghost use Rattle.sipl_choice.specs.Endpoints.{same_endpoint};
 ghost use Rattle.sipl_plans.specs.Plan.{draw, endpoints_of};
+ghost use Rattle.sipl_plans.specs.Route.{HasFewServers};
 
 use crate::answer::{Answer, Reason};
 use sipl_choice::{Endpoint, Transport};
 use sipl_records::{Address, Sequence};
+use sipl_srv::{Draws, Ranked, arrange};
 use std::alloc::{AllocError, Global};
 
 /// A server (RFC 2782): its place in the order of servers, its port, and its addresses in order.
@@ -29,33 +31,53 @@ pub(crate) enum Layout {
     Servers(Transport, Sequence<Source>),
 }
 
-// The targets of a layout: each server's addresses at its port, each endpoint once, at its first
-// place (RFC 3263, 4.2). The servers are in the order of the layout.
-pub(crate) fn draw(alloc: Global, layout: &Layout) -> Result<Answer, AllocError>
-    ensures { IfOk result (λ answer. answer ≡ draw layout.now) }
+impl Ranked for Source {
+    ghost use Rattle.sipl_plans.specs.Plan.{source_rank};
+
+    ghost rank = { source_rank };
+
+    fn priority(&self) -> u16 {
+        self.priority
+    }
+
+    fn weight(&self) -> u16 {
+        self.weight
+    }
+}
+
+// The targets of a layout: the endpoints of its servers, these in the order that the draws give,
+// each endpoint once, at its first place (RFC 3263, 4.2). A server without addresses takes a word
+// as well.
+pub(crate) fn draw(alloc: Global, layout: &Layout, draws: &Draws) -> Result<Answer, AllocError>
+    requires few { HasFewServers layout.now }
+    ensures { IfOk result (λ answer. answer ≡ draw layout.now draws.now) }
 {
     let (transport, servers) = match layout {
         Layout::Refused(reason) => return Ok(Answer::None(*reason)),
-        Layout::Servers(transport, servers) => (*transport, servers),
+        Layout::Servers(transport, servers) => (*transport, servers.as_slice()),
     };
-    let targets = unique_endpoints(alloc, transport, servers.as_slice())?;
+    let order = arrange(alloc, servers, draws)?;
+    let targets = unique_endpoints(alloc, transport, servers, order.as_slice())?;
     if targets.is_empty() {
         return Ok(Answer::None(Reason::NoAddress));
     }
     Ok(Answer::Targets(Sequence::from_vec(targets)))
 }
 
-// The endpoints of the servers, each once, at its first place.
+// The endpoints of the servers at these places, each once, at its first place.
 fn unique_endpoints(
     alloc: Global,
     transport: Transport,
     servers: &[Source],
+    order: &[usize],
 ) -> Result<Vec<Endpoint>, AllocError>
-    ensures { IfOk result (λ targets. targets.items
-        ≡ unique same_endpoint (flat_map (endpoints_of transport) servers.now)) }
+    requires { All (λ place. place < length servers.now) order.now }
+    ensures { IfOk result (λ targets. targets.items ≡ unique same_endpoint
+        (flat_map (endpoints_of transport) (filter_map (slice_get servers.now) order.now))) }
 {
     let mut targets = Vec::new(alloc);
-    for server in servers {
+    for place in order {
+        let server = &servers[*place];
         for address in server.addresses.as_slice() {
             let endpoint = Endpoint {
                 transport,

@@ -3,7 +3,9 @@
 
 mod answer;
 mod layout;
+mod look;
 mod plan;
+mod route;
 #[cfg(test)]
 mod tests;
 

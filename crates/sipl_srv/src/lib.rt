@@ -8,6 +8,7 @@ pub mod laws;
 mod offers;
 mod order;
 mod pick;
+mod rank;
 #[cfg(test)]
 mod tests;
 
@@ -16,3 +17,4 @@ pub use fault::DrawsFault;
 pub use offers::offer;
 pub use order::arrange;
 pub use pick::{Offer, Pick};
+pub use rank::Ranked;

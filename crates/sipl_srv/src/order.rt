@@ -1,9 +1,9 @@
 ghost use Rattle.std.specs.Prelude.{◌≡◌, ℕ, ◌*◌, ◌<◌, ◌≤◌, List, ◌∷◌, ◌++◌, length, map, option_map, slice_get, slice_index, IfOk, IfSome};
 ghost use Rattle.std.specs.List.{All, remove};
-ghost use Rattle.sipl_srv.specs.Order.{rank_of, of_priority, of_least_priority, weightless, total_weight, first_reaching, chosen, AreDistinct, order_of, ordered};
+ghost use Rattle.sipl_srv.specs.Order.{of_priority, of_least_priority, weightless, total_weight, first_reaching, chosen, AreDistinct, order_of, ordered};
 
 use crate::draws::Draws;
-use crate::pick::Pick;
+use crate::rank::Ranked;
 use sipl_records::Sequence;
 use std::alloc::{AllocError, Global};
 
@@ -17,9 +17,9 @@ use std::alloc::{AllocError, Global};
 /// least that number is next.
 ///
 /// Allocates only the result. The time is at most that of 32 passes over what is left.
-pub fn arrange(alloc: Global, picks: &[Pick], draws: &Draws) -> Result<Sequence<usize>, AllocError>
+pub fn arrange<T: Ranked>(alloc: Global, picks: &[T], draws: &Draws) -> Result<Sequence<usize>, AllocError>
     requires at_most_32_picks { length picks.now ≤ 32 }
-    ensures { IfOk result (λ order. order ≡ ordered (map rank_of picks.now) draws.now) }
+    ensures { IfOk result (λ order. order ≡ ordered (map T.rank picks.now) draws.now) }
 {
     let mut order: Vec<usize> = (0..picks.len()).collect(alloc)?;
     put_in_order(picks, &mut order, draws.words());
@@ -27,13 +27,13 @@ pub fn arrange(alloc: Global, picks: &[Pick], draws: &Draws) -> Result<Sequence<
 }
 
 // Puts places of picks in the order that the words give, one word for each.
-fn put_in_order(picks: &[Pick], places: &mut [usize], words: &[u32])
+fn put_in_order<T: Ranked>(picks: &[T], places: &mut [usize], words: &[u32])
     requires few { length places.old ≤ 32 }
     requires enough { length places.old ≤ length words.now }
     requires valid { All (λ place. place < length picks.now) places.old }
     requires distinct { AreDistinct places.old }
     ensures { (more : List ℕ) → places.new
-        ≡ order_of (map rank_of picks.now) places.old (words.now ++ more) }
+        ≡ order_of (map T.rank picks.now) places.old (words.now ++ more) }
 {
     for k in 0..places.len() {
         let rest = &mut places[k..];
@@ -51,12 +51,12 @@ fn move_to_front(places: &mut [usize], i: usize)
 }
 
 // The index in `places` of the pick that the word chooses.
-fn next_index(picks: &[Pick], places: &[usize], word: u32) -> usize
+fn next_index<T: Ranked>(picks: &[T], places: &[usize], word: u32) -> usize
     requires some { 0 < length places.now }
     requires few { length places.now ≤ 32 }
     requires valid { All (λ place. place < length picks.now) places.now }
     ensures within { result < length places.now }
-    ensures chosen { chosen (map rank_of picks.now) places.now word
+    ensures chosen { chosen (map T.rank picks.now) places.now word
         ≡ Some (slice_index places.now result) }
 {
     let priority = least_priority(picks, places);
@@ -70,48 +70,48 @@ fn next_index(picks: &[Pick], places: &[usize], word: u32) -> usize
 }
 
 // The least priority of these picks.
-fn least_priority(picks: &[Pick], places: &[usize]) -> u16
+fn least_priority<T: Ranked>(picks: &[T], places: &[usize]) -> u16
     requires some { 0 < length places.now }
     requires valid { All (λ place. place < length picks.now) places.now }
-    ensures some { 0 < length (of_priority (map rank_of picks.now) result places.now) }
-    ensures least { of_least_priority (map rank_of picks.now) places.now
-        ≡ of_priority (map rank_of picks.now) result places.now }
+    ensures some { 0 < length (of_priority (map T.rank picks.now) result places.now) }
+    ensures least { of_least_priority (map T.rank picks.now) places.now
+        ≡ of_priority (map T.rank picks.now) result places.now }
 {
-    let mut least = picks[places[0]].priority;
+    let mut least = picks[places[0]].priority();
     for place in places {
-        least = least.min(picks[*place].priority);
+        least = least.min(picks[*place].priority());
     }
     least
 }
 
 // The sum of the weights of the picks of this priority.
-fn total_weight(picks: &[Pick], places: &[usize], priority: u16) -> u32
+fn total_weight<T: Ranked>(picks: &[T], places: &[usize], priority: u16) -> u32
     requires few { length places.now ≤ 32 }
     requires valid { All (λ place. place < length picks.now) places.now }
-    ensures total { result ≡ total_weight (map rank_of picks.now)
-        (of_priority (map rank_of picks.now) priority places.now) }
+    ensures total { result ≡ total_weight (map T.rank picks.now)
+        (of_priority (map T.rank picks.now) priority places.now) }
     ensures bound { result ≤ 32 * 65535 }
 {
     let mut total = 0;
     for place in places {
         let pick = &picks[*place];
-        if pick.priority == priority {
-            total += u32::from(pick.weight);
+        if pick.priority() == priority {
+            total += u32::from(pick.weight());
         }
     }
     total
 }
 
 // The index of the first pick of this priority and of weight 0.
-fn first_weightless(picks: &[Pick], places: &[usize], priority: u16) -> Option<usize>
+fn first_weightless<T: Ranked>(picks: &[T], places: &[usize], priority: u16) -> Option<usize>
     requires { All (λ place. place < length picks.now) places.now }
     ensures within { IfSome result (λ i. i < length places.now) }
     ensures first { option_map (slice_index places.now) result ≡ slice_get (weightless
-        (map rank_of picks.now) (of_priority (map rank_of picks.now) priority places.now)) 0 }
+        (map T.rank picks.now) (of_priority (map T.rank picks.now) priority places.now)) 0 }
 {
     for (i, place) in places.iter().enumerate() {
         let pick = &picks[*place];
-        if pick.priority == priority && pick.weight == 0 {
+        if pick.priority() == priority && pick.weight() == 0 {
             return Some(i);
         }
     }
@@ -120,18 +120,18 @@ fn first_weightless(picks: &[Pick], places: &[usize], priority: u16) -> Option<u
 
 // The index of the first pick of this priority at which the running sum of weights is at least the
 // number.
-fn first_reaching(picks: &[Pick], places: &[usize], priority: u16, number: u32) -> Option<usize>
+fn first_reaching<T: Ranked>(picks: &[T], places: &[usize], priority: u16, number: u32) -> Option<usize>
     requires few { length places.now ≤ 32 }
     requires valid { All (λ place. place < length picks.now) places.now }
     ensures within { IfSome result (λ i. i < length places.now) }
     ensures first { option_map (slice_index places.now) result ≡ first_reaching
-        (map rank_of picks.now) number 0 (of_priority (map rank_of picks.now) priority places.now) }
+        (map T.rank picks.now) number 0 (of_priority (map T.rank picks.now) priority places.now) }
 {
     let mut sum = 0;
     for (i, place) in places.iter().enumerate() {
         let pick = &picks[*place];
-        if pick.priority == priority {
-            sum += u32::from(pick.weight);
+        if pick.priority() == priority {
+            sum += u32::from(pick.weight());
             if sum >= number {
                 return Some(i);
             }

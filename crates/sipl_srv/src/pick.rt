@@ -1,5 +1,6 @@
 ghost use Rattle.std.specs.Prelude.{◌≡◌, IfOk};
 
+use crate::rank::Ranked;
 use sipl_names::Name;
 use sipl_records::Sequence;
 use std::alloc::{AllocError, Global};
@@ -24,6 +25,20 @@ impl Pick {
             port: self.port,
             target: self.target.dup(alloc)?,
         })
+    }
+}
+
+impl Ranked for Pick {
+    ghost use Rattle.sipl_srv.specs.Order.{rank_of};
+
+    ghost rank = { rank_of };
+
+    fn priority(&self) -> u16 {
+        self.priority
+    }
+
+    fn weight(&self) -> u16 {
+        self.weight
     }
 }
 
