@@ -10,12 +10,12 @@ use Rattle.std.proofs.lemmas.List.Elements.{All-nil, All-cons, All-head, All-tai
 use Rattle.std.proofs.lemmas.List.Filters.{length-filter_both}
 use Rattle.std.proofs.lemmas.List.FromFn.{length-range_with_len}
 use Rattle.std.proofs.lemmas.List.Kept.{AllPairs-cons}
-use Rattle.std.proofs.lemmas.List.Sorted.{IsPermutation-refl, IsPermutation-cons, IsPermutation-trans, IsPermutation-remove}
+use Rattle.std.proofs.lemmas.List.Sorted.{All-permutation, IsPermutation-refl, IsPermutation-cons, IsPermutation-trans, IsPermutation-remove}
 use Rattle.std.proofs.lemmas.List.Sums.{list_all-from_AllPass, AllPass-from_list_all}
 use Rattle.sipl_srv.specs.Order.{Rank, priority_at, weight_at, of_least_priority, weightless, weighted, candidates, total_weight, first_reaching, chosen, without, AreDistinct, order_of, ordered}
 use Rattle.sipl_srv.proofs.Ranks.{some-filter}
 use Rattle.sipl_srv.proofs.Chosen.{reaching-some}
-use Rattle.sipl_srv.proofs.Places.{without-remove, AreDistinct-without, AreDistinct-range, order_of-nil, order_of-chosen}
+use Rattle.sipl_srv.proofs.Places.{without-remove, AreDistinct-without, AreDistinct-range, All-range, order_of-nil, order_of-chosen}
 
 -- the place that is reached is one of the places
 reaching-All : (ranks : List Rank) (P : ℕ → Type 0) (number sum : ℕ) (places : List ℕ) (place : ℕ) → All P places → first_reaching ranks number sum places ≡ Some place → P place
@@ -147,3 +147,8 @@ ordered-IsPermutation ranks words =
 
 pub ordered-by_priority : (ranks : List Rank) (words : List ℕ) → AllPairs (λ a b. priority_at ranks a ≤ priority_at ranks b) (ordered ranks words)
 ordered-by_priority ranks words = order_of-by_priority ranks (range_with_len 0 (length ranks)) (words ++ replicate (length ranks) 0)
+
+-- each place in the order is one of the list
+pub All-ordered : (ranks : List Rank) (words : List ℕ) → All (λ place. place < length ranks) (ordered ranks words)
+All-ordered ranks words =
+    All-permutation (λ place. place < length ranks) (range_with_len 0 (length ranks)) (ordered ranks words) (ordered-IsPermutation ranks words) (All-range (length ranks))

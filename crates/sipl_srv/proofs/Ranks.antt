@@ -6,13 +6,12 @@ use Rattle.std.proofs.lemmas.List.{get_or-map}
 use Rattle.std.proofs.lemmas.List.Elements.{All-head, All-tail}
 use Rattle.std.proofs.lemmas.List.Folds.{list_all_at}
 use Rattle.std.proofs.lemmas.List.Sums.{list_all-from_AllPass}
-use Rattle.sipl_srv.specs.declared.pick.Pick.{Pick}
-use Rattle.sipl_srv.specs.Order.{rank_of, rank_at}
+use Rattle.sipl_srv.specs.Order.{Rank, rank_at}
 
--- the rank at a place is that of the pick there
-pub rank_at-map : (picks : List Pick) (place : ℕ) (pick : Pick) → place < length picks → pick ≡ get_or picks place pick → rank_at (map rank_of picks) place ≡ rank_of pick
-rank_at-map picks place pick within is =
-    get_or-map rank_of picks place pick (record { priority = 0; weight = 0 }) within ∙ ap rank_of (sym is)
+-- the rank at a place is that of the element there
+pub rank_at-map : {X : Type 0} (rank : X → Rank) (xs : List X) (place : ℕ) (x : X) → place < length xs → x ≡ get_or xs place x → rank_at (map rank xs) place ≡ rank x
+rank_at-map rank xs place x within is =
+    get_or-map rank xs place x (record { priority = 0; weight = 0 }) within ∙ ap rank (sym is)
 
 -- tests that agree at each element keep the same elements
 pub filter_agree_at : {X : Type 0} (p q : X → Bool) (xs : List X) → All (λ x. p x ≡ q x) xs → filter p xs ≡ filter q xs

@@ -17,9 +17,14 @@ use std::alloc::{AllocError, Global};
 /// least that number is next.
 ///
 /// Allocates only the result. The time is at most that of 32 passes over what is left.
-pub fn arrange<T: Ranked>(alloc: Global, picks: &[T], draws: &Draws) -> Result<Sequence<usize>, AllocError>
+pub fn arrange<T: Ranked>(
+    alloc: Global,
+    picks: &[T],
+    draws: &Draws,
+) -> Result<Sequence<usize>, AllocError>
     requires at_most_32_picks { length picks.now ≤ 32 }
-    ensures { IfOk result (λ order. order ≡ ordered (map T.rank picks.now) draws.now) }
+    ensures order { IfOk result (λ order. order ≡ ordered (map T.rank picks.now) draws.now) }
+    ensures within { IfOk result (λ order. All (λ place. place < length picks.now) order) }
 {
     let mut order: Vec<usize> = (0..picks.len()).collect(alloc)?;
     put_in_order(picks, &mut order, draws.words());
@@ -120,7 +125,12 @@ fn first_weightless<T: Ranked>(picks: &[T], places: &[usize], priority: u16) -> 
 
 // The index of the first pick of this priority at which the running sum of weights is at least the
 // number.
-fn first_reaching<T: Ranked>(picks: &[T], places: &[usize], priority: u16, number: u32) -> Option<usize>
+fn first_reaching<T: Ranked>(
+    picks: &[T],
+    places: &[usize],
+    priority: u16,
+    number: u32,
+) -> Option<usize>
     requires few { length places.now ≤ 32 }
     requires valid { All (λ place. place < length picks.now) places.now }
     ensures within { IfSome result (λ i. i < length places.now) }

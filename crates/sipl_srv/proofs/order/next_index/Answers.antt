@@ -1,12 +1,12 @@
 use Rattle.std.proofs.Common.{◌≡◌, ◌+◌, ◌%◌, ◌≤◌, None, map, option_map, slice_get, slice_index, sym, ap, ◌∙◌, arith}
-use Rattle.sipl_srv.specs.Order.{rank_of, of_priority, weightless, weightless_first, total_weight, first_reaching}
+use Rattle.sipl_srv.specs.Order.{of_priority, weightless, weightless_first, total_weight, first_reaching}
 use Rattle.sipl_srv.proofs.Chosen.{chosen-by_priority, reaching-zero, reaching-in_order, reaching-some, some-from_map, none-from_map}
 use Rattle.sipl_srv.proofs.order.next_index.Goals as goal
 use Rattle.sipl_srv.proofs.order.next_index.Goals.{else-number-eq0-via-else-number-eq0, else-number-eq0-via-then-number-eq0+in-None-1}
 
 pub returns-clause-chosen : goal.returns-clause-chosen
-returns-clause-chosen c =
-    let ranks = map rank_of c.args.picks.now in
+returns-clause-chosen g c =
+    let ranks = map g.T.Ranked.rank c.args.picks.now in
     let places = c.args.places.now in
     let priority = c.least_priority-priority.result in
     let from = of_priority ranks priority places in
@@ -15,8 +15,8 @@ returns-clause-chosen c =
     ∙ reaching-zero ranks from (slice_index places c.in-Some.i) (sym c.in-Some.ensures.first)
 
 pub unwrap-requires : goal.unwrap-requires
-unwrap-requires c =
-    let ranks = map rank_of c.args.picks.now in
+unwrap-requires g c =
+    let ranks = map g.T.Ranked.rank c.args.picks.now in
     let places = c.args.places.now in
     let priority = c.least_priority-priority.result in
     let from = of_priority ranks priority places in
@@ -26,8 +26,8 @@ unwrap-requires c =
     (reaching-some ranks number 0 from c.least_priority-priority.ensures.some within)
 
 pub returns-2-clause-chosen : goal.returns-2-clause-chosen
-returns-2-clause-chosen c =
-    let ranks = map rank_of c.args.picks.now in
+returns-2-clause-chosen g c =
+    let ranks = map g.T.Ranked.rank c.args.picks.now in
     let places = c.args.places.now in
     let priority = c.least_priority-priority.result in
     let from = of_priority ranks priority places in

@@ -1,13 +1,13 @@
 use Rattle.std.proofs.Common.{◌≡◌, ◌-◌, ◌<◌, ◌++◌, map, length, get_or, drop, sym, subst, ◌∙◌, arith, Some}
 use Rattle.std.specs.List.{All}
 use Rattle.std.proofs.lemmas.List.{length-drop, take_all}
-use Rattle.sipl_srv.specs.Order.{rank_of, AreDistinct, chosen, order_of}
+use Rattle.sipl_srv.specs.Order.{AreDistinct, chosen, order_of}
 use Rattle.sipl_srv.proofs.Places.{without-remove, AreDistinct-without, All-without, moved, ordered_more, ordered_all}
 use Rattle.sipl_srv.proofs.order.put_in_order.Goals as goal
 
 pub loop-k-preserved : goal.loop-k-preserved
-loop-k-preserved c =
-    let ranks = map rank_of c.args.picks.now in
+loop-k-preserved g c =
+    let ranks = map g.T.Ranked.rank c.args.picks.now in
     let n = length c.args.picks.now in
     let order = c.loop-k.places in
     let k = c.loop-k.k in
@@ -26,5 +26,5 @@ loop-k-preserved c =
     }
 
 pub returns : goal.returns
-returns c = λ more.
-    ordered_all (map rank_of c.args.picks.now) c.loop-k.places (drop c.loop-k.k c.args.words.now ++ more) (order_of (map rank_of c.args.picks.now) c.args.places.now (c.args.words.now ++ more)) c.loop-k.k (omega arith) (c.loop-k.invariant.ordered more)
+returns g c = λ more.
+    ordered_all (map g.T.Ranked.rank c.args.picks.now) c.loop-k.places (drop c.loop-k.k c.args.words.now ++ more) (order_of (map g.T.Ranked.rank c.args.picks.now) c.args.places.now (c.args.words.now ++ more)) c.loop-k.k (omega arith) (c.loop-k.invariant.ordered more)
