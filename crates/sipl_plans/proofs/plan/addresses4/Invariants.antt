@@ -2,7 +2,7 @@ use Rattle.std.proofs.Common.{◌≡◌, ◌++◌, drop}
 use Rattle.sipl_records.specs.Sets.{set_of}
 use Rattle.sipl_choice.specs.declared.families.Families.TheVariants.{V4}
 use Rattle.sipl_plans.specs.Route.{addresses}
-use Rattle.sipl_plans.proofs.plan.addresses4.Given as goal
+use Rattle.sipl_plans.proofs.look.addresses4.Given as goal
 
 -- the addresses so far and those among the records left are all addresses
 abbrev pub invariant-loop-record : goal.invariant-loop-record
