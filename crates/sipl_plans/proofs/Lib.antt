@@ -1,1 +1,3 @@
 pub mod UniqueEndpoints
+pub mod Services
+pub mod FewServers

@@ -1,7 +1,9 @@
 -- The endpoints of servers, one after another, each once.
-use Rattle.std.proofs.Common.{◌≡◌, ℕ, ◌+◌, ◌<◌, ◌≤◌, List, [], ◌∷◌, ◌++◌, length, take, get_or, if◌then◌else◌, sym, ap, ◌∙◌, append_assoc, append-nil}
-use Rattle.std.specs.List.{flat_map, list_any}
+use Rattle.std.proofs.Common.{◌≡◌, ℕ, ◌+◌, ◌<◌, ◌≤◌, List, [], ◌∷◌, ◌++◌, length, slice_get, map, take, get_or, if◌then◌else◌, Some, refl, sym, ap, ◌∙◌, append_assoc, append-nil}
+use Rattle.std.specs.List.{cons_option, filter_map, flat_map, list_any}
 use Rattle.std.proofs.lemmas.List.{take_more, take_all, map-append}
+use Rattle.std.proofs.lemmas.List.Elements.{filter_map-append}
+use Rattle.std.proofs.lemmas.Option.{slice_get_read}
 use Rattle.std.proofs.lemmas.Grind.{flat_map-append}
 use Rattle.sipl_records.specs.declared.address.Address.{Address}
 use Rattle.sipl_records.specs.declared.address.Address.TheVariants.{V4}
@@ -12,7 +14,12 @@ use Rattle.sipl_choice.specs.declared.transport.Transport.{Transport}
 use Rattle.sipl_choice.specs.Endpoints.{same_endpoint}
 use Rattle.sipl_choice.proofs.SameEndpoint.{same_endpoint-equivalence}
 use Rattle.sipl_plans.specs.declared.layout.Source.{Source}
-use Rattle.sipl_plans.specs.Plan.{endpoints_at, endpoints_of}
+use Rattle.sipl_srv.specs.Order.{ordered}
+use Rattle.sipl_plans.specs.declared.layout.Layout.{Layout}
+use Rattle.sipl_plans.specs.declared.layout.Layout.TheVariants.{Servers}
+use Rattle.sipl_plans.specs.declared.answer.Answer.TheVariants.{None}
+use Rattle.sipl_plans.specs.declared.answer.Reason.TheVariants.{NoAddress}
+use Rattle.sipl_plans.specs.Plan.{endpoints_at, endpoints_of, source_rank, targets_or_no_address, draw}
 
 -- one more endpoint
 push_if_new-unique : (before : List Endpoint) (endpoint : Endpoint) (old new : List Endpoint) → old ≡ unique same_endpoint before → new ≡ (if list_any (λ other. same_endpoint other endpoint) old then old else old ++ endpoint ∷ []) → new ≡ unique same_endpoint (before ++ endpoint ∷ [])
@@ -41,11 +48,27 @@ module _ (transport : Transport) (port : ℕ) (addresses : List Address) (i : �
   first_address old is = is ∙ ap (λ (all : List Endpoint). unique same_endpoint all) (sym (append-nil before))
 
 -- the next server, after its last address
-pub next_server : (transport : Transport) (servers : List Source) (j : ℕ) (server : Source) (addresses : List Address) (i : ℕ) (targets : List Endpoint) → j < length servers → server ≡ get_or servers j server → addresses ≡ server.addresses → length addresses ≤ i → targets ≡ unique same_endpoint (flat_map (endpoints_of transport) (take j servers) ++ endpoints_at transport server.port (take i addresses)) → targets ≡ unique same_endpoint (flat_map (endpoints_of transport) (take (j + 1) servers))
-next_server transport servers j server addresses i targets inside at own past is =
+pub next_server : (transport : Transport) (servers : List Source) (order : List ℕ) (j : ℕ) (server : Source) (addresses : List Address) (i : ℕ) (targets : List Endpoint) → j < length order → get_or order j 0 < length servers → server ≡ get_or servers (get_or order j 0) server → addresses ≡ server.addresses → length addresses ≤ i
+    → targets ≡ unique same_endpoint (flat_map (endpoints_of transport) (filter_map (slice_get servers) (take j order)) ++ endpoints_at transport server.port (take i addresses))
+    → targets ≡ unique same_endpoint (flat_map (endpoints_of transport) (filter_map (slice_get servers) (take (j + 1) order)))
+next_server transport servers order j server addresses i targets inside known at own past is =
+    let before : List Source = filter_map (slice_get servers) (take j order) in
     let whole : endpoints_at transport server.port (take i addresses) ≡ endpoints_of transport server = ap (endpoints_at transport server.port) (take_all i addresses past ∙ own) in
-    let more : flat_map (endpoints_of transport) (take (j + 1) servers) ≡ flat_map (endpoints_of transport) (take j servers) ++ endpoints_of transport server =
-    ap (λ (ss : List Source). flat_map (endpoints_of transport) ss) (take_more servers j server inside)
-    ∙ flat_map-append (endpoints_of transport) (take j servers) (get_or servers j server ∷ [])
-    ∙ ap (λ (all : List Endpoint). flat_map (endpoints_of transport) (take j servers) ++ all) (append-nil (endpoints_of transport (get_or servers j server)) ∙ ap (endpoints_of transport) (sym at)) in
-    is ∙ ap (λ (all : List Endpoint). unique same_endpoint all) (ap (λ (all : List Endpoint). flat_map (endpoints_of transport) (take j servers) ++ all) whole ∙ sym more)
+    let here : slice_get servers (get_or order j 0) ≡ Some server = slice_get_read servers (length servers) (get_or order j 0) server refl known at in
+    let next : filter_map (slice_get servers) (take (j + 1) order) ≡ before ++ server ∷ [] =
+    ap (filter_map (slice_get servers)) (take_more order j 0 inside)
+    ∙ filter_map-append (slice_get servers) (take j order) (get_or order j 0 ∷ [])
+    ∙ ap (λ o. before ++ cons_option o []) here in
+    let more : flat_map (endpoints_of transport) (filter_map (slice_get servers) (take (j + 1) order)) ≡ flat_map (endpoints_of transport) before ++ endpoints_of transport server =
+    ap (λ (ss : List Source). flat_map (endpoints_of transport) ss) next
+    ∙ flat_map-append (endpoints_of transport) before (server ∷ [])
+    ∙ ap (λ (all : List Endpoint). flat_map (endpoints_of transport) before ++ all) (append-nil (endpoints_of transport server)) in
+    is ∙ ap (λ (all : List Endpoint). unique same_endpoint all) (ap (λ (all : List Endpoint). flat_map (endpoints_of transport) before ++ all) whole ∙ sym more)
+
+-- without endpoints there is no address
+pub draw-none : (layout : Layout) (transport : Transport) (servers slice : List Source) (words order places : List ℕ) (targets : List Endpoint) → layout ≡ Servers transport servers → slice ≡ servers → order ≡ ordered (map source_rank slice) words → places ≡ order
+    → targets ≡ unique same_endpoint (flat_map (endpoints_of transport) (filter_map (slice_get slice) places)) → targets ≡ [] → None NoAddress ≡ draw layout words
+draw-none layout transport servers slice words order places targets at own by all is none =
+    ap targets_or_no_address (sym none ∙ is ∙ ap (λ ps. unique same_endpoint (flat_map (endpoints_of transport) (filter_map (slice_get slice) ps))) (all ∙ by))
+    ∙ ap (λ ss. draw (Servers transport ss) words) own
+    ∙ ap (λ l. draw l words) (sym at)
