@@ -17,3 +17,4 @@ pub mod Printing
 pub mod SeenNames
 pub mod ParamSteps
 pub mod WrittenParts
+pub mod PlainParts

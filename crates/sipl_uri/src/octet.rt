@@ -9,9 +9,12 @@ pub(crate) fn is_uri_octet(octet: u8) -> bool
     octet.is_ascii_graphic() && !matches!(octet, b'"' | b'<' | b'>')
 }
 
-// Whether a hostname can have the octet: it is one of a label, or a dot.
+// Whether a hostname can have the octet: it is one of a label, or a dot. Lower-case letters, as most
+// octets are, are tested first.
 pub(crate) fn is_hostname_octet(octet: u8) -> bool
     ensures { result ≡ is_hostname_octet octet }
 {
-    octet.is_ascii_alphanumeric() || matches!(octet, b'-' | b'_' | b'.')
+    octet.is_ascii_lowercase()
+        || octet.is_ascii_alphanumeric()
+        || matches!(octet, b'-' | b'_' | b'.')
 }

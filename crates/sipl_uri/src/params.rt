@@ -1,5 +1,5 @@
 //! The parameters of a URI (RFC 3261, 19.1.1).
-ghost use Rattle.std.specs.Prelude.{◌≡◌, ◌≢◌, true, not, Ok, Err, IfOk, IfErr, OnOk};
+ghost use Rattle.std.specs.Prelude.{◌≡◌, ◌≢◌, true, not, Some, Ok, Err, IfOk, IfErr, OnOk};
 ghost use Rattle.std.specs.List.{list_any};
 ghost use Rattle.std.specs.Str.{str_to_ascii_lowercase};
 ghost use Rattle.std.specs.Option.{option_copied};
@@ -33,17 +33,17 @@ impl Model for Settings {
     ghost view = { settings_of };
 }
 
-// Reads parameters from left to right, each after its semicolon, up to the first fault.
-pub(crate) fn read_params(alloc: Global, params: Option<&[u8]>) -> Result<Settings, UriFault>
+// Reads the text after the first semicolon: parameters from left to right, up to the first fault.
+pub(crate) fn read_params(alloc: Global, text: &[u8]) -> Result<Settings, UriFault>
     ensures read { IfOk result (λ settings.
-        take_params (params_in (option_copied params.entry)) no_settings ≡ Ok settings) }
+        take_params (params_in (Some text.now)) no_settings ≡ Ok settings) }
     ensures refused { IfErr result (λ fault. fault ≢ UriFault.Memory
-        → take_params (params_in (option_copied params.entry)) no_settings ≡ Err fault) }
+        → take_params (params_in (Some text.now)) no_settings ≡ Err fault) }
 {
     let mut settings = Settings::new(alloc);
-    let mut rest = params;
-    while let Some(text) = rest {
-        let (param, after) = split_once(text, b';');
+    let mut rest = Some(text);
+    while let Some(params) = rest {
+        let (param, after) = split_once(params, b';');
         settings.take(alloc, param)?;
         rest = after;
     }

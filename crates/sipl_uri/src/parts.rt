@@ -1,8 +1,13 @@
 //! The parts of a URI (RFC 3261, 19.1.1), which its delimiters separate.
-ghost use Rattle.std.specs.Prelude.{◌≡◌};
-ghost use Rattle.std.specs.Option.{option_copied};
+ghost use Rattle.std.specs.Prelude.{◌≡◌, ◌==◌, ◌∷◌, ◌++◌, true, count_by, IsTrue, IfSome};
+ghost use Rattle.std.specs.List.{list_all};
+ghost use Rattle.std.specs.Option.{option_copied, is_some, OnSome};
+ghost use Rattle.std.specs.Char.{is_ascii_digit};
+ghost use Rattle.sipl_uri.specs.UriOctets.{is_uri_octet, is_hostname_octet};
+ghost use Rattle.sipl_uri.specs.Uris.{has_allowed_octets};
 ghost use Rattle.sipl_uri.specs.UriParts.{parts_of, params_in, after_userinfo, split_port};
 
+use crate::octet::{is_hostname_octet, is_uri_octet};
 use sipl_records::split_once;
 
 // The parts that say where a request is sent.
@@ -15,8 +20,102 @@ pub(crate) struct Parts<'a> {
     pub(crate) params: Option<&'a [u8]>,
 }
 
-// Splits the text after the scheme's colon.
-pub(crate) fn split_parts(text: &[u8]) -> Parts<'_>
+// Splits the text after the scheme's colon. `None` where an octet of it is not allowed.
+pub(crate) fn read_parts(text: &[u8]) -> Option<Parts<'_>>
+    ensures allowed { is_some result ≡ has_allowed_octets text.now }
+    ensures host { IfSome result (λ parts. parts.host.now ≡ (parts_of text.now).host) }
+    ensures port { IfSome result (λ parts. option_copied parts.port ≡ (parts_of text.now).port) }
+    ensures params { IfSome result
+        (λ parts. params_in (option_copied parts.params) ≡ (parts_of text.now).params) }
+{
+    if let Some(parts) = split_plain(text) {
+        return Some(parts);
+    }
+    if !has_allowed_octets(text) {
+        return None;
+    }
+    Some(split_parts(text))
+}
+
+// Splits a text that is a hostname or an IPv4 address, alone or with a port, as most are: in one
+// pass. `None` where there is an octet of neither.
+fn split_plain(text: &[u8]) -> Option<Parts<'_>>
+    ensures allowed { OnSome result (has_allowed_octets text.now ≡ true) }
+    ensures host { IfSome result (λ parts. parts.host.now ≡ (parts_of text.now).host) }
+    ensures port { IfSome result (λ parts. option_copied parts.port ≡ (parts_of text.now).port) }
+    ensures params { IfSome result
+        (λ parts. params_in (option_copied parts.params) ≡ (parts_of text.now).params) }
+{
+    let (host, rest) = split_hostname(text);
+    if rest.is_empty() {
+        return Some(Parts {
+            host,
+            port: None,
+            params: None,
+        });
+    }
+    let digits = strip_colon(rest)?;
+    if !has_digits(digits) {
+        return None;
+    }
+    Some(Parts {
+        host,
+        port: Some(digits),
+        params: None,
+    })
+}
+
+// The text after the colon that begins it.
+fn strip_colon(text: &[u8]) -> Option<&[u8]>
+    ensures { IfSome result (λ rest. text.now ≡ 58 ∷ rest.now) }
+{
+    match text {
+        [b':', rest @ ..] => Some(rest),
+        _ => None,
+    }
+}
+
+// Splits a text before its first octet that a hostname cannot have.
+fn split_hostname(text: &[u8]) -> (&[u8], &[u8])
+    ensures whole { text.now ≡ result.0.now ++ result.1.now }
+    ensures host { IsTrue (list_all is_hostname_octet result.0.now) }
+{
+    for (end, octet) in text.iter().enumerate() {
+        if !is_hostname_octet(*octet) {
+            return text.split_at(end);
+        }
+    }
+    (text, &[])
+}
+
+// Whether each octet is a digit.
+fn has_digits(text: &[u8]) -> bool
+    ensures { result ≡ list_all is_ascii_digit text.now }
+{
+    text.iter().all(|octet| octet.is_ascii_digit())
+}
+
+// Whether a URI can have each of the octets after its scheme, and at most one is `@`.
+fn has_allowed_octets(text: &[u8]) -> bool
+    ensures { result ≡ has_allowed_octets text.now }
+{
+    has_uri_octets(text) && count_at_signs(text) <= 1
+}
+
+fn has_uri_octets(text: &[u8]) -> bool
+    ensures { result ≡ list_all is_uri_octet text.now }
+{
+    text.iter().all(|octet| is_uri_octet(*octet))
+}
+
+fn count_at_signs(text: &[u8]) -> usize
+    ensures { result ≡ count_by (λ octet. octet == 64) text.now }
+{
+    text.iter().filter(|octet| **octet == b'@').count()
+}
+
+// Splits a text at its delimiters.
+fn split_parts(text: &[u8]) -> Parts<'_>
     ensures host { result.host.now ≡ (parts_of text.now).host }
     ensures port { option_copied result.port ≡ (parts_of text.now).port }
     ensures params { params_in (option_copied result.params) ≡ (parts_of text.now).params }

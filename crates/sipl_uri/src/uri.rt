@@ -1,14 +1,11 @@
-ghost use Rattle.std.specs.Prelude.{◌≡◌, ◌≢◌, ◌==◌, Ok, Err, count_by, IfOk, IfErr};
+ghost use Rattle.std.specs.Prelude.{◌≡◌, ◌≢◌, Ok, Err, IfOk, IfErr};
 ghost use Rattle.std.specs.Option.{option_copied};
-ghost use Rattle.std.specs.List.{list_all};
-ghost use Rattle.sipl_uri.specs.UriOctets.{is_uri_octet};
-ghost use Rattle.sipl_uri.specs.Uris.{question_of, question_after_scheme, question_with, security_of, transport_with, port_of, port_part, has_allowed_octets};
+ghost use Rattle.sipl_uri.specs.Uris.{question_of, question_after_scheme, question_with, security_of, transport_with, port_of, port_part};
 
 use crate::fault::UriFault;
 use crate::host::read_host;
-use crate::octet::is_uri_octet;
 use crate::params::{Settings, read_params};
-use crate::parts::split_parts;
+use crate::parts::read_parts;
 use crate::question::{Question, Target};
 use sipl_choice::Transport;
 use sipl_records::{read_number, split_once};
@@ -76,33 +73,19 @@ fn read_after_scheme(alloc: Global, secure: bool, text: &[u8]) -> Result<Questio
     ensures refused { IfErr result (λ fault. fault ≢ UriFault.Memory
         → question_after_scheme secure text.now ≡ Err fault) }
 {
-    if !has_allowed_octets(text) {
-        return Err(UriFault::Characters);
-    }
-    let parts = split_parts(text);
+    let parts = read_parts(text).ok_or(UriFault::Characters)?;
     let host = read_host(alloc, parts.host)?;
     let port = read_port_part(parts.port)?;
-    let settings = read_params(alloc, parts.params)?;
+    let Some(params) = parts.params else {
+        return Ok(Question {
+            secure,
+            target: host,
+            port,
+            transport: None,
+        });
+    };
+    let settings = read_params(alloc, params)?;
     question_with(secure, host, port, settings)
-}
-
-// Whether a URI can have each of the octets after its scheme, and at most one is `@`.
-fn has_allowed_octets(text: &[u8]) -> bool
-    ensures { result ≡ has_allowed_octets text.now }
-{
-    has_uri_octets(text) && count_at_signs(text) <= 1
-}
-
-fn has_uri_octets(text: &[u8]) -> bool
-    ensures { result ≡ list_all is_uri_octet text.now }
-{
-    text.iter().all(|octet| is_uri_octet(*octet))
-}
-
-fn count_at_signs(text: &[u8]) -> usize
-    ensures { result ≡ count_by (λ octet. octet == 64) text.now }
-{
-    text.iter().filter(|octet| **octet == b'@').count()
 }
 
 // Reads the port, where there is a colon.

@@ -6,7 +6,7 @@ use Rattle.sipl_uri.proofs.params.read_params.Given as goal
 
 abbrev pub invariant-loop-rest : goal.invariant-loop-rest
 invariant-loop-rest l =
-    take_params (params_in (option_copied l.fn.params)) no_settings ≡ take_params (params_in (option_copied l.rest)) l.settings
+    take_params (params_in (Some l.text)) no_settings ≡ take_params (params_in (option_copied l.rest)) l.settings
 
 abbrev pub decreases-loop-rest : goal.decreases-loop-rest
 decreases-loop-rest l = elim l.rest [ None ↦ 0 | Some text ↦ suc (length text.now) ]
