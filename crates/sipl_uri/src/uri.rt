@@ -1,5 +1,6 @@
 ghost use Rattle.std.specs.Prelude.{◌≡◌, ◌≢◌, Ok, Err, IfOk, IfErr};
 ghost use Rattle.std.specs.Option.{option_copied};
+ghost use Rattle.sipl_uri.specs.QuestionText.{IsAskable};
 ghost use Rattle.sipl_uri.specs.Uris.{question_of, question_after_scheme, question_with, security_of, transport_with, port_of, port_part};
 
 use crate::fault::UriFault;
@@ -44,6 +45,7 @@ impl Uri {
         ensures read { IfOk result (λ question. question_of bytes.now ≡ Ok question) }
         ensures refused { IfErr result
             (λ fault. fault ≢ UriFault.Memory → question_of bytes.now ≡ Err fault) }
+        ensures askable { IfOk result IsAskable }
     {
         let (scheme, Some(text)) = split_once(bytes, b':') else {
             return Err(UriFault::Scheme);
