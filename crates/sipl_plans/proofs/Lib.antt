@@ -1,3 +1,4 @@
 pub mod UniqueEndpoints
 pub mod Services
 pub mod FewServers
+pub mod FewRecords
