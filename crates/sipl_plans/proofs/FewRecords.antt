@@ -1,5 +1,5 @@
 -- A set has no more data than there are records.
-use Rattle.std.proofs.Common.{ℕ, suc, ◌≤◌, List, [], ◌∷◌, length, inl, inr, arith}
+use Rattle.std.proofs.Common.{◌≤◌, List, [], ◌∷◌, length, inl, inr, arith}
 use Rattle.std.proofs.lemmas.Bool.{cases_Bool}
 use Rattle.sipl_records.specs.Sets.{has_key, set_of}
 use Rattle.sipl_records.specs.declared.record.Record.{Record}

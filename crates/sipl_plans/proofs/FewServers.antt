@@ -1,18 +1,17 @@
 -- A route has at most 32 servers where each set has at most 32 records.
-use Rattle.std.proofs.Common.{◌≡◌, ℕ, suc, ◌+◌, ◌<◌, ◌≤◌, Bool, true, false, not, List, [], ◌∷◌, length, map, filter, Option, None, Some, refl, ap, sym, subst, ◌∙◌, inl, inr, arith}
+use Rattle.std.proofs.Common.{◌≡◌, ℕ, suc, ◌≤◌, Bool, true, false, not, List, [], ◌∷◌, length, filter, Option, None, Some, refl, ap, subst, inl, inr, arith}
 use Rattle.std.specs.List.{cons_option, filter_map, list_all, list_any}
 use Rattle.std.proofs.lemmas.Bool.{cases_Bool}
 use Rattle.std.proofs.lemmas.List.{length-map}
 use Rattle.std.proofs.lemmas.List.Sums.{length-filter, count_by-le-length}
 use Rattle.sipl_names.specs.Labels.{Labels}
-use Rattle.sipl_records.specs.declared.data.Data.{Data}
 use Rattle.sipl_records.specs.declared.kind.Kind.TheVariants.{Service}
 use Rattle.sipl_records.specs.declared.record.Key.{Key}
 use Rattle.sipl_choice.specs.Abilities.{Client, supports}
 use Rattle.sipl_choice.specs.ServiceNames.{service_name_of}
 use Rattle.sipl_choice.specs.declared.families.Families.{Families}
 use Rattle.sipl_choice.specs.declared.transport.Transport.{Transport}
-use Rattle.sipl_srv.specs.Offers.{pick_of, is_unavailable, offer_of_picks, offer_of}
+use Rattle.sipl_srv.specs.Offers.{pick_of, is_unavailable, offer_of_picks}
 use Rattle.sipl_srv.specs.declared.pick.Pick.{Pick}
 use Rattle.sipl_srv.specs.declared.pick.Offer.{Offer}
 use Rattle.sipl_srv.specs.declared.pick.Offer.TheVariants.{Nothing, Closed, Picks}
@@ -67,7 +66,7 @@ offered-few look name families transport Nothing few = omega arith
 
 -- the first picks are those of a transport
 first_picks-few : (offers : Transport → Offer) → ((transport : Transport) → IsFew (offers transport)) → (tried : List Transport) (transport : Transport) (picks : List Pick) → first_picks offers tried ≡ Some (transport, picks) → length picks ≤ 32
-first_picks-few offers few [] transport picks is = let never : None ≡ Some (transport, picks) = is in cc
+first_picks-few offers few [] transport picks is = let none : Option (Transport × List Pick) = None in let never : none ≡ Some (transport, picks) = is in cc
 first_picks-few offers few (other ∷ tried) transport picks is = from (offers other) refl (first_picks-few offers few tried transport picks)
   where
     from : (offer : Offer) → offers other ≡ offer → (first_picks offers tried ≡ Some (transport, picks) → length picks ≤ 32) → length picks ≤ 32

@@ -1,5 +1,5 @@
 -- The route by service, from whether a service was closed and the transports that are left.
-use Rattle.std.proofs.Common.{◌≡◌, Bool, true, false, ◌||◌, List, [], ◌∷◌, filter, Option, None, Some, refl, ap, ◌∙◌}
+use Rattle.std.proofs.Common.{◌≡◌, Bool, true, false, ◌||◌, List, ◌∷◌, filter, Option, None, Some, refl, ap}
 use Rattle.std.specs.List.{list_any}
 use Rattle.sipl_names.specs.Labels.{Labels}
 use Rattle.sipl_choice.specs.Abilities.{Client}

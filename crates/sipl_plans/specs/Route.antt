@@ -21,7 +21,6 @@ use Rattle.sipl_srv.specs.declared.pick.Pick.{Pick}
 use Rattle.sipl_srv.specs.declared.pick.Offer.{Offer}
 use Rattle.sipl_srv.specs.declared.pick.Offer.TheVariants.{Nothing, Closed, Picks}
 use Rattle.sipl_uri.specs.declared.question.Question.{Question}
-use Rattle.sipl_uri.specs.declared.question.Target.{Target}
 use Rattle.sipl_uri.specs.declared.question.Target.TheVariants.{Numeric, Domain}
 use Rattle.sipl_plans.specs.declared.answer.Reason.TheVariants.{NotAvailable, NoTransport}
 use Rattle.sipl_plans.specs.declared.layout.Layout.{Layout}
