@@ -134,8 +134,8 @@ first_picks offers (transport ∷ others) = elim (offers transport) [
   | Nothing ↦ first_picks offers others
 ]
 
--- RFC 3263, 4.1 and 4.2: no transport has picks: the service is not available where it is closed over
--- one of them, else the addresses of the domain are used, over the transport of the scheme
+-- RFC 3263, 4.1 and 4.2: no transport has picks: the service is not available where it is closed
+-- over one of them, else the addresses of the domain are used, over the transport of the scheme
 abbrev pub unserved : Look → Labels → Bool → Client → Bool → Layout
 unserved look name secure client true = Refused NotAvailable
 unserved look name secure client false =
