@@ -5,3 +5,5 @@ pub mod Exits
 pub mod Rules
 pub mod Results
 pub mod Steps
+pub mod Words
+pub mod SmallSets

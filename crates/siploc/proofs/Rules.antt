@@ -1,8 +1,9 @@
--- The protocol of a session is a line protocol, and a question changes nothing.
-use Rattle.std.proofs.Common.{◌≡◌, ◌<◌, ◌-◌, [], true, if◌then◌else◌, Result, Ok, Err, length, refl, sym, ap, ◌∙◌, subst, inl}
+-- The protocol of a session is a line protocol.
+use Rattle.std.proofs.Common.{◌≡◌, ℕ, List, ◌<◌, ◌-◌, [], true, if◌then◌else◌, Result, Ok, Err, length, refl, sym, ap, ◌∙◌, subst, inl}
 use Rattle.std.specs.Prelude.{Option, None, Some}
 use Rattle.std.proofs.lemmas.Bool.{lt-ltb}
 use Rattle.sipl_records.specs.Fields.{fields_of}
+use Rattle.sipl_srv.specs.declared.fault.DrawsFault.{DrawsFault}
 use Rattle.sipl_uri.specs.declared.fault.UriFault.{UriFault}
 use Rattle.sipl_uri.specs.declared.question.Question.{Question}
 use Rattle.sipl_uri.specs.Uris.{question_of}
@@ -12,7 +13,7 @@ use Rattle.siploc.specs.Requests.{nothing, too_long, is_comment, fields_request,
 use Rattle.siploc.specs.Gathering.{gathered_after, after_long_line, after_short_line}
 use Rattle.siploc.specs.declared.gather.Gathered.{Gathered}
 use Rattle.siploc.specs.declared.gather.Gathering.{Gathering}
-use Rattle.siploc.specs.Session.{SessionState, Step, Performs, MayReply, certain, keeps, request_step, gathering_step, line_step, live_step, session_protocol, question_outcome, find_outcome}
+use Rattle.siploc.specs.Session.{SessionState, Step, Performs, MayReply, certain, keeps, request_step, gathering_step, line_step, live_step, session_protocol, draws_outcome, question_outcome, find_outcome}
 use Rattle.siploc.proofs.Replies.{IsLineProtocol}
 
 -- once a session has ended an item has no reply
@@ -42,11 +43,3 @@ long_alike s u a b text long long' reply =
 
 pub session_rules : IsLineProtocol session_protocol
 session_rules = record { silent = ended_silent; long = long_alike }
-
-question_outcome-keeps : (read : Result Question UriFault) (s : SessionState) → (question_outcome read s).state ≡ s
-question_outcome-keeps (Err fault) s = refl
-question_outcome-keeps (Ok question) s = refl
-
--- a question changes nothing
-pub find_outcome-keeps : (uri : Octets) (s : SessionState) → (find_outcome uri s).state ≡ s
-find_outcome-keeps uri s = question_outcome-keeps (question_of uri) s

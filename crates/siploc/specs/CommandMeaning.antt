@@ -12,5 +12,5 @@ meaning_of (Zone apex lines) = zone apex.now lines
 meaning_of (Drop apex) = drop apex.now
 meaning_of (Add text) = add text.now
 meaning_of (Del text) = del text.now
-meaning_of (Find uri) = find uri.now
+meaning_of (Find uri draws) = find uri.now draws
 meaning_of Quit = quit

@@ -9,6 +9,7 @@ pub mod Tapped
 pub mod ServeFault
 pub mod Ended
 pub mod Serving
+pub mod DrawsField
 pub mod Requests
 pub mod ZoneLines
 pub mod Gathering

@@ -1,9 +1,11 @@
 -- What a line of a session asks for.
-use Rattle.std.specs.Prelude.{ℕ, Bool, false, List, [], ◌∷◌, None, Some, codes, nat_eq, nat_lt, length, if◌then◌else◌, ◌==◌}
+use Rattle.std.specs.Prelude.{ℕ, Bool, false, List, [], ◌∷◌, None, Some, Result, codes, nat_eq, nat_lt, length, if◌then◌else◌, ◌==◌}
 use lib.Pointwise.{pointwise}
 use Rattle.sipl_records.specs.Fields.{fields_of, trim_start, after_field}
 use Rattle.sipl_records.specs.Numbers.{number_of}
+use Rattle.sipl_srv.specs.declared.fault.DrawsFault.{DrawsFault}
 use Rattle.sipl_names.specs.Labels.{Octets}
+use Rattle.siploc.specs.DrawsField.{draws_of}
 
 -- a request with its fields; a line without fields and a comment ask for nothing
 pub data Request : Type 0 where
@@ -14,7 +16,7 @@ pub data Request : Type 0 where
   drop : Octets → Request
   add : Octets → Request
   del : Octets → Request
-  find : Octets → Request
+  find : Octets → Result (List ℕ) DrawsFault → Request
   quit : Request
 
 -- a comment begins with # as the first octet of its line
@@ -43,10 +45,11 @@ abbrev pub del_request : Octets → Request
 del_request [] = unknown
 del_request (c ∷ text) = del (c ∷ text)
 
--- `find URI`
+-- `find URI`, and the fields that give the random words
 abbrev pub find_request : List Octets → Request
-find_request (uri ∷ []) = find uri
-find_request _ = unknown
+find_request [] = unknown
+find_request (uri ∷ others) =
+    elim (draws_of others) [ Some draws ↦ find uri draws | None ↦ unknown ]
 
 -- `quit`
 abbrev pub quit_request : List Octets → Request

@@ -11,6 +11,8 @@ use Rattle.sipl_masterfile.specs.RecordText.{record_of}
 use Rattle.sipl_masterfile.specs.ZoneFault.{code_of as zone_code}
 use Rattle.sipl_masterfile.specs.declared.fault.ZoneFault.{ZoneFault}
 use Rattle.sipl_choice.specs.Abilities.{Client}
+use Rattle.sipl_srv.specs.DrawsFault.{code_of as draws_code}
+use Rattle.sipl_srv.specs.declared.fault.DrawsFault.{DrawsFault}
 use Rattle.sipl_choice.specs.declared.families.Families.TheVariants.{V4}
 use Rattle.sipl_choice.specs.declared.transport.Transport.TheVariants.{Udp, Tcp}
 use Rattle.sipl_uri.specs.Uris.{question_of}
@@ -149,15 +151,21 @@ add_outcome text state = record_outcome (codes "ok add") (λ r. insert r) (recor
 abbrev pub del_outcome : Octets → SessionState → Outcome
 del_outcome text state = record_outcome (codes "ok del") (λ r. remove r) (record_of text []) state
 
--- the plan of a question, from the records as they are
-abbrev pub question_outcome : Result Question UriFault → SessionState → Outcome
-question_outcome (Err fault) state = refuses (uri_code fault) state
-question_outcome (Ok question) state =
-    keeps (answer_text (plan (set_of state.zones.records) question client)) state
+-- the plan of a question for these random words, from the records as they are
+abbrev pub draws_outcome : Question → Result (List ℕ) DrawsFault → SessionState → Outcome
+draws_outcome question (Err fault) state = refuses (draws_code fault) state
+draws_outcome question (Ok words) state =
+    keeps (answer_text (plan (set_of state.zones.records) question client words)) state
 
--- `find URI`
-abbrev pub find_outcome : Octets → SessionState → Outcome
-find_outcome uri state = question_outcome (question_of uri) state
+-- the plan of a question: the URI's fault is reported before that of the words
+abbrev pub question_outcome : Result Question UriFault → Result (List ℕ) DrawsFault
+    → SessionState → Outcome
+question_outcome (Err fault) draws state = refuses (uri_code fault) state
+question_outcome (Ok question) draws state = draws_outcome question draws state
+
+-- `find URI`, and the fields that give the random words
+abbrev pub find_outcome : Octets → Result (List ℕ) DrawsFault → SessionState → Outcome
+find_outcome uri draws state = question_outcome (question_of uri) draws state
 
 -- what is done: its outcome, and the outcome where an allocation fails, if there is one
 pub record Step : Type 0 where
@@ -196,7 +204,7 @@ request_step (zone apex lines) state =
 request_step (drop apex) state = allocates (drop_outcome apex state) state
 request_step (add text) state = allocates (add_outcome text state) state
 request_step (del text) state = allocates (del_outcome text state) state
-request_step (find uri) state = allocates (find_outcome uri state) state
+request_step (find uri draws) state = allocates (find_outcome uri draws state) state
 request_step quit state =
     certain (record {
       reply = codes "ok quit\n";

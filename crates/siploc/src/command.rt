@@ -4,7 +4,9 @@ ghost use Rattle.sipl_records.specs.Fields.{fields_of, trim_start};
 ghost use Rattle.siploc.specs.Requests.{add_request, del_request, drop_request, find_request, quit_request, request_of, zone_request};
 ghost use Rattle.siploc.specs.CommandMeaning.{meaning_of};
 
+use crate::draws_field::read_draws;
 use sipl_records::{next_field, read_number, trim_start};
+use sipl_srv::{Draws, DrawsFault};
 
 /// The maximum length of a line in octets. A longer one is refused as K2.
 pub const MAX_LINE_LEN: usize = 65_536;
@@ -29,8 +31,8 @@ pub enum Command<'a> {
     Add(&'a [u8]),
     /// `del RECORD`: removes a record.
     Del(&'a [u8]),
-    /// `find URI`: asks for the targets of a URI.
-    Find(&'a [u8]),
+    /// `find URI DRAWS`: asks for the targets of a URI, for these random words.
+    Find(&'a [u8], Result<Draws, DrawsFault>),
     /// `quit`: ends the session.
     Quit,
 }
@@ -110,17 +112,17 @@ fn del_command(text: &[u8]) -> Command<'_>
     }
 }
 
-// `find URI`.
+// `find URI DRAWS`.
 fn find_command(rest: &[u8]) -> Command<'_>
     ensures { meaning_of result ≡ find_request (fields_of rest.now) }
 {
     let Some((uri, rest)) = next_field(rest) else {
         return Command::Unknown;
     };
-    if next_field(rest).is_some() {
-        return Command::Unknown;
+    match read_draws(rest) {
+        Some(draws) => Command::Find(uri, draws),
+        None => Command::Unknown,
     }
-    Command::Find(uri)
 }
 
 // `quit`.

@@ -3,6 +3,7 @@
 
 mod check;
 mod command;
+mod draws_field;
 mod gather;
 mod lines;
 mod program;

@@ -13,6 +13,7 @@ use sipl_choice::{Abilities, Families, Transport};
 use sipl_masterfile::{ZoneCause, ZoneFault, read_record, read_zone};
 use sipl_names::{Name, NameFault};
 use sipl_plans::plan_of;
+use sipl_srv::{Draws, DrawsFault};
 use sipl_uri::{Uri, UriFault};
 use sipl_zonestore::{StoreFault, ZoneStore};
 use std::alloc::{AllocError, Global};
@@ -96,7 +97,7 @@ impl Session {
                 gathering.push(line);
                 self.gather(alloc, gathering, out);
             }
-            None => self.obey(alloc, read_command(line), out),
+            None => self.obey(alloc, &read_command(line), out),
         }
         Ok(())
     }
@@ -124,9 +125,9 @@ impl Session {
     }
 
     // Carries a command out and appends its reply.
-    fn obey(&mut self, alloc: Global, command: Command<'_>, out: &mut Vec<u8>)
+    fn obey(&mut self, alloc: Global, command: &Command<'_>, out: &mut Vec<u8>)
         requires { vec_len out.old + MAX_SHORT_REPLY_LEN ≤ vec_capacity out.old }
-        ensures { AppendsStep (request_step (meaning_of command.entry) self.old)
+        ensures { AppendsStep (request_step (meaning_of command.now) self.old)
             out.old.items self.new out.new.items }
     {
         if self.perform(alloc, command, out).is_err() {
@@ -139,15 +140,15 @@ impl Session {
     fn perform(
         &mut self,
         alloc: Global,
-        command: Command<'_>,
+        command: &Command<'_>,
         out: &mut Vec<u8>,
     ) -> Result<(), AllocError>
         requires { vec_len out.old + MAX_SHORT_REPLY_LEN ≤ vec_capacity out.old }
-        ensures ok { OnOk result (AppendsStep (request_step (meaning_of command.entry) self.old)
+        ensures ok { OnOk result (AppendsStep (request_step (meaning_of command.now) self.old)
             out.old.items self.new out.new.items) }
         ensures err { OnErr result (self.new ≡ self.old) }
         ensures err_out { OnErr result (out.new.items ≡ out.old.items) }
-        ensures allocates { OnErr result ((request_step (meaning_of command.entry) self.old).failure
+        ensures allocates { OnErr result ((request_step (meaning_of command.now) self.old).failure
             ≡ Some (refuses (codes "Memory") self.old)) }
         ensures capacity { vec_capacity out.old ≤ vec_capacity out.new }
     {
@@ -156,13 +157,13 @@ impl Session {
             Command::Unknown => write_refusal(out, "K1"),
             Command::TooLong => write_refusal(out, "K2"),
             Command::Zone(apex, lines) => {
-                self.gather(alloc, Gathering::new(alloc, apex, lines), out);
+                self.gather(alloc, Gathering::new(alloc, apex, *lines), out);
                 Ok(())
             }
             Command::Drop(apex) => self.unload_zone(alloc, apex, out),
             Command::Add(record) => self.add_record(alloc, record, out),
             Command::Del(record) => self.remove_record(alloc, record, out),
-            Command::Find(uri) => self.find(alloc, uri, out),
+            Command::Find(uri, draws) => self.find(alloc, uri, draws, out),
             Command::Quit => {
                 self.ended = true;
                 out.extend_from_slice(b"ok quit\n")
@@ -353,10 +354,16 @@ impl Session {
         }
     }
 
-    // `find URI`: the targets of a URI, from the records as they are.
-    fn find(&mut self, alloc: Global, uri: &[u8], out: &mut Vec<u8>) -> Result<(), AllocError>
+    // `find URI DRAWS`: the targets of a URI for these random words, from the records as they are.
+    fn find(
+        &mut self,
+        alloc: Global,
+        uri: &[u8],
+        draws: &Result<Draws, DrawsFault>,
+        out: &mut Vec<u8>,
+    ) -> Result<(), AllocError>
         ensures ok { OnOk result
-            (out.new.items ≡ out.old.items ++ (find_outcome uri.now self.old).reply) }
+            (out.new.items ≡ out.old.items ++ (find_outcome uri.now draws.now self.old).reply) }
         ensures err_out { OnErr result (out.new.items ≡ out.old.items) }
         ensures unchanged { self.new ≡ self.old }
         ensures capacity { vec_capacity out.old ≤ vec_capacity out.new }
@@ -366,7 +373,12 @@ impl Session {
             Err(UriFault::Memory) => return Err(AllocError),
             Err(fault) => return write_refusal(out, fault.code()),
         };
-        let answer = plan_of(alloc, self.store.records(), &question, &self.abilities)?;
+        let draws = match draws {
+            Ok(draws) => draws,
+            Err(fault) => return write_refusal(out, fault.code()),
+        };
+        let records = self.store.records();
+        let answer = plan_of(alloc, records, &question, &self.abilities, draws)?;
         write_answer(out, &answer)
     }
 }

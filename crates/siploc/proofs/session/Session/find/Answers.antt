@@ -1,0 +1,9 @@
+use Rattle.std.proofs.Common.{◌≡◌, true, subst, sym}
+use Rattle.sipl_masterfile.specs.Zones.{sets_fit}
+use Rattle.siploc.proofs.SmallSets.{sets_fit-small}
+use Rattle.siploc.proofs.session.Session.find.Goals as goal
+
+pub plan_of-requires : goal.plan_of-requires
+plan_of-requires c =
+    let fit : sets_fit c.records-records.result.now ≡ true = subst (λ records. sets_fit records ≡ true) (sym c.records-records.ensures.value) c.records-records.ensures.consistent.sets_fit in
+    record { small_sets = sets_fit-small c.records-records.result.now fit }
