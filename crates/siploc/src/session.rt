@@ -4,6 +4,7 @@ ghost use Rattle.siploc.specs.Items.{Item};
 ghost use Rattle.siploc.specs.Replies.{AppendsReply};
 ghost use Rattle.siploc.specs.Gathering.{keeps_lines};
 ghost use Rattle.siploc.specs.Session.{AppendsStep, new_session, refuses, request_step, gathering_step, session_protocol, text_outcome, zone_outcome, drop_outcome, add_outcome, del_outcome, find_outcome};
+ghost use Rattle.sipl_masterfile.specs.RecordText.{record_of};
 ghost use Rattle.sipl_masterfile.specs.Zones.{zone_of};
 
 use crate::command::{Command, read_command};
@@ -13,6 +14,7 @@ use sipl_choice::{Abilities, Families, Transport};
 use sipl_masterfile::{ZoneCause, ZoneFault, read_record, read_zone};
 use sipl_names::{Name, NameFault};
 use sipl_plans::plan_of;
+use sipl_records::Record;
 use sipl_srv::{Draws, DrawsFault};
 use sipl_uri::{Uri, UriFault};
 use sipl_zonestore::{StoreFault, ZoneStore};
@@ -299,14 +301,8 @@ impl Session {
         ensures err_out { OnErr result (out.new.items ≡ out.old.items) }
         ensures capacity { vec_capacity out.old ≤ vec_capacity out.new }
     {
-        let record = match read_record(alloc, text, &Name::root(alloc)) {
+        let record = match read_absolute_record(alloc, text)? {
             Ok(record) => record,
-            Err(
-                ZoneFault {
-                    cause: ZoneCause::Memory,
-                    ..
-                },
-            ) => return Err(AllocError),
             Err(fault) => return write_refusal(out, fault.code()),
         };
         match self.store.add(&record) {
@@ -334,14 +330,8 @@ impl Session {
         ensures err_out { OnErr result (out.new.items ≡ out.old.items) }
         ensures capacity { vec_capacity out.old ≤ vec_capacity out.new }
     {
-        let record = match read_record(alloc, text, &Name::root(alloc)) {
+        let record = match read_absolute_record(alloc, text)? {
             Ok(record) => record,
-            Err(
-                ZoneFault {
-                    cause: ZoneCause::Memory,
-                    ..
-                },
-            ) => return Err(AllocError),
             Err(fault) => return write_refusal(out, fault.code()),
         };
         match self.store.remove(&record) {
@@ -380,5 +370,21 @@ impl Session {
         let records = self.store.records();
         let answer = plan_of(alloc, records, &question, &self.abilities, draws)?;
         write_answer(out, &answer)
+    }
+}
+
+// The record of a text whose names are relative to the root, or its fault. An error says that an
+// allocation failed.
+fn read_absolute_record(alloc: Global, text: &[u8]) -> Result<Result<Record, ZoneFault>, AllocError>
+    ensures { IfOk result (λ read. read ≡ record_of text.now []) }
+{
+    match read_record(alloc, text, &Name::root(alloc)) {
+        Err(
+            ZoneFault {
+                cause: ZoneCause::Memory,
+                ..
+            },
+        ) => Err(AllocError),
+        read => Ok(read),
     }
 }
