@@ -1,5 +1,6 @@
 use crate::command::MAX_LINE_LEN;
 // Sessions over streams of the tests' own.
+mod finds;
 pub mod process;
 mod streams;
 mod zone_files;
@@ -126,8 +127,8 @@ fn invalid_fields_are_reported_by_their_code(rt: HostRuntime) -> Result<(), Fail
         (b"add a A\n", b"err Z2\n"),
         (b"add a A 192.0.2.256\n", b"err Z4\n"),
         (b"find sip:-:1\n", b"err U2\n"),
-        (b"find sip:a\n", b"err U3\n"),
-        (b"find sip:a@b:1\n", b"err U7\n"),
+        (b"find sip:a:\n", b"err U3\n"),
+        (b"find sip:a@b@c:1\n", b"err U7\n"),
     ] {
         let text = replies(rt.alloc(), input)?;
         assert!(rt; text.as_slice() == want);
