@@ -1,19 +1,15 @@
 -- The protocol of a session is a line protocol.
-use Rattle.std.proofs.Common.{◌≡◌, ℕ, List, ◌<◌, ◌-◌, [], true, if◌then◌else◌, Result, Ok, Err, length, refl, sym, ap, ◌∙◌, subst, inl}
+use Rattle.std.proofs.Common.{◌≡◌, ◌<◌, ◌-◌, [], true, if◌then◌else◌, length, refl, sym, ap, ◌∙◌, subst, inl}
 use Rattle.std.specs.Prelude.{Option, None, Some}
 use Rattle.std.proofs.lemmas.Bool.{lt-ltb}
 use Rattle.sipl_records.specs.Fields.{fields_of}
-use Rattle.sipl_srv.specs.declared.fault.DrawsFault.{DrawsFault}
-use Rattle.sipl_uri.specs.declared.fault.UriFault.{UriFault}
-use Rattle.sipl_uri.specs.declared.question.Question.{Question}
-use Rattle.sipl_uri.specs.Uris.{question_of}
 use Rattle.sipl_names.specs.Labels.{Octets}
 use Rattle.siploc.specs.Items.{Item, line}
 use Rattle.siploc.specs.Requests.{nothing, too_long, is_comment, fields_request, request_of}
 use Rattle.siploc.specs.Gathering.{gathered_after, after_long_line, after_short_line}
 use Rattle.siploc.specs.declared.gather.Gathered.{Gathered}
 use Rattle.siploc.specs.declared.gather.Gathering.{Gathering}
-use Rattle.siploc.specs.Session.{SessionState, Step, Performs, MayReply, certain, keeps, request_step, gathering_step, line_step, live_step, session_protocol, draws_outcome, question_outcome, find_outcome}
+use Rattle.siploc.specs.Session.{SessionState, Step, Performs, MayReply, certain, keeps, request_step, gathering_step, line_step, live_step, session_protocol}
 use Rattle.siploc.proofs.Replies.{IsLineProtocol}
 
 -- once a session has ended an item has no reply

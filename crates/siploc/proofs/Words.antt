@@ -1,13 +1,10 @@
 -- Words that are read from a text one after another.
-use Rattle.std.proofs.Common.{◌≡◌, ℕ, ◌+◌, ◌<◌, ◌≤◌, Bool, true, false, ◌&&◌, List, [], ◌∷◌, ◌++◌, Option, Some, None, Result, Ok, Err, length, take, set, min, refl, sym, ap, ◌∙◌, append-nil, append_assoc, length-append, length-take, length-set, add-one, arith, inl, inr, if◌then◌else◌, nat_eq}
-use Rattle.std.specs.Prelude.{nat_le, option_map}
-use Rattle.std.specs.Str.{all_ascii_digits}
-use Rattle.std.specs.Str.Parse.{digits_value}
-use Rattle.std.proofs.lemmas.Bool.{cases_Bool, cases_lt, and_parts, leb-true, lt-leb}
+use Rattle.std.proofs.Common.{◌≡◌, ℕ, ◌+◌, ◌<◌, ◌≤◌, List, [], ◌∷◌, ◌++◌, Option, Some, None, Result, Err, length, take, set, min, refl, sym, ap, ◌∙◌, append-nil, append_assoc, length-append, length-take, length-set, add-one, arith, inl, inr, nat_eq}
+use Rattle.std.specs.Prelude.{option_map}
+use Rattle.std.proofs.lemmas.Bool.{cases_Bool, cases_lt, lt-leb}
 use Rattle.std.proofs.lemmas.List.{take_all, take-append-le}
 use Rattle.std.proofs.Math.Seq.{take-suc-set}
 use Rattle.sipl_names.specs.Labels.{Octets}
-use Rattle.sipl_records.specs.Numbers.{number_of}
 use Rattle.sipl_records.specs.Parts.{parts, prepend_to_first, split_once}
 use Rattle.sipl_srv.specs.Draws.{words_of}
 use Rattle.sipl_srv.specs.declared.fault.DrawsFault.{DrawsFault}

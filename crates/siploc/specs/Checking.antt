@@ -1,5 +1,5 @@
 -- What the check of a zone's text promises.
-use Rattle.std.specs.Prelude.{◌≡◌, ℕ, Bool, true, ◌||◌, [], ◌∷◌, length, Option, Result, Ok, Err, is_ok, IfSome, IfOk, OnOk, OnErr, codes}
+use Rattle.std.specs.Prelude.{◌≡◌, Bool, true, ◌||◌, [], ◌∷◌, length, Option, Result, Ok, Err, is_ok, IfSome, IfOk, OnOk, OnErr, codes}
 use Rattle.std.specs.Io.KnownBytes.{Appends, IsAtEnd}
 use Rattle.sipl_names.specs.Labels.{Octets, Labels}
 use Rattle.sipl_masterfile.specs.Zones.{Zone, zone_of}

@@ -1,4 +1,4 @@
-use Rattle.std.proofs.Common.{ℕ, ◌+◌, Option, Some, None, length}
+use Rattle.std.proofs.Common.{◌+◌, length}
 use Rattle.std.specs.Option.{option_copied, option_map_or}
 use Rattle.sipl_names.specs.Labels.{Octets}
 use Rattle.siploc.proofs.Words.{ReadTo}
