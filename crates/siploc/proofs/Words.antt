@@ -60,10 +60,6 @@ words_in-split text =
 abbrev pub after_words : List ℕ → Option (List ℕ) → Option (List ℕ)
 after_words seen words = option_map (λ others. seen ++ others) words
 
-after_none : (words : Option (List ℕ)) → words ≡ after_words [] words
-after_none None = refl
-after_none (Some words) = refl
-
 after_one : (seen : List ℕ) (word : ℕ) (words : Option (List ℕ)) → after_words seen (with_word (Some word) words) ≡ after_words (seen ++ word ∷ []) words
 unfolding with_word
 after_one seen word None = refl
@@ -77,9 +73,6 @@ pub record ReadTo (text : Octets) (rest : Option Octets) (words : List ℕ) (cou
   pub counted : count ≡ min 33 (length seen)
   pub kept : take count words ≡ take 33 seen
   pub size : length words ≡ 33
-
-pub read_none : (text : Octets) (words : List ℕ) → length words ≡ 33 → ReadTo text (Some text) words 0
-read_none text words size = record { seen = []; split = after_none (words_in text); counted = refl; kept = refl; size = size }
 
 pub read_fails : {text rest : Octets} {words : List ℕ} {count : ℕ} → ReadTo text (Some rest) words count → word_of (split_once 44 rest).0 ≡ None → draws_of_words text ≡ None
 unfolding with_word
