@@ -1,5 +1,5 @@
 -- A question that a text asks is one that a URI can ask.
-use Rattle.std.proofs.Common.{◌≡◌, ℕ, ◌<◌, ◌≤◌, Bool, true, [], ◌∷◌, ◌++◌, map, Option, Some, None, Result, Ok, Err, IfOk, refl, sym, ap, subst, ◌∙◌, arith}
+use Rattle.std.proofs.Common.{◌≡◌, ℕ, ◌<◌, ◌≤◌, Bool, true, [], ◌∷◌, ◌++◌, map, Option, Some, None, Ok, refl, sym, ap, subst, ◌∙◌, arith}
 use Rattle.std.specs.Prelude.{codes, IsTrue, IfSome}
 use Rattle.std.specs.List.{AllByRecursion, list_all}
 use Rattle.std.specs.Char.{to_ascii_lowercase}
@@ -98,8 +98,3 @@ uri_askable text question is = record {
 
 pub question_of-askable : (text : Octets) (question : Question) → question_of text ≡ Ok question → IsAskable question
 question_of-askable text question e = uri_askable text question (question_of-is text question e)
-
--- the same, where a text is read
-pub asked : {F : Type 0} (text : Octets) (r : Result Question F) → IfOk r (λ question. question_of text ≡ Ok question) → IfOk r IsAskable
-asked text (Ok question) e = question_of-askable text question e
-asked text (Err fault) e = e

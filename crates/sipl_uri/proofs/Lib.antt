@@ -11,10 +11,10 @@ pub mod TakenParams
 pub mod Delimiters
 pub mod Meanings
 pub mod Grammar
+pub mod SeenNames
+pub mod ReadParams
+pub mod WrittenParts
+pub mod PlainParts
 pub mod AddressBounds
 pub mod Askable
 pub mod Printing
-pub mod SeenNames
-pub mod ParamSteps
-pub mod WrittenParts
-pub mod PlainParts

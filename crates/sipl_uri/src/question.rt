@@ -79,7 +79,8 @@ impl Question {
     }
 
     /// Appends the question as a URI (RFC 3261, 19.1.1), such as
-    /// `sips:example.com.:5070;transport=tls`: at most 1,030 octets, [`MAX_QUESTION_TEXT_LEN`]. It
+    /// `sips:example.com.:5070;transport=tls`: at most 1,030 octets, [`MAX_QUESTION_TEXT_LEN`]. What
+    /// a URI asks reads back as the same question ([`crate::laws::printed_questions_read_back`]). It
     /// succeeds where the capacity of `out` holds the text. An `Err` leaves `out` as it was.
     pub fn write(&self, out: &mut Vec<u8>) -> Result<(), AllocError>
         ensures ok { OnOk result (out.new.items ≡ out.old.items ++ question_text self.now) }

@@ -5,7 +5,7 @@ use Rattle.std.proofs.lemmas.Result.{err_from_is_err_and}
 use Rattle.sipl_names.specs.Labels.{Octets}
 use Rattle.sipl_uri.specs.UriParts.{params_in}
 use Rattle.sipl_uri.specs.Params.{take_params}
-use Rattle.sipl_uri.proofs.ParamSteps.{take_params-Ok, take_params-Err}
+use Rattle.sipl_uri.proofs.ReadParams.{take_params-Ok, take_params-Err}
 use Rattle.sipl_uri.proofs.params.read_params.Goals as goal
 
 pub returns-in_err-take-clause-refused : goal.returns-in_err-take-clause-refused

@@ -1,5 +1,5 @@
 use Rattle.std.proofs.Common.{◌≡◌, Bool, true, false, not, Ok, ap, sym, refl, ◌∙◌}
-use Rattle.sipl_uri.proofs.ParamSteps.{take_param-other}
+use Rattle.sipl_uri.proofs.ReadParams.{take_param-other}
 use Rattle.sipl_uri.proofs.params.Settings.take.Goals as goal
 
 is_false : (b : Bool) → true ≡ not b → b ≡ false
