@@ -56,8 +56,8 @@ mod tests {
         let alloc = rt.alloc();
         let label = [b'a'; 63];
         let root = Name::root(alloc);
-        // The wire form has 194 octets and the last label's. The two labels before it have 10 octets
-        // for UDP, 11 for SCTP and TLS.
+        // The wire form has 194 octets and those of the last label; the two labels before it have
+        // 10 octets for UDP, 11 for SCTP and TLS.
         for (last, transport, is_named) in [
             (51, Transport::Udp, true),
             (52, Transport::Udp, false),

@@ -102,3 +102,100 @@ fn push_if_new(targets: &mut Vec<Endpoint>, endpoint: Endpoint) -> Result<(), Al
     targets.push(endpoint)?;
     Ok(())
 }
+
+#[cfg(test)]
+mod tests {
+    use super::*;
+    use std::test::Fail;
+
+    const SERVER: u32 = 0xC000_0201;
+
+    const OTHER: u32 = 0xC000_0202;
+
+    fn endpoint(number: u32, port: u16) -> Endpoint {
+        Endpoint {
+            transport: Transport::Tcp,
+            address: Address::V4(number),
+            port,
+        }
+    }
+
+    // Whether the answer is these targets.
+    fn is_targets(answer: &Answer, want: &[Endpoint]) -> bool {
+        match answer {
+            Answer::Targets(targets) => targets.as_slice() == want,
+            Answer::None(_) => false,
+        }
+    }
+
+    // Whether the answer is this reason.
+    fn is_none(answer: &Answer, want: Reason) -> bool {
+        match answer {
+            Answer::Targets(_) => false,
+            Answer::None(reason) => *reason == want,
+        }
+    }
+
+    fn source(
+        alloc: Global,
+        priority: u16,
+        port: u16,
+        numbers: &[u32],
+    ) -> Result<Source, AllocError> {
+        let mut addresses = Vec::with_capacity(alloc, numbers.len())?;
+        for number in numbers {
+            addresses.push(Address::V4(*number))?;
+        }
+        Ok(Source {
+            priority,
+            weight: 0,
+            port,
+            addresses: Sequence::from_vec(addresses),
+        })
+    }
+
+    // What is drawn from servers of these priorities, ports and addresses, of which the first 32 count,
+    // over TCP and for words of 0.
+    fn drawn(alloc: Global, servers: &[(u16, u16, &[u32])]) -> Result<Answer, Fail> {
+        let mut sources = Vec::new(alloc);
+        for (priority, port, numbers) in servers {
+            sources.push(source(alloc, *priority, *port, numbers)?)?;
+        }
+        sources.truncate(32);
+        let layout = Layout::Servers(Transport::Tcp, Sequence::from_vec(sources));
+        Ok(draw(alloc, &layout, &Draws::from_words(&[])?)?)
+    }
+
+    #[test]
+    fn each_endpoint_is_drawn_once_at_its_first_place(rt: HostRuntime) -> Result<(), Fail> {
+        // The server of priority 1 shares an endpoint with that of priority 0. The server of priority 2
+        // has no address.
+        let answer = drawn(
+            rt.alloc(),
+            &[
+                (3, 5080, &[OTHER]),
+                (0, 5070, &[SERVER, OTHER, SERVER]),
+                (1, 5070, &[OTHER]),
+                (2, 5070, &[]),
+            ],
+        )?;
+        let want = [
+            endpoint(SERVER, 5070),
+            endpoint(OTHER, 5070),
+            endpoint(OTHER, 5080),
+        ];
+        assert!(rt; is_targets(&answer, &want));
+        Ok(())
+    }
+
+    #[test]
+    fn no_endpoint_draws_a_reason(rt: HostRuntime) -> Result<(), Fail> {
+        let alloc = rt.alloc();
+        assert!(rt; is_none(&drawn(alloc, &[(0, 5070, &[])])?, Reason::NoAddress));
+        assert!(rt; is_none(&drawn(alloc, &[])?, Reason::NoAddress));
+        let layout = Layout::Refused(Reason::NoTransport);
+        let answer = draw(alloc, &layout, &Draws::from_words(&[])?)?;
+        assert!(rt; is_none(&answer, Reason::NoTransport));
+        Ok(())
+    }
+}

@@ -1,12 +1,11 @@
-use crate::layout::{Layout, Source, draw};
 use crate::{Answer, Reason, plan_of};
 use sipl_choice::Transport::{Sctp, Tcp, Tls, Udp};
 use sipl_choice::{Abilities, Endpoint, Families, Transport};
 use sipl_names::{Name, NameFault};
-use sipl_records::{Address, Data, Record, Sequence};
+use sipl_records::{Address, Data, Record};
 use sipl_srv::Draws;
 use sipl_uri::{Question, Target};
-use std::alloc::{AllocError, Global};
+use std::alloc::Global;
 use std::test::Fail;
 
 const SERVER: u32 = 0xC000_0201;
@@ -44,19 +43,15 @@ fn sip(host: &'static str) -> Asked {
 
 fn sip_over(host: &'static str, transport: Transport) -> Asked {
     Asked {
-        secure: false,
-        host,
-        port: None,
         transport: Some(transport),
+        ..sip(host)
     }
 }
 
 fn sips(host: &'static str) -> Asked {
     Asked {
         secure: true,
-        host,
-        port: None,
-        transport: None,
+        ..sip(host)
     }
 }
 
@@ -458,16 +453,8 @@ fn tls_is_for_sips_alone(rt: HostRuntime) -> Result<(), Fail> {
 #[test]
 fn sips_passes_over_services_of_sip(rt: HostRuntime) -> Result<(), Fail> {
     let asked = sips("example.com.");
-    let preference = [Tcp, Tls];
-    assert!(rt;
-        finds_none(
-            rt.alloc(),
-            &TWO_SERVERS,
-            asked,
-            &preference,
-            Reason::NoAddress
-        )?
-    );
+    let both = [Tcp, Tls];
+    assert!(rt; finds_none(rt.alloc(), &TWO_SERVERS, asked, &both, Reason::NoAddress)?);
     assert!(rt; finds_none(rt.alloc(), &TWO_SERVERS, asked, &[Tcp], Reason::NoTransport)?);
     Ok(())
 }
@@ -500,77 +487,6 @@ fn servers_without_addresses_take_a_word(rt: HostRuntime) -> Result<(), Fail> {
                 &want
             )?
         );
-    }
-    Ok(())
-}
-
-fn source(alloc: Global, priority: u16, port: u16, numbers: &[u32]) -> Result<Source, AllocError> {
-    let mut addresses = Vec::with_capacity(alloc, numbers.len())?;
-    for number in numbers {
-        addresses.push(Address::V4(*number))?;
-    }
-    Ok(Source {
-        priority,
-        weight: 0,
-        port,
-        addresses: Sequence::from_vec(addresses),
-    })
-}
-
-// What is drawn from servers of these priorities, ports and addresses, the first 32 of them, over TCP
-// and for words of 0.
-fn drawn(alloc: Global, servers: &[(u16, u16, &[u32])]) -> Result<Answer, Fail> {
-    let mut sources = Vec::new(alloc);
-    for (priority, port, numbers) in servers {
-        sources.push(source(alloc, *priority, *port, numbers)?)?;
-    }
-    sources.truncate(32);
-    let layout = Layout::Servers(Tcp, Sequence::from_vec(sources));
-    Ok(draw(alloc, &layout, &Draws::from_words(&[])?)?)
-}
-
-#[test]
-fn each_endpoint_is_drawn_once_at_its_first_place(rt: HostRuntime) -> Result<(), Fail> {
-    // The server of priority 1 shares an endpoint with that of priority 0, that of priority 2 has no
-    // address.
-    let answer = drawn(
-        rt.alloc(),
-        &[
-            (3, 5080, &[OTHER]),
-            (0, 5070, &[SERVER, OTHER, SERVER]),
-            (1, 5070, &[OTHER]),
-            (2, 5070, &[]),
-        ],
-    )?;
-    let want = [
-        endpoint(Tcp, SERVER, 5070),
-        endpoint(Tcp, OTHER, 5070),
-        endpoint(Tcp, OTHER, 5080),
-    ];
-    assert!(rt; is_targets(&answer, &want));
-    Ok(())
-}
-
-#[test]
-fn no_endpoint_draws_a_reason(rt: HostRuntime) -> Result<(), Fail> {
-    let alloc = rt.alloc();
-    assert!(rt; is_none(&drawn(alloc, &[(0, 5070, &[])])?, Reason::NoAddress));
-    assert!(rt; is_none(&drawn(alloc, &[])?, Reason::NoAddress));
-    let layout = Layout::Refused(Reason::NoTransport);
-    let answer = draw(alloc, &layout, &Draws::from_words(&[])?)?;
-    assert!(rt; is_none(&answer, Reason::NoTransport));
-    Ok(())
-}
-
-#[test]
-fn reasons_have_names(rt: HostRuntime) -> Result<(), Fail> {
-    for (reason, want) in [
-        (Reason::NoAddress, "NoAddress"),
-        (Reason::NotAvailable, "NotAvailable"),
-        (Reason::NoTransport, "NoTransport"),
-    ] {
-        assert_eq!(rt; reason.name(), want);
-        assert_eq!(rt; reason.to_string(rt.alloc())?.as_str(), want);
     }
     Ok(())
 }
