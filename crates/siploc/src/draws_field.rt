@@ -9,9 +9,9 @@ use sipl_srv::{Draws, DrawsFault};
 // One word more than draws can have: with so many they are refused, whatever follows.
 const MAX_KEPT_WORDS: usize = 33;
 
-/// The draws that these fields give: none, so that all words are 0; `seed N`, with a number of 64
-/// bits; or `words W,W,..`, with numbers of 32 bits, which is V1 for more than 32. No draws are
-/// returned for other fields. Linear in the length of the fields; does not allocate.
+/// The draws that these fields give: none, for which all words are 0; `seed N`, where N is a number
+/// of 64 bits; or `words W,W,..`, where each W is one of 32 bits, with V1 for more than 32 words.
+/// `None` for other fields. Linear in the length of the fields; does not allocate.
 pub fn read_draws(fields: &[u8]) -> Option<Result<Draws, DrawsFault>>
     ensures { result ≡ draws_of (fields_of fields.now) }
 {
