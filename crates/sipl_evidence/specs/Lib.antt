@@ -1,0 +1,4 @@
+pub mod Looks
+pub mod Answers
+pub mod Items
+pub mod Known
