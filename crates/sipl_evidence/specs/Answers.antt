@@ -1,11 +1,11 @@
 -- The answer to a name and a kind, over aliases (RFC 1034, 3.6.2).
-use Rattle.std.specs.Prelude.{ℕ, suc, List, [], ◌∷◌, Option, None, Some}
+use Rattle.std.specs.Prelude.{ℕ, suc, List, [], ◌∷◌, Option, None, Some, zero}
 use Rattle.sipl_names.specs.Labels.{Labels}
 use Rattle.sipl_records.specs.declared.data.Data.{Data}
 use Rattle.sipl_records.specs.declared.data.Data.TheVariants.{Alias as alias_data}
 use Rattle.sipl_records.specs.declared.kind.Kind.{Kind}
 use Rattle.sipl_records.specs.declared.kind.Kind.TheVariants.{Alias}
-use Rattle.sipl_evidence.specs.Looks.{Look, key, Asking, done, ask, result, asked}
+use Rattle.sipl_evidence.specs.Looks.{Look, key, Asking, done, ask, result_of, asked}
 
 -- the target of the first alias
 abbrev pub first_target : List Data → Option Labels
@@ -16,7 +16,7 @@ first_target (_ ∷ set) = first_target set
 -- the data of a name and a kind, or where there are none, those at the target of its alias: at most
 -- so many aliases are followed
 abbrev pub asking_within : ℕ → Labels → Kind → Asking (List Data)
-asking_within 0 name kind = ask (key name kind) (λ set. done set)
+asking_within zero name kind = ask (key name kind) (λ set. done set)
 asking_within (suc left) name kind = ask (key name kind) (λ set. elim set [
   | datum ∷ others ↦ done (datum ∷ others)
   | [] ↦ ask (key name Alias) (λ aliases. elim (first_target aliases) [
@@ -31,4 +31,4 @@ asking name kind = asking_within 8 name kind
 
 -- RFC 1034, 3.6.2: the answer
 abbrev pub answer : Look → Labels → Kind → List Data
-answer look name kind = result look (asking name kind)
+answer look name kind = result_of look (asking name kind)

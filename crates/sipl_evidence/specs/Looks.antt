@@ -19,9 +19,9 @@ pub data Asking (A : Type 0) : Type 0 where
   ask : Key → (List Data → Asking A) → Asking A
 
 -- what comes out where this is known of the records
-abbrev pub result : {A : Type 0} → Look → Asking A → A
-result look (done value) = value
-result look (ask k next) = result look (next (look k))
+abbrev pub result_of : {A : Type 0} → Look → Asking A → A
+result_of look (done value) = value
+result_of look (ask k next) = result_of look (next (look k))
 
 -- the keys that are asked for, in order
 abbrev pub asked : {A : Type 0} → Look → Asking A → List Key
