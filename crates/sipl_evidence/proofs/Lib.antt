@@ -1,3 +1,4 @@
 pub mod Alike
 pub mod Knowing
+pub mod Placing
 pub mod Traces

@@ -2,4 +2,12 @@
 //! time.
 #![tactic(auto)]
 
+mod evidence;
+mod fault;
+mod item;
 pub mod laws;
+mod places;
+
+pub use evidence::{Evidence, Refused};
+pub use fault::EvidenceFault;
+pub use item::Item;

@@ -1,0 +1,35 @@
+-- The places of items, by the names and the kinds of their keys.
+use Rattle.std.specs.Prelude.{◌≡◌, ℕ, List, Option, None, Some, position}
+use Rattle.sipl_names.specs.Labels.{Labels}
+use Rattle.sipl_records.specs.declared.kind.Kind.{Kind}
+use Rattle.sipl_records.specs.declared.kind.Kind.TheVariants.{Address4, Address6, Alias, Service, Pointer}
+use Rattle.sipl_records.specs.declared.record.Key.{Key}
+use Rattle.sipl_records.specs.Sets.{same_key}
+use Rattle.sipl_evidence.specs.declared.places.Places.{Places}
+use Rattle.sipl_evidence.specs.Items.{Item, HasDistinctKeys}
+
+-- the place of a kind
+abbrev pub place_at : Places → Kind → Option ℕ
+place_at places Address4 = places.address4
+place_at places Address6 = places.address6
+place_at places Alias = places.alias
+place_at places Service = places.service
+place_at places Pointer = places.pointer
+
+-- the place of a kind, where there are places
+abbrev pub place_among : Option Places → Kind → Option ℕ
+place_among None kind = None
+place_among (Some places) kind = place_at places kind
+
+-- the place of a key in a table by names
+abbrev pub place_in : (Labels → Option Places) → Key → Option ℕ
+place_in table k = place_among (table k.name) k.kind
+
+-- the place of the item of a key, if there is one
+abbrev pub place_of : List Item → Key → Option ℕ
+place_of items k = position (λ item. same_key item.key k) items
+
+-- no key is read twice, and the table has the place of each key's item
+pub record IsIndexed (items : List Item) (table : Labels → Option Places) : Type 0 where
+  pub distinct : HasDistinctKeys items
+  pub places : (k : Key) → place_in table k ≡ place_of items k

@@ -1,0 +1,178 @@
+ghost use Rattle.std.specs.Prelude.{◌≡◌, ◌↔◌, ◌+◌, ◌≤◌, [], ◌∷◌, ◌++◌, false, true, length, if◌then◌else◌, Some, vec_len, vec_capacity, IsTrue, IfOk, IfErr, OnOk, OnErr};
+ghost use Rattle.std.specs.Option.{option_copied};
+ghost use Rattle.indexmap.specs.IndexMap.{get, IsUnchanged};
+ghost use Rattle.sipl_names.specs.Labels.{same_name};
+ghost use Rattle.sipl_records.specs.declared.record.Key.{Key};
+ghost use Rattle.sipl_records.specs.Sets.{same_key};
+ghost use Rattle.sipl_evidence.specs.Items.{HasDistinctKeys};
+ghost use Rattle.sipl_evidence.specs.Known.{known, is_unknown};
+ghost use Rattle.sipl_evidence.specs.Looks.{key};
+ghost use Rattle.sipl_evidence.specs.Places.{place_in, place_of};
+
+use crate::fault::EvidenceFault;
+use crate::item::Item;
+use crate::places::{Places, insert_place};
+use indexmap::IndexMap;
+use sipl_names::Name;
+use sipl_records::{Data, Key, Kind};
+use std::alloc::{AllocError, Global};
+use std::marker::Model;
+
+/// The record sets that a lookup read, in the order of reading, no key twice. Contracts see it as
+/// the list of its items.
+#[derive(Drop)]
+pub struct Evidence {
+    alloc: Global,
+    items: Vec<Item>,
+    places: IndexMap<Name, Places>,
+}
+
+impl Model for Evidence {
+    ghost use Rattle.std.specs.Prelude.{List};
+    ghost use Rattle.sipl_evidence.specs.Items.{Item};
+
+    ghost Value = { List Item };
+
+    ghost use Rattle.indexmap.specs.IndexMap.{get};
+    ghost use Rattle.sipl_names.specs.Labels.{same_name};
+    ghost use Rattle.sipl_evidence.specs.Places.{IsIndexed};
+
+    ghost view = { λ e. e.items.items };
+
+    ghost invariant = { λ e. IsIndexed e.items.items (get same_name e.places) };
+}
+
+/// An item that was not appended, and why.
+#[derive(Debug, Drop)]
+pub struct Refused {
+    pub fault: EvidenceFault,
+    pub item: Item,
+}
+
+impl Evidence {
+    /// Evidence without items. Does not allocate.
+    pub fn new(alloc: Global) -> Self
+        ensures { result ≡ [] }
+    {
+        Evidence {
+            alloc,
+            items: Vec::new(alloc),
+            places: IndexMap::new(alloc),
+        }
+    }
+
+    /// How many sets were read.
+    pub fn len(&self) -> usize
+        ensures len { result ≡ length self.now }
+        ensures distinct { HasDistinctKeys self.now }
+    {
+        let _ = &self.places;
+        self.items.len()
+    }
+
+    /// Whether no set was read.
+    pub fn is_empty(&self) -> bool
+        ensures empty { IsTrue result ↔ (self.now ≡ []) }
+        ensures distinct { HasDistinctKeys self.now }
+    {
+        self.items.is_empty()
+    }
+
+    /// The items, in the order of reading.
+    pub fn items(&self) -> &[Item]
+        ensures items { result.now ≡ self.now }
+        ensures distinct { HasDistinctKeys self.now }
+    {
+        &self.items
+    }
+
+    /// The place of a key's item, from 0 on; `None` where its set was not read. Constant time but
+    /// for hashing. Does not allocate.
+    pub fn find(&self, key: &Key) -> Option<usize>
+        ensures place { result ≡ place_of self.now key.now }
+        ensures distinct { HasDistinctKeys self.now }
+    {
+        self.place(&key.name, key.kind)
+    }
+
+    /// The data of a key's set, as they were read; `None` where it was not read. Constant time but
+    /// for hashing. Does not allocate.
+    pub fn content(&self, key: &Key) -> Option<&[Data]>
+        ensures content { option_copied result ≡ known self.now key.now }
+        ensures distinct { HasDistinctKeys self.now }
+    {
+        self.set(&key.name, key.kind)
+    }
+
+    // The data of the set of a name and a kind, as they were read.
+    pub(crate) fn set(&self, name: &Name, kind: Kind) -> Option<&[Data]>
+        ensures content { option_copied result ≡ known self.now (key name.now kind) }
+        ensures distinct { HasDistinctKeys self.now }
+    {
+        let place = self.place(name, kind)?;
+        Some(self.items[place].content())
+    }
+
+    // The place of the item of a name and a kind.
+    fn place(&self, name: &Name, kind: Kind) -> Option<usize>
+        ensures place { result ≡ place_of self.now (key name.now kind) }
+        ensures distinct { HasDistinctKeys self.now }
+    {
+        self.places.get(name)?.get(kind)
+    }
+
+    /// Appends an item. Constant time but for hashing. The fault is E1 exactly where the key's set
+    /// was read already, and else an allocation failure; the item is returned with it, and the
+    /// evidence is unchanged.
+    pub fn push(&mut self, item: Item) -> Result<(), Refused>
+        ensures ok { OnOk result (self.new ≡ self.old ++ item ∷ []) }
+        ensures accepted { OnOk result (is_unknown self.old item.key ≡ true) }
+        ensures already { IfErr result (λ refused.
+            (refused.fault ≡ EvidenceFault.AlreadyRead) ↔ (is_unknown self.old item.key ≡ false)) }
+        ensures item { IfErr result (λ refused. refused.item ≡ item) }
+        ensures err { OnErr result (self.new ≡ self.old) }
+    {
+        if self.find(item.key()).is_some() {
+            let fault = EvidenceFault::AlreadyRead;
+            return Err(Refused { fault, item });
+        }
+        let key = item.key();
+        if let Err(error) = reserve_item(&mut self.items, &mut self.places, self.alloc, key) {
+            let fault = EvidenceFault::from(error);
+            return Err(Refused { fault, item });
+        }
+        self.items.push_reserved(item);
+        Ok(())
+    }
+
+    /// A copy. The only error is an allocation failure.
+    pub fn dup(&self, alloc: Global) -> Result<Self, AllocError>
+        ensures { IfOk result (λ copy. copy ≡ self.now) }
+    {
+        let mut copy = Evidence::new(alloc);
+        for item in &self.items {
+            if copy.push(item.dup(alloc)?).is_err() {
+                return Err(AllocError);
+            }
+        }
+        Ok(copy)
+    }
+}
+
+// Reserves space for an item of this key, and sets its place to the next one.
+fn reserve_item(
+    items: &mut Vec<Item>,
+    places: &mut IndexMap<Name, Places>,
+    alloc: Global,
+    key: &Key,
+) -> Result<(), AllocError>
+    ensures items { items.new.items ≡ items.old.items }
+    ensures space { OnOk result (vec_len items.new + 1 ≤ vec_capacity items.new) }
+    ensures ok { OnOk result ((other : Key) → place_in (get same_name places.new) other
+        ≡ (if same_key key.now other then Some (length items.old.items)
+        else place_in (get same_name places.old) other)) }
+    ensures err { OnErr result (IsUnchanged places.old places.new) }
+{
+    items.reserve(1)?;
+    insert_place(places, alloc, key, items.len())
+}

@@ -1,0 +1,104 @@
+ghost use Rattle.std.specs.Prelude.{◌≡◌, None, Some, if◌then◌else◌, OnOk, OnErr};
+ghost use Rattle.indexmap.specs.IndexMap.{get, IsUnchanged};
+ghost use Rattle.sipl_names.specs.Labels.{Labels, same_name};
+ghost use Rattle.sipl_records.specs.declared.kind.Kind.{Kind};
+ghost use Rattle.sipl_records.specs.declared.record.Key.{Key};
+ghost use Rattle.sipl_records.specs.Sets.{same_key, same_kind};
+ghost use Rattle.sipl_evidence.specs.Places.{place_at, place_in};
+
+use indexmap::IndexMap;
+use sipl_names::Name;
+use sipl_records::{Key, Kind};
+use std::alloc::{AllocError, Global};
+
+// The places of the items of one name, by their kinds.
+#[derive(Clone, Copy)]
+pub(crate) struct Places {
+    address4: Option<usize>,
+    address6: Option<usize>,
+    alias: Option<usize>,
+    service: Option<usize>,
+    pointer: Option<usize>,
+}
+
+impl Places {
+    // No place of any kind.
+    pub(crate) fn empty() -> Self
+        ensures { (kind : Kind) → place_at result kind ≡ None }
+    {
+        Places {
+            address4: None,
+            address6: None,
+            alias: None,
+            service: None,
+            pointer: None,
+        }
+    }
+
+    // The place of the item of this kind.
+    pub(crate) fn get(&self, kind: Kind) -> Option<usize>
+        ensures { result ≡ place_at self.now kind }
+    {
+        match kind {
+            Kind::Address4 => self.address4,
+            Kind::Address6 => self.address6,
+            Kind::Alias => self.alias,
+            Kind::Service => self.service,
+            Kind::Pointer => self.pointer,
+        }
+    }
+
+    // Sets the place of the item of this kind.
+    pub(crate) fn set(&mut self, kind: Kind, place: usize)
+        ensures { (other : Kind) → place_at self.new other
+            ≡ (if same_kind kind other then Some place else place_at self.old other) }
+    {
+        match kind {
+            Kind::Address4 => self.address4 = Some(place),
+            Kind::Address6 => self.address6 = Some(place),
+            Kind::Alias => self.alias = Some(place),
+            Kind::Service => self.service = Some(place),
+            Kind::Pointer => self.pointer = Some(place),
+        }
+    }
+}
+
+// Sets the place of a key's item in a table by names.
+pub(crate) fn insert_place(
+    table: &mut IndexMap<Name, Places>,
+    alloc: Global,
+    key: &Key,
+    place: usize,
+) -> Result<(), AllocError>
+    ensures ok { OnOk result ((other : Key) → place_in (get same_name table.new) other
+        ≡ (if same_key key.now other then Some place
+        else place_in (get same_name table.old) other)) }
+    ensures err { OnErr result (IsUnchanged table.old table.new) }
+{
+    let mut places = table
+        .get(&key.name)
+        .copied()
+        .unwrap_or(Places::empty());
+    places.set(key.kind, place);
+    replace_places(table, alloc, &key.name, places)
+}
+
+// Sets the places of a name.
+fn replace_places(
+    table: &mut IndexMap<Name, Places>,
+    alloc: Global,
+    owner: &Name,
+    places: Places,
+) -> Result<(), AllocError>
+    ensures ok { OnOk result ((name : Labels) → get same_name table.new name
+        ≡ (if same_name owner.now name then Some places else get same_name table.old name)) }
+    ensures err { OnErr result (IsUnchanged table.old table.new) }
+{
+    match table.get_mut(owner) {
+        Some(last) => *last = places,
+        None => {
+            table.insert(owner.dup(alloc)?, places)?;
+        }
+    }
+    Ok(())
+}
