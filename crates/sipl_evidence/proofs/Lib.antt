@@ -2,3 +2,4 @@ pub mod Alike
 pub mod Knowing
 pub mod Placing
 pub mod Traces
+pub mod Walking

@@ -1,5 +1,5 @@
 -- The answer to a name and a kind, over aliases (RFC 1034, 3.6.2).
-use Rattle.std.specs.Prelude.{ℕ, suc, List, [], ◌∷◌, Option, None, Some, zero}
+use Rattle.std.specs.Prelude.{ℕ, zero, suc, List, [], ◌∷◌, Option, None, Some}
 use Rattle.sipl_names.specs.Labels.{Labels}
 use Rattle.sipl_records.specs.declared.data.Data.{Data}
 use Rattle.sipl_records.specs.declared.data.Data.TheVariants.{Alias as alias_data}
@@ -13,16 +13,19 @@ first_target [] = None
 first_target (alias_data target ∷ set) = Some target
 first_target (_ ∷ set) = first_target set
 
+-- what follows at the target of a name's alias; nothing, where there is none
+abbrev pub at_alias : Labels → (Labels → Asking (List Data)) → Asking (List Data)
+at_alias name next =
+    ask (key name Alias)
+    (λ aliases. elim (first_target aliases) [ Some target ↦ next target | None ↦ done [] ])
+
 -- the data of a name and a kind, or where there are none, those at the target of its alias: at most
 -- so many aliases are followed
 abbrev pub asking_within : ℕ → Labels → Kind → Asking (List Data)
 asking_within zero name kind = ask (key name kind) (λ set. done set)
 asking_within (suc left) name kind = ask (key name kind) (λ set. elim set [
   | datum ∷ others ↦ done (datum ∷ others)
-  | [] ↦ ask (key name Alias) (λ aliases. elim (first_target aliases) [
-    | Some target ↦ asking_within left target kind
-    | None ↦ done []
-  ])
+  | [] ↦ at_alias name (λ target. asking_within left target kind)
 ])
 
 -- at most 8 aliases are followed

@@ -4,3 +4,4 @@ pub mod EvidenceFault
 pub mod Items
 pub mod Known
 pub mod Places
+pub mod Walks

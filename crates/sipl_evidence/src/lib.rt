@@ -7,7 +7,9 @@ mod fault;
 mod item;
 pub mod laws;
 mod places;
+mod walk;
 
 pub use evidence::{Evidence, Refused};
 pub use fault::EvidenceFault;
 pub use item::Item;
+pub use walk::{MAX_ALIASES, Walk};

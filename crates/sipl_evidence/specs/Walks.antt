@@ -1,0 +1,29 @@
+-- Walks over aliases, which look up one set at a time.
+use Rattle.std.specs.Prelude.{ℕ, Bool, true, false, List}
+use Rattle.sipl_names.specs.Labels.{Labels}
+use Rattle.sipl_records.specs.declared.data.Data.{Data}
+use Rattle.sipl_records.specs.declared.kind.Kind.{Kind}
+use Rattle.sipl_evidence.specs.Looks.{Asking}
+use Rattle.sipl_evidence.specs.declared.walk.Place.{Place}
+use Rattle.sipl_evidence.specs.Answers.{asking_within, at_alias}
+
+-- a walk at a name: the kind that it asks for, and whether the name's set is known to be empty; how
+-- many aliases it may follow, and in that case how many after the name's own
+pub record WalkState : Type 0 where
+  pub name : Labels
+  pub kind : Kind
+  pub left : ℕ
+  pub is_empty : Bool
+
+-- what is left of an answer at a name: the set of the name, or its alias
+abbrev pub asking_at : Bool → ℕ → Labels → Kind → Asking (List Data)
+asking_at false left name kind = asking_within left name kind
+asking_at true left name kind = at_alias name (λ target. asking_within left target kind)
+
+-- what is left of an answer at a place of a walk
+abbrev pub asking_from : Place → Kind → Asking (List Data)
+asking_from place kind = asking_at place.is_empty place.left place.name.now kind
+
+-- what a walk still asks for
+abbrev pub walk_asking : WalkState → Asking (List Data)
+walk_asking walk = asking_at walk.is_empty walk.left walk.name walk.kind
