@@ -7,6 +7,8 @@ mod fault;
 mod item;
 pub mod laws;
 mod places;
+#[cfg(test)]
+mod tests;
 mod walk;
 
 pub use evidence::{Evidence, Refused};

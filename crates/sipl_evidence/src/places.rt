@@ -75,10 +75,7 @@ pub(crate) fn insert_place(
         else place_in (get same_name table.old) other)) }
     ensures err { OnErr result (IsUnchanged table.old table.new) }
 {
-    let mut places = table
-        .get(&key.name)
-        .copied()
-        .unwrap_or(Places::empty());
+    let mut places = table.get(&key.name).copied().unwrap_or(Places::empty());
     places.set(key.kind, place);
     replace_places(table, alloc, &key.name, places)
 }

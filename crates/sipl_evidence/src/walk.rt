@@ -93,13 +93,12 @@ impl Walk {
         let Err(place) = self.reach(evidence) else {
             return Ok(());
         };
-        let name = place.name.dup(alloc)?;
-        *self = Walk {
-            name,
-            kind: self.kind,
-            left: place.left,
-            is_empty: place.is_empty,
-        };
+        let (left, is_empty) = (place.left, place.is_empty);
+        if place.name != &self.name {
+            self.name = place.name.dup(alloc)?;
+        }
+        self.left = left;
+        self.is_empty = is_empty;
         Ok(())
     }
 
@@ -138,7 +137,15 @@ fn reach_from<'a>(
         };
         let left = place.left;
         let is_empty = false;
-        return reach_from(evidence, Place { name, left, is_empty }, kind);
+        return reach_from(
+            evidence,
+            Place {
+                name,
+                left,
+                is_empty,
+            },
+            kind,
+        );
     }
     let Some(set) = evidence.set(place.name, kind) else {
         return Err(place);
@@ -148,7 +155,15 @@ fn reach_from<'a>(
     }
     let left = place.left - 1;
     let is_empty = true;
-    reach_from(evidence, Place { name: place.name, left, is_empty }, kind)
+    reach_from(
+        evidence,
+        Place {
+            name: place.name,
+            left,
+            is_empty,
+        },
+        kind,
+    )
 }
 
 // The target of the first alias.
