@@ -1,10 +1,9 @@
 -- The items of a trace are those that a computation asks for, in order.
-use Rattle.std.proofs.Common.{◌≡◌, Bool, true, false, not, cond, ◌&&◌, List, [], ◌∷◌, ◌++◌, map, Option, None, Some, length, get_or, ◌<◌, refl, subst, arith, length-append, ap, sym, ◌∙◌, inl, inr, append_assoc, append-nil}
-use Rattle.std.specs.List.{All, filter, find}
+use Rattle.std.proofs.Common.{◌≡◌, Bool, true, not, ◌&&◌, List, [], ◌∷◌, ◌++◌, map, None, Some, length, ◌<◌, refl, subst, arith, length-append, ap, sym, ◌∙◌, inl, inr, append_assoc, append-nil}
+use Rattle.std.specs.List.{filter, find}
 use Rattle.std.proofs.lemmas.Bool.{cases_Bool}
 use Rattle.std.proofs.lemmas.List.{get_or_append_left}
 use Rattle.std.proofs.lemmas.List.Elements.{filter_agree}
-use Rattle.sipl_records.specs.declared.data.Data.{Data}
 use Rattle.sipl_records.specs.declared.record.Key.{Key}
 use Rattle.sipl_records.specs.Sets.{same_key}
 use Rattle.sipl_records.specs.Unique.{unique}
@@ -13,7 +12,7 @@ use Rattle.sipl_records.proofs.Keys.{same_key-Decides, same_key-refl}
 use Rattle.sipl_records.proofs.Unique.{unique-filter}
 use Rattle.sipl_evidence.specs.Items.{Item}
 use Rattle.sipl_evidence.specs.Looks.{Look, Asking, asked}
-use Rattle.sipl_evidence.specs.Known.{known, is_unknown, Agrees, first_unknown, IsTraceAfter, IsTrace}
+use Rattle.sipl_evidence.specs.Known.{is_unknown, Agrees, first_unknown, IsTraceAfter, IsTrace}
 use Rattle.sipl_evidence.proofs.Knowing.{first_unknown-find}
 
 -- the first value that passes is the first of those that pass

@@ -5,7 +5,7 @@ use Rattle.sipl_records.specs.declared.data.Data.{Data}
 use Rattle.sipl_records.specs.declared.data.Data.TheVariants.{Alias as alias_data}
 use Rattle.sipl_records.specs.declared.kind.Kind.{Kind}
 use Rattle.sipl_records.specs.declared.kind.Kind.TheVariants.{Alias}
-use Rattle.sipl_evidence.specs.Looks.{Look, key, Asking, done, ask, result_of, asked}
+use Rattle.sipl_evidence.specs.Looks.{Look, key, Asking, done, ask, result_of}
 
 -- the target of the first alias
 abbrev pub first_target : List Data → Option Labels

@@ -66,7 +66,6 @@ impl Evidence {
         ensures len { result ≡ length self.now }
         ensures distinct { HasDistinctKeys self.now }
     {
-        let _ = &self.places;
         self.items.len()
     }
 
