@@ -100,11 +100,11 @@ impl Evidence {
         ensures content { option_copied result ≡ known self.now key.now }
         ensures distinct { HasDistinctKeys self.now }
     {
-        self.set(&key.name, key.kind)
+        self.content_at(&key.name, key.kind)
     }
 
     // The data of the set of a name and a kind, as they were read.
-    pub(crate) fn set(&self, name: &Name, kind: Kind) -> Option<&[Data]>
+    pub(crate) fn content_at(&self, name: &Name, kind: Kind) -> Option<&[Data]>
         ensures content { option_copied result ≡ known self.now (key name.now kind) }
         ensures distinct { HasDistinctKeys self.now }
     {

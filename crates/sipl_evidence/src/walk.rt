@@ -1,4 +1,4 @@
-ghost use Rattle.std.specs.Prelude.{◌≡◌, ◌≤◌, MatchResult, option_map, OnOk, OnErr, IsSome, false};
+ghost use Rattle.std.specs.Prelude.{◌≡◌, MatchResult, option_map, OnOk, OnErr, IsSome};
 ghost use Rattle.std.specs.Option.{option_copied};
 ghost use Rattle.sipl_evidence.specs.Looks.{done, key};
 ghost use Rattle.sipl_evidence.specs.Answers.{asking, first_target};
@@ -129,7 +129,7 @@ fn reach_from<'a>(
         (λ last. advance evidence.now (asking_from place.entry kind) ≡ asking_from last kind) }
 {
     if place.is_empty {
-        let Some(aliases) = evidence.set(place.name, Kind::Alias) else {
+        let Some(aliases) = evidence.content_at(place.name, Kind::Alias) else {
             return Err(place);
         };
         let Some(name) = first_target(aliases) else {
@@ -147,7 +147,7 @@ fn reach_from<'a>(
             kind,
         );
     }
-    let Some(set) = evidence.set(place.name, kind) else {
+    let Some(set) = evidence.content_at(place.name, kind) else {
         return Err(place);
     };
     if place.left == 0 || !set.is_empty() {

@@ -5,7 +5,7 @@ use Rattle.sipl_evidence.specs.Items.{Item}
 use Rattle.sipl_evidence.specs.Known.{known}
 use Rattle.sipl_evidence.specs.Places.{place_of}
 use Rattle.sipl_evidence.proofs.Placing.{place_of-within, known-place, known-no_place}
-use Rattle.sipl_evidence.proofs.evidence.Evidence.set.Goals as goal
+use Rattle.sipl_evidence.proofs.evidence.Evidence.content_at.Goals as goal
 
 pub returns-in_err-place-clause-content : goal.returns-in_err-place-clause-content
 returns-in_err-place-clause-content c =
