@@ -4,7 +4,7 @@ use Rattle.std.specs.List.{list_any}
 use lib.Pointwise.{pointwise}
 use Rattle.sipl_choice.specs.declared.transport.Transport.{Transport}
 use Rattle.sipl_choice.specs.declared.families.Families.{Families}
-use Rattle.sipl_choice.specs.declared.families.Families.TheVariants.{V4}
+use Rattle.sipl_choice.specs.declared.families.Families.TheVariants.{V4, V6, V4ThenV6, V6ThenV4}
 use Rattle.sipl_choice.specs.declared.fault.AbilitiesFault.{AbilitiesFault}
 use Rattle.sipl_choice.specs.declared.fault.AbilitiesFault.TheVariants.{EmptyAbilities, RepeatedTransport}
 use Rattle.sipl_choice.specs.Transports.{same_transport}
@@ -32,6 +32,10 @@ abilities_fault (transport ∷ others) =
 -- whether two choices of families are the same
 abbrev pub same_families : Families → Families → Bool
 same_families V4 V4 = true
+same_families V6 V6 = true
+same_families V4ThenV6 V4ThenV6 = true
+same_families V6ThenV4 V6ThenV4 = true
+same_families _ _ = false
 
 -- whether two clients have the same transports in the same order, and the same families
 abbrev pub same_client : Client → Client → Bool

@@ -4,3 +4,5 @@ pub mod Endpoints
 pub mod AbilitiesFault
 pub mod Abilities
 pub mod SameClient
+pub mod FamilyKinds
+pub mod Pointers

@@ -7,7 +7,7 @@ use lib.Pointwise.{pointwise_decides}
 use Rattle.sipl_choice.specs.declared.transport.Transport.{Transport}
 use Rattle.sipl_choice.specs.declared.transport.Transport.TheVariants.{Udp, Tcp, Tls, Sctp}
 use Rattle.sipl_choice.specs.declared.families.Families.{Families}
-use Rattle.sipl_choice.specs.declared.families.Families.TheVariants.{V4}
+use Rattle.sipl_choice.specs.declared.families.Families.TheVariants.{V4, V6, V4ThenV6, V6ThenV4}
 use Rattle.sipl_choice.specs.Transports.{same_transport}
 use Rattle.sipl_choice.specs.Abilities.{Client, same_families, same_client}
 
@@ -20,6 +20,10 @@ same_transport_decides _ _ = ((λ e. cc), (λ e. cc))
 
 same_families_decides : (a b : Families) → Decides (same_families a b) (a ≡ b)
 same_families_decides V4 V4 = ((λ e. refl), (λ e. refl))
+same_families_decides V6 V6 = ((λ e. refl), (λ e. refl))
+same_families_decides V4ThenV6 V4ThenV6 = ((λ e. refl), (λ e. refl))
+same_families_decides V6ThenV4 V6ThenV4 = ((λ e. refl), (λ e. refl))
+same_families_decides _ _ = ((λ e. cc), (λ e. cc))
 
 pub same_client_decides : (a b : Client) → Decides (same_client a b) (a ≡ b)
 same_client_decides a b =

@@ -3,3 +3,4 @@ pub mod Knowing
 pub mod Placing
 pub mod Traces
 pub mod Walking
+pub mod Composing

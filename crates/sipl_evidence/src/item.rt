@@ -74,8 +74,8 @@ impl Item {
     }
 }
 
-// A copy of the data, in their order.
-pub(crate) fn dup_data(alloc: Global, values: &[Data]) -> Result<Vec<Data>, AllocError>
+/// A copy of the data, in their order. The only error is an allocation failure.
+pub fn dup_data(alloc: Global, values: &[Data]) -> Result<Vec<Data>, AllocError>
     ensures { IfOk result (λ copy. copy.items ≡ values.now) }
 {
     let mut copy = Vec::with_capacity(alloc, values.len())?;

@@ -13,5 +13,5 @@ mod walk;
 
 pub use evidence::{Evidence, Refused};
 pub use fault::EvidenceFault;
-pub use item::Item;
+pub use item::{Item, dup_data};
 pub use walk::{MAX_ALIASES, Walk};

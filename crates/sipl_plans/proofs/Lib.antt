@@ -1,4 +1,5 @@
-pub mod UniqueEndpoints
-pub mod Services
-pub mod FewServers
+pub mod Answering
+pub mod Equations
 pub mod FewRecords
+pub mod Rows
+pub mod UniqueEndpoints

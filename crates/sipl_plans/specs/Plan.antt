@@ -9,7 +9,8 @@ use Rattle.sipl_choice.specs.declared.endpoint.Endpoint.{Endpoint}
 use Rattle.sipl_choice.specs.declared.transport.Transport.{Transport}
 use Rattle.sipl_srv.specs.Order.{Rank, ordered}
 use Rattle.sipl_uri.specs.declared.question.Question.{Question}
-use Rattle.sipl_plans.specs.Route.{Look, route}
+use Rattle.sipl_evidence.specs.Looks.{Look}
+use Rattle.sipl_plans.specs.Route.{route}
 use Rattle.sipl_plans.specs.declared.layout.Layout.{Layout}
 use Rattle.sipl_plans.specs.declared.layout.Layout.TheVariants.{Refused, Servers}
 use Rattle.sipl_plans.specs.declared.layout.Source.{Source}

@@ -3,7 +3,7 @@ ghost use Rattle.std.specs.List.{All, filter_map, flat_map, list_any};
 ghost use Rattle.sipl_records.specs.Unique.{unique};
 ghost use Rattle.sipl_choice.specs.Endpoints.{same_endpoint};
 ghost use Rattle.sipl_plans.specs.Plan.{draw, endpoints_of};
-ghost use Rattle.sipl_plans.specs.Route.{HasFewServers};
+ghost use Rattle.sipl_plans.specs.Servers.{HasFewServers, target_count};
 
 use crate::answer::{Answer, Reason};
 use sipl_choice::{Endpoint, Transport};
@@ -13,7 +13,7 @@ use std::alloc::{AllocError, Global};
 
 /// A server (RFC 2782): its place in the order of servers, its port, and its addresses in order.
 #[derive(Debug, Drop)]
-pub(crate) struct Source {
+pub struct Source {
     /// Servers of a lower number come first.
     pub priority: u16,
     /// The server's share of the picks, among those of its priority.
@@ -22,13 +22,45 @@ pub(crate) struct Source {
     pub addresses: Sequence<Address>,
 }
 
-/// Where requests are sent.
+/// Where requests are sent (RFC 3263, 4.1 and 4.2), before the random choice among the servers.
 #[derive(Debug, Drop)]
-pub(crate) enum Layout {
+pub enum Layout {
     /// Nowhere, and the reason.
     Refused(Reason),
     /// To these servers, over one transport.
     Servers(Transport, Sequence<Source>),
+}
+
+impl Layout {
+    /// A copy. The only error is an allocation failure.
+    pub fn dup(&self, alloc: Global) -> Result<Self, AllocError>
+        ensures { IfOk result (λ copy. copy ≡ self.now) }
+    {
+        let (transport, servers) = match self {
+            Layout::Refused(reason) => return Ok(Layout::Refused(*reason)),
+            Layout::Servers(transport, servers) => (*transport, servers.as_slice()),
+        };
+        let mut copy = Vec::with_capacity(alloc, servers.len())?;
+        for server in servers {
+            copy.push(server.dup(alloc)?)?;
+        }
+        Ok(Layout::Servers(transport, Sequence::from_vec(copy)))
+    }
+}
+
+impl Source {
+    // A copy of the server.
+    fn dup(&self, alloc: Global) -> Result<Self, AllocError>
+        ensures { IfOk result (λ copy. copy ≡ self.now) }
+    {
+        let addresses = Vec::from_slice(alloc, self.addresses.as_slice())?;
+        Ok(Source {
+            priority: self.priority,
+            weight: self.weight,
+            port: self.port,
+            addresses: Sequence::from_vec(addresses),
+        })
+    }
 }
 
 impl Ranked for Source {
@@ -45,12 +77,13 @@ impl Ranked for Source {
     }
 }
 
-// The targets of a layout: the endpoints of its servers, these in the order that the draws give,
-// each endpoint once, at its first place (RFC 3263, 4.2). A server without addresses takes a word
-// as well.
-pub(crate) fn draw(alloc: Global, layout: &Layout, draws: &Draws) -> Result<Answer, AllocError>
+/// The targets of a layout: the endpoints of its servers, these in the order that the draws give,
+/// each endpoint once, at its first place (RFC 3263, 4.2): at most 2,048. A server without addresses
+/// takes a word as well.
+pub fn draw(alloc: Global, layout: &Layout, draws: &Draws) -> Result<Answer, AllocError>
     requires few { HasFewServers layout.now }
-    ensures { IfOk result (λ answer. answer ≡ draw layout.now draws.now) }
+    ensures answer { IfOk result (λ answer. answer ≡ draw layout.now draws.now) }
+    ensures few { IfOk result (λ answer. target_count answer ≤ 2048) }
 {
     let (transport, servers) = match layout {
         Layout::Refused(reason) => return Ok(Answer::None(*reason)),

@@ -2,12 +2,18 @@
 #![tactic(auto)]
 
 mod answer;
+mod finding;
 mod layout;
 mod look;
 mod plan;
 mod route;
+mod run;
+mod stage;
 #[cfg(test)]
 mod tests;
 
 pub use answer::{Answer, Reason};
+pub use finding::Finding;
+pub use layout::{Layout, Source, draw};
 pub use plan::plan_of;
+pub use run::{MAX_SETS, Run, Unfinished};

@@ -1,0 +1,109 @@
+ghost use Rattle.std.specs.Prelude.{◌≡◌, ◌≤◌, List, length, IfOk};
+ghost use Rattle.sipl_records.specs.Sets.{set_of};
+ghost use Rattle.sipl_records.specs.declared.record.Record.{Record};
+ghost use Rattle.sipl_evidence.specs.Known.{Agrees};
+ghost use Rattle.sipl_plans.specs.Findings.{IsSound};
+ghost use Rattle.sipl_plans.specs.Route.{route};
+ghost use Rattle.sipl_plans.specs.Servers.{HasFewServers};
+
+use crate::layout::Layout;
+use sipl_choice::Abilities;
+use sipl_evidence::Evidence;
+use sipl_uri::Question;
+use std::alloc::{AllocError, Global};
+use std::marker::Model;
+
+/// The route of a question for a client (RFC 3263, 4), and the evidence for it: on all records that
+/// agree with the evidence the route is the layout, and looks at the evidence's keys, in their order.
+#[derive(Drop)]
+pub struct Finding {
+    question: Question,
+    abilities: Abilities,
+    layout: Layout,
+    evidence: Evidence,
+}
+
+impl Model for Finding {
+    ghost use Rattle.sipl_plans.specs.Findings.{Found, IsSound};
+
+    ghost Value = { Found };
+
+    ghost view = { λ f. record {
+      question = f.question;
+      client = f.abilities;
+      layout = f.layout;
+      items = f.evidence;
+    } };
+
+    ghost invariant = { λ f. IsSound (record {
+      question = f.question;
+      client = f.abilities;
+      layout = f.layout;
+      items = f.evidence;
+    }) };
+}
+
+impl Finding {
+    // The finding of these parts.
+    pub(crate) fn new(
+        question: Question,
+        abilities: Abilities,
+        layout: Layout,
+        evidence: Evidence,
+    ) -> Self
+        requires sound { IsSound (record { question = question; client = abilities; layout = layout; items = evidence }) }
+        ensures { result ≡ record { question = question; client = abilities; layout = layout; items = evidence } }
+    {
+        Finding {
+            question,
+            abilities,
+            layout,
+            evidence,
+        }
+    }
+
+    /// The question.
+    pub fn question(&self) -> &Question
+        ensures { result.now ≡ self.now.question }
+    {
+        &self.question
+    }
+
+    /// The abilities of the client.
+    pub fn abilities(&self) -> &Abilities
+        ensures { result.now ≡ self.now.client }
+    {
+        &self.abilities
+    }
+
+    /// The route: at most 32 servers of at most 64 addresses each.
+    pub fn layout(&self) -> &Layout
+        ensures layout { result.now ≡ self.now.layout }
+        ensures records { (records : List Record) → Agrees (set_of records) self.now.items
+            → route (set_of records) self.now.question self.now.client ≡ self.now.layout }
+        ensures few { HasFewServers self.now.layout }
+    {
+        &self.layout
+    }
+
+    /// The record sets that the route looks at, in the order of reading: at most 1,156.
+    pub fn evidence(&self) -> &Evidence
+        ensures evidence { result.now ≡ self.now.items }
+        ensures sound { IsSound self.now }
+        ensures few { length self.now.items ≤ 1156 }
+    {
+        &self.evidence
+    }
+
+    /// A copy. The only error is an allocation failure.
+    pub fn dup(&self, alloc: Global) -> Result<Self, AllocError>
+        ensures { IfOk result (λ copy. copy ≡ self.now) }
+    {
+        Ok(Finding {
+            question: self.question.dup(alloc)?,
+            abilities: self.abilities.dup(alloc)?,
+            layout: self.layout.dup(alloc)?,
+            evidence: self.evidence.dup(alloc)?,
+        })
+    }
+}

@@ -1,0 +1,137 @@
+ghost use Rattle.std.specs.Prelude.{◌≡◌, ◌↔◌, ◌<◌, [], length, None, IfOk, IfErr, OnOk, OnErr, IsOk, IsSome};
+ghost use Rattle.std.specs.Option.{option_copied};
+ghost use Rattle.sipl_choice.specs.Abilities.{abilities_fault};
+ghost use Rattle.sipl_evidence.specs.Looks.{Look};
+ghost use Rattle.sipl_evidence.specs.Known.{Agrees};
+ghost use Rattle.sipl_plans.specs.Findings.{IsFound};
+ghost use Rattle.sipl_plans.specs.Route.{reads};
+ghost use Rattle.sipl_plans.specs.Runs.{first_unread, wanted, IsGiven, IsRun, IsWanted};
+
+use crate::finding::Finding;
+use crate::stage::{Progress, Stage, advance};
+use sipl_choice::Abilities;
+use sipl_evidence::{Evidence, Item, dup_data};
+use sipl_records::{Data, Key, Sequence};
+use sipl_uri::Question;
+use std::alloc::{AllocError, Global};
+use std::marker::Model;
+use std::mem;
+
+/// The maximum number of record sets that a run wants: those of 68 walks over 8 aliases each.
+pub const MAX_SETS: usize = 1156;
+
+/// The route of a question, computed from record sets that are read one at a time (RFC 3263, 4).
+/// Contracts see the question, the client and the sets that were read.
+#[derive(Drop)]
+pub struct Run {
+    question: Question,
+    abilities: Abilities,
+    evidence: Evidence,
+    progress: Progress,
+}
+
+/// A run that still wants a set (P1).
+#[derive(Drop)]
+pub struct Unfinished {
+    pub run: Run,
+}
+
+impl Model for Run {
+    ghost use Rattle.sipl_plans.specs.Runs.{RunState};
+
+    ghost Value = { RunState };
+
+    ghost use Rattle.sipl_plans.specs.Runs.{IsRun};
+    ghost use Rattle.sipl_plans.specs.Route.{asking_route};
+    ghost use Rattle.sipl_plans.specs.Stages.{HasReached};
+
+    ghost view = { λ r. record {
+      question = r.question;
+      client = r.abilities;
+      items = r.evidence;
+    } };
+
+    ghost invariant = { λ r.
+        IsRun (record { question = r.question; client = r.abilities; items = r.evidence })
+        × HasReached r.question r.abilities r.evidence (asking_route r.question r.abilities) r.progress };
+}
+
+impl Run {
+    /// A run that has read nothing.
+    pub fn start(alloc: Global, question: Question, abilities: &Abilities) -> Result<Self, AllocError>
+        ensures { IfOk result (λ run. run
+            ≡ record { question = question; client = abilities.now; items = [] }) }
+    {
+        let evidence = Evidence::new(alloc);
+        let abilities = abilities.dup(alloc)?;
+        let progress = advance(alloc, &question, &abilities, &evidence, Stage::Start)?;
+        Ok(Run {
+            question,
+            abilities,
+            evidence,
+            progress,
+        })
+    }
+
+    /// The key of the set that the run wants next: the first one that the route looks at and that
+    /// was not read, whatever records there are that agree with what was read. `None` where all are
+    /// read. Does not allocate.
+    pub fn wants(&self) -> Option<&Key>
+        ensures wanted { option_copied result ≡ wanted self.now }
+        ensures next { (look : Look) → Agrees look self.now.items → option_copied result
+            ≡ first_unread self.now.items (reads look self.now.question self.now.client) }
+        ensures few { IsSome result → length self.now.items < 1156 }
+        ensures valid { IsRun self.now }
+    {
+        match &self.progress {
+            Progress::Wanting(key, _) => Some(key),
+            Progress::Done(_) => None,
+        }
+    }
+
+    /// Takes the set of the key that the run wants, and the number of the set. The only error is an
+    /// allocation failure; the run is then as it was.
+    pub fn give(&mut self, alloc: Global, number: u64, content: &[Data]) -> Result<(), AllocError>
+        requires set { IsWanted (wanted self.old) number content.now }
+        ensures ok { OnOk result (IsGiven self.old self.new number content.now) }
+        ensures err { OnErr result (self.new ≡ self.old) }
+    {
+        let Progress::Wanting(key, _) = &self.progress else {
+            return Ok(());
+        };
+        let content = Sequence::from_vec(dup_data(alloc, content)?);
+        let item = Item::new(key.dup(alloc)?, number, content);
+        if self.evidence.push(item).is_err() {
+            return Err(AllocError);
+        }
+        let advanced = self.advance(alloc);
+        if advanced.is_err() {
+            // POP
+        }
+        advanced
+    }
+
+    // Goes on as far as the evidence leads. After an error it is at the start of the route again.
+    fn advance(&mut self, alloc: Global) -> Result<(), AllocError>
+    {
+        let Progress::Wanting(_, stage) = &mut self.progress else {
+            return Ok(());
+        };
+        let stage = mem::replace(stage, Stage::Start);
+        self.progress = advance(alloc, &self.question, &self.abilities, &self.evidence, stage)?;
+        Ok(())
+    }
+
+    /// What was found, where the run wants no set; otherwise the run as it was (P1). Does not
+    /// allocate.
+    pub fn finish(self) -> Result<Finding, Unfinished>
+        ensures ok { IfOk result (λ finding. IsFound self finding) }
+        ensures err { IfErr result (λ unfinished. unfinished.run ≡ self) }
+        ensures finished { IsOk result ↔ (wanted self ≡ None) }
+    {
+        match self.progress {
+            Progress::Done(layout) => Ok(Finding::new(self.question, self.abilities, layout, self.evidence)),
+            Progress::Wanting(_, _) => Err(Unfinished { run: self }),
+        }
+    }
+}
