@@ -129,9 +129,23 @@ impl Run {
         ensures err { IfErr result (λ unfinished. unfinished.run ≡ self) }
         ensures finished { IsOk result ↔ (wanted self ≡ None) }
     {
-        match self.progress {
-            Progress::Done(layout) => Ok(Finding::new(self.question, self.abilities, layout, self.evidence)),
-            Progress::Wanting(_, _) => Err(Unfinished { run: self }),
+        let Run {
+            question,
+            abilities,
+            evidence,
+            progress,
+        } = self;
+        match progress {
+            Progress::Done(layout) => Ok(Finding::new(question, abilities, layout, evidence)),
+            Progress::Wanting(key, stage) => {
+                let run = Run {
+                    question,
+                    abilities,
+                    evidence,
+                    progress: Progress::Wanting(key, stage),
+                };
+                Err(Unfinished { run })
+            }
         }
     }
 }
