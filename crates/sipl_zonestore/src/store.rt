@@ -162,6 +162,7 @@ impl ZoneStore {
     pub fn set(&mut self, key: &Key) -> (u64, &[Data])
         ensures number { result.0 ≡ number_in self.old key.now }
         ensures value { result.1.now ≡ set_of self.old.zones.records key.now }
+        ensures consistent { IsConsistent self.old }
         ensures* looks { sem 𝓛 (Rests the_row self.entry (λ new. new ≡ looked self.old)) }
     {
         self.looks = self.looks.saturating_add(1);

@@ -6,6 +6,7 @@ mod command;
 mod draws_field;
 mod gather;
 mod lines;
+mod locate;
 mod program;
 mod reply;
 mod serve;

@@ -9,11 +9,12 @@ ghost use Rattle.sipl_masterfile.specs.Zones.{zone_of};
 
 use crate::command::{Command, read_command};
 use crate::gather::{Gathered, Gathering, ZoneLines};
+use crate::locate::locate;
 use crate::reply::{write_answer, write_counts, write_refusal, write_text_fault};
 use sipl_choice::{Abilities, Families, Transport};
 use sipl_masterfile::{ZoneCause, ZoneFault, read_record, read_zone};
 use sipl_names::{Name, NameFault};
-use sipl_plans::plan_of;
+use sipl_plans::draw;
 use sipl_records::Record;
 use sipl_srv::{Draws, DrawsFault};
 use sipl_uri::{Uri, UriFault};
@@ -367,8 +368,8 @@ impl Session {
             Ok(draws) => draws,
             Err(fault) => return write_refusal(out, fault.code()),
         };
-        let records = self.store.records();
-        let answer = plan_of(alloc, records, &question, &self.abilities, draws)?;
+        let finding = locate(alloc, &mut self.store, question, &self.abilities)?;
+        let answer = draw(alloc, finding.layout(), draws)?;
         write_answer(out, &answer)
     }
 }

@@ -1,0 +1,29 @@
+//! The route of a question on the records of a store.
+ghost use Rattle.std.specs.Prelude.{◌≡◌, IfOk};
+ghost use Rattle.siploc.specs.Locating.{IsLocated, IsLookedAt};
+
+use sipl_choice::Abilities;
+use sipl_plans::{Finding, Run};
+use sipl_uri::Question;
+use sipl_zonestore::ZoneStore;
+use std::alloc::{AllocError, Global};
+
+// The route of a question on the records as they are, and the record sets that it looks at. Each of
+// them is read once, and counts one look.
+pub(crate) fn locate(
+    alloc: Global,
+    store: &mut ZoneStore,
+    question: Question,
+    abilities: &Abilities,
+) -> Result<Finding, AllocError>
+    ensures located { IfOk result
+        (λ finding. IsLocated store.old.zones.records question abilities.now finding) }
+    ensures unchanged { IsLookedAt store.old store.new }
+{
+    let mut run = Run::start(alloc, question, abilities)?;
+    while let Some(key) = run.wants() {
+        let (number, content) = store.set(key);
+        run.give(alloc, number, content)?;
+    }
+    Ok(run.finish().ok().unwrap())
+}
