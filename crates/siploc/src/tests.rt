@@ -2,6 +2,7 @@ use crate::command::MAX_LINE_LEN;
 // Sessions over streams of the tests' own.
 mod finds;
 pub mod process;
+mod routes;
 mod streams;
 mod zone_files;
 mod zones;
