@@ -1,5 +1,6 @@
 use crate::command::MAX_LINE_LEN;
 // Sessions over streams of the tests' own.
+mod comparison;
 mod finds;
 pub mod process;
 mod routes;

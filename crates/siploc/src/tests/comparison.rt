@@ -1,0 +1,215 @@
+// A run over a store's sets against the plain program over its records, for zones made from seeds.
+use crate::locate::locate;
+use itoa::Buffer;
+use sipl_choice::{Abilities, Families, Transport};
+use sipl_masterfile::{read_record, read_zone};
+use sipl_names::Name;
+use sipl_plans::{Answer, draw, plan_of};
+use sipl_srv::Draws;
+use sipl_uri::{Question, Uri};
+use sipl_zonestore::ZoneStore;
+use std::alloc::{AllocError, Global};
+use std::test::Fail;
+
+// Owners and targets of the zone `e.`: few, so that chains and circles of aliases come up.
+const NAMES: [&str; 10] = [
+    "a.e.", "b.e.", "c.e.", "d.e.", "_sip._udp.a.e.", "_sip._tcp.a.e.", "_sips._tcp.a.e.",
+    "_sip._sctp.a.e.", "_sip._tcp.b.e.", "_sip._udp.b.e.",
+];
+
+const POINTERS: [&str; 6] = [
+    "\"s\" \"SIP+D2U\" \"\" ",
+    "\"S\" \"sip+d2t\" \"\" ",
+    "\"s\" \"SIPS+D2T\" \"\" ",
+    "\"s\" \"SIP+D2S\" \"\" ",
+    "\"u\" \"SIP+D2U\" \"\" ",
+    "\"s\" \"SIP+D2T\" \"x\" ",
+];
+
+const URIS: [&str; 8] = [
+    "sip:a.e", "sips:a.e", "sip:b.e", "sip:a.e:5070", "sip:a.e;transport=tcp",
+    "sip:b.e;transport=udp", "sip:a.e;transport=tls", "sip:c.e;maddr=192.0.2.9",
+];
+
+const FAMILIES: [Families; 4] = [
+    Families::V4, Families::V6, Families::V4ThenV6, Families::V6ThenV4,
+];
+
+const TRANSPORTS: [&[Transport]; 4] = [
+    &[Transport::Udp, Transport::Tcp],
+    &[Transport::Tcp, Transport::Tls],
+    &[Transport::Sctp, Transport::Tls, Transport::Udp, Transport::Tcp],
+    &[Transport::Tls],
+];
+
+// Numbers from a seed.
+struct Numbers {
+    seed: u64,
+    draws: Draws,
+    next: usize,
+}
+
+impl Numbers {
+    fn new(seed: u64) -> Self {
+        let seed = seed % 1_000_000 * 1_000;
+        Numbers {
+            seed,
+            draws: Draws::from_seed(seed),
+            next: 0,
+        }
+    }
+
+    // A number below the length of a list, of at most 10 elements.
+    fn below(&mut self, len: usize) -> usize {
+        if self.next >= 32 {
+            self.seed = self.seed.wrapping_add(1);
+            self.draws = Draws::from_seed(self.seed);
+            self.next = 0;
+        }
+        let word = self.draws.words().get(self.next).copied().unwrap_or(0);
+        self.next += 1;
+        word as usize % len.max(1)
+    }
+
+    // One of a list of texts.
+    fn one_of(&mut self, texts: &[&'static str]) -> &'static str {
+        let place = self.below(texts.len());
+        texts.get(place).copied().unwrap_or("")
+    }
+
+    // A digit as text.
+    fn digit(&mut self) -> &'static str {
+        self.one_of(&["0", "1", "2", "3"])
+    }
+
+    // The text of a record.
+    fn record(&mut self, alloc: Global) -> Result<Vec<u8>, AllocError> {
+        let owner = self.one_of(&NAMES);
+        let target = self.one_of(&NAMES);
+        let parts = match self.below(7) {
+            0 => [" CNAME ", target, "", "", ""],
+            1 => [" SRV ", self.digit(), " 1 5060 ", target, ""],
+            2 => [" SRV 0 ", self.digit(), " 5061 ", target, ""],
+            3 => [" SRV 0 0 0 .", "", "", "", ""],
+            4 => [" NAPTR 1 ", self.digit(), " ", self.one_of(&POINTERS), target],
+            5 => [" A 192.0.2.", self.digit(), self.digit(), "", ""],
+            _ => [" AAAA 2001:db8::", self.digit(), "", "", ""],
+        };
+        let mut text = Vec::from_slice(alloc, owner.as_bytes())?;
+        for part in parts {
+            text.extend_from_slice(part.as_bytes())?;
+        }
+        Ok(text)
+    }
+
+    // A store of a zone with up to 24 records; those that the store refuses are left out.
+    fn store(&mut self, alloc: Global) -> Result<ZoneStore, Fail> {
+        let mut store = ZoneStore::new(alloc);
+        let root = Name::root(alloc);
+        let apex = Name::from_text(alloc, b"e.", &root)?;
+        store.load(&read_zone(alloc, b"", &apex)?)?;
+        for _ in 0..24 {
+            let record = read_record(alloc, &self.record(alloc)?, &root)?;
+            let _ = store.add(&record);
+        }
+        Ok(store)
+    }
+
+    fn abilities(&mut self, alloc: Global) -> Result<Abilities, Fail> {
+        let transports = TRANSPORTS.get(self.below(4)).copied().unwrap_or(&[]);
+        let families = FAMILIES.get(self.below(4)).copied().unwrap_or(Families::V4);
+        Ok(Abilities::new(Vec::from_slice(alloc, transports)?, families)?)
+    }
+}
+
+// Whether two answers are the same.
+fn is_same(one: &Answer, other: &Answer) -> bool {
+    match (one, other) {
+        (Answer::Targets(one), Answer::Targets(other)) => one.as_slice() == other.as_slice(),
+        (Answer::None(one), Answer::None(other)) => one == other,
+        _ => false,
+    }
+}
+
+// How many targets the answer has, where the run and the plain program agree on it.
+fn agreed(
+    alloc: Global,
+    store: &mut ZoneStore,
+    question: Question,
+    abilities: &Abilities,
+    draws: &Draws,
+) -> Result<Option<usize>, AllocError> {
+    let finding = locate(alloc, store, question, abilities)?;
+    let answer = draw(alloc, finding.layout(), draws)?;
+    let plain = plan_of(alloc, store.records(), finding.question(), abilities, draws)?;
+    if !is_same(&answer, &plain) {
+        return Ok(None);
+    }
+    Ok(Some(match answer {
+        Answer::Targets(targets) => targets.as_slice().len(),
+        Answer::None(_) => 0,
+    }))
+}
+
+#[test]
+fn runs_agree_with_the_plain_program(rt: HostRuntime) -> Result<(), Fail> {
+    let alloc = rt.alloc();
+    let (mut found, mut none) = (0_u64, 0_u64);
+    for seed in 0..300_u64 {
+        let mut numbers = Numbers::new(seed);
+        let mut store = numbers.store(alloc)?;
+        let abilities = numbers.abilities(alloc)?;
+        for uri in URIS {
+            let question = Uri::parse(alloc, uri.as_bytes())?;
+            let draws = Draws::from_seed(seed);
+            match agreed(alloc, &mut store, question, &abilities, &draws)? {
+                Some(0) => none = none.saturating_add(1),
+                Some(_) => found = found.saturating_add(1),
+                None => assert!(rt; false),
+            }
+        }
+    }
+    // Both kinds of answers come up.
+    assert!(rt; found > 100 && none > 100);
+    Ok(())
+}
+
+// A zone's text of 32 servers with 32 addresses each.
+fn full_service(alloc: Global) -> Result<Vec<u8>, AllocError> {
+    let mut text = Vec::new(alloc);
+    for server in 0..32_u8 {
+        text.extend_from_slice(b"_sip._tcp SRV 0 1 5060 s")?;
+        text.extend_from_slice(Buffer::new().format(server).as_bytes())?;
+        text.push(b'\n')?;
+        push_addresses(&mut text, server)?;
+    }
+    Ok(text)
+}
+
+// Appends the addresses of a server.
+fn push_addresses(text: &mut Vec<u8>, server: u8) -> Result<(), AllocError> {
+    for address in 0..32_u8 {
+        text.push(b's')?;
+        text.extend_from_slice(Buffer::new().format(server).as_bytes())?;
+        text.extend_from_slice(b" A 192.0.")?;
+        text.extend_from_slice(Buffer::new().format(server).as_bytes())?;
+        text.push(b'.')?;
+        text.extend_from_slice(Buffer::new().format(address).as_bytes())?;
+        text.push(b'\n')?;
+    }
+    Ok(())
+}
+
+#[test]
+fn runs_agree_over_32_servers_of_32_addresses(rt: HostRuntime) -> Result<(), Fail> {
+    let alloc = rt.alloc();
+    let apex = Name::from_text(alloc, b"e.", &Name::root(alloc))?;
+    let mut store = ZoneStore::new(alloc);
+    store.load(&read_zone(alloc, &full_service(alloc)?, &apex)?)?;
+    let preference = Vec::from_slice(alloc, &[Transport::Udp, Transport::Tcp])?;
+    let abilities = Abilities::new(preference, Families::V4)?;
+    let question = Uri::parse(alloc, b"sip:e.")?;
+    let targets = agreed(alloc, &mut store, question, &abilities, &Draws::from_seed(7))?;
+    assert_eq!(rt; targets, Some(1024));
+    Ok(())
+}
