@@ -1,6 +1,7 @@
 use crate::command::MAX_LINE_LEN;
 // Sessions over streams of the tests' own.
 mod comparison;
+mod findings;
 mod finds;
 pub mod process;
 mod routes;
