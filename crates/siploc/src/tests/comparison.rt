@@ -43,6 +43,7 @@ const TRANSPORTS: [&[Transport]; 4] = [
 ];
 
 // Numbers from a seed.
+#[derive(Drop)]
 struct Numbers {
     seed: u64,
     draws: Draws,
