@@ -1,1 +1,2 @@
 pub mod SameEndpoint
+pub mod Choosing

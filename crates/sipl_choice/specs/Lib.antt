@@ -6,3 +6,4 @@ pub mod Abilities
 pub mod SameClient
 pub mod FamilyKinds
 pub mod Pointers
+pub mod Candidates
