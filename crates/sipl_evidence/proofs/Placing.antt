@@ -1,8 +1,10 @@
 -- The places of items in a table by names.
-use Rattle.std.proofs.Common.{◌≡◌, ◌≢◌, ℕ, zero, suc, ◌<◌, ◌+◌, ltb, Bool, true, false, not, cond, ◌&&◌, List, [], ◌∷◌, ◌++◌, length, get_or, position, Option, None, Some, unwrap_or, is_some, option_map, ◌⊎◌, refl, ap, sym, ◌∙◌, inl, inr, arith}
+use Rattle.std.proofs.Common.{◌≡◌, ◌≢◌, ℕ, zero, suc, ◌<◌, ◌+◌, ltb, Bool, true, false, not, cond, ◌&&◌, List, [], ◌∷◌, ◌++◌, length, get_or, position, Option, None, Some, unwrap_or, is_some, option_map, ◌⊎◌, refl, ap, sym, ◌∙◌, inl, inr, arith, length-append}
 use Rattle.std.specs.List.{position_or_len}
 use Rattle.std.proofs.lemmas.Bool.{cases_Bool, cases_lt, lt-ltb, le-ltb}
-use Rattle.std.proofs.lemmas.List.Quantifiers.{all_pairs_push}
+use Rattle.std.proofs.lemmas.List.Quantifiers.{all_pairs_push, position-Some}
+use Rattle.std.proofs.Math.ListN.{get_or-append}
+use Rattle.std.proofs.Math.Seq.{get_or-append_seam}
 use Rattle.sipl_names.specs.Labels.{Labels, same_name}
 use Rattle.sipl_names.proofs.SameName.{same_name_decides}
 use Rattle.sipl_records.specs.declared.kind.Kind.{Kind}
@@ -14,30 +16,37 @@ use Rattle.sipl_evidence.specs.Items.{Item, HasDistinctKeys}
 use Rattle.sipl_evidence.specs.Known.{known, is_unknown}
 use Rattle.sipl_evidence.specs.Places.{place_at, place_among, place_in, place_of, IsIndexed}
 
--- a table with the place of one key more
-module _ (old new : Labels → Option Places) (k : Key) (place : ℕ) (none own changed : Places)
-    (empty : (kind : Kind) → place_at none kind ≡ None)
-    (own_is : own ≡ unwrap_or (old k.name) none)
-    (changed_is : (kind : Kind) → place_at changed kind ≡ cond (same_kind k.kind kind) (Some place) (place_at own kind))
+-- a table in which the place of one key is another, or there is none any more
+module _ (old new : Labels → Option Places) (k : Key) (place : Option ℕ) (changed : Places)
+    (changed_is : (kind : Kind) → place_at changed kind ≡ cond (same_kind k.kind kind) place (place_among (old k.name) kind))
     (new_is : (name : Labels) → new name ≡ cond (same_name k.name name) (Some changed) (old name)) where
-  or_none : (places : Option Places) (kind : Kind) → place_at (unwrap_or places none) kind ≡ place_among places kind
-  or_none None kind = empty kind
-  or_none (Some places) kind = refl
-
-  pub place_in-set : (other : Key) → place_in new other ≡ cond (same_key k other) (Some place) (place_in old other)
+  pub place_in-set : (other : Key) → place_in new other ≡ cond (same_key k other) place (place_in old other)
   place_in-set other = elim (cases_Bool (same_name k.name other.name)) [
     | inl same ↦
         let name : k.name ≡ other.name = (same_name_decides k.name other.name).0 same in
-        let before : place_at own other.kind ≡ place_in old other =
-        ap (λ p. place_at p other.kind) own_is ∙ or_none (old k.name) other.kind ∙ ap (λ n. place_among (old n) other.kind) name in
         ap (λ p. place_among p other.kind) (new_is other.name ∙ ap (λ b. cond b (Some changed) (old other.name)) same)
         ∙ changed_is other.kind
-        ∙ ap (λ p. cond (same_kind k.kind other.kind) (Some place) p) before
-        ∙ sym (ap (λ b. cond (b && same_kind k.kind other.kind) (Some place) (place_in old other)) same)
+        ∙ ap (λ n. cond (same_kind k.kind other.kind) place (place_among (old n) other.kind)) name
+        ∙ sym (ap (λ b. cond (b && same_kind k.kind other.kind) place (place_in old other)) same)
     | inr apart ↦
         ap (λ p. place_among p other.kind) (new_is other.name ∙ ap (λ b. cond b (Some changed) (old other.name)) apart)
-        ∙ sym (ap (λ b. cond (b && same_kind k.kind other.kind) (Some place) (place_in old other)) apart)
+        ∙ sym (ap (λ b. cond (b && same_kind k.kind other.kind) place (place_in old other)) apart)
   ]
+
+-- the places of a name, or none
+pub place_at-own : (old : Option Places) (none own : Places) → ((kind : Kind) → place_at none kind ≡ None) → own ≡ unwrap_or old none → (kind : Kind) → place_at own kind ≡ place_among old kind
+place_at-own None none own empty own_is kind = ap (λ p. place_at p kind) own_is ∙ empty kind
+place_at-own (Some places) none own empty own_is kind = ap (λ p. place_at p kind) own_is
+
+-- a table without places of a name has no place of its keys
+pub place_in-absent : (table : Labels → Option Places) (k : Key) → table k.name ≡ None → (other : Key) → place_in table other ≡ cond (same_key k other) None (place_in table other)
+place_in-absent table k absent other = elim (cases_Bool (same_key k other)) [
+  | inl same ↦
+      let key : k ≡ other = (same_key-Decides k other).0 same in
+      ap (λ k. place_in table k) (sym key) ∙ ap (λ p. place_among p k.kind) absent
+      ∙ sym (ap (λ b. cond b None (place_in table other)) same)
+  | inr apart ↦ sym (ap (λ b. cond b None (place_in table other)) apart)
+]
 
 place_later : (a l : ℕ) → cond (ltb (1 + a) (suc l)) (Some (1 + a)) None ≡ option_map (λ n. suc n) (cond (ltb a l) (Some a) None)
 place_later a l = elim (cases_lt a l) [
@@ -140,6 +149,42 @@ indexed-push items item old new indexed none after = record {
   distinct = distinct-push items item indexed.distinct none;
   places = λ k. after k ∙ ap (λ o. cond (same_key item.key k) (Some (length items)) o) (indexed.places k) ∙ sym (place_of-push items item k none);
 }
+
+-- the last of distinct keys has no place among the others
+last-no_place : (items : List Item) (item : Item) → HasDistinctKeys (items ++ item ∷ []) → place_of items item.key ≡ None
+last-no_place items item distinct = by (place_of items item.key) refl
+  where
+    by : (o : Option ℕ) → place_of items item.key ≡ o → o ≡ None
+    by None at = refl
+    by (Some n) at =
+        let found = position-Some (λ other. same_key other.key item.key) items n item at in
+        let apart = distinct n (length items) item found.0 (omega (arith, length-append items (item ∷ []))) in
+        let same : (get_or (items ++ item ∷ []) n item).key ≡ (get_or (items ++ item ∷ []) (length items) item).key =
+        ap (λ (i : Item). i.key) (get_or-append items (item ∷ []) item n found.0)
+        ∙ (same_key-Decides (get_or items n item).key item.key).0 found.1
+        ∙ sym (ap (λ (i : Item). i.key) (get_or-append_seam items item [] item)) in
+        absurd (apart same)
+
+distinct-pop : (items : List Item) (item : Item) → HasDistinctKeys (items ++ item ∷ []) → HasDistinctKeys items
+distinct-pop items item distinct i j d below inside same =
+    distinct i j d below (omega (arith, length-append items (item ∷ [])))
+    (ap (λ (i : Item). i.key) (get_or-append items (item ∷ []) d i (omega arith)) ∙ same ∙ sym (ap (λ (i : Item). i.key) (get_or-append items (item ∷ []) d j inside)))
+
+pub indexed-pop : (items : List Item) (item : Item) (old new : Labels → Option Places) → IsIndexed (items ++ item ∷ []) old
+    → ((k : Key) → place_in new k ≡ cond (same_key item.key k) None (place_in old k)) → IsIndexed items new
+indexed-pop items item old new indexed after = record {
+  distinct = distinct-pop items item indexed.distinct;
+  places = λ k. after k ∙ ap (λ o. cond (same_key item.key k) None o) (indexed.places k ∙ place_of-push items item k none) ∙ left k;
+}
+  where
+    none : place_of items item.key ≡ None
+    none = last-no_place items item indexed.distinct
+
+    left : (k : Key) → cond (same_key item.key k) None (cond (same_key item.key k) (Some (length items)) (place_of items k)) ≡ place_of items k
+    left k = elim (cases_Bool (same_key item.key k)) [
+      | inl same ↦ rw same (sym (ap (place_of items) (sym ((same_key-Decides item.key k).0 same)) ∙ none))
+      | inr apart ↦ rw apart refl
+    ]
 
 pub indexed-empty : IsIndexed [] (λ _. None)
 indexed-empty = record { distinct = λ i j d below inside. absurd (omega arith); places = λ k. refl }

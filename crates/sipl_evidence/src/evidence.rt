@@ -1,4 +1,4 @@
-ghost use Rattle.std.specs.Prelude.{◌≡◌, ◌↔◌, ◌+◌, ◌≤◌, [], ◌∷◌, ◌++◌, false, true, length, if◌then◌else◌, Some, vec_len, vec_capacity, IsTrue, IfOk, IfErr, OnOk, OnErr};
+ghost use Rattle.std.specs.Prelude.{◌≡◌, ◌↔◌, ◌+◌, ◌≤◌, [], ◌∷◌, ◌++◌, false, true, length, if◌then◌else◌, None, Some, vec_len, vec_capacity, IsTrue, IfOk, IfErr, IfSome, OnOk, OnErr};
 ghost use Rattle.std.specs.Option.{option_copied};
 ghost use Rattle.indexmap.specs.IndexMap.{get, IsUnchanged};
 ghost use Rattle.sipl_names.specs.Labels.{same_name};
@@ -11,7 +11,7 @@ ghost use Rattle.sipl_evidence.specs.Places.{place_in, place_of};
 
 use crate::fault::EvidenceFault;
 use crate::item::Item;
-use crate::places::{Places, insert_place};
+use crate::places::{Places, insert_place, remove_place};
 use indexmap::IndexMap;
 use sipl_names::Name;
 use sipl_records::{Data, Key, Kind};
@@ -142,6 +142,18 @@ impl Evidence {
         }
         self.items.push_reserved(item);
         Ok(())
+    }
+
+    /// Removes the last item and returns it; `None` where there is none. Constant time but for
+    /// hashing. Does not allocate.
+    pub fn pop(&mut self) -> Option<Item>
+        ensures item { IfSome result (λ item. self.old ≡ self.new ++ item ∷ []) }
+        ensures empty { result ≡ None → self.old ≡ [] }
+        ensures none { result ≡ None → self.new ≡ [] }
+    {
+        let item = self.items.pop()?;
+        remove_place(&mut self.places, item.key());
+        Some(item)
     }
 
     /// A copy. The only error is an allocation failure.

@@ -48,17 +48,17 @@ impl Places {
         }
     }
 
-    // Sets the place of the item of this kind.
-    pub(crate) fn set(&mut self, kind: Kind, place: usize)
+    // Sets the place of the item of this kind, or that there is none.
+    pub(crate) fn set(&mut self, kind: Kind, place: Option<usize>)
         ensures { (other : Kind) → place_at self.new other
-            ≡ (if same_kind kind other then Some place else place_at self.old other) }
+            ≡ (if same_kind kind other then place else place_at self.old other) }
     {
         match kind {
-            Kind::Address4 => self.address4 = Some(place),
-            Kind::Address6 => self.address6 = Some(place),
-            Kind::Alias => self.alias = Some(place),
-            Kind::Service => self.service = Some(place),
-            Kind::Pointer => self.pointer = Some(place),
+            Kind::Address4 => self.address4 = place,
+            Kind::Address6 => self.address6 = place,
+            Kind::Alias => self.alias = place,
+            Kind::Service => self.service = place,
+            Kind::Pointer => self.pointer = place,
         }
     }
 }
@@ -76,8 +76,18 @@ pub(crate) fn insert_place(
     ensures err { OnErr result (IsUnchanged table.old table.new) }
 {
     let mut places = table.get(&key.name).copied().unwrap_or(Places::empty());
-    places.set(key.kind, place);
+    places.set(key.kind, Some(place));
     replace_places(table, alloc, &key.name, places)
+}
+
+// Removes the place of a key's item from a table by names.
+pub(crate) fn remove_place(table: &mut IndexMap<Name, Places>, key: &Key)
+    ensures { (other : Key) → place_in (get same_name table.new) other
+        ≡ (if same_key key.now other then None else place_in (get same_name table.old) other) }
+{
+    if let Some(places) = table.get_mut(&key.name) {
+        places.set(key.kind, None);
+    }
 }
 
 // Sets the places of a name.

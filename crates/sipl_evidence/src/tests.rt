@@ -147,6 +147,28 @@ fn a_key_is_read_once(rt: HostRuntime) {
     assert_eq!(rt; items[0].number(), 3);
 }
 
+#[test]
+fn a_removed_key_can_be_read_again(rt: HostRuntime) {
+    let alloc = rt.alloc();
+    let mut evidence = Evidence::new(alloc);
+    push(&rt, &mut evidence, address(&rt, alloc, "a.", 3, 10));
+    push(&rt, &mut evidence, address(&rt, alloc, "b.", 4, 11));
+    let last = evidence.pop().expect(&rt, "an item");
+    assert_eq!(rt; last.number(), 4);
+    assert!(rt; is_address(last.content(), 11));
+    assert_eq!(rt; evidence.find(last.key()), None);
+    let first = key(&rt, alloc, "a.", Kind::Address4);
+    assert_eq!(rt; evidence.find(&first), Some(0));
+    push(&rt, &mut evidence, address(&rt, alloc, "b.", 5, 12));
+    assert_eq!(rt; evidence.find(last.key()), Some(1));
+    assert_eq!(rt; evidence.items()[1].number(), 5);
+    assert!(rt; evidence.pop().is_some());
+    assert!(rt; evidence.pop().is_some());
+    assert!(rt; evidence.pop().is_none());
+    assert!(rt; evidence.is_empty());
+    assert_eq!(rt; evidence.find(&first), None);
+}
+
 // Whether the walk wants this set.
 fn wants(
     rt: &impl Abort,
