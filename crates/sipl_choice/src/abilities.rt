@@ -151,10 +151,14 @@ mod tests {
     }
 
     #[test]
-    fn equality_sees_the_order_of_preference(rt: HostRuntime) -> Result<(), Fail> {
+    fn equality_sees_the_order_of_preference_and_the_families(rt: HostRuntime) -> Result<(), Fail> {
         let client = Abilities::new(Vec::from_slice(rt.alloc(), &[Udp, Tcp])?, Families::V4)?;
         for transports in [[Udp, Tls].as_slice(), &[Tcp, Udp], &[Udp], &[Udp, Tcp, Tls]] {
             let other = Abilities::new(Vec::from_slice(rt.alloc(), transports)?, Families::V4)?;
+            assert!(rt; other != client);
+        }
+        for families in [Families::V6, Families::V4ThenV6, Families::V6ThenV4] {
+            let other = Abilities::new(Vec::from_slice(rt.alloc(), &[Udp, Tcp])?, families)?;
             assert!(rt; other != client);
         }
         Ok(())

@@ -153,3 +153,6 @@ fn transport_of_services(services: &[u8]) -> Option<Transport>
         None
     }
 }
+
+#[cfg(test)]
+mod tests;
