@@ -8,9 +8,9 @@ use Rattle.sipl_plans.specs.declared.layout.Layout.TheVariants.{Refused, Servers
 use Rattle.sipl_plans.specs.declared.layout.Source.{Source}
 
 -- at most 32 servers, as many as a set has records, each with at most 64 addresses, 32 of each family
-pub record AreFew (servers : List Source) : Type 0 where
-  pub servers : length servers ≤ 32
-  pub addresses : All (λ server. length server.addresses ≤ 64) servers
+pub record AreFew (sources : List Source) : Type 0 where
+  pub servers : length sources ≤ 32
+  pub addresses : All (λ server. length server.addresses ≤ 64) sources
 
 -- whether a layout's servers and their addresses are few
 abbrev pub HasFewServers : Layout → Type 0
