@@ -1,5 +1,6 @@
 pub mod Answering
 pub mod Equations
+pub mod FewReads
 pub mod FewRecords
 pub mod FewServers
 pub mod Rows
