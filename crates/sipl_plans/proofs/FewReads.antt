@@ -147,8 +147,11 @@ module _ (look : Look) where
       services-asked name secure closed (transport ∷ others) =
           let n : ℕ = length others * 17 + 1088 in
           let later : Bool → Asking Layout = λ now. asking_services client name secure now others in
-          omega (arith, after_offer-asked (service_name_of name transport) (asking_tried client transport later closed) n
-          (tried-asked transport later n (omega arith) (λ now. services-asked name secure now others) closed))
+          omega (
+            arith,
+            after_offer-asked (service_name_of name transport) (asking_tried client transport later closed) n
+                (tried-asked transport later n (omega arith) (λ now. services-asked name secure now others) closed),
+          )
 
       chosen-asked : abilities_fault client.preference ≡ None → (name : Labels) (secure : Bool) (choice : Option Choice) → length (asked look (asking_chosen client name secure choice)) ≤ 1139
       chosen-asked valid name secure (Some choice) =
