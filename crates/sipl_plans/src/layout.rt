@@ -1,4 +1,4 @@
-ghost use Rattle.std.specs.Prelude.{◌≡◌, ◌<◌, ◌++◌, [], ◌∷◌, length, slice_get, if◌then◌else◌, IfOk, OnOk};
+ghost use Rattle.std.specs.Prelude.{◌≡◌, ◌<◌, ◌≤◌, ◌++◌, [], ◌∷◌, length, slice_get, if◌then◌else◌, IfOk, OnOk};
 ghost use Rattle.std.specs.List.{All, filter_map, flat_map, list_any};
 ghost use Rattle.sipl_records.specs.Unique.{unique};
 ghost use Rattle.sipl_choice.specs.Endpoints.{same_endpoint};
@@ -11,23 +11,26 @@ use sipl_records::{Address, Sequence};
 use sipl_srv::{Draws, Ranked, arrange};
 use std::alloc::{AllocError, Global};
 
-/// A server (RFC 2782): its place in the order of servers, its port, and its addresses in order.
-#[derive(Debug, Drop)]
+/// A server of a layout: a service's server by an SRV record (RFC 2782), or the domain itself as the
+/// only one.
+#[derive(Debug, PartialEq, Eq, Drop)]
 pub struct Source {
-    /// Servers of a lower number come first.
+    /// Servers of a lower number come first. 0 for the domain itself.
     pub priority: u16,
-    /// The server's share of the picks, among those of its priority.
+    /// The server's share of the choices among those of its priority. 0 for the domain itself.
     pub weight: u16,
+    /// The port at each of the addresses.
     pub port: u16,
+    /// The addresses, in the order in which they are tried; there may be none.
     pub addresses: Sequence<Address>,
 }
 
 /// Where requests are sent (RFC 3263, 4.1 and 4.2), before the random choice among the servers.
-#[derive(Debug, Drop)]
+#[derive(Debug, PartialEq, Eq, Drop)]
 pub enum Layout {
     /// Nowhere, and the reason.
     Refused(Reason),
-    /// To these servers, over one transport.
+    /// To these servers, in the order of the SRV records, over one transport.
     Servers(Transport, Sequence<Source>),
 }
 
@@ -53,12 +56,11 @@ impl Source {
     fn dup(&self, alloc: Global) -> Result<Self, AllocError>
         ensures { IfOk result (λ copy. copy ≡ self.now) }
     {
-        let addresses = Vec::from_slice(alloc, self.addresses.as_slice())?;
         Ok(Source {
             priority: self.priority,
             weight: self.weight,
             port: self.port,
-            addresses: Sequence::from_vec(addresses),
+            addresses: self.addresses.dup(alloc)?,
         })
     }
 }
@@ -77,9 +79,10 @@ impl Ranked for Source {
     }
 }
 
-/// The targets of a layout: the endpoints of its servers, these in the order that the draws give,
-/// each endpoint once, at its first place (RFC 3263, 4.2): at most 2,048. A server without addresses
-/// takes a word as well.
+/// The targets of a layout: the endpoints of its servers, these in the order that the draws give
+/// (RFC 2782, "Usage rules"), each endpoint once, at its first place (RFC 3263, 4.2). A server
+/// without addresses takes a word as well. There are at most 2,048 targets: 32 servers of 64
+/// addresses.
 pub fn draw(alloc: Global, layout: &Layout, draws: &Draws) -> Result<Answer, AllocError>
     requires few { HasFewServers layout.now }
     ensures answer { IfOk result (λ answer. answer ≡ draw layout.now draws.now) }
@@ -169,16 +172,20 @@ mod tests {
         }
     }
 
+    // A server of the first 64 of these addresses.
     fn source(
         alloc: Global,
         priority: u16,
         port: u16,
         numbers: &[u32],
-    ) -> Result<Source, AllocError> {
-        let mut addresses = Vec::with_capacity(alloc, numbers.len())?;
-        for number in numbers {
-            addresses.push(Address::V4(*number))?;
-        }
+    ) -> Result<Source, AllocError>
+        ensures { IfOk result (λ source. length source.addresses ≤ 64) }
+    {
+        let addresses: Vec<Address> = numbers
+            .iter()
+            .take(64)
+            .map(|number| Address::V4(*number))
+            .collect(alloc)?;
         Ok(Source {
             priority,
             weight: 0,
@@ -187,8 +194,8 @@ mod tests {
         })
     }
 
-    // What is drawn from servers of these priorities, ports and addresses, of which the first 32 count,
-    // over TCP and for words of 0.
+    // What is drawn from the first 32 servers of these priorities, ports and addresses, over TCP and
+    // for words of 0.
     fn drawn(alloc: Global, servers: &[(u16, u16, &[u32])]) -> Result<Answer, Fail> {
         let mut sources = Vec::new(alloc);
         for (priority, port, numbers) in servers {
@@ -229,6 +236,19 @@ mod tests {
         let layout = Layout::Refused(Reason::NoTransport);
         let answer = draw(alloc, &layout, &Draws::from_words(&[])?)?;
         assert!(rt; is_none(&answer, Reason::NoTransport));
+        Ok(())
+    }
+
+    #[test]
+    fn copies_are_equal(rt: HostRuntime) -> Result<(), Fail> {
+        let alloc = rt.alloc();
+        let mut servers = Vec::new(alloc);
+        servers.push(source(alloc, 1, 5070, &[SERVER, OTHER])?)?;
+        servers.push(source(alloc, 0, 5080, &[])?)?;
+        let layout = Layout::Servers(Transport::Tcp, Sequence::from_vec(servers));
+        assert!(rt; layout.dup(alloc)? == layout);
+        let layout = Layout::Refused(Reason::NoTransport);
+        assert!(rt; layout.dup(alloc)? == layout);
         Ok(())
     }
 }
