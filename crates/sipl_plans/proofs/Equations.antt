@@ -1,9 +1,8 @@
 -- What the steps of a route result in.
-use Rattle.std.proofs.Common.{◌≡◌, ℕ, Bool, true, false, List, [], ◌∷◌, ◌++◌, Option, Some, None, append_assoc, refl, sym, ap, ◌∙◌}
+use Rattle.std.proofs.Common.{◌≡◌, ℕ, List, [], ◌∷◌, ◌++◌, Some, append_assoc, sym, ap, ◌∙◌}
 use Rattle.std.specs.List.{filter_map}
 use Rattle.sipl_names.specs.Labels.{Labels}
 use Rattle.sipl_records.specs.declared.address.Address.{Address}
-use Rattle.sipl_records.specs.declared.data.Data.{Data}
 use Rattle.sipl_records.specs.declared.kind.Kind.{Kind}
 use Rattle.sipl_records.specs.declared.kind.Kind.TheVariants.{Service}
 use Rattle.sipl_srv.specs.Offers.{offer_of}

@@ -33,13 +33,13 @@ tcp_service = codes "_sip" ∷ codes "_tcp" ∷ domain
 
 abbrev zone : List Record
 zone =
-  record { owner = domain; value = naptr 50 50 (codes "s") (codes "SIPS+D2T") [] (codes "_sips" ∷ codes "_tcp" ∷ domain) }
-  ∷ record { owner = domain; value = naptr 90 50 (codes "s") (codes "SIP+D2T") [] tcp_service }
-  ∷ record { owner = domain; value = naptr 100 50 (codes "s") (codes "SIP+D2U") [] (codes "_sip" ∷ codes "_udp" ∷ domain) }
-  ∷ record { owner = tcp_service; value = srv 0 1 5060 server1 }
-  ∷ record { owner = tcp_service; value = srv 0 2 5060 server2 }
-  ∷ record { owner = server1; value = a4 1 }
-  ∷ record { owner = server2; value = a4 2 } ∷ []
+    record { owner = domain; value = naptr 50 50 (codes "s") (codes "SIPS+D2T") [] (codes "_sips" ∷ codes "_tcp" ∷ domain) }
+    ∷ record { owner = domain; value = naptr 90 50 (codes "s") (codes "SIP+D2T") [] tcp_service }
+    ∷ record { owner = domain; value = naptr 100 50 (codes "s") (codes "SIP+D2U") [] (codes "_sip" ∷ codes "_udp" ∷ domain) }
+    ∷ record { owner = tcp_service; value = srv 0 1 5060 server1 }
+    ∷ record { owner = tcp_service; value = srv 0 2 5060 server2 }
+    ∷ record { owner = server1; value = a4 1 }
+    ∷ record { owner = server2; value = a4 2 } ∷ []
 
 abbrev client : Client
 client = record { preference = Tcp ∷ Udp ∷ []; families = V4 }
