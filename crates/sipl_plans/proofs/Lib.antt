@@ -4,5 +4,6 @@ pub mod FewReads
 pub mod FewRecords
 pub mod FewServers
 pub mod FewTargets
+pub mod Routing
 pub mod Rows
 pub mod UniqueEndpoints

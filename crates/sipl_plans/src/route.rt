@@ -10,10 +10,10 @@ ghost use Rattle.sipl_plans.specs.Route.{asking_chosen, asking_domain, asking_nu
 
 use crate::answer::Reason;
 use crate::layout::{Layout, Source};
-use crate::look::{addresses, offer_at};
-use sipl_choice::{Abilities, Transport, default_port, service_name};
+use crate::look::{addresses, answer, offer_at};
+use sipl_choice::{Abilities, Transport, chosen_service, default_port, service_name};
 use sipl_names::Name;
-use sipl_records::{Address, Record, Sequence};
+use sipl_records::{Address, Kind, Record, Sequence};
 use sipl_srv::{Offer, Pick};
 use sipl_uri::{Question, Target};
 use std::alloc::{AllocError, Global};
@@ -173,13 +173,12 @@ fn route_by_pointer(
         (and_then (asking name.now Kind.Pointer) (λ set. asking_chosen abilities.now name.now
         secure (chosen secure abilities.now set)))) }
 {
-    // let set = answer(alloc, records, name, Kind::Pointer)?;
-    // let Some((transport, service)) = chosen_service(&set, secure, abilities) else {
-    //     return route_by_service(alloc, records, name, secure, abilities);
-    // };
-    // let offer = offer_at(alloc, records, Some(service))?;
-    // follow_offer(alloc, records, name, transport, &offer, abilities)
-    Err(AllocError)
+    let set = answer(alloc, records, name, Kind::Pointer)?;
+    let Some((transport, service)) = chosen_service(&set, secure, abilities) else {
+        return route_by_service(alloc, records, name, secure, abilities);
+    };
+    let offer = offer_at(alloc, records, Some(service))?;
+    follow_offer(alloc, records, name, transport, &offer, abilities)
 }
 
 // The route over the first transport, in the client's order of preference, whose service has picks
