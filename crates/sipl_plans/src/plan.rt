@@ -2,6 +2,7 @@ ghost use Rattle.std.specs.Prelude.{◌≡◌, ◌≤◌, length, IfOk};
 ghost use Rattle.sipl_records.specs.declared.record.Key.{Key};
 ghost use Rattle.sipl_records.specs.Sets.{set_of};
 ghost use Rattle.sipl_plans.specs.Plan.{plan};
+ghost use Rattle.sipl_plans.specs.Servers.{target_count};
 
 use crate::answer::Answer;
 use crate::layout::draw;
@@ -13,11 +14,12 @@ use sipl_uri::Question;
 use std::alloc::{AllocError, Global};
 
 /// The answer to a question from all records: the targets, in the order in which they are tried, or
-/// the reason that there are none (RFC 3263, 4). Each of at most 32 SRV records takes one of the
-/// draws. Aliases, NAPTR records and IPv6 addresses of names are not supported yet.
+/// the reason that there are none (RFC 3263, 4). There are at most 2,048 targets: 32 servers of 64
+/// addresses. Each of at most 32 SRV records takes one of the draws.
 ///
-/// Each look-up scans all records: one for a question with a port, otherwise one for each transport
-/// that is tried and one for each SRV record.
+/// Linear in the records for each look-up of a record set. There are at most 1,156 look-ups: for the
+/// NAPTR records of the domain, the SRV records over 3 transports, and the IPv4 and IPv6 addresses of
+/// 32 servers, each over up to 8 aliases (RFC 1034, 3.6.2).
 pub fn plan_of(
     alloc: Global,
     records: &[Record],
@@ -28,6 +30,7 @@ pub fn plan_of(
     requires small_sets { (key : Key) → length (set_of records.now key) ≤ 32 }
     ensures plan { IfOk result
         (λ answer. answer ≡ plan (set_of records.now) question.now abilities.now draws.now) }
+    ensures few { IfOk result (λ answer. target_count answer ≤ 2048) }
 {
     let layout = route(alloc, records, question, abilities)?;
     draw(alloc, &layout, draws)
