@@ -90,7 +90,7 @@ pub(crate) fn addresses(
 }
 
 // Appends the addresses among the data.
-fn push_addresses(found: &mut Vec<Address>, set: &[Data]) -> Result<(), AllocError>
+pub(crate) fn push_addresses(found: &mut Vec<Address>, set: &[Data]) -> Result<(), AllocError>
     ensures { OnOk result
         (found.new.items ≡ found.old.items ++ filter_map address_of_data set.now) }
 {
