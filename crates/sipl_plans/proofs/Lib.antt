@@ -1,3 +1,4 @@
+pub mod Advancing
 pub mod Answering
 pub mod Equations
 pub mod FewReads

@@ -8,6 +8,7 @@ mod look;
 mod plan;
 mod route;
 mod run;
+mod serving;
 mod stage;
 #[cfg(test)]
 mod tests;
