@@ -53,8 +53,8 @@ advance-onward items next new old same =
 
 -- where no set is lacking there is a result
 pub result_or_unknown : {A : Type 0} (items : List Item) (asking : Asking A) → known_result items asking ≡ None → first_unknown items asking ≡ None → ⊥
-result_or_unknown items (done value) none known_all = let never : Some value ≡ None = none in cc
-result_or_unknown items (ask k next) none known_all = by (known items k) (λ set. result_or_unknown items (next set)) none known_all
+result_or_unknown {A = A} items (done value) none known_all = let never : Some value ≡ None = none in cc
+result_or_unknown {A = A} items (ask k next) none known_all = by (known items k) (λ set. result_or_unknown items (next set)) none known_all
   where
     by : (o : Option (List Data)) → ((set : List Data) → known_result items (next set) ≡ None → first_unknown items (next set) ≡ None → ⊥) → ◌≡◌ {A = Option A} (elim o [ Some set ↦ known_result items (next set) | None ↦ None ]) None → ◌≡◌ {A = Option Key} (elim o [ Some set ↦ first_unknown items (next set) | None ↦ Some k ]) None → ⊥
     by None rest none known_all = let never : Some k ≡ None = known_all in cc

@@ -7,4 +7,5 @@ pub mod FewServers
 pub mod FewTargets
 pub mod Routing
 pub mod Rows
+pub mod ServersLeft
 pub mod UniqueEndpoints
