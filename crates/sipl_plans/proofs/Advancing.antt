@@ -1,14 +1,15 @@
 -- How far a computation gets with the sets that are known.
-use Rattle.std.proofs.Common.{◌≡◌, ℕ, zero, suc, ◌+◌, ◌<◌, List, [], ◌∷◌, ◌++◌, Option, None, Some, append_assoc, append-nil, refl, sym, ap, ◌∙◌, arith}
-use Rattle.std.specs.List.{filter_map}
+use Rattle.std.proofs.Common.{◌≡◌, ℕ, zero, suc, ◌+◌, ◌<◌, Bool, true, false, List, Option, None, Some, refl, sym, ap, ◌∙◌, arith}
 use Rattle.sipl_names.specs.Labels.{Labels}
-use Rattle.sipl_records.specs.declared.address.Address.{Address}
 use Rattle.sipl_records.specs.declared.data.Data.{Data}
 use Rattle.sipl_records.specs.declared.kind.Kind.{Kind}
+use Rattle.sipl_records.specs.declared.kind.Kind.TheVariants.{Alias}
 use Rattle.sipl_records.specs.declared.record.Key.{Key}
 use Rattle.sipl_evidence.specs.Items.{Item}
 use Rattle.sipl_evidence.specs.Known.{known, first_unknown, advance, known_result}
-use Rattle.sipl_evidence.specs.Looks.{Asking, done, ask, and_then}
+use Rattle.sipl_evidence.specs.Looks.{Asking, done, ask, and_then, key}
+use Rattle.sipl_evidence.specs.Walks.{WalkState, asking_at, walk_asking}
+use Rattle.sipl_evidence.proofs.Walking.{first_unknown-next_key, next_key, next_key-alias, next_key-set}
 
 -- equal continuations make equal computations
 pub and_then-alike : {A B : Type 0} (first : Asking A) (f g : A → Asking B) → ((x : A) → f x ≡ g x) → and_then first f ≡ and_then first g
@@ -51,6 +52,11 @@ pub advance-onward : {A B : Type 0} (items : List Item) (next : A → Asking B) 
 advance-onward items next new old same =
     advance-and_then items next new ∙ ap (λ first. advance items (and_then first next)) same ∙ sym (advance-and_then items next old)
 
+-- computations that get as far lack the same set first
+pub first_unknown-alike : {A : Type 0} (items : List Item) (one other : Asking A) → advance items one ≡ advance items other → first_unknown items one ≡ first_unknown items other
+first_unknown-alike items one other same =
+    first_unknown-next_key items one ∙ ap next_key same ∙ sym (first_unknown-next_key items other)
+
 -- where no set is lacking there is a result
 pub result_or_unknown : {A : Type 0} (items : List Item) (asking : Asking A) → known_result items asking ≡ None → first_unknown items asking ≡ None → ⊥
 result_or_unknown {A = A} items (done value) none known_all = let never : Some value ≡ None = none in cc
@@ -74,3 +80,26 @@ known_count-result {A = A} items next (ask k more) value is = by (known items k)
     by : (o : Option (List Data)) → ((set : List Data) → known_result items (more set) ≡ Some value → known_count items (and_then (more set) next) ≡ known_count items (more set) + known_count items (next value)) → ◌≡◌ {A = Option A} (elim o [ Some set ↦ known_result items (more set) | None ↦ None ]) (Some value) → ◌≡◌ {A = ℕ} (elim o [ Some set ↦ suc (known_count items (and_then (more set) next)) | None ↦ 0 ]) ((let first : ℕ = elim o [ Some set ↦ suc (known_count items (more set)) | None ↦ 0 ] in first) + known_count items (next value))
     by None rest is = let never : None ≡ Some value = is in cc
     by (Some set) rest is = omega (arith, rest set is)
+
+-- a computation that asks for a set, and has a result, asks for a known one
+known_count-asks : {A : Type 0} (items : List Item) (k : Key) (next : List Data → Asking A) (value : A) → known_result items (ask k next) ≡ Some value → 0 < known_count items (ask k next)
+known_count-asks {A = A} items k next value is = by (known items k) is
+  where
+    by : (o : Option (List Data)) → ◌≡◌ {A = Option A} (elim o [ Some set ↦ known_result items (next set) | None ↦ None ]) (Some value) → 0 < (let all : ℕ = elim o [ Some set ↦ suc (known_count items (next set)) | None ↦ 0 ] in all)
+    by None is = let never : None ≡ Some value = is in cc
+    by (Some set) is = omega arith
+
+known_count-some : {A : Type 0} (items : List Item) (asking : Asking A) (k : Key) (value : A) → next_key asking ≡ Some k → known_result items asking ≡ Some value → 0 < known_count items asking
+known_count-some items (done x) k value asks is = let never : None ≡ Some k = asks in cc
+known_count-some items (ask other next) k value asks is = known_count-asks items other next value is
+
+known_count-at : (items : List Item) (is_empty : Bool) (left : ℕ) (name : Labels) (kind : Kind) (set : List Data) → known_result items (asking_at is_empty left name kind) ≡ Some set → 0 < known_count items (asking_at is_empty left name kind)
+known_count-at items true left name kind set is = known_count-some items (asking_at true left name kind) (key name Alias) set (next_key-alias true left name kind refl) is
+known_count-at items false left name kind set is = known_count-some items (asking_at false left name kind) (key name kind) set (next_key-set false left name kind refl) is
+
+-- after a walk fewer known sets are left
+pub known_count-walk : {B : Type 0} (items : List Item) (walk : WalkState) (next : List Data → Asking B) (set : List Data) (left : Asking B) → known_result items (walk_asking walk) ≡ Some set → left ≡ next set → known_count items left < known_count items (and_then (walk_asking walk) next)
+known_count-walk items walk next set left is same =
+    let some = known_count-at items walk.is_empty walk.left walk.name walk.kind set is in
+    let all = known_count-result items next (walk_asking walk) set is in
+    omega (arith, some, all, ap (known_count items) same)

@@ -8,4 +8,5 @@ pub mod FewTargets
 pub mod Routing
 pub mod Rows
 pub mod ServersLeft
+pub mod Trying
 pub mod UniqueEndpoints
