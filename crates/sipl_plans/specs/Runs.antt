@@ -7,9 +7,8 @@ use Rattle.sipl_records.specs.declared.record.Key.{Key}
 use Rattle.sipl_choice.specs.Abilities.{Client, abilities_fault}
 use Rattle.sipl_evidence.specs.Items.{Item}
 use Rattle.sipl_evidence.specs.Known.{first_unknown, is_unknown, IsTrace}
-use Rattle.sipl_evidence.specs.Looks.{Look}
 use Rattle.sipl_uri.specs.declared.question.Question.{Question}
-use Rattle.sipl_plans.specs.Route.{asking_route, reads}
+use Rattle.sipl_plans.specs.Route.{asking_route}
 
 -- what callers see of a run: the question, the client, and the sets that were read, in order
 pub record RunState : Type 0 where
@@ -19,10 +18,10 @@ pub record RunState : Type 0 where
 
 -- a set as it can be read: at most 32 data, all of the key's kind, and the number 0 exactly where
 -- there are none
-pub record IsSet (k : Key) (number : ℕ) (content : List Data) : Type 0 where
+pub record IsSet (k : Key) (n : ℕ) (content : List Data) : Type 0 where
   pub kind : All (λ datum. has_kind k.kind datum ≡ true) content
   pub few : length content ≤ 32
-  pub number : (number ≡ 0) ↔ (content ≡ [])
+  pub number : (n ≡ 0) ↔ (content ≡ [])
 
 -- the key of the set that a run wants: the first that the route asks for and that was not read
 abbrev pub wanted : RunState → Option Key
@@ -30,7 +29,7 @@ wanted run = first_unknown run.items (asking_route run.question run.client)
 
 -- whether a run wants a set, and this is one for its key
 abbrev pub IsWanted : Option Key → ℕ → List Data → Type 0
-IsWanted None number content = Empty {0}
+IsWanted None number content = ⊥
 IsWanted (Some k) number content = IsSet k number content
 
 -- the first of the keys that was not read
