@@ -1,12 +1,16 @@
 pub mod Advancing
 pub mod Answering
+pub mod Deciding
 pub mod Equations
 pub mod FewReads
 pub mod FewRecords
 pub mod FewServers
 pub mod FewTargets
 pub mod Routing
+pub mod KnownLook
+pub mod Reaching
 pub mod Rows
 pub mod ServersLeft
 pub mod Trying
 pub mod UniqueEndpoints
+pub mod Unread

@@ -5,3 +5,4 @@ pub mod Plan
 pub mod Runs
 pub mod Findings
 pub mod Stages
+pub mod Unfinished

@@ -14,7 +14,8 @@ use std::alloc::{AllocError, Global};
 use std::marker::Model;
 
 /// The route of a question for a client (RFC 3263, 4), and the evidence for it: on all records that
-/// agree with the evidence the route is the layout, and looks at the evidence's keys, in their order.
+/// agree with the evidence the route is the layout, and looks at the evidence's keys, in their
+/// order.
 #[derive(Drop)]
 pub struct Finding {
     question: Question,
@@ -51,8 +52,18 @@ impl Finding {
         layout: Layout,
         evidence: Evidence,
     ) -> Self
-        requires sound { IsSound (record { question = question; client = abilities; layout = layout; items = evidence }) }
-        ensures { result ≡ record { question = question; client = abilities; layout = layout; items = evidence } }
+        requires sound { IsSound (record {
+          question = question;
+          client = abilities;
+          layout = layout;
+          items = evidence;
+        }) }
+        ensures { result ≡ record {
+          question = question;
+          client = abilities;
+          layout = layout;
+          items = evidence;
+        } }
     {
         Finding {
             question,

@@ -6,6 +6,7 @@ ghost use Rattle.sipl_evidence.specs.Known.{Agrees};
 ghost use Rattle.sipl_plans.specs.Findings.{IsFound};
 ghost use Rattle.sipl_plans.specs.Route.{reads};
 ghost use Rattle.sipl_plans.specs.Runs.{first_unread, wanted, IsGiven, IsRun, IsWanted};
+ghost use Rattle.sipl_plans.specs.Unfinished.{code_of};
 
 use crate::finding::Finding;
 use crate::stage::{Progress, Stage, advance};
@@ -14,8 +15,9 @@ use sipl_evidence::{Evidence, Item, dup_data};
 use sipl_records::{Data, Key, Sequence};
 use sipl_uri::Question;
 use std::alloc::{AllocError, Global};
+use std::error::Error;
 use std::marker::Model;
-use std::mem;
+use std::{fmt, mem};
 
 /// The maximum number of record sets that a run wants: those of 68 walks over 8 aliases each.
 pub const MAX_SETS: usize = 1156;
@@ -28,12 +30,6 @@ pub struct Run {
     abilities: Abilities,
     evidence: Evidence,
     progress: Progress,
-}
-
-/// A run that still wants a set (P1).
-#[derive(Drop)]
-pub struct Unfinished {
-    pub run: Run,
 }
 
 impl Model for Run {
@@ -53,12 +49,17 @@ impl Model for Run {
 
     ghost invariant = { λ r.
         IsRun (record { question = r.question; client = r.abilities; items = r.evidence })
-        × HasReached r.question r.abilities r.evidence (asking_route r.question r.abilities) r.progress };
+        × HasReached r.question r.abilities r.evidence
+        (asking_route r.question r.abilities) r.progress };
 }
 
 impl Run {
     /// A run that has read nothing.
-    pub fn start(alloc: Global, question: Question, abilities: &Abilities) -> Result<Self, AllocError>
+    pub fn start(
+        alloc: Global,
+        question: Question,
+        abilities: &Abilities,
+    ) -> Result<Self, AllocError>
         ensures { IfOk result (λ run. run
             ≡ record { question = question; client = abilities.now; items = [] }) }
     {
@@ -96,30 +97,31 @@ impl Run {
         ensures ok { OnOk result (IsGiven self.old self.new number content.now) }
         ensures err { OnErr result (self.new ≡ self.old) }
     {
-        let Progress::Wanting(key, _) = &self.progress else {
-            return Ok(());
+        let Progress::Wanting(key, stage) = &mut self.progress else {
+            unreachable!()
         };
         let content = Sequence::from_vec(dup_data(alloc, content)?);
         let item = Item::new(key.dup(alloc)?, number, content);
         if self.evidence.push(item).is_err() {
             return Err(AllocError);
         }
-        let advanced = self.advance(alloc);
-        if advanced.is_err() {
-            // POP
-        }
-        advanced
-    }
-
-    // Goes on as far as the evidence leads. After an error it is at the start of the route again.
-    fn advance(&mut self, alloc: Global) -> Result<(), AllocError>
-    {
-        let Progress::Wanting(_, stage) = &mut self.progress else {
-            return Ok(());
-        };
         let stage = mem::replace(stage, Stage::Start);
-        self.progress = advance(alloc, &self.question, &self.abilities, &self.evidence, stage)?;
-        Ok(())
+        match advance(
+            alloc,
+            &self.question,
+            &self.abilities,
+            &self.evidence,
+            stage,
+        ) {
+            Ok(progress) => {
+                self.progress = progress;
+                Ok(())
+            }
+            Err(error) => {
+                self.evidence.pop();
+                Err(error)
+            }
+        }
     }
 
     /// What was found, where the run wants no set; otherwise the run as it was (P1). Does not
@@ -149,3 +151,38 @@ impl Run {
         }
     }
 }
+
+/// A run that still wants a set (P1).
+#[derive(Drop)]
+pub struct Unfinished {
+    pub run: Run,
+}
+
+impl Unfinished {
+    /// The error's code in replies, `P1`.
+    pub fn code(&self) -> &'static str
+        ensures { result.now ≡ code_of self.now }
+    {
+        "P1"
+    }
+}
+
+impl fmt::Display for Unfinished {
+    ghost use Rattle.std.specs.Prelude.{Some};
+    ghost use Rattle.sipl_plans.specs.Unfinished.{message_of};
+
+    ghost output = { λ fault. Some (message_of fault) };
+
+    fn fmt<W: fmt::Write>(&self, f: &mut fmt::Formatter<W>) -> fmt::Result {
+        f.write_str("the run still wants a set")
+    }
+}
+
+// The run is not shown.
+impl fmt::Debug for Unfinished {
+    fn fmt<W: fmt::Write>(&self, f: &mut fmt::Formatter<W>) -> fmt::Result {
+        f.write_str("Unfinished")
+    }
+}
+
+impl Error for Unfinished {}
