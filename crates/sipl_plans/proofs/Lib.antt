@@ -7,6 +7,7 @@ pub mod FewRecords
 pub mod FewServers
 pub mod FewTargets
 pub mod Routing
+pub mod ItemRecords
 pub mod KnownLook
 pub mod Reaching
 pub mod Rows

@@ -3,6 +3,7 @@
 
 mod answer;
 mod finding;
+pub mod laws;
 mod layout;
 mod look;
 mod plan;
