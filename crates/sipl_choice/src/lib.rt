@@ -1,6 +1,6 @@
 //! What a client chooses from (RFC 3263, 4): transports, endpoints, families of addresses, the
-//! names of services, and the abilities of a client; and the NAPTR record that decides the transport
-//! (RFC 3263, 4.1).
+//! names of services, and the abilities of a client; and the NAPTR record that decides the
+//! transport (RFC 3263, 4.1).
 #![tactic(auto)]
 
 mod abilities;

@@ -30,17 +30,17 @@ impl Candidate<'_> {
     }
 }
 
-/// The place of the NAPTR record that decides the transport (RFC 3263, 4.1; RFC 3403, 4.1): of those
-/// that apply, the one of the least order, and among equal orders of the least preference; the first
-/// of equal ones. `None` where none applies. Data of other kinds do not count. Linear in the set.
-/// Does not allocate.
+/// The place of the NAPTR record that decides the transport (RFC 3263, 4.1; RFC 3403, 4.1): of
+/// those that apply, the one of the least order, and among equal orders of the least preference;
+/// the first of equal ones. `None` where none applies. Data of other kinds do not count. Linear in
+/// the set. Does not allocate.
 ///
 /// A record applies where all of this is true:
 ///
 /// - its flags are `S`, in either case, and it has no regular expression;
 /// - its replacement is not the root;
-/// - its services are `SIP+D2U`, `SIP+D2T`, `SIP+D2S` or `SIPS+D2T`, in either case, which stand for
-///   UDP, TCP, SCTP and TLS;
+/// - its services are `SIP+D2U`, `SIP+D2T`, `SIP+D2S` or `SIPS+D2T`, in either case, for UDP, TCP,
+///   SCTP and TLS;
 /// - the client supports the transport, which is TLS where the URI is secure (`sips`).
 pub fn choose_pointer(set: &[Data], secure: bool, abilities: &Abilities) -> Option<usize>
     ensures { result ≡ chosen_pointer secure abilities.now set.now }
