@@ -1,5 +1,5 @@
 -- Services, whose offers are read over walks.
-use Rattle.std.proofs.Common.{◌≡◌, ℕ, suc, ◌+◌, ◌<◌, Bool, true, false, List, ◌∷◌, length, get_or, drop, Option, None, Some, option_map, cond, refl, sym, ap, ◌∙◌, arith}
+use Rattle.std.proofs.Common.{◌≡◌, ℕ, suc, ◌+◌, ◌<◌, Bool, true, List, ◌∷◌, length, get_or, drop, Option, None, Some, option_map, cond, refl, sym, ap, ◌∙◌, arith}
 use Rattle.std.proofs.Math.Seq.{drop-cons}
 use Rattle.std.specs.List.{filter}
 use Rattle.sipl_names.specs.Labels.{Labels}
@@ -63,8 +63,3 @@ chosen-walk client name secure (Some choice) transport service walk is over =
     let named : Some choice.replacement ≡ Some service = ap (λ (p : Transport × Labels). Some p.1) (sym own) in
     sym (asking_offer-walk (Some choice.replacement) service walk (asking_offered client name choice.transport) named over
     ∙ ap (λ (p : Transport × Labels). and_then walk (λ set. asking_offered client name p.0 (offer_of set))) (sym own))
-
--- without a choice the services of the client's transports are tried
-pub chosen-none : (client : Client) (name : Labels) (secure : Bool) (choice : Option Choice) → ◌≡◌ {A = Option (Transport × Labels)} None (option_map (λ c. (c.transport, c.replacement)) choice) → services_left client name secure false client.preference ≡ asking_chosen client name secure choice
-chosen-none client name secure None is = refl
-chosen-none client name secure (Some choice) is = let never : ◌≡◌ {A = Option (Transport × Labels)} None (Some (choice.transport, choice.replacement)) = is in cc

@@ -13,7 +13,7 @@ use crate::layout::Layout;
 use crate::look::push_addresses;
 use crate::route::{default_transport, is_tried, numeric_layout, transport_of};
 use crate::serving::Serving;
-use sipl_choice::{Abilities, Transport, default_port, service_name};
+use sipl_choice::{Abilities, Transport, chosen_service, default_port, service_name};
 use sipl_evidence::{Evidence, Walk};
 use sipl_names::Name;
 use sipl_records::{Data, Key, Kind, Sequence};
@@ -190,14 +190,12 @@ fn follow_pointers(alloc: Global, domain: Domain<'_>, set: &[Data]) -> Result<St
         domain.entry.abilities.now domain.entry.name.now domain.entry.question.now.secure
         (chosen domain.entry.question.now.secure domain.entry.abilities.now set.now)) }
 {
-    // let Some((transport, service)) =
-    //     chosen_service(set, domain.question.secure, domain.abilities)
-    // else {
-    //     return try_services(alloc, domain, 0, false);
-    // };
-    // let walk = Walk::start(service.dup(alloc)?, Kind::Service);
-    // Ok(Step::Reading(walk, Purpose::Offered(transport)))
-    try_services(alloc, domain, 0, false)
+    let secure = domain.question.secure;
+    let Some((transport, service)) = chosen_service(set, secure, domain.abilities) else {
+        return try_services(alloc, domain, 0, false);
+    };
+    let walk = Walk::start(service.dup(alloc)?, Kind::Service);
+    Ok(Step::Reading(walk, Purpose::Offered(transport)))
 }
 
 // What follows an offer of the service that is used (RFC 3263, 4.2): its picks, or that it is not
