@@ -79,15 +79,11 @@ after name question client (Services transport next closed) set =
 after name question client (Addresses serving) set =
     serving_after (address_kinds client.families) serving set
 
--- what a walk for a purpose asks for, and what follows its answer
-abbrev pub asking_for : Labels → Question → Client → WalkState → Purpose → Asking Layout
-asking_for name question client walk purpose =
-    and_then (walk_asking walk) (after name question client purpose)
-
 -- what is left of the route to a domain
 abbrev pub domain_rest : Labels → Question → Client → Stage → Asking Layout
 domain_rest name question client Start = asking_domain client name question
-domain_rest name question client (Reading walk purpose) = asking_for name question client walk purpose
+domain_rest name question client (Reading walk purpose) =
+    and_then (walk_asking walk) (after name question client purpose)
 
 -- what is left of the route of a question
 abbrev pub rest : Question → Client → Stage → Asking Layout
@@ -113,15 +109,14 @@ abbrev pub HasReachedIn : Domain → List Item → Asking Layout → Progress �
 HasReachedIn domain items asking progress =
     HasReachedBy (domain_rest domain.name.now domain.question.now domain.abilities.now) items asking progress
 
--- what a walk to a domain asks for, and what follows its answer
-abbrev pub reading : Domain → WalkState → Purpose → Asking Layout
-reading domain walk purpose =
-    asking_for domain.name.now domain.question.now domain.abilities.now walk purpose
-
 -- what follows the answer of a walk to a domain
 abbrev pub follows : Domain → Purpose → List Data → Asking Layout
 follows domain purpose set =
     after domain.name.now domain.question.now domain.abilities.now purpose set
+
+-- what a walk to a domain asks for, and what follows its answer
+abbrev pub reading : Domain → WalkState → Purpose → Asking Layout
+reading domain walk purpose = and_then (walk_asking walk) (follows domain purpose)
 
 -- what is left of the route to a domain, after a step
 abbrev pub step_asking : Domain → Step → Asking Layout

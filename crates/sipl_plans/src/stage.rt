@@ -1,12 +1,9 @@
 //! How far a run is in a route, and how it goes on.
-ghost use Rattle.std.specs.Prelude.{◌≡◌, false, drop, filter, IfOk, OnOk, None, Some};
-ghost use Rattle.sipl_choice.specs.Pointers.{chosen};
+ghost use Rattle.std.specs.Prelude.{◌≡◌, drop, filter, IfOk};
 ghost use Rattle.sipl_choice.specs.FamilyKinds.{address_kinds};
-ghost use Rattle.sipl_evidence.specs.Known.{advance, first_unknown, known_result};
-ghost use Rattle.sipl_evidence.specs.Looks.{and_then};
-ghost use Rattle.sipl_evidence.specs.Walks.{walk_asking};
-ghost use Rattle.sipl_plans.specs.Route.{asking_chosen, asking_domain, asking_offered, asking_over, asking_own, asking_served, asking_services, asking_tried, is_tried};
-ghost use Rattle.sipl_plans.specs.Stages.{rest, reading, follows, step_asking, serving_left, HasReached, HasReachedIn};
+ghost use Rattle.sipl_choice.specs.Pointers.{chosen};
+ghost use Rattle.sipl_plans.specs.Route.{asking_chosen, asking_domain, asking_offered, asking_over, asking_own, asking_served, asking_services, is_tried};
+ghost use Rattle.sipl_plans.specs.Stages.{follows, reading, rest, serving_left, step_asking, HasReached, HasReachedIn};
 
 use crate::answer::Reason;
 use crate::layout::Layout;

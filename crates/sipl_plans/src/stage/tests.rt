@@ -11,18 +11,23 @@ use sipl_uri::{Question, Target};
 use std::alloc::Global;
 use std::process::Abort;
 
-// A record: an address, or a server with its port.
+// A record: an address, a server with its port, or a terminal pointer with its services.
 #[derive(Clone, Copy)]
 enum Row {
     A(&'static str, u32),
     Aaaa(&'static str, u128),
     Srv(&'static str, u16, &'static str),
+    Naptr(&'static str, &'static str, &'static str),
 }
 
-use Row::{A, Aaaa, Srv};
+use Row::{A, Aaaa, Naptr, Srv};
 
 fn name(rt: &impl Abort, alloc: Global, text: &str) -> Name {
     Name::from_text(alloc, text.as_bytes(), &Name::root(alloc)).expect(rt, "a name")
+}
+
+fn text(rt: &impl Abort, alloc: Global, text: &str) -> Sequence<u8> {
+    Sequence::from_vec(Vec::from_slice(alloc, text.as_bytes()).expect(rt, "memory"))
 }
 
 // The question that a URI without a port and a transport asks of `a.`.
@@ -56,6 +61,17 @@ fn datum_of(rt: &impl Abort, alloc: Global, row: Row, key: &Key) -> Option<Data>
                 weight: 0,
                 port,
                 target: name(rt, alloc, target),
+            };
+            (owner, value)
+        }
+        Naptr(owner, services, replacement) => {
+            let value = Data::Pointer {
+                order: 0,
+                preference: 0,
+                flags: text(rt, alloc, "s"),
+                services: text(rt, alloc, services),
+                regexp: text(rt, alloc, ""),
+                replacement: name(rt, alloc, replacement),
             };
             (owner, value)
         }
@@ -262,4 +278,32 @@ fn domains_without_services_have_their_own_addresses(rt: HostRuntime) {
     ];
     let layout = run(&rt, alloc, &[A("a.", 1)], &question, &abilities, &wanted);
     assert!(rt; is_servers(&layout, Tls, &[(5061, &[Address::V4(1)])]));
+}
+
+#[test]
+fn pointers_choose_the_service(rt: HostRuntime) {
+    let alloc = rt.alloc();
+    let question = sip(&rt, alloc);
+    let abilities = client(&rt, alloc, &[Udp, Tcp], Families::V4);
+    let rows = [
+        Naptr("a.", "SIP+D2S", "sctp."),
+        Naptr("a.", "SIP+D2T", "tcp."),
+        Srv("_sip._udp.a.", 5070, "s."),
+        Srv("tcp.", 5080, "t."),
+        A("s.", 1),
+        A("t.", 2),
+    ];
+    let wanted = [("a.", Pointer), ("tcp.", Service), ("t.", Address4)];
+    let layout = run(&rt, alloc, &rows, &question, &abilities, &wanted);
+    assert!(rt; is_servers(&layout, Tcp, &[(5080, &[Address::V4(2)])]));
+    // The domain's own addresses are used where the service has no SRV records.
+    let rows = [Naptr("a.", "sip+d2t", "tcp."), A("a.", 3)];
+    let wanted = [
+        ("a.", Pointer),
+        ("tcp.", Service),
+        ("tcp.", Alias),
+        ("a.", Address4),
+    ];
+    let layout = run(&rt, alloc, &rows, &question, &abilities, &wanted);
+    assert!(rt; is_servers(&layout, Tcp, &[(5060, &[Address::V4(3)])]));
 }
