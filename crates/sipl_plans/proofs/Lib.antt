@@ -12,6 +12,6 @@ pub mod KnownLook
 pub mod Reaching
 pub mod Rows
 pub mod ServersLeft
-pub mod Trying
+pub mod ServiceWalks
 pub mod UniqueEndpoints
 pub mod Unread

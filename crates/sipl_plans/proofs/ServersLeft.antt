@@ -1,5 +1,5 @@
 -- The servers whose addresses are still read.
-use Rattle.std.proofs.Common.{◌≡◌, ℕ, suc, ◌+◌, ◌<◌, ◌≤◌, List, [], ◌∷◌, ◌++◌, length, get_or, drop, append_assoc, append-nil, refl, sym, ap, subst, ◌∙◌, arith}
+use Rattle.std.proofs.Common.{◌≡◌, ℕ, suc, ◌+◌, ◌<◌, List, [], ◌∷◌, ◌++◌, length, get_or, drop, append_assoc, append-nil, sym, ap, ◌∙◌, arith}
 use Rattle.std.proofs.Math.Seq.{drop-cons}
 use Rattle.std.specs.List.{filter_map}
 use Rattle.sipl_names.specs.Labels.{Labels}
@@ -27,9 +27,9 @@ asking_more-addresses (kind ∷ kinds) name found next =
     let joined : List Data → Asking (List Address) = λ set. and_then (asking_addresses kinds name) (λ others. done (one set ++ others)) in
     and_then-alike (asking name kind) (λ set. asking_more kinds name (found ++ one set) next) (λ set. and_then (joined set) (λ all. next (found ++ all)))
     (λ set.
-      asking_more-addresses kinds name (found ++ one set) next
-      ∙ and_then-alike (asking_addresses kinds name) (λ others. next ((found ++ one set) ++ others)) (λ others. next (found ++ (one set ++ others))) (λ others. ap next (append_assoc found (one set) others))
-      ∙ sym (and_then-assoc (asking_addresses kinds name) (λ others. done (one set ++ others)) (λ all. next (found ++ all))))
+    asking_more-addresses kinds name (found ++ one set) next
+    ∙ and_then-alike (asking_addresses kinds name) (λ others. next ((found ++ one set) ++ others)) (λ others. next (found ++ (one set ++ others))) (λ others. ap next (append_assoc found (one set) others))
+    ∙ sym (and_then-assoc (asking_addresses kinds name) (λ others. done (one set ++ others)) (λ all. next (found ++ all))))
     ∙ sym (and_then-assoc (asking name kind) joined (λ all. next (found ++ all)))
 
 asking_later-sources : (kinds : List Kind) (transport : Transport) (picks : List Pick) (servers : List Source) → asking_later kinds transport picks servers ≡ and_then (asking_sources kinds picks) (λ others. done (Servers transport (servers ++ others)))
@@ -39,9 +39,9 @@ asking_later-sources kinds transport (pick ∷ picks) servers =
     asking_more-addresses kinds pick.target [] (λ found. asking_later kinds transport picks (servers ++ source_of pick found ∷ []))
     ∙ and_then-alike (asking_addresses kinds pick.target) (λ found. asking_later kinds transport picks (servers ++ source_of pick found ∷ [])) (λ found. and_then (joined found) (λ others. done (Servers transport (servers ++ others))))
     (λ found.
-      asking_later-sources kinds transport picks (servers ++ source_of pick found ∷ [])
-      ∙ and_then-alike (asking_sources kinds picks) (λ others. done (Servers transport ((servers ++ source_of pick found ∷ []) ++ others))) (λ others. done (Servers transport (servers ++ (source_of pick found ∷ others)))) (λ others. ap (λ all. done (Servers transport all)) (append_assoc servers (source_of pick found ∷ []) others))
-      ∙ sym (and_then-assoc (asking_sources kinds picks) (λ others. done (source_of pick found ∷ others)) (λ others. done (Servers transport (servers ++ others)))))
+    asking_later-sources kinds transport picks (servers ++ source_of pick found ∷ [])
+    ∙ and_then-alike (asking_sources kinds picks) (λ others. done (Servers transport ((servers ++ source_of pick found ∷ []) ++ others))) (λ others. done (Servers transport (servers ++ (source_of pick found ∷ others)))) (λ others. ap (λ all. done (Servers transport all)) (append_assoc servers (source_of pick found ∷ []) others))
+    ∙ sym (and_then-assoc (asking_sources kinds picks) (λ others. done (source_of pick found ∷ others)) (λ others. done (Servers transport (servers ++ others)))))
     ∙ sym (and_then-assoc (asking_addresses kinds pick.target) joined (λ others. done (Servers transport (servers ++ others))))
 
 -- the servers of picks are served, one after another

@@ -1,5 +1,5 @@
 -- Where a run is in a route, and what the route still asks for there.
-use Rattle.std.specs.Prelude.{◌≡◌, ℕ, Bool, List, [], ◌∷◌, ◌++◌, drop, filter, Some}
+use Rattle.std.specs.Prelude.{◌≡◌, ℕ, List, [], ◌∷◌, ◌++◌, drop, filter, Some}
 use Rattle.std.specs.List.{filter_map}
 use Rattle.sipl_names.specs.Labels.{Labels}
 use Rattle.sipl_records.specs.declared.address.Address.{Address}

@@ -3,7 +3,7 @@ use Rattle.sipl_records.specs.declared.kind.Kind.TheVariants.{Service}
 use Rattle.sipl_choice.specs.Pointers.{chosen}
 use Rattle.sipl_evidence.specs.Answers.{asking}
 use Rattle.sipl_evidence.specs.Walks.{walk_asking}
-use Rattle.sipl_plans.proofs.Trying.{chosen-walk}
+use Rattle.sipl_plans.proofs.ServiceWalks.{chosen-walk}
 use Rattle.sipl_plans.proofs.stage.follow_pointers.Goals as goal
 
 pub returns : goal.returns

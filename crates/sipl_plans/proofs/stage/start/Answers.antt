@@ -1,6 +1,6 @@
 use Rattle.std.proofs.Common.{◌∙◌, sym}
 use Rattle.sipl_evidence.specs.Walks.{walk_asking}
-use Rattle.sipl_plans.proofs.Trying.{given-walk}
+use Rattle.sipl_plans.proofs.ServiceWalks.{given-walk}
 use Rattle.sipl_plans.proofs.stage.start.Goals as goal
 
 pub returns-in-Some : goal.returns-in-Some

@@ -1,7 +1,7 @@
 use Rattle.std.proofs.Common.{◌≡◌, ◌<◌, length, get_or, drop, sym, ap, subst, ◌∙◌}
 use Rattle.sipl_choice.specs.declared.transport.Transport.TheVariants.{Udp}
 use Rattle.sipl_evidence.specs.Walks.{walk_asking}
-use Rattle.sipl_plans.proofs.Trying.{services_left, services_left-walk}
+use Rattle.sipl_plans.proofs.ServiceWalks.{services_left, services_left-walk}
 use Rattle.sipl_plans.proofs.stage.try_services.Goals as goal
 
 pub returns-in-Some : goal.returns-in-Some

@@ -1,5 +1,5 @@
 use Rattle.std.proofs.Common.{◌≡◌, drop}
-use Rattle.sipl_plans.proofs.Trying.{services_left}
+use Rattle.sipl_plans.proofs.ServiceWalks.{services_left}
 use Rattle.sipl_plans.proofs.stage.try_services.Given as goal
 
 abbrev pub invariant-loop-place : goal.invariant-loop-place

@@ -1,5 +1,5 @@
 -- Services, whose offers are read over walks.
-use Rattle.std.proofs.Common.{◌≡◌, ℕ, suc, ◌+◌, ◌<◌, Bool, true, List, ◌∷◌, length, get_or, drop, Option, None, Some, option_map, cond, refl, sym, ap, ◌∙◌, arith}
+use Rattle.std.proofs.Common.{◌≡◌, ℕ, suc, ◌+◌, ◌<◌, Bool, true, List, ◌∷◌, length, get_or, drop, Option, None, Some, option_map, cond, sym, ap, ◌∙◌, arith}
 use Rattle.std.proofs.Math.Seq.{drop-cons}
 use Rattle.std.specs.List.{filter}
 use Rattle.sipl_names.specs.Labels.{Labels}
@@ -14,7 +14,7 @@ use Rattle.sipl_srv.specs.declared.pick.Offer.{Offer}
 use Rattle.sipl_evidence.specs.Answers.{asking}
 use Rattle.sipl_evidence.specs.Looks.{Asking, done, and_then}
 use Rattle.sipl_uri.specs.declared.question.Question.{Question}
-use Rattle.sipl_plans.specs.Route.{asking_chosen, asking_domain, asking_offer, asking_offered, asking_over, asking_services, asking_tried, is_tried}
+use Rattle.sipl_plans.specs.Route.{asking_chosen, asking_domain, asking_offer, asking_offered, asking_services, asking_tried, is_tried}
 use Rattle.sipl_plans.specs.declared.answer.Reason.TheVariants.{NoTransport}
 use Rattle.sipl_plans.specs.declared.layout.Layout.{Layout}
 use Rattle.sipl_plans.specs.declared.layout.Layout.TheVariants.{Refused}
