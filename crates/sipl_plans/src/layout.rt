@@ -11,8 +11,7 @@ use sipl_records::{Address, Sequence};
 use sipl_srv::{Draws, Ranked, arrange};
 use std::alloc::{AllocError, Global};
 
-/// A server of a layout: a service's server by an SRV record (RFC 2782), or the domain itself as the
-/// only one.
+/// A server of a layout: that of an SRV record (RFC 2782), or the domain itself as the only one.
 #[derive(Debug, PartialEq, Eq, Drop)]
 pub struct Source {
     /// Servers of a lower number come first. 0 for the domain itself.
@@ -194,8 +193,8 @@ mod tests {
         })
     }
 
-    // What is drawn from the first 32 servers of these priorities, ports and addresses, over TCP and
-    // for words of 0.
+    // What is drawn from the first 32 servers of these priorities, ports and addresses, over TCP
+    // and for words of 0.
     fn drawn(alloc: Global, servers: &[(u16, u16, &[u32])]) -> Result<Answer, Fail> {
         let mut sources = Vec::new(alloc);
         for (priority, port, numbers) in servers {
@@ -208,8 +207,8 @@ mod tests {
 
     #[test]
     fn each_endpoint_is_drawn_once_at_its_first_place(rt: HostRuntime) -> Result<(), Fail> {
-        // The server of priority 1 shares an endpoint with that of priority 0. The server of priority 2
-        // has no address.
+        // The server of priority 1 shares an endpoint with that of priority 0. The server of
+        // priority 2 has no address.
         let answer = drawn(
             rt.alloc(),
             &[
