@@ -1,6 +1,6 @@
 -- Worked rows, by evaluation.
 use Rattle.std.proofs.Common.{◌≡◌, refl}
-use Rattle.std.specs.Prelude.{ℕ, suc, true, false, List, [], ◌∷◌, ◌++◌, Some, None, codes}
+use Rattle.std.specs.Prelude.{ℕ, suc, false, List, [], ◌∷◌, ◌++◌, Some, None, codes}
 use Rattle.sipl_records.specs.Sets.{set_of}
 use Rattle.sipl_records.specs.declared.address.Address.TheVariants.{V4 as v4}
 use Rattle.sipl_records.specs.declared.data.Data.TheVariants.{Address4 as a4, Service as srv, Pointer as naptr, Alias as alias}
@@ -8,16 +8,16 @@ use Rattle.sipl_records.specs.declared.record.Record.{Record}
 use Rattle.sipl_records.specs.declared.kind.Kind.TheVariants.{Address4, Service, Pointer, Alias}
 use Rattle.sipl_plans.specs.Plan.{plan}
 use Rattle.sipl_plans.specs.declared.answer.Answer.TheVariants.{Targets, None as none_of}
-use Rattle.sipl_names.specs.Labels.{Octets, Labels}
+use Rattle.sipl_names.specs.Labels.{Labels}
 use Rattle.sipl_choice.specs.Abilities.{Client}
 use Rattle.sipl_choice.specs.declared.families.Families.TheVariants.{V4}
-use Rattle.sipl_choice.specs.declared.transport.Transport.TheVariants.{Udp, Tcp, Tls}
+use Rattle.sipl_choice.specs.declared.transport.Transport.TheVariants.{Udp, Tcp}
 use Rattle.sipl_uri.specs.declared.question.Question.{Question}
 use Rattle.sipl_uri.specs.declared.question.Target.TheVariants.{Domain}
 use Rattle.sipl_evidence.specs.Looks.{key}
 use Rattle.sipl_plans.specs.Route.{route, reads}
-use Rattle.sipl_plans.specs.declared.layout.Layout.TheVariants.{Servers, Refused}
-use Rattle.sipl_plans.specs.declared.answer.Reason.TheVariants.{NotAvailable, NoAddress}
+use Rattle.sipl_plans.specs.declared.layout.Layout.TheVariants.{Servers}
+use Rattle.sipl_plans.specs.declared.answer.Reason.TheVariants.{NoAddress}
 
 abbrev domain : Labels
 domain = codes "a" ∷ []
