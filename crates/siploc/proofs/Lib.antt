@@ -7,3 +7,4 @@ pub mod Results
 pub mod Steps
 pub mod Words
 pub mod SmallSets
+pub mod Locating

@@ -9,9 +9,9 @@ use Rattle.sipl_uri.specs.declared.question.Question.{Question}
 use Rattle.sipl_zonestore.specs.Store.{Store}
 
 -- a sound finding of a question for a client, with evidence that the records agree with
-pub record IsLocated (records : List Record) (question : Question) (client : Client) (found : Found) : Type 0 where
-  pub question : found.question ≡ question
-  pub client : found.client ≡ client
+pub record IsLocated (records : List Record) (asked : Question) (asker : Client) (found : Found) : Type 0 where
+  pub question : found.question ≡ asked
+  pub client : found.client ≡ asker
   pub agrees : Agrees (set_of records) found.items
   pub sound : IsSound found
 

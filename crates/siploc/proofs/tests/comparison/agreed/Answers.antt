@@ -1,7 +1,7 @@
 use Rattle.std.proofs.Common.{◌≡◌, true, subst, sym}
 use Rattle.sipl_masterfile.specs.Zones.{sets_fit}
 use Rattle.siploc.proofs.SmallSets.{sets_fit-small}
-use Rattle.siploc.proofs.session.Session.find.Goals as goal
+use Rattle.siploc.proofs.tests.comparison.agreed.Goals as goal
 
 pub plan_of-requires : goal.plan_of-requires
 plan_of-requires c =
