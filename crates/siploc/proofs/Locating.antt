@@ -82,8 +82,8 @@ goes_on before now later first old new k number content so is want content_is gi
       question = given.question ∙ so.question;
       client = given.client ∙ so.client;
       agrees = λ agrees. subst (λ items. Agrees (set_of before.zones.records) items) (sym (given_items old new k number content want given))
-      (All-append (λ i. set_of before.zones.records i.key ≡ i.content) old.items (item ∷ []) (so.agrees agrees)
-      (All-cons (λ i. set_of before.zones.records i.key ≡ i.content) item [] own (All-nil (λ i. set_of before.zones.records i.key ≡ i.content))));
+          (All-append (λ i. set_of before.zones.records i.key ≡ i.content) old.items (item ∷ []) (so.agrees agrees)
+          (All-cons (λ i. set_of before.zones.records i.key ≡ i.content) item [] own (All-nil (λ i. set_of before.zones.records i.key ≡ i.content))));
     }
 
 pub located : (before now : Store) (first run : RunState) (found : Found) → GoesOn before now first run → IsFound run found → Agrees (set_of before.zones.records) first.items → IsLocated before.zones.records first.question first.client found

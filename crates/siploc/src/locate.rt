@@ -26,7 +26,11 @@ pub(crate) fn locate(
 }
 
 // Gives a run the sets that it wants, and returns what it finds.
-pub(crate) fn complete(alloc: Global, store: &mut ZoneStore, run: Run) -> Result<Finding, AllocError>
+pub(crate) fn complete(
+    alloc: Global,
+    store: &mut ZoneStore,
+    run: Run,
+) -> Result<Finding, AllocError>
     ensures located { Agrees (set_of store.old.zones.records) run.items → IfOk result
         (λ finding. IsLocated store.old.zones.records run.question run.client finding) }
     ensures unchanged { IsLookedAt store.old store.new }

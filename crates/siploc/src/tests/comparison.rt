@@ -13,8 +13,16 @@ use std::test::Fail;
 
 // Owners and targets of the zone `e.`: few, so that chains and circles of aliases come up.
 const NAMES: [&str; 10] = [
-    "a.e.", "b.e.", "c.e.", "d.e.", "_sip._udp.a.e.", "_sip._tcp.a.e.", "_sips._tcp.a.e.",
-    "_sip._sctp.a.e.", "_sip._tcp.b.e.", "_sip._udp.b.e.",
+    "a.e.",
+    "b.e.",
+    "c.e.",
+    "d.e.",
+    "_sip._udp.a.e.",
+    "_sip._tcp.a.e.",
+    "_sips._tcp.a.e.",
+    "_sip._sctp.a.e.",
+    "_sip._tcp.b.e.",
+    "_sip._udp.b.e.",
 ];
 
 const POINTERS: [&str; 6] = [
@@ -27,18 +35,32 @@ const POINTERS: [&str; 6] = [
 ];
 
 const URIS: [&str; 8] = [
-    "sip:a.e", "sips:a.e", "sip:b.e", "sip:a.e:5070", "sip:a.e;transport=tcp",
-    "sip:b.e;transport=udp", "sip:a.e;transport=tls", "sip:c.e;maddr=192.0.2.9",
+    "sip:a.e",
+    "sips:a.e",
+    "sip:b.e",
+    "sip:a.e:5070",
+    "sip:a.e;transport=tcp",
+    "sip:b.e;transport=udp",
+    "sip:a.e;transport=tls",
+    "sip:c.e;maddr=192.0.2.9",
 ];
 
 const FAMILIES: [Families; 4] = [
-    Families::V4, Families::V6, Families::V4ThenV6, Families::V6ThenV4,
+    Families::V4,
+    Families::V6,
+    Families::V4ThenV6,
+    Families::V6ThenV4,
 ];
 
 const TRANSPORTS: [&[Transport]; 4] = [
     &[Transport::Udp, Transport::Tcp],
     &[Transport::Tcp, Transport::Tls],
-    &[Transport::Sctp, Transport::Tls, Transport::Udp, Transport::Tcp],
+    &[
+        Transport::Sctp,
+        Transport::Tls,
+        Transport::Udp,
+        Transport::Tcp,
+    ],
     &[Transport::Tls],
 ];
 
@@ -92,7 +114,13 @@ impl Numbers {
             1 => [" SRV ", self.digit(), " 1 5060 ", target, ""],
             2 => [" SRV 0 ", self.digit(), " 5061 ", target, ""],
             3 => [" SRV 0 0 0 .", "", "", "", ""],
-            4 => [" NAPTR 1 ", self.digit(), " ", self.one_of(&POINTERS), target],
+            4 => [
+                " NAPTR 1 ",
+                self.digit(),
+                " ",
+                self.one_of(&POINTERS),
+                target,
+            ],
             5 => [" A 192.0.2.", self.digit(), self.digit(), "", ""],
             _ => [" AAAA 2001:db8::", self.digit(), "", "", ""],
         };
@@ -210,7 +238,13 @@ fn runs_agree_over_32_servers_of_32_addresses(rt: HostRuntime) -> Result<(), Fai
     let preference = Vec::from_slice(alloc, &[Transport::Udp, Transport::Tcp])?;
     let abilities = Abilities::new(preference, Families::V4)?;
     let question = Uri::parse(alloc, b"sip:e.")?;
-    let targets = agreed(alloc, &mut store, question, &abilities, &Draws::from_seed(7))?;
+    let targets = agreed(
+        alloc,
+        &mut store,
+        question,
+        &abilities,
+        &Draws::from_seed(7),
+    )?;
     assert_eq!(rt; targets, Some(1024));
     Ok(())
 }

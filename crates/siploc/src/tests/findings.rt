@@ -39,11 +39,7 @@ fn example(alloc: Global, more: &[u8]) -> Result<ZoneStore, Fail> {
     Ok(store)
 }
 
-fn client(
-    alloc: Global,
-    transports: &[Transport],
-    families: Families,
-) -> Result<Abilities, Fail> {
+fn client(alloc: Global, transports: &[Transport], families: Families) -> Result<Abilities, Fail> {
     Ok(Abilities::new(Vec::from_slice(alloc, transports)?, families)?)
 }
 
@@ -108,7 +104,12 @@ fn has_sets(
 fn words_decide_the_order_of_the_servers(rt: HostRuntime) -> Result<(), Fail> {
     let alloc = rt.alloc();
     let mut store = example(alloc, b"")?;
-    let finding = found(alloc, &mut store, b"sip:bob@example.com", &tcp_client(alloc)?)?;
+    let finding = found(
+        alloc,
+        &mut store,
+        b"sip:bob@example.com",
+        &tcp_client(alloc)?,
+    )?;
     let one = endpoint(Transport::Tcp, SERVER1, 5060);
     let two = endpoint(Transport::Tcp, SERVER2, 5060);
     assert!(rt; has_targets(alloc, &finding, &[2, 0], &[two, one])?);
@@ -180,7 +181,12 @@ fn families_are_looked_up_in_their_order(rt: HostRuntime) -> Result<(), Fail> {
     let alloc = rt.alloc();
     let mut store = example(alloc, b"server1 AAAA 2001:db8::1")?;
     let abilities = client(alloc, &[Transport::Udp], Families::V4ThenV6)?;
-    let finding = found(alloc, &mut store, b"sip:server1.example.com:5070", &abilities)?;
+    let finding = found(
+        alloc,
+        &mut store,
+        b"sip:server1.example.com:5070",
+        &abilities,
+    )?;
     let address6 = Address::V6(0x2001_0DB8_0000_0000_0000_0000_0000_0001);
     let want = [
         endpoint(Transport::Udp, SERVER1, 5070),

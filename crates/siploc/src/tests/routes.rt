@@ -101,7 +101,8 @@ fn aliases_in_a_circle_end_without_an_address(rt: HostRuntime) -> Result<(), Fai
 
 #[test]
 fn a_server_may_be_an_alias(rt: HostRuntime) -> Result<(), Fail> {
-    let zone = "zone example.com. 3\n_sip._tcp SRV 0 0 5060 www\nwww CNAME host\nhost A 192.0.2.1\n";
+    let zone =
+        "zone example.com. 3\n_sip._tcp SRV 0 0 5060 www\nwww CNAME host\nhost A 192.0.2.1\n";
     let got = replies_to(rt.alloc(), &[zone, "find sip:example.com;transport=tcp\n"])?;
     let want = "ok zone 3 0 0 3\ntarget 1 tcp 192.0.2.1 5060\nok find 1\n";
     assert!(rt; got.as_slice() == want.as_bytes());
