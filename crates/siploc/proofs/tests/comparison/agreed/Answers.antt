@@ -5,5 +5,5 @@ use Rattle.siploc.proofs.tests.comparison.agreed.Goals as goal
 
 pub plan_of-requires : goal.plan_of-requires
 plan_of-requires c =
-    let fit : sets_fit c.records-records.result.now ≡ true = subst (λ records. sets_fit records ≡ true) (sym c.records-records.ensures.value) c.records-records.ensures.consistent.sets_fit in
-    record { small_sets = sets_fit-small c.records-records.result.now fit }
+    let fit : sets_fit c.records.result.now ≡ true = subst (λ records. sets_fit records ≡ true) (sym c.records.ensures.value) c.records.ensures.consistent.sets_fit in
+    record { small_sets = sets_fit-small c.records.result.now fit }
