@@ -186,3 +186,6 @@ impl fmt::Debug for Unfinished {
 }
 
 impl Error for Unfinished {}
+
+#[cfg(test)]
+mod tests;
