@@ -10,8 +10,7 @@ use sipl_uri::Question;
 use sipl_zonestore::ZoneStore;
 use std::alloc::{AllocError, Global};
 
-// The route of a question on the records as they are, and the record sets that it looks at. Each of
-// them is read once, and counts one look.
+// The route of a question on the records as they are, and the record sets that it looks at.
 pub(crate) fn locate(
     alloc: Global,
     store: &mut ZoneStore,

@@ -198,7 +198,7 @@ fn runs_agree_with_the_plain_program(rt: HostRuntime) -> Result<(), Fail> {
             }
         }
     }
-    // Both kinds of answers come up.
+    // Both kinds of results occur.
     assert!(rt; found > 100 && none > 100);
     Ok(())
 }
