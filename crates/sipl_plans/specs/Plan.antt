@@ -1,5 +1,5 @@
 -- The targets of a question, in the order in which they are tried (RFC 3263, 4.2 and 4.3).
-use Rattle.std.specs.Prelude.{ℕ, List, [], ◌∷◌, map, slice_get}
+use Rattle.std.specs.Prelude.{ℕ, not, List, [], ◌∷◌, map, filter, slice_get}
 use Rattle.std.specs.List.{filter_map, flat_map}
 use Rattle.sipl_records.specs.declared.address.Address.{Address}
 use Rattle.sipl_records.specs.Unique.{unique}
@@ -8,6 +8,7 @@ use Rattle.sipl_choice.specs.Endpoints.{same_endpoint}
 use Rattle.sipl_choice.specs.declared.endpoint.Endpoint.{Endpoint}
 use Rattle.sipl_choice.specs.declared.transport.Transport.{Transport}
 use Rattle.sipl_srv.specs.Order.{Rank, ordered}
+use Rattle.sipl_outages.specs.Holds.{Holds, is_held}
 use Rattle.sipl_uri.specs.declared.question.Question.{Question}
 use Rattle.sipl_evidence.specs.Looks.{Look}
 use Rattle.sipl_plans.specs.Route.{route}
@@ -16,7 +17,7 @@ use Rattle.sipl_plans.specs.declared.layout.Layout.TheVariants.{Refused, Servers
 use Rattle.sipl_plans.specs.declared.layout.Source.{Source}
 use Rattle.sipl_plans.specs.declared.answer.Answer.{Answer}
 use Rattle.sipl_plans.specs.declared.answer.Answer.TheVariants.{Targets, None}
-use Rattle.sipl_plans.specs.declared.answer.Reason.TheVariants.{NoAddress}
+use Rattle.sipl_plans.specs.declared.answer.Reason.TheVariants.{NoAddress, AllHeld}
 
 -- the endpoints of addresses over one transport at one port
 abbrev pub endpoints_at : Transport → ℕ → List Address → List Endpoint
@@ -27,10 +28,17 @@ endpoints_at transport port addresses =
 abbrev pub endpoints_of : Transport → Source → List Endpoint
 endpoints_of transport source = endpoints_at transport source.port source.addresses
 
--- the targets, or that there is no address
-abbrev pub targets_or_no_address : List Endpoint → Answer
-targets_or_no_address [] = None NoAddress
-targets_or_no_address (endpoint ∷ others) = Targets (endpoint ∷ others)
+-- the targets that are left once the held ones are left out, or that all are held
+abbrev pub targets_or_all_held : List Endpoint → Answer
+targets_or_all_held [] = None AllHeld
+targets_or_all_held (endpoint ∷ others) = Targets (endpoint ∷ others)
+
+-- RFC 3263, 4.3: the endpoints without the held ones; the reason for none is that there is no
+-- address, or that all are held
+abbrev pub targets_among : Holds → List Endpoint → Answer
+targets_among holds [] = None NoAddress
+targets_among holds (endpoint ∷ others) =
+    targets_or_all_held (filter (λ e. not (is_held holds e)) (endpoint ∷ others))
 
 -- RFC 2782: the rank of a server
 abbrev pub source_rank : Source → Rank
@@ -41,13 +49,14 @@ abbrev pub arranged : List Source → List ℕ → List Source
 arranged servers words =
     filter_map (slice_get servers) (ordered (map source_rank servers) words)
 
--- RFC 3263, 4.2: the endpoints of the servers in their order, each once, or the reason for none
-abbrev pub draw : Layout → List ℕ → Answer
-draw (Refused reason) words = None reason
-draw (Servers transport servers) words =
-    targets_or_no_address
+-- RFC 3263, 4.2 and 4.3: the endpoints of the servers in their order, each once, without the held
+-- ones, or the reason for none
+abbrev pub draw : Layout → Holds → List ℕ → Answer
+draw (Refused reason) holds words = None reason
+draw (Servers transport servers) holds words =
+    targets_among holds
     (unique same_endpoint (flat_map (endpoints_of transport) (arranged servers words)))
 
--- the answer to a question, from what is known of the records, for these random words
-abbrev pub plan : Look → Question → Client → List ℕ → Answer
-plan look question client words = draw (route look question client) words
+-- the answer to a question, from what is known of the records, for these holds and random words
+abbrev pub plan : Look → Holds → Question → Client → List ℕ → Answer
+plan look holds question client words = draw (route look question client) holds words

@@ -14,6 +14,8 @@ pub enum Reason {
     NotAvailable,
     /// The client does not support the transport.
     NoTransport,
+    /// All endpoints are held (RFC 3263, 4.3).
+    AllHeld,
 }
 
 /// The answer to a question (RFC 3263, 4).
@@ -34,6 +36,7 @@ impl Reason {
             Reason::NoAddress => "NoAddress",
             Reason::NotAvailable => "NotAvailable",
             Reason::NoTransport => "NoTransport",
+            Reason::AllHeld => "AllHeld",
         }
     }
 }
@@ -59,6 +62,7 @@ mod tests {
             (Reason::NoAddress, "NoAddress"),
             (Reason::NotAvailable, "NotAvailable"),
             (Reason::NoTransport, "NoTransport"),
+            (Reason::AllHeld, "AllHeld"),
         ] {
             assert_eq!(rt; reason.name(), want);
             assert_eq!(rt; reason.to_string(rt.alloc())?.as_str(), want);

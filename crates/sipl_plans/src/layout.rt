@@ -1,12 +1,14 @@
-ghost use Rattle.std.specs.Prelude.{◌≡◌, ◌<◌, ◌≤◌, ◌++◌, [], ◌∷◌, length, slice_get, if◌then◌else◌, IfOk, OnOk};
+ghost use Rattle.std.specs.Prelude.{◌≡◌, ◌<◌, ◌≤◌, ◌++◌, [], ◌∷◌, not, length, slice_get, if◌then◌else◌, IfOk, OnOk};
 ghost use Rattle.std.specs.List.{All, filter_map, flat_map, list_any};
 ghost use Rattle.sipl_records.specs.Unique.{unique};
 ghost use Rattle.sipl_choice.specs.Endpoints.{same_endpoint};
+ghost use Rattle.sipl_outages.specs.Holds.{is_held};
 ghost use Rattle.sipl_plans.specs.Plan.{draw, endpoints_of};
 ghost use Rattle.sipl_plans.specs.Servers.{HasFewServers, target_count};
 
 use crate::answer::{Answer, Reason};
 use sipl_choice::{Endpoint, Transport};
+use sipl_outages::Board;
 use sipl_records::{Address, Sequence};
 use sipl_srv::{Draws, Ranked, arrange};
 use std::alloc::{AllocError, Global};
@@ -79,12 +81,21 @@ impl Ranked for Source {
 }
 
 /// The targets of a layout: the endpoints of its servers, these in the order that the draws give
-/// (RFC 2782, "Usage rules"), each endpoint once, at its first place (RFC 3263, 4.2). A server
-/// without addresses takes a word as well. There are at most 2,048 targets: 32 servers of 64
-/// addresses.
-pub fn draw(alloc: Global, layout: &Layout, draws: &Draws) -> Result<Answer, AllocError>
+/// (RFC 2782, "Usage rules"), each endpoint once, at its first place (RFC 3263, 4.2), without those
+/// that the board holds (RFC 3263, 4.3). A server takes a word as well where it has no addresses or
+/// all of its endpoints are held. There are at most 2,048 targets: 32 servers of 64 addresses.
+///
+/// The reason for no targets is the layout's own where it is refused, `NoAddress` where no server
+/// has an address, and else `AllHeld`.
+pub fn draw(
+    alloc: Global,
+    layout: &Layout,
+    draws: &Draws,
+    board: &Board,
+) -> Result<Answer, AllocError>
     requires few { HasFewServers layout.now }
-    ensures answer { IfOk result (λ answer. answer ≡ draw layout.now draws.now) }
+    ensures answer { IfOk result
+        (λ answer. answer ≡ draw layout.now board.now.holds draws.now) }
     ensures few { IfOk result (λ answer. target_count answer ≤ 2048) }
 {
     let (transport, servers) = match layout {
@@ -92,9 +103,17 @@ pub fn draw(alloc: Global, layout: &Layout, draws: &Draws) -> Result<Answer, All
         Layout::Servers(transport, servers) => (*transport, servers.as_slice()),
     };
     let order = arrange(alloc, servers, draws)?;
-    let targets = unique_endpoints(alloc, transport, servers, order.as_slice())?;
+    let mut targets = unique_endpoints(alloc, transport, servers, order.as_slice())?;
     if targets.is_empty() {
         return Ok(Answer::None(Reason::NoAddress));
+    }
+    targets.retain(
+        |target: &Endpoint| -> bool
+            ensures { result ≡ not (is_held board.now.holds target.now) }
+        { !board.is_held(target) },
+    );
+    if targets.is_empty() {
+        return Ok(Answer::None(Reason::AllHeld));
     }
     Ok(Answer::Targets(Sequence::from_vec(targets)))
 }
@@ -147,6 +166,8 @@ mod tests {
 
     const OTHER: u32 = 0xC000_0202;
 
+    const THIRD: u32 = 0xC000_0203;
+
     fn endpoint(number: u32, port: u16) -> Endpoint {
         Endpoint {
             transport: Transport::Tcp,
@@ -193,16 +214,30 @@ mod tests {
         })
     }
 
+    // A board on which these endpoints are held.
+    fn holding(alloc: Global, endpoints: &[Endpoint]) -> Result<Board, Fail> {
+        let mut board = Board::new(alloc);
+        for endpoint in endpoints {
+            board.hold(endpoint, 5000)?;
+        }
+        Ok(board)
+    }
+
     // What is drawn from the first 32 servers of these priorities, ports and addresses, over TCP
-    // and for words of 0.
-    fn drawn(alloc: Global, servers: &[(u16, u16, &[u32])]) -> Result<Answer, Fail> {
+    // and for words of 0, while these endpoints are held.
+    fn drawn(
+        alloc: Global,
+        servers: &[(u16, u16, &[u32])],
+        held: &[Endpoint],
+    ) -> Result<Answer, Fail> {
         let mut sources = Vec::new(alloc);
         for (priority, port, numbers) in servers {
             sources.push(source(alloc, *priority, *port, numbers)?)?;
         }
         sources.truncate(32);
         let layout = Layout::Servers(Transport::Tcp, Sequence::from_vec(sources));
-        Ok(draw(alloc, &layout, &Draws::from_words(&[])?)?)
+        let board = holding(alloc, held)?;
+        Ok(draw(alloc, &layout, &Draws::from_words(&[])?, &board)?)
     }
 
     #[test]
@@ -217,6 +252,7 @@ mod tests {
                 (1, 5070, &[OTHER]),
                 (2, 5070, &[]),
             ],
+            &[],
         )?;
         let want = [
             endpoint(SERVER, 5070),
@@ -230,11 +266,73 @@ mod tests {
     #[test]
     fn no_endpoint_draws_a_reason(rt: HostRuntime) -> Result<(), Fail> {
         let alloc = rt.alloc();
-        assert!(rt; is_none(&drawn(alloc, &[(0, 5070, &[])])?, Reason::NoAddress));
-        assert!(rt; is_none(&drawn(alloc, &[])?, Reason::NoAddress));
+        assert!(rt; is_none(&drawn(alloc, &[(0, 5070, &[])], &[])?, Reason::NoAddress));
+        assert!(rt; is_none(&drawn(alloc, &[], &[])?, Reason::NoAddress));
         let layout = Layout::Refused(Reason::NoTransport);
-        let answer = draw(alloc, &layout, &Draws::from_words(&[])?)?;
+        let answer = draw(alloc, &layout, &Draws::from_words(&[])?, &Board::new(alloc))?;
         assert!(rt; is_none(&answer, Reason::NoTransport));
+        Ok(())
+    }
+
+    #[test]
+    fn held_endpoints_are_left_out_and_others_keep_their_order(
+        rt: HostRuntime,
+    ) -> Result<(), Fail> {
+        let servers: [(u16, u16, &[u32]); 3] = [
+            (0, 5070, &[SERVER]),
+            (1, 5070, &[OTHER, THIRD]),
+            (2, 5080, &[OTHER]),
+        ];
+        let first = endpoint(SERVER, 5070);
+        let second = endpoint(OTHER, 5070);
+        let third = endpoint(THIRD, 5070);
+        let last = endpoint(OTHER, 5080);
+        for (held, want) in [
+            ([first].as_slice(), [second, third, last].as_slice()),
+            (&[second], &[first, third, last]),
+            (&[last, second], &[first, third]),
+            (&[last, third, first], &[second]),
+        ] {
+            assert!(rt; is_targets(&drawn(rt.alloc(), &servers, held)?, want));
+        }
+        Ok(())
+    }
+
+    #[test]
+    fn endpoints_that_are_all_held_draw_a_reason(rt: HostRuntime) -> Result<(), Fail> {
+        let servers: [(u16, u16, &[u32]); 2] = [(0, 5070, &[SERVER, OTHER]), (1, 5080, &[])];
+        let held = [endpoint(OTHER, 5070), endpoint(SERVER, 5070)];
+        assert!(rt; is_none(&drawn(rt.alloc(), &servers, &held)?, Reason::AllHeld));
+        Ok(())
+    }
+
+    #[test]
+    fn servers_without_addresses_have_none_while_others_are_held(
+        rt: HostRuntime,
+    ) -> Result<(), Fail> {
+        let held = [endpoint(SERVER, 5070)];
+        let answer = drawn(rt.alloc(), &[(0, 5070, &[])], &held)?;
+        assert!(rt; is_none(&answer, Reason::NoAddress));
+        Ok(())
+    }
+
+    #[test]
+    fn other_ports_transports_and_addresses_are_not_held(rt: HostRuntime) -> Result<(), Fail> {
+        let want = [endpoint(SERVER, 5070)];
+        let held = [
+            endpoint(SERVER, 5071),
+            endpoint(OTHER, 5070),
+            Endpoint {
+                transport: Transport::Udp,
+                ..endpoint(SERVER, 5070)
+            },
+            Endpoint {
+                address: Address::V6(0xC000_0201),
+                ..endpoint(SERVER, 5070)
+            },
+        ];
+        let answer = drawn(rt.alloc(), &[(0, 5070, &[SERVER])], &held)?;
+        assert!(rt; is_targets(&answer, &want));
         Ok(())
     }
 

@@ -8,14 +8,16 @@ use crate::answer::Answer;
 use crate::layout::draw;
 use crate::route::route;
 use sipl_choice::Abilities;
+use sipl_outages::Board;
 use sipl_records::Record;
 use sipl_srv::Draws;
 use sipl_uri::Question;
 use std::alloc::{AllocError, Global};
 
-/// The answer to a question from all records: the targets, in the order in which they are tried, or
-/// the reason that there are none (RFC 3263, 4). There are at most 2,048 targets: 32 servers of 64
-/// addresses. Each of at most 32 SRV records takes one of the draws.
+/// The answer to a question from all records: the targets, in the order in which they are tried,
+/// without the endpoints that the board holds, or the reason that there are none (RFC 3263, 4).
+/// There are at most 2,048 targets: 32 servers of 64 addresses. Each of at most 32 SRV records takes
+/// one of the draws.
 ///
 /// Linear in the records for each look-up of a record set. There are at most 1,156 look-ups: for
 /// the NAPTR records of the domain, the SRV records over 3 transports, and the IPv4 and IPv6
@@ -23,15 +25,17 @@ use std::alloc::{AllocError, Global};
 pub fn plan_of(
     alloc: Global,
     records: &[Record],
+    board: &Board,
     question: &Question,
     abilities: &Abilities,
     draws: &Draws,
 ) -> Result<Answer, AllocError>
     requires small_sets { (key : Key) → length (set_of records.now key) ≤ 32 }
     ensures plan { IfOk result
-        (λ answer. answer ≡ plan (set_of records.now) question.now abilities.now draws.now) }
+        (λ answer. answer
+        ≡ plan (set_of records.now) board.now.holds question.now abilities.now draws.now) }
     ensures few { IfOk result (λ answer. target_count answer ≤ 2048) }
 {
     let layout = route(alloc, records, question, abilities)?;
-    draw(alloc, &layout, draws)
+    draw(alloc, &layout, draws, board)
 }

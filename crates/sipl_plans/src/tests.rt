@@ -2,6 +2,7 @@
 mod addresses;
 mod aliases;
 mod examples;
+mod holds;
 mod numeric;
 mod pointers;
 mod services;
@@ -10,6 +11,7 @@ use crate::{Answer, Reason, plan_of};
 use sipl_choice::Transport::{Sctp, Tcp, Tls, Udp};
 use sipl_choice::{Abilities, Endpoint, Families, Transport};
 use sipl_names::{Name, NameFault};
+use sipl_outages::Board;
 use sipl_records::{Address, Data, Record, Sequence};
 use sipl_srv::Draws;
 use sipl_uri::{Question, Target};
@@ -127,20 +129,30 @@ fn client(alloc: Global, transports: &[Transport], families: Families) -> Result
     Ok(Abilities::new(preference, families)?)
 }
 
+fn question_of(alloc: Global, asked: Asked) -> Result<Question, NameFault> {
+    Ok(Question {
+        secure: asked.secure,
+        target: Target::Domain(name(alloc, asked.host)?),
+        port: asked.port,
+        transport: asked.transport,
+    })
+}
+
 // The answer from the first 32 records, for these words.
 fn plan(
     alloc: Global,
     records: &[Record],
+    board: &Board,
     question: &Question,
     abilities: &Abilities,
     words: &[u32],
 ) -> Result<Answer, Fail> {
     let draws = Draws::from_words(words)?;
     let records = &records[..records.len().min(32)];
-    Ok(plan_of(alloc, records, question, abilities, &draws)?)
+    Ok(plan_of(alloc, records, board, question, abilities, &draws)?)
 }
 
-// The answer from these records to what is asked of a domain.
+// The answer from these records to what is asked of a domain, while nothing is held.
 fn answer_to(
     alloc: Global,
     rows: &[Row],
@@ -149,13 +161,15 @@ fn answer_to(
     words: &[u32],
 ) -> Result<Answer, Fail> {
     let records = records_of(alloc, rows)?;
-    let question = Question {
-        secure: asked.secure,
-        target: Target::Domain(name(alloc, asked.host)?),
-        port: asked.port,
-        transport: asked.transport,
-    };
-    plan(alloc, &records, &question, abilities, words)
+    let question = question_of(alloc, asked)?;
+    plan(
+        alloc,
+        &records,
+        &Board::new(alloc),
+        &question,
+        abilities,
+        words,
+    )
 }
 
 // Whether the answer is these targets.

@@ -16,10 +16,10 @@ fn numeric_targets_are_their_own_addresses(rt: HostRuntime) -> Result<(), Fail> 
     let alloc = rt.alloc();
     let question = question_of_address(false, Address::V4(SERVER));
     let both = client(alloc, &[Udp, Tcp], Families::V4)?;
-    let answer = plan(alloc, &[], &question, &both, &[])?;
+    let answer = plan(alloc, &[], &Board::new(alloc), &question, &both, &[])?;
     assert!(rt; is_targets(&answer, &[endpoint(Udp, SERVER, 5060)]));
     let tls = client(alloc, &[Tls], Families::V4)?;
-    let answer = plan(alloc, &[], &question, &tls, &[])?;
+    let answer = plan(alloc, &[], &Board::new(alloc), &question, &tls, &[])?;
     assert!(rt; is_none(&answer, Reason::NoTransport));
     Ok(())
 }
@@ -30,7 +30,7 @@ fn numeric_targets_of_sips_are_reached_over_tls(rt: HostRuntime) -> Result<(), F
     let address = Address::V6(0x2001_0DB8_0000_0000_0000_0000_0000_0001);
     let question = question_of_address(true, address);
     let tls = client(alloc, &[Tls], Families::V4)?;
-    let answer = plan(alloc, &[], &question, &tls, &[])?;
+    let answer = plan(alloc, &[], &Board::new(alloc), &question, &tls, &[])?;
     let want = Endpoint {
         transport: Tls,
         address,
@@ -49,7 +49,7 @@ fn numeric_targets_keep_the_port_and_the_transport(rt: HostRuntime) -> Result<()
         ..question_of_address(false, Address::V4(SERVER))
     };
     let all = client(alloc, &[Udp, Sctp], Families::V6)?;
-    let answer = plan(alloc, &[], &question, &all, &[])?;
+    let answer = plan(alloc, &[], &Board::new(alloc), &question, &all, &[])?;
     assert!(rt; is_targets(&answer, &[endpoint(Sctp, SERVER, 5070)]));
     Ok(())
 }

@@ -108,6 +108,7 @@ fn long_domain_has_no_service_name(rt: HostRuntime) -> Result<(), Fail> {
     let answer = plan(
         alloc,
         &[Record { owner, value }],
+        &Board::new(alloc),
         &question,
         &abilities,
         &[],
