@@ -1,8 +1,9 @@
-ghost use Rattle.std.specs.Prelude.{◌≡◌};
+ghost use Rattle.std.specs.Prelude.{◌≡◌, IfOk};
 ghost use Rattle.sipl_plans.specs.Reasons.{reason_text};
 
 use sipl_choice::Endpoint;
 use sipl_records::Sequence;
+use std::alloc::{AllocError, Global};
 use std::fmt;
 
 /// Why there are no targets.
@@ -25,6 +26,18 @@ pub enum Answer {
     Targets(Sequence<Endpoint>),
     /// Nowhere, and the reason.
     None(Reason),
+}
+
+impl Answer {
+    /// A copy. The only error is an allocation failure.
+    pub fn dup(&self, alloc: Global) -> Result<Self, AllocError>
+        ensures { IfOk result (λ copy. copy ≡ self.now) }
+    {
+        match self {
+            Answer::Targets(targets) => Ok(Answer::Targets(targets.dup(alloc)?)),
+            Answer::None(reason) => Ok(Answer::None(*reason)),
+        }
+    }
 }
 
 impl Reason {
