@@ -1,3 +1,13 @@
+pub mod Cutting
+pub mod Replies
+pub mod Turning
+pub mod Exits
+pub mod Rules
+pub mod Results
+pub mod Steps
+pub mod Words
+pub mod SmallSets
+pub mod Locating
 pub mod InOrder
 pub mod Listening
 pub mod Rows

@@ -1,13 +1,29 @@
-//! The settings of the program, read from TOML text.
+//! The line server: sessions of commands on a reader and a writer, the check of a zone's text, and
+//! the settings of the program.
 #![tactic(auto)]
 
+mod check;
+mod command;
 mod document;
+mod draws_field;
 mod fault;
+mod gather;
 mod keys;
+mod lines;
+mod locate;
+mod reply;
+mod server;
+mod session;
+mod tapped;
 #[cfg(test)]
 mod tests;
 mod values;
 
+pub use check::check_zone;
+pub use command::{MAX_LINE_LEN, MAX_ZONE_LINES};
 pub use document::settings;
 pub use fault::SettingsFault;
 pub use keys::Settings;
+pub use server::{Ended, MAX_READS, ServeFault, serve};
+pub use session::Session;
+pub use tapped::Tapped;

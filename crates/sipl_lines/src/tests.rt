@@ -1,298 +1,419 @@
-use crate::{Settings, SettingsFault, settings};
-use sipl_choice::{Families, Transport};
-use std::alloc::Global;
-use std::net::{Ipv4Addr, SocketAddrV4};
-use std::process::Abort;
+// Sessions over streams of the tests' own.
+mod comparison;
+mod findings;
+mod finds;
+mod routes;
+mod settings;
+mod streams;
+mod zone_files;
+mod zones;
+
+use self::streams::{Failing, Paper, Pieces, blank, replies, whole};
+use crate::command::MAX_LINE_LEN;
+use crate::server::{Ended, MAX_READS, ServeFault, serve, serve_within};
+use crate::session::Session;
+use crate::tapped::Tapped;
+use std::alloc::{AllocError, Global};
+use std::io::{ErrorKind, Read, Write};
 use std::test::Fail;
 
-// The settings of a text, which has no fault.
-fn read(rt: &impl Abort, alloc: Global, text: &str) -> Settings {
-    settings(alloc, text).expect(rt, "the settings are refused")
-}
+// Three commands, and the reply to each.
+const INPUT: &[u8] = b"zone e. 0\nadd a.e. A 1.2.3.4\nfind sip:a.e:7\n";
 
-// Whether the fault of a text has this code, and this key where it has one.
-fn has_fault(alloc: Global, text: &str, code: &str, key: &str) -> bool {
-    let Err(fault) = settings(alloc, text) else {
-        return false;
-    };
-    let at = match &fault {
-        SettingsFault::UnknownKey(at) | SettingsFault::BadValue(at) => at.as_str(),
-        SettingsFault::NotToml | SettingsFault::Memory => "",
-    };
-    fault.code() == code && at == key
-}
+const REPLIES: &[u8] = b"ok zone 0 0 0 0\nok add 1\ntarget 1 udp 1.2.3.4 7\nok find 1\n";
 
-#[test]
-fn an_empty_text_has_the_defaults(rt: HostRuntime) {
-    for text in ["", "\n", " # nothing\r\n"] {
-        let settings = read(&rt, rt.alloc(), text);
-        let transports = [Transport::Udp, Transport::Tcp];
-        assert_eq!(rt; settings.abilities.preference(), transports.as_slice());
-        assert_eq!(rt; settings.abilities.families(), Families::V4);
-        assert_eq!(rt; settings.records, 1_048_576);
-        assert_eq!(rt; settings.entries, 65_536);
-        assert_eq!(rt; settings.journal, 1_048_576);
-        assert_eq!(rt; settings.holds, 4096);
-        assert_eq!(rt; settings.tries, 4);
-        assert_eq!(rt; settings.workers, 1);
-        assert_eq!(rt; settings.sessions, 1);
-        let listen = SocketAddrV4::new(Ipv4Addr::LOCALHOST, 5099);
-        assert_eq!(rt; settings.listen, listen);
+// The replies to those of the three commands whose line end is among the first octets of the input.
+fn replies_within(octets: u64) -> &'static [u8] {
+    if octets < 10 {
+        b""
+    } else if octets < 29 {
+        b"ok zone 0 0 0 0\n"
+    } else if octets < 44 {
+        b"ok zone 0 0 0 0\nok add 1\n"
+    } else {
+        REPLIES
     }
 }
 
-#[test]
-fn each_key_sets_its_field(rt: HostRuntime) {
-    let text = "workers = 0\ntries = 16\ntransports = [\"tls\", 'sctp']\nsessions = 2\n\
-        records = 3\nlisten = \"127.1.2.3:4\"\njournal = 5\nholds = 6\nfamilies = \"v6\"\n\
-        entries = 7\n";
-    let settings = read(&rt, rt.alloc(), text);
-    let transports = [Transport::Tls, Transport::Sctp];
-    assert_eq!(rt; settings.abilities.preference(), transports.as_slice());
-    assert_eq!(rt; settings.abilities.families(), Families::V6);
-    assert_eq!(rt; settings.records, 3);
-    assert_eq!(rt; settings.entries, 7);
-    assert_eq!(rt; settings.journal, 5);
-    assert_eq!(rt; settings.holds, 6);
-    assert_eq!(rt; settings.tries, 16);
-    assert_eq!(rt; settings.workers, 0);
-    assert_eq!(rt; settings.sessions, 2);
-    let listen = SocketAddrV4::new(Ipv4Addr::new(127, 1, 2, 3), 4);
-    assert_eq!(rt; settings.listen, listen);
+// A line of so many octets and its end, and a command after it.
+fn long_line(alloc: Global, count: usize, end: &[u8]) -> Result<Vec<u8>, AllocError> {
+    let mut line = vec![in alloc; b'x'; count]?;
+    line.extend_from_slice(end)?;
+    line.extend_from_slice(b"find tel:1\n")?;
+    Ok(line)
 }
 
 #[test]
-fn numbers_have_limits(rt: HostRuntime) {
-    let alloc = rt.alloc();
-    for text in [
-        "records = 0\nentries = 0\njournal = 1\nholds = 0\ntries = 1\nworkers = 0\nsessions = 1",
-        "records = 1048576\nentries = 65536\njournal = 1048576\nholds = 4096",
-        "tries = 16\nworkers = 64\nsessions = 1000000",
-        "records = 1_000\nentries = 0x10\njournal = +1\nholds = -0\n\"tries\" = 0b1",
-    ] {
-        read(&rt, alloc, text);
-    }
-    for (text, key) in [
-        ("records = -1", "records"),
-        ("records = 1048577", "records"),
-        ("entries = -1", "entries"),
-        ("entries = 65537", "entries"),
-        ("journal = 0", "journal"),
-        ("journal = 1048577", "journal"),
-        ("holds = -1", "holds"),
-        ("holds = 4097", "holds"),
-        ("tries = 0", "tries"),
-        ("tries = 17", "tries"),
-        ("workers = -1", "workers"),
-        ("workers = 65", "workers"),
-        ("sessions = 0", "sessions"),
-        ("sessions = 1000001", "sessions"),
-        ("sessions = 9223372036854775807", "sessions"),
-        ("sessions = -9223372036854775808", "sessions"),
-    ] {
-        assert!(rt; has_fault(alloc, text, "G3", key), "at {text}");
-    }
+fn find_lists_what_was_added(rt: HostRuntime) -> Result<(), Fail> {
+    let text = replies(
+        rt.alloc(),
+        b"zone example.com. 0
+add server1.example.com. A 192.0.2.1
+find sip:server1.example.com:5070
+add server1.example.com. A 192.0.2.1
+add x.other.org. A 192.0.2.1
+zone a.example.com. 0
+find sip:x.example.com:5070
+find tel:1
+zone example.com. 0
+",
+    )?;
+    let want = b"ok zone 0 0 0 0
+ok add 1
+target 1 udp 192.0.2.1 5070
+ok find 1
+err S3
+err S2
+err S1
+none NoAddress
+err U1
+ok zone 0 0 0 1
+";
+    assert!(rt; text.as_slice() == want.as_slice());
+    Ok(())
 }
 
 #[test]
-fn values_of_other_types_are_bad(rt: HostRuntime) {
-    let alloc = rt.alloc();
-    for (text, key) in [
-        ("tries = 4.0", "tries"),
-        ("tries = \"4\"", "tries"),
-        ("tries = true", "tries"),
-        ("tries = [4]", "tries"),
-        ("tries = {}", "tries"),
-        ("tries.max = 4", "tries"),
-        ("[tries]", "tries"),
-        ("[[tries]]", "tries"),
-        ("tries = 1979-05-27", "tries"),
-        ("families = 4", "families"),
-        ("families = [\"v4\"]", "families"),
-        ("listen = 5099", "listen"),
-        ("transports = \"udp\"", "transports"),
-        ("transports = {}", "transports"),
-        ("transports = [[\"udp\"]]", "transports"),
-        ("transports = [\"udp\", 1]", "transports"),
-    ] {
-        assert!(rt; has_fault(alloc, text, "G3", key), "at {text}");
-    }
+fn find_lists_addresses_in_the_order_of_addition(rt: HostRuntime) -> Result<(), Fail> {
+    let text = replies(
+        rt.alloc(),
+        b"zone e. 0\nadd A.E. A 192.0.2.2\nadd a.e. a 192.0.2.1\nfind SIP:a.E.:1
+find sip:192.0.2.9:5060\nquit",
+    )?;
+    let want = b"ok zone 0 0 0 0\nok add 1\nok add 1\ntarget 1 udp 192.0.2.2 1
+target 2 udp 192.0.2.1 1\nok find 2
+target 1 udp 192.0.2.9 5060\nok find 1\nok quit\n";
+    assert!(rt; text.as_slice() == want.as_slice());
+    Ok(())
 }
 
 #[test]
-fn transports_are_listed_once_each(rt: HostRuntime) {
-    let alloc = rt.alloc();
-    let all = read(
-        &rt,
-        alloc,
-        "transports = [\"sctp\", \"tls\", \"tcp\", \"udp\",]",
-    );
-    let want = [
-        Transport::Sctp,
-        Transport::Tls,
-        Transport::Tcp,
-        Transport::Udp,
-    ];
-    assert_eq!(rt; all.abilities.preference(), want.as_slice());
-    let one = read(&rt, alloc, "transports = [\"udp\"]\nfamilies = \"v6v4\"");
-    assert_eq!(rt; one.abilities.preference(), [Transport::Udp].as_slice());
-    assert_eq!(rt; one.abilities.families(), Families::V6ThenV4);
-    for text in [
-        "transports = []",
-        "transports = [\"udp\", \"udp\"]",
-        "transports = [\"udp\", \"tcp\", \"tls\", \"sctp\", \"tcp\"]",
-        "transports = [\"UDP\"]",
-        "transports = [\"ws\"]",
-        "transports = [\"udp \"]",
-        "transports = [\"\"]",
-    ] {
-        assert!(rt; has_fault(alloc, text, "G3", "transports"), "at {text}");
-    }
-}
-
-#[test]
-fn families_are_four_words(rt: HostRuntime) {
-    let alloc = rt.alloc();
-    for (text, want) in [
-        ("families = \"v4\"", Families::V4),
-        ("families = 'v6'", Families::V6),
-        ("families = \"v4v6\"", Families::V4ThenV6),
-        ("families = \"v6v4\"", Families::V6ThenV4),
-    ] {
-        let settings = read(&rt, alloc, text);
-        assert_eq!(rt; settings.abilities.families(), want, "at {text}");
-    }
-    for text in [
-        "families = \"V4\"",
-        "families = \"v4V6\"",
-        "families = \"v4v4\"",
-        "families = \"v4 v6\"",
-        "families = \"\"",
-    ] {
-        assert!(rt; has_fault(alloc, text, "G3", "families"), "at {text}");
-    }
-}
-
-#[test]
-fn listen_is_a_loopback_address_and_a_port(rt: HostRuntime) {
-    let alloc = rt.alloc();
-    for (text, ip, port) in [
-        ("listen = \"127.0.0.0:1\"", [127, 0, 0, 0], 1),
+fn each_line_has_its_reply(rt: HostRuntime) -> Result<(), Fail> {
+    for (input, want) in [
+        (b"".as_slice(), b"".as_slice()),
+        (b"\n", b""),
+        (b"\r\n\n", b""),
+        (b" \t\n# quit\n", b""),
+        (b" #x\n", b"err K1\n"),
+        (b"find tel:1\r\nquit", b"err U1\nok quit\n"),
+        (b"quit\r", b"err K1\n"),
+        (b"quit\r\r\n", b"err K1\n"),
+        (b"quit\nquit\n", b"ok quit\n"),
+        (b"x\nquit\n", b"err K1\nok quit\n"),
+        (b"\tquit \n", b"ok quit\n"),
+        (b"quit x\n", b"err K1\n"),
+        (b"QUIT\n", b"err K1\n"),
         (
-            "listen = \"127.255.255.255:65535\"",
-            [127, 255, 255, 255],
-            65_535,
+            b"add\nadd \nfind\nfind a b\n",
+            b"err K1\nerr K1\nerr K1\nerr K1\n",
         ),
-        ("listen = \"127.000.000.001:00080\"", [127, 0, 0, 1], 80),
+        (
+            b"zone a.\nzone a. 1048577\nzone a. 0 0\nzone a. x\n",
+            b"err K1\nerr K1\nerr K1\nerr K1\n",
+        ),
+        (b"zone a. 000\n", b"ok zone 0 0 0 0\n"),
+        (b"hold\nclock 1\n", b"err K1\nerr K1\n"),
     ] {
-        let want = SocketAddrV4::new(Ipv4Addr::from_octets(ip), port);
-        let settings = read(&rt, alloc, text);
-        assert_eq!(rt; settings.listen, want, "at {text}");
+        let text = replies(rt.alloc(), input)?;
+        assert!(rt; text.as_slice() == want);
     }
-    for text in [
-        "listen = \"126.255.255.255:5099\"",
-        "listen = \"128.0.0.0:5099\"",
-        "listen = \"0.0.0.0:5099\"",
-        "listen = \"127.0.0.1:0\"",
-        "listen = \"127.0.0.1:65536\"",
-        "listen = \"127.0.0.1:+80\"",
-        "listen = \"127.0.0.1:80:80\"",
-        "listen = \"127.0.0.1:\"",
-        "listen = \"127.0.0.1\"",
-        "listen = \"127.0.1:80\"",
-        "listen = \"127.0.0.256:80\"",
-        "listen = \" 127.0.0.1:80\"",
-        "listen = \":80\"",
-        "listen = \"\"",
-        "listen = \"localhost:80\"",
-        "listen = \"[::1]:80\"",
-        "listen = \"::ffff:127.0.0.1:80\"",
-    ] {
-        assert!(rt; has_fault(alloc, text, "G3", "listen"), "at {text}");
-    }
+    Ok(())
 }
 
 #[test]
-fn other_texts_are_no_toml(rt: HostRuntime) {
-    let alloc = rt.alloc();
-    for text in [
-        "[",
-        "]",
-        "tries",
-        "tries = ",
-        "tries = 4 workers = 1",
-        "tries = 4\ntries = 4",
-        "tries = 9223372036854775808",
-        "tries = 04",
-        "transports = [\"udp\"",
-        "x = 1\n[",
+fn invalid_fields_are_reported_by_their_code(rt: HostRuntime) -> Result<(), Fail> {
+    for (input, want) in [
+        (b"zone a..b 0\n".as_slice(), b"err N1\n".as_slice()),
+        (b"zone a\\25 0\n", b"err N4\n"),
+        (b"zone . 0\nzone com. 0\n", b"ok zone 0 0 0 0\nerr S1\n"),
+        (b"add a..b A 192.0.2.1\n", b"err Z1\n"),
+        (b"add a A\n", b"err Z2\n"),
+        (b"add a A 192.0.2.256\n", b"err Z4\n"),
+        (b"find sip:-:1\n", b"err U2\n"),
+        (b"find sip:a:\n", b"err U3\n"),
+        (b"find sip:a@b@c:1\n", b"err U7\n"),
     ] {
-        assert!(rt; has_fault(alloc, text, "G1", ""), "at {text}");
+        let text = replies(rt.alloc(), input)?;
+        assert!(rt; text.as_slice() == want);
     }
+    Ok(())
+}
+
+// A zone whose name has labels of these lengths.
+fn zone_line(alloc: Global, lengths: &[usize]) -> Result<Vec<u8>, AllocError> {
+    let mut line = Vec::from_slice(alloc, b"zone ")?;
+    for length in lengths {
+        line.extend_from_slice(&vec![in alloc; b'a'; *length]?)?;
+        line.push(b'.')?;
+    }
+    line.extend_from_slice(b" 0\n")?;
+    Ok(line)
 }
 
 #[test]
-fn unknown_keys_are_refused(rt: HostRuntime) {
-    let alloc = rt.alloc();
-    for (text, key) in [
-        ("x = 1", "x"),
-        ("Tries = 4", "Tries"),
-        ("try = 4", "try"),
-        ("tries2 = 4", "tries2"),
-        ("\"tries \" = 4", "tries "),
-        ("\"\" = 4", ""),
-        ("a.tries = 4", "a"),
-        ("\"a.tries\" = 4", "a.tries"),
-        ("[program]\ntries = 4", "program"),
-        ("\"\\u00e9\" = 4", "\u{e9}"),
+fn names_have_limits(rt: HostRuntime) -> Result<(), Fail> {
+    for (lengths, want) in [
+        ([63, 1, 1, 1].as_slice(), b"ok zone 0 0 0 0\n".as_slice()),
+        (&[64, 1, 1, 1], b"err N2\n"),
+        (&[63, 63, 63, 61], b"ok zone 0 0 0 0\n"),
+        (&[63, 63, 63, 62], b"err N3\n"),
     ] {
-        assert!(rt; has_fault(alloc, text, "G2", key), "at {text}");
+        let line = zone_line(rt.alloc(), lengths)?;
+        let text = replies(rt.alloc(), &line)?;
+        assert!(rt; text.as_slice() == want);
     }
+    Ok(())
 }
 
 #[test]
-fn the_first_fault_is_that_of_the_first_key_by_octets(rt: HostRuntime) {
-    let alloc = rt.alloc();
-    for (text, code, key) in [
-        ("zzz = 1\ntries = 0", "G3", "tries"),
-        ("tries = 0\nzzz = 1", "G3", "tries"),
-        ("tries = 4\nzzz = 1", "G2", "zzz"),
-        ("tries = 0\na = 1", "G2", "a"),
-        ("entries = -1\nTries = 1", "G2", "Tries"),
-        ("triess = 1\ntries = 0", "G3", "tries"),
-        ("tries = 0\ntrie = 1", "G2", "trie"),
-        ("workers = 65\ntries = 17\nholds = 4097", "G3", "holds"),
-        ("\"\" = 1\nentries = -1", "G2", ""),
-        ("\"\\u00e9\" = 1\nzzz = 1", "G2", "zzz"),
-        ("tries = 0\n[table]\nentries = -1", "G2", "table"),
-    ] {
-        assert!(rt; has_fault(alloc, text, code, key), "at {text}");
+fn a_full_set_is_refused(rt: HostRuntime) -> Result<(), Fail> {
+    let mut input = Vec::from_slice(rt.alloc(), b"zone e. 0\n")?;
+    let mut want = Vec::from_slice(rt.alloc(), b"ok zone 0 0 0 0\n")?;
+    for number in 0..33 {
+        let line = format!(in rt.alloc(); "add a.e. A 192.0.2.{number}\n")?;
+        input.extend_from_slice(line.as_bytes())?;
+        let reply = if number < 32 {
+            "ok add 1\n"
+        } else {
+            "err S6\n"
+        };
+        want.extend_from_slice(reply.as_bytes())?;
     }
+    let text = replies(rt.alloc(), &input)?;
+    assert!(rt; text.as_slice() == want.as_slice());
+    Ok(())
+}
+
+#[test]
+fn every_octet_is_accepted_in_a_line(rt: HostRuntime) -> Result<(), Fail> {
+    for octet in 0..=255u8 {
+        let first = replies(rt.alloc(), &[octet, b'z', b'\n', b'q'])?;
+        let want = if octet == b'#' {
+            b"err K1\n".as_slice()
+        } else {
+            b"err K1\nerr K1\n".as_slice()
+        };
+        assert!(rt; first.as_slice() == want, "octet {octet} first");
+        let second = replies(rt.alloc(), &[b'z', octet, b'\n', b'q'])?;
+        assert!(rt;
+            second.as_slice() == b"err K1\nerr K1\n".as_slice(),
+            "octet {octet} second"
+        );
+    }
+    Ok(())
+}
+
+#[test]
+fn long_lines_are_refused_and_skipped(rt: HostRuntime) -> Result<(), Fail> {
+    for (count, end, want) in [
+        (
+            MAX_LINE_LEN,
+            b"\n".as_slice(),
+            b"err K1\nerr U1\n".as_slice(),
+        ),
+        (MAX_LINE_LEN + 1, b"\n", b"err K2\nerr U1\n"),
+        (MAX_LINE_LEN, b"\r\n", b"err K1\nerr U1\n"),
+        (MAX_LINE_LEN + 1, b"\r\n", b"err K2\nerr U1\n"),
+        (3 * MAX_LINE_LEN, b"\r\n", b"err K2\nerr U1\n"),
+    ] {
+        let input = long_line(rt.alloc(), count, end)?;
+        let text = replies(rt.alloc(), &input)?;
+        assert!(rt; text.as_slice() == want);
+    }
+    Ok(())
+}
+
+#[test]
+fn a_million_lines_have_a_reply_each(rt: HostRuntime) -> Result<(), Fail> {
+    let alloc = rt.alloc();
+    let mut input = Vec::new(alloc);
+    let mut want = Vec::new(alloc);
+    for _ in 0..1_000_000 {
+        input.extend_from_slice(b"find x\n")?;
+        want.extend_from_slice(b"err U1\n")?;
+    }
+    assert!(rt; replies(alloc, &input)?.as_slice() == want.as_slice());
+    Ok(())
+}
+
+#[test]
+fn replies_do_not_depend_on_the_sizes_of_reads_and_writes(rt: HostRuntime) -> Result<(), Fail> {
+    for most in 1..50 {
+        let mut reader = Tapped::new(Pieces {
+            rest: INPUT,
+            most,
+            fails_at: 0,
+            calls: 0,
+        });
+        let mut writer = Tapped::new(Paper {
+            text: Vec::new(rt.alloc()),
+            most,
+            fails_at: 0,
+            failing: Failing::Error,
+            calls: 0,
+            flushed: 0,
+        });
+        let mut session = Session::new(rt.alloc())?;
+        let ended = serve(rt.alloc(), &mut reader, &mut writer, &mut session);
+        assert!(rt; ended == Ok(Ended::EndOfInput));
+        assert!(rt; writer.into_inner().text.as_slice() == REPLIES);
+    }
+    Ok(())
+}
+
+#[test]
+fn a_failing_read_is_a_fault(rt: HostRuntime) -> Result<(), Fail> {
+    for fails_at in 1..46 {
+        let mut reader = Tapped::new(Pieces {
+            rest: INPUT,
+            most: 1,
+            fails_at,
+            calls: 0,
+        });
+        let mut writer = Tapped::new(blank(rt.alloc()));
+        let mut session = Session::new(rt.alloc())?;
+        let ended = serve(rt.alloc(), &mut reader, &mut writer, &mut session);
+        assert!(rt; ended == Err(ServeFault::Read));
+        assert!(rt; reader.failed() && reader.reads() == fails_at && !writer.failed());
+        let want = replies_within(fails_at - 1);
+        let paper = writer.into_inner();
+        assert!(rt; paper.text.as_slice() == want && paper.flushed == want.len());
+    }
+    Ok(())
+}
+
+#[test]
+fn session_keeps_accepted_commands_after_a_fault(rt: HostRuntime) -> Result<(), Fail> {
+    for (fails_at, want) in [
+        (29, b"none NoAddress\n".as_slice()),
+        (30, b"target 1 udp 1.2.3.4 7\nok find 1\n"),
+    ] {
+        let mut reader = Tapped::new(Pieces {
+            rest: INPUT,
+            most: 1,
+            fails_at,
+            calls: 0,
+        });
+        let mut session = Session::new(rt.alloc())?;
+        let mut writer = Tapped::new(blank(rt.alloc()));
+        let ended = serve(rt.alloc(), &mut reader, &mut writer, &mut session);
+        assert!(rt; ended == Err(ServeFault::Read));
+        let mut again = Tapped::new(whole(b"find sip:a.e:7"));
+        let mut later = Tapped::new(blank(rt.alloc()));
+        let ended = serve(rt.alloc(), &mut again, &mut later, &mut session);
+        assert!(rt; ended == Ok(Ended::EndOfInput));
+        assert!(rt; later.into_inner().text.as_slice() == want);
+    }
+    Ok(())
+}
+
+#[test]
+fn a_failing_write_is_a_fault(rt: HostRuntime) -> Result<(), Fail> {
+    for failing in [Failing::Error, Failing::TakesNothing] {
+        for fails_at in 1..50 {
+            let mut reader = Tapped::new(Pieces {
+                rest: INPUT,
+                most: 4,
+                fails_at: 0,
+                calls: 0,
+            });
+            let mut writer = Tapped::new(Paper {
+                text: Vec::new(rt.alloc()),
+                most: 1,
+                fails_at,
+                failing,
+                calls: 0,
+                flushed: 0,
+            });
+            let mut session = Session::new(rt.alloc())?;
+            let ended = serve(rt.alloc(), &mut reader, &mut writer, &mut session);
+            assert!(rt; ended == Err(ServeFault::Write));
+            assert!(rt; writer.failed() && !reader.failed());
+            let text = writer.into_inner().text;
+            assert!(rt; REPLIES.starts_with(text.as_slice()) && text.len() as u64 + 1 == fails_at);
+        }
+    }
+    Ok(())
+}
+
+#[test]
+fn reads_are_bounded(rt: HostRuntime) -> Result<(), Fail> {
+    let mut reader = Tapped::new(Pieces {
+        rest: INPUT,
+        most: 1,
+        fails_at: 0,
+        calls: 0,
+    });
+    let mut writer = Tapped::new(blank(rt.alloc()));
+    let mut session = Session::new(rt.alloc())?;
+    let ended = serve_within(rt.alloc(), &mut reader, &mut writer, &mut session, 11);
+    assert!(rt; ended == Err(ServeFault::TooManyTurns));
+    assert!(rt; reader.reads() == 11 && MAX_READS == 4_294_967_296);
+    assert!(rt; writer.into_inner().text.as_slice() == b"ok zone 0 0 0 0\n".as_slice());
+    Ok(())
+}
+
+#[test]
+fn quit_reads_no_more(rt: HostRuntime) -> Result<(), Fail> {
+    let mut reader = Tapped::new(Pieces {
+        rest: b"quit\nfind tel:1\n",
+        most: 5,
+        fails_at: 2,
+        calls: 0,
+    });
+    let mut writer = Tapped::new(blank(rt.alloc()));
+    let mut session = Session::new(rt.alloc())?;
+    let ended = serve(rt.alloc(), &mut reader, &mut writer, &mut session);
+    assert!(rt; ended == Ok(Ended::Quit) && session.has_ended() && reader.reads() == 1);
+    assert!(rt; writer.into_inner().text.as_slice() == b"ok quit\n".as_slice());
+    Ok(())
 }
 
 #[test]
 fn faults_have_codes_and_messages(rt: HostRuntime) -> Result<(), Fail> {
-    let alloc = rt.alloc();
-    for (fault, code, message) in [
+    let faults = [
+        (ServeFault::Read, "read", "a read failed"),
         (
-            SettingsFault::NotToml,
-            "G1",
-            "the settings are not a TOML document",
+            ServeFault::Write,
+            "write",
+            "a write failed, or wrote nothing",
         ),
         (
-            SettingsFault::UnknownKey(String::from_str(alloc, "x")?),
-            "G2",
-            "the settings have no key `x`",
+            ServeFault::TooManyTurns,
+            "turns",
+            "the session is longer than the reads that are allowed",
         ),
-        (
-            SettingsFault::BadValue(String::from_str(alloc, "tries")?),
-            "G3",
-            "the value of `tries` is not allowed",
-        ),
-        (SettingsFault::Memory, "Memory", "out of memory"),
-    ] {
+        (ServeFault::Memory, "memory", "out of memory"),
+    ];
+    for (fault, code, message) in faults {
         assert_eq!(rt; fault.code(), code);
-        assert_eq!(rt; fault.to_string(alloc)?.as_str(), message);
+        let text = format!(in rt.alloc(); "{fault}")?;
+        assert_eq!(rt; text.as_str(), message);
+    }
+    Ok(())
+}
+
+#[test]
+fn tapped_passes_errors_through_and_invents_none(rt: HostRuntime) -> Result<(), Fail> {
+    let mut reader = Tapped::new(Pieces {
+        rest: INPUT,
+        most: 4,
+        fails_at: 20,
+        calls: 0,
+    });
+    let mut chunk = [0; 16];
+    for number in 1..20 {
+        let outcome = reader.read(&mut chunk);
+        assert!(rt; outcome.is_ok() && !reader.failed() && reader.reads() == number);
+    }
+    let outcome = reader.read(&mut chunk);
+    assert!(rt; outcome.map_err(|error| error.kind()) == Err(ErrorKind::BrokenPipe));
+    assert!(rt; reader.failed() && reader.reads() == 20);
+
+    let mut writer = Tapped::new(blank(rt.alloc()));
+    for _ in 0..20 {
+        assert!(rt; writer.write(b"text").is_ok() && writer.write(b"").is_ok());
+        assert!(rt; writer.flush().is_ok() && !writer.failed());
     }
     Ok(())
 }

@@ -1,8 +1,5 @@
 //! The program: its arguments, and what it does on its standard streams.
-use crate::check::check_zone;
-use crate::serve::{Ended, ServeFault, serve};
-use crate::session::Session;
-use crate::tapped::Tapped;
+use sipl_lines::{Ended, ServeFault, Session, Tapped, check_zone, serve};
 use sipl_names::{Name, NameFault};
 use std::alloc::Global;
 use std::io::{ErrorKind, Input};

@@ -1,0 +1,16 @@
+-- What a command that was read asks for.
+use Rattle.sipl_lines.specs.declared.command.Command.{Command}
+use Rattle.sipl_lines.specs.declared.command.Command.TheVariants.{Nothing, Unknown, TooLong, Zone, Drop, Add, Del, Find, Quit}
+use Rattle.sipl_lines.specs.Requests.{Request, nothing, unknown, too_long, zone, drop, add, del, find, quit}
+
+-- the request of a command
+abbrev pub meaning_of : Command → Request
+meaning_of Nothing = nothing
+meaning_of Unknown = unknown
+meaning_of TooLong = too_long
+meaning_of (Zone apex lines) = zone apex.now lines
+meaning_of (Drop apex) = drop apex.now
+meaning_of (Add text) = add text.now
+meaning_of (Del text) = del text.now
+meaning_of (Find uri draws) = find uri.now draws
+meaning_of Quit = quit

@@ -1,0 +1,78 @@
+-- What a line of a session asks for.
+use Rattle.std.specs.Prelude.{ℕ, Bool, false, List, [], ◌∷◌, None, Some, Result, codes, nat_eq, nat_lt, length, if◌then◌else◌, ◌==◌}
+use lib.Pointwise.{pointwise}
+use Rattle.sipl_records.specs.Fields.{fields_of, trim_start, after_field}
+use Rattle.sipl_records.specs.Numbers.{number_of}
+use Rattle.sipl_srv.specs.declared.fault.DrawsFault.{DrawsFault}
+use Rattle.sipl_names.specs.Labels.{Octets}
+use Rattle.sipl_lines.specs.DrawsField.{draws_of}
+
+-- a request with its fields; a line without fields and a comment ask for nothing
+pub data Request : Type 0 where
+  nothing : Request
+  unknown : Request
+  too_long : Request
+  zone : Octets → ℕ → Request
+  drop : Octets → Request
+  add : Octets → Request
+  del : Octets → Request
+  find : Octets → Result (List ℕ) DrawsFault → Request
+  quit : Request
+
+-- a comment begins with # as the first octet of its line
+abbrev pub is_comment : Octets → Bool
+is_comment [] = false
+is_comment (c ∷ line) = c == 35
+
+-- `zone APEX COUNT`: the lines of the zone's text, at most 2^20, follow
+abbrev pub zone_request : List Octets → Request
+zone_request (apex ∷ count ∷ []) =
+    elim (number_of count 1048576) [ Some lines ↦ zone apex lines | None ↦ unknown ]
+zone_request _ = unknown
+
+-- `drop APEX`
+abbrev pub drop_request : List Octets → Request
+drop_request (apex ∷ []) = drop apex
+drop_request _ = unknown
+
+-- `add RECORD`: the record is the line from the first field after the command on
+abbrev pub add_request : Octets → Request
+add_request [] = unknown
+add_request (c ∷ text) = add (c ∷ text)
+
+-- `del RECORD`: the record is as with `add`
+abbrev pub del_request : Octets → Request
+del_request [] = unknown
+del_request (c ∷ text) = del (c ∷ text)
+
+-- `find URI`, and the fields that give the random words
+abbrev pub find_request : List Octets → Request
+find_request [] = unknown
+find_request (uri ∷ others) =
+    elim (draws_of others) [ Some draws ↦ find uri draws | None ↦ unknown ]
+
+-- `quit`
+abbrev pub quit_request : List Octets → Request
+quit_request [] = quit
+quit_request _ = unknown
+
+-- what the command word asks for, with the fields after it, and the whole line for a record
+abbrev pub command_request : Octets → List Octets → Octets → Request
+command_request word others line =
+    if pointwise nat_eq word (codes "zone") then zone_request others
+    else (if pointwise nat_eq word (codes "drop") then drop_request others
+    else (if pointwise nat_eq word (codes "add") then add_request (trim_start (after_field line))
+    else (if pointwise nat_eq word (codes "del") then del_request (trim_start (after_field line))
+    else (if pointwise nat_eq word (codes "find") then find_request others
+    else (if pointwise nat_eq word (codes "quit") then quit_request others else unknown)))))
+
+-- what the fields of a line ask for
+abbrev pub fields_request : List Octets → Octets → Request
+fields_request [] line = nothing
+fields_request (word ∷ others) line = command_request word others line
+
+-- what a line asks for: one of more than 65,536 octets is too long, a comment too
+abbrev pub request_of : Octets → Request
+request_of line =
+    if nat_lt 65536 (length line) then too_long
+    else (if is_comment line then nothing else fields_request (fields_of line) line)

@@ -1,0 +1,141 @@
+// The lines of a zone's text, which follow its `zone` line and are taken one by one.
+ghost use Rattle.std.specs.Prelude.{◌≡◌, ◌⊎◌, ◌==◌, IsTrue, OnOk, OnErr, true};
+ghost use Rattle.sipl_lines.specs.Gathering.{IsOrLost, gathering_of, after_line, gathered_after, at_end, with_line, keeps_lines};
+
+use crate::command::MAX_LINE_LEN;
+use sipl_names::{Name, NameFault};
+use std::alloc::{AllocError, Global};
+use std::marker::Model;
+
+/// A zone whose lines are taken: its apex, and the text of those that were, each followed by LF.
+#[derive(Drop)]
+pub struct ZoneLines {
+    apex: Name,
+    text: Vec<u8>,
+}
+
+impl Model for ZoneLines {
+    ghost use Rattle.sipl_lines.specs.ZoneLines.{ZoneLines as Zone};
+
+    ghost Value = { Zone };
+
+    ghost view = { λ z. record { apex = z.apex; text = z.text.items } };
+}
+
+/// What is gathered of a zone's lines.
+#[derive(Drop)]
+pub enum Gathered {
+    /// The apex, and the lines that were taken.
+    Lines(ZoneLines),
+    /// The apex is no name.
+    BadApex(NameFault),
+    /// A line has more octets than one may have: K2. No lines are kept.
+    LongLine,
+    /// An allocation failed. No lines are kept.
+    Lost,
+}
+
+/// The lines that a `zone` command takes: how many are left, and what the others gave.
+#[derive(Drop)]
+pub struct Gathering {
+    left: u64,
+    gathered: Gathered,
+}
+
+impl ZoneLines {
+    /// The zone's name.
+    pub fn apex(&self) -> &Name
+        ensures { result.now ≡ self.now.apex }
+    {
+        &self.apex
+    }
+
+    /// The lines that were taken, each followed by LF.
+    pub fn text(&self) -> &[u8]
+        ensures { result.now ≡ self.now.text }
+    {
+        &self.text
+    }
+
+    // Adds a line. An error says that an allocation failed: then nothing has changed.
+    fn push(&mut self, line: &[u8]) -> Result<(), AllocError>
+        ensures ok { OnOk result (self.new ≡ with_line line.now self.old) }
+        ensures err { OnErr result (self.new ≡ self.old) }
+    {
+        self.text.reserve(line.len() + 1)?;
+        self.text.extend_from_slice(line).unwrap();
+        self.text.push_reserved(b'\n');
+        Ok(())
+    }
+}
+
+impl Gathered {
+    // Takes a line. Where an allocation fails the lines are lost.
+    fn push(&mut self, line: &[u8])
+        ensures { (self.new ≡ gathered_after line.now self.old)
+            ⊎ (IsTrue (keeps_lines (gathered_after line.now self.old)) × (self.new ≡ Gathered.Lost)) }
+    {
+        match self {
+            Gathered::Lost | Gathered::LongLine => {}
+            _ if line.len() > MAX_LINE_LEN => *self = Gathered::LongLine,
+            Gathered::BadApex(_) => {}
+            Gathered::Lines(zone) => {
+                if zone.push(line).is_err() {
+                    *self = Gathered::Lost;
+                }
+            }
+        }
+    }
+}
+
+impl Gathering {
+    /// The gathering of so many lines for the zone of an apex, which is relative to the root. Where
+    /// an allocation fails it is lost.
+    pub fn new(alloc: Global, apex: &[u8], lines: u64) -> Self
+        ensures { IsOrLost true (gathering_of apex.now lines) result }
+    {
+        let gathered = match Name::from_text(alloc, apex, &Name::root(alloc)) {
+            Ok(apex) => Gathered::Lines(ZoneLines {
+                apex,
+                text: Vec::new(alloc),
+            }),
+            Err(NameFault::Memory) => Gathered::Lost,
+            Err(fault) => Gathered::BadApex(fault),
+        };
+        Gathering {
+            left: lines,
+            gathered,
+        }
+    }
+
+    /// Takes a line, which has no line end. Where an allocation fails the gathering is lost. Linear
+    /// in the length of the line, over all lines.
+    pub fn push(&mut self, line: &[u8])
+        ensures { IsOrLost (keeps_lines (after_line line.now self.old).gathered)
+            (after_line line.now self.old) self.new }
+    {
+        self.left = self.left.saturating_sub(1);
+        self.gathered.push(line);
+    }
+
+    /// Takes no more lines.
+    pub fn end(&mut self)
+        ensures { self.new ≡ at_end self.old }
+    {
+        self.left = 0;
+    }
+
+    /// Whether all lines are taken.
+    pub fn is_complete(&self) -> bool
+        ensures { result ≡ (self.now.left == 0) }
+    {
+        self.left == 0
+    }
+
+    /// What was gathered.
+    pub fn into_gathered(self) -> Gathered
+        ensures { result ≡ self.gathered }
+    {
+        self.gathered
+    }
+}

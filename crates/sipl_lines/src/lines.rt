@@ -1,0 +1,165 @@
+ghost use Rattle.std.specs.Prelude.{◌≡◌, ◌≢◌, ℕ, ◌<◌, ◌≤◌, List, [], ◌∷◌, ◌++◌, length, take, drop, MatchOption, IfOk, OnOk, OnErr};
+ghost use Rattle.sipl_lines.specs.Lines.{without_cr};
+ghost use Rattle.sipl_lines.specs.Items.{Item};
+ghost use Rattle.sipl_lines.specs.Replies.{AppendsReplies, AppendsFirstReplies};
+ghost use Rattle.sipl_lines.specs.Machine.{items_from, pending_after, kept_prefix, last_items, read_items, EndsNoLine, EndsLine};
+ghost use Rattle.sipl_lines.specs.Session.{session_protocol};
+
+use crate::command::MAX_LINE_LEN;
+use crate::session::Session;
+use memchr::memchr;
+use std::alloc::{AllocError, Global};
+use std::marker::Model;
+
+// The maximum number of octets that are kept of a line. A line of so many is too long, with a CR at
+// its end too.
+const MAX_KEPT_LEN: usize = MAX_LINE_LEN + 2;
+
+/// The octets of a line whose end has not been read: the first 65,538 of them, on which its reply
+/// depends.
+#[derive(Drop)]
+pub struct Pending {
+    kept: Vec<u8>,
+}
+
+impl Model for Pending {
+    ghost use Rattle.std.specs.Prelude.{ℕ, ◌≤◌, List, vec_len, vec_capacity};
+
+    ghost Value = { List ℕ };
+
+    ghost view = { λ p. p.kept.items };
+
+    ghost invariant = { λ p. (vec_len p.kept ≤ 65538) × (65538 ≤ vec_capacity p.kept) };
+}
+
+impl Pending {
+    /// No octets, with space for all that are ever kept.
+    pub fn new(alloc: Global) -> Result<Self, AllocError>
+        ensures { IfOk result (λ pending. pending ≡ []) }
+    {
+        let kept = Vec::with_capacity(alloc, MAX_KEPT_LEN)?;
+        Ok(Pending { kept })
+    }
+}
+
+impl Pending {
+    // Keeps a piece of the line after what is kept.
+    fn keep(&mut self, piece: &[u8])
+        ensures { self.new ≡ kept_prefix (self.old ++ piece.now) }
+    {
+        let space = MAX_KEPT_LEN - self.kept.len();
+        let count = space.min(piece.len());
+        self.kept.extend_from_slice(&piece[..count]).unwrap();
+    }
+
+    // Processes the line that ends after the piece.
+    fn end_line(
+        &mut self,
+        alloc: Global,
+        piece: &[u8],
+        session: &mut Session,
+        out: &mut Vec<u8>,
+    ) -> Result<(), AllocError>
+        ensures ok { OnOk result (AppendsReplies session_protocol session.old
+            (Item.line (without_cr (self.old ++ piece.now)) ∷ [])
+            out.old.items session.new out.new.items) }
+        ensures emptied { OnOk result (self.new ≡ []) }
+        ensures err { OnErr result (session.new ≡ session.old) }
+        ensures err_out { OnErr result (out.new.items ≡ out.old.items) }
+    {
+        if self.kept.is_empty() {
+            return session.process_line(alloc, trim_cr(piece), out);
+        }
+        self.keep(piece);
+        session.process_line(alloc, trim_cr(&self.kept), out)?;
+        self.kept.clear();
+        Ok(())
+    }
+
+    /// Processes what a read gave, and appends the replies: each line that ends in it, or at the
+    /// end of the input, where a read gives nothing, the octets that are left, which are a line if
+    /// there are any. The octets after the last line end are kept. An error says that the space for
+    /// a reply could not be reserved: the lines before have theirs.
+    pub fn process(
+        &mut self,
+        alloc: Global,
+        octets: &[u8],
+        session: &mut Session,
+        out: &mut Vec<u8>,
+    ) -> Result<(), AllocError>
+        ensures ok { OnOk result (AppendsReplies session_protocol session.old
+            (read_items self.old octets.now) out.old.items session.new out.new.items) }
+        ensures rest { OnOk result (octets.now ≢ []
+            → self.new ≡ kept_prefix (pending_after self.old octets.now)) }
+        ensures err { OnErr result (AppendsFirstReplies session_protocol session.old
+            (read_items self.old octets.now) out.old.items session.new out.new.items) }
+    {
+        if octets.is_empty() {
+            return self.finish(alloc, session, out);
+        }
+        self.feed(alloc, octets, session, out)
+    }
+
+    // Processes each line that ends in a chunk, and keeps the octets after the last.
+    fn feed(
+        &mut self,
+        alloc: Global,
+        chunk: &[u8],
+        session: &mut Session,
+        out: &mut Vec<u8>,
+    ) -> Result<(), AllocError>
+        ensures ok { OnOk result (AppendsReplies session_protocol session.old
+            (items_from self.old chunk.now) out.old.items session.new out.new.items) }
+        ensures rest { OnOk result (self.new ≡ kept_prefix (pending_after self.old chunk.now)) }
+        ensures err { OnErr result (AppendsFirstReplies session_protocol session.old
+            (items_from self.old chunk.now) out.old.items session.new out.new.items) }
+    {
+        let mut rest = chunk;
+        while let Some((piece, tail)) = split_line(rest) {
+            self.end_line(alloc, piece, session, out)?;
+            rest = tail;
+        }
+        self.keep(rest);
+        Ok(())
+    }
+
+    // Processes the octets that are left, and then the end of the input.
+    fn finish(
+        &self,
+        alloc: Global,
+        session: &mut Session,
+        out: &mut Vec<u8>,
+    ) -> Result<(), AllocError>
+        ensures ok { OnOk result (AppendsReplies session_protocol session.old
+            (last_items self.now) out.old.items session.new out.new.items) }
+        ensures err { OnErr result (AppendsFirstReplies session_protocol session.old
+            (last_items self.now) out.old.items session.new out.new.items) }
+    {
+        if self.kept.is_empty() {
+            return session.finish(alloc, out);
+        }
+        session.process_line(alloc, &self.kept, out)?;
+        session.finish(alloc, out)
+    }
+}
+
+// The octets before the first LF and those after it, where there is one.
+fn split_line(chunk: &[u8]) -> Option<(&[u8], &[u8])>
+    ensures { MatchOption result (EndsNoLine chunk.now)
+        (λ parts. EndsLine chunk.now parts.0.now parts.1.now) }
+{
+    let end = memchr(b'\n', chunk)?;
+    Some((&chunk[..end], &chunk[end + 1..]))
+}
+
+// A line without the CR at its end.
+fn trim_cr(line: &[u8]) -> &[u8]
+    ensures { result.now ≡ without_cr line.now }
+{
+    let count = line.len();
+    if count > 0 && line[count - 1] == b'\r' {
+        &line[..count - 1]
+    } else {
+        line
+    }
+}

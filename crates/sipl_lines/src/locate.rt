@@ -1,0 +1,43 @@
+//! The route of a question on the records of a store.
+ghost use Rattle.std.specs.Prelude.{◌≡◌, IfOk};
+ghost use Rattle.sipl_records.specs.Sets.{set_of};
+ghost use Rattle.sipl_evidence.specs.Known.{Agrees};
+ghost use Rattle.sipl_lines.specs.Locating.{IsLocated, IsLookedAt};
+
+use sipl_choice::Abilities;
+use sipl_plans::{Finding, Run};
+use sipl_uri::Question;
+use sipl_zonestore::ZoneStore;
+use std::alloc::{AllocError, Global};
+
+// The route of a question on the records as they are, and the record sets that it looks at.
+pub(crate) fn locate(
+    alloc: Global,
+    store: &mut ZoneStore,
+    question: Question,
+    abilities: &Abilities,
+) -> Result<Finding, AllocError>
+    ensures located { IfOk result
+        (λ finding. IsLocated store.old.zones.records question abilities.now finding) }
+    ensures unchanged { IsLookedAt store.old store.new }
+{
+    complete(alloc, store, Run::start(alloc, question, abilities)?)
+}
+
+// Gives a run the sets that it wants, and returns what it finds.
+pub(crate) fn complete(
+    alloc: Global,
+    store: &mut ZoneStore,
+    run: Run,
+) -> Result<Finding, AllocError>
+    ensures located { Agrees (set_of store.old.zones.records) run.items → IfOk result
+        (λ finding. IsLocated store.old.zones.records run.question run.client finding) }
+    ensures unchanged { IsLookedAt store.old store.new }
+{
+    let mut run = run;
+    while let Some(key) = run.wants() {
+        let (number, content) = store.set(key);
+        run.give(alloc, number, content)?;
+    }
+    Ok(run.finish().ok().unwrap())
+}

@@ -1,0 +1,154 @@
+// How replies are written.
+ghost use Rattle.std.specs.Prelude.{◌≡◌, ◌+◌, ◌*◌, ◌≤◌, [], ◌∷◌, ◌++◌, length, codes, IsOk, OnOk, OnErr, vec_len, vec_capacity};
+ghost use Rattle.sipl_lines.specs.ReplyText.{answer_text, max_answer_len, counts_line, refusal_line, text_fault_line, number_field, target_line, target_lines};
+
+use itoa::Buffer;
+use sipl_choice::Endpoint;
+use sipl_plans::Answer;
+use std::alloc::AllocError;
+
+// The maximum length in octets of a number below 2^64 with a space before it.
+const MAX_NUMBER_FIELD_LEN: usize = 21;
+
+// The maximum length in octets of a target's line: `target`, its number, the transport's name of at
+// most four octets, the address's text of at most 39, and the port.
+const MAX_TARGET_LINE_LEN: usize = 94;
+
+// The maximum length in octets of the line that counts the targets.
+const MAX_COUNT_LINE_LEN: usize = 29;
+
+/// Appends words, numbers with a space before each, and the end of the line, to space that is
+/// reserved: it does not allocate.
+pub fn write_counts(out: &mut Vec<u8>, words: &[u8], numbers: &[u64])
+    requires { vec_len out.old + length words.now + MAX_NUMBER_FIELD_LEN * length numbers.now + 1
+        ≤ vec_capacity out.old }
+    ensures ok { out.new.items ≡ out.old.items ++ counts_line words.now numbers.now }
+    ensures capacity { vec_capacity out.old ≤ vec_capacity out.new }
+{
+    out.extend_from_slice(words).unwrap();
+    for number in numbers {
+        write_number(out, *number);
+    }
+    out.push_reserved(b'\n');
+}
+
+// Appends a space and a number to space that is reserved.
+fn write_number(out: &mut Vec<u8>, number: u64)
+    requires { vec_len out.old + MAX_NUMBER_FIELD_LEN ≤ vec_capacity out.old }
+    ensures ok { out.new.items ≡ out.old.items ++ number_field number }
+    ensures len { vec_len out.new ≤ vec_len out.old + MAX_NUMBER_FIELD_LEN }
+    ensures capacity { vec_capacity out.old ≤ vec_capacity out.new }
+{
+    out.push_reserved(b' ');
+    if number < 10 {
+        out.push_reserved(b'0' + number as u8);
+        return;
+    }
+    let mut buffer = Buffer::new();
+    out.extend_from_slice(buffer.format(number).as_bytes())
+        .unwrap();
+}
+
+/// Appends the reply to a command that is refused. An error leaves `out` as it was.
+pub fn write_refusal(out: &mut Vec<u8>, code: &str) -> Result<(), AllocError>
+    ensures ok { OnOk result (out.new.items ≡ out.old.items ++ refusal_line code.now) }
+    ensures err { OnErr result (out.new.items ≡ out.old.items) }
+    ensures capacity { vec_capacity out.old ≤ vec_capacity out.new }
+    ensures succeeds { vec_len out.old + length (refusal_line code.now) ≤ vec_capacity out.old
+        → IsOk result }
+{
+    write_line(out, b"err ", code.as_bytes())
+}
+
+/// Appends words, the line on which a faulty entry of a zone's text begins, and the fault's code. An
+/// error leaves `out` as it was.
+pub fn write_text_fault(
+    out: &mut Vec<u8>,
+    words: &[u8],
+    line: u64,
+    code: &str,
+) -> Result<(), AllocError>
+    ensures ok { OnOk result
+        (out.new.items ≡ out.old.items ++ text_fault_line words.now line code.now) }
+    ensures err { OnErr result (out.new.items ≡ out.old.items) }
+    ensures capacity { vec_capacity out.old ≤ vec_capacity out.new }
+    ensures succeeds { vec_len out.old + length words.now + MAX_NUMBER_FIELD_LEN
+        + length code.now + 2 ≤ vec_capacity out.old → IsOk result }
+{
+    let tail_len = MAX_NUMBER_FIELD_LEN + code.len() + 2;
+    out.reserve(words.len().saturating_add(tail_len))?;
+    out.extend_from_slice(words).unwrap();
+    write_number(out, line);
+    out.push_reserved(b' ');
+    out.extend_from_slice(code.as_bytes()).unwrap();
+    out.push_reserved(b'\n');
+    Ok(())
+}
+
+// Appends a word, a text and the end of the line. An error leaves `out` as it was.
+fn write_line(out: &mut Vec<u8>, word: &[u8], text: &[u8]) -> Result<(), AllocError>
+    ensures ok { OnOk result (out.new.items ≡ out.old.items ++ (word.now ++ text.now ++ 10 ∷ [])) }
+    ensures err { OnErr result (out.new.items ≡ out.old.items) }
+    ensures capacity { vec_capacity out.old ≤ vec_capacity out.new }
+    ensures succeeds { vec_len out.old + length (word.now ++ text.now ++ 10 ∷ [])
+        ≤ vec_capacity out.old → IsOk result }
+{
+    out.reserve(word.len() + text.len() + 1)?;
+    out.extend_from_slice(word).unwrap();
+    out.extend_from_slice(text).unwrap();
+    out.push_reserved(b'\n');
+    Ok(())
+}
+
+/// Appends the reply to a question. An error leaves `out` as it was.
+pub fn write_answer(out: &mut Vec<u8>, answer: &Answer) -> Result<(), AllocError>
+    ensures ok { OnOk result (out.new.items ≡ out.old.items ++ answer_text answer.now) }
+    ensures err { OnErr result (out.new.items ≡ out.old.items) }
+    ensures capacity { vec_capacity out.old ≤ vec_capacity out.new }
+    ensures succeeds { vec_len out.old + max_answer_len answer.now ≤ vec_capacity out.old
+        → IsOk result }
+{
+    match answer {
+        Answer::Targets(targets) => write_targets(out, targets.as_slice()),
+        Answer::None(reason) => write_line(out, b"none ", reason.name().as_bytes()),
+    }
+}
+
+// Appends a line for each target, and the line that counts them. An error leaves `out` as it was.
+fn write_targets(out: &mut Vec<u8>, targets: &[Endpoint]) -> Result<(), AllocError>
+    ensures ok { OnOk result (out.new.items
+        ≡ out.old.items ++ (target_lines 1 targets.now
+        ++ counts_line (codes "ok find") (length targets.now ∷ []))) }
+    ensures err { OnErr result (out.new.items ≡ out.old.items) }
+    ensures capacity { vec_capacity out.old ≤ vec_capacity out.new }
+    ensures succeeds { vec_len out.old + 94 * length targets.now + 29 ≤ vec_capacity out.old
+        → IsOk result }
+{
+    let lines_len = targets.len().saturating_mul(MAX_TARGET_LINE_LEN);
+    out.reserve(lines_len.saturating_add(MAX_COUNT_LINE_LEN))?;
+    let mut number = 1;
+    for target in targets {
+        write_target(out, number, target);
+        number += 1;
+    }
+    write_counts(out, b"ok find", &[targets.len() as u64]);
+    Ok(())
+}
+
+// Appends the line of a target to space that is reserved.
+fn write_target(out: &mut Vec<u8>, number: u64, target: &Endpoint)
+    requires { vec_len out.old + MAX_TARGET_LINE_LEN ≤ vec_capacity out.old }
+    ensures ok { out.new.items ≡ out.old.items ++ target_line number target.now }
+    ensures len { vec_len out.new ≤ vec_len out.old + MAX_TARGET_LINE_LEN }
+    ensures capacity { vec_capacity out.old ≤ vec_capacity out.new }
+{
+    out.extend_from_slice(b"target").unwrap();
+    write_number(out, number);
+    out.push_reserved(b' ');
+    out.extend_from_slice(target.transport.name().as_bytes())
+        .unwrap();
+    out.push_reserved(b' ');
+    target.address.write(out).unwrap();
+    write_number(out, u64::from(target.port));
+    out.push_reserved(b'\n');
+}

@@ -1,0 +1,134 @@
+// Zones whose text is in lines of the session.
+use super::streams::{Pieces, blank, replies};
+use crate::command::MAX_LINE_LEN;
+use crate::server::{Ended, ServeFault, serve};
+use crate::session::Session;
+use crate::tapped::Tapped;
+use std::test::Fail;
+
+#[test]
+fn lines_of_a_zone_are_no_commands(rt: HostRuntime) -> Result<(), Fail> {
+    for (input, want) in [
+        (
+            b"zone e. 3\n; quit\n\n \t;find x\nfind x\n".as_slice(),
+            b"ok zone 0 0 0 0\nerr U1\n".as_slice(),
+        ),
+        (
+            b"zone e. 3\n\nquit\nzone e. 9\nquit\nquit\n",
+            b"err zone 2 Z2\nok quit\n",
+        ),
+        (b"zone e. 1\nquit\nfind x\n", b"err zone 1 Z2\nerr U1\n"),
+        (
+            b"zone e. 2\r\n;\r\n;\r\nfind x\r\n",
+            b"ok zone 0 0 0 0\nerr U1\n",
+        ),
+        (
+            b"zone e. 1\n;\nzone e. 1\n;\nfind x\n",
+            b"ok zone 0 0 0 0\nok zone 0 0 0 0\nerr U1\n",
+        ),
+    ] {
+        let text = replies(rt.alloc(), input)?;
+        assert!(rt; text.as_slice() == want);
+    }
+    Ok(())
+}
+
+#[test]
+fn the_end_of_the_input_ends_a_zone(rt: HostRuntime) -> Result<(), Fail> {
+    for (input, want) in [
+        (b"zone e. 1".as_slice(), b"ok zone 0 0 0 0\n".as_slice()),
+        (b"zone e. 1\n", b"ok zone 0 0 0 0\n"),
+        (b"zone e. 3\n;\n;", b"ok zone 0 0 0 0\n"),
+        (b"zone e. 3\n;\nquit", b"err zone 2 Z2\n"),
+        (b"zone e. 1\n\r", b"ok zone 0 0 0 0\n"),
+        (b"zone a..b 2\nquit\n", b"err N1\n"),
+        (b"zone a. 0\nzone b.a. 2\n", b"ok zone 0 0 0 0\nerr S1\n"),
+    ] {
+        let text = replies(rt.alloc(), input)?;
+        assert!(rt; text.as_slice() == want);
+    }
+    Ok(())
+}
+
+#[test]
+fn the_first_refusal_of_a_zone_is_reported(rt: HostRuntime) -> Result<(), Fail> {
+    for (head, length, tail, want) in [
+        (
+            "zone e. 2\n)\n",
+            MAX_LINE_LEN + 1,
+            "\nfind x\n",
+            "err K2\nerr U1\n",
+        ),
+        (
+            "zone a..b 2\n",
+            MAX_LINE_LEN + 1,
+            "\n;\nfind x\n",
+            "err K2\nerr U1\n",
+        ),
+        (
+            "zone a..b 2\n",
+            MAX_LINE_LEN,
+            "\n;\nfind x\n",
+            "err N1\nerr U1\n",
+        ),
+        ("zone e. 2\n;\n;", MAX_LINE_LEN, "", "err K2\n"),
+        ("zone e. 1048577\n#", 1, "\nfind x\n", "err K1\nerr U1\n"),
+    ] {
+        let mut input = Vec::from_slice(rt.alloc(), head.as_bytes())?;
+        input.extend_from_slice(&vec![in rt.alloc(); b'x'; length]?)?;
+        input.extend_from_slice(tail.as_bytes())?;
+        let text = replies(rt.alloc(), &input)?;
+        assert!(rt; text.as_slice() == want.as_bytes());
+    }
+    Ok(())
+}
+
+#[test]
+fn a_zone_has_at_most_2_to_the_20_lines(rt: HostRuntime) -> Result<(), Fail> {
+    let alloc = rt.alloc();
+    let mut input = Vec::from_slice(alloc, b"zone e. 1048576\n")?;
+    input.extend_from_slice(&vec![in alloc; b'\n'; 1_048_576]?)?;
+    input.extend_from_slice(b"find x\n")?;
+    let text = replies(alloc, &input)?;
+    assert!(rt; text.as_slice() == b"ok zone 0 0 0 0\nerr U1\n".as_slice());
+    Ok(())
+}
+
+#[test]
+fn a_zone_does_not_depend_on_the_sizes_of_reads(rt: HostRuntime) -> Result<(), Fail> {
+    for most in 1..40 {
+        let mut reader = Tapped::new(Pieces {
+            rest: b"find x\nzone e. 3\n;a\r\n\n; quit\nfind x\nzone e. 2\nquit",
+            most,
+            fails_at: 0,
+            calls: 0,
+        });
+        let mut writer = Tapped::new(blank(rt.alloc()));
+        let mut session = Session::new(rt.alloc())?;
+        let ended = serve(rt.alloc(), &mut reader, &mut writer, &mut session);
+        assert!(rt; ended == Ok(Ended::EndOfInput));
+        let want = b"err U1\nok zone 0 0 0 0\nerr U1\nerr zone 1 Z2\n";
+        assert!(rt; writer.into_inner().text.as_slice() == want.as_slice());
+    }
+    Ok(())
+}
+
+#[test]
+fn a_failing_read_leaves_the_lines_that_were_taken(rt: HostRuntime) -> Result<(), Fail> {
+    let mut reader = Tapped::new(Pieces {
+        rest: b"zone e. 3\n;\n",
+        most: 12,
+        fails_at: 2,
+        calls: 0,
+    });
+    let mut session = Session::new(rt.alloc())?;
+    let mut writer = Tapped::new(blank(rt.alloc()));
+    let ended = serve(rt.alloc(), &mut reader, &mut writer, &mut session);
+    assert!(rt; ended == Err(ServeFault::Read) && writer.into_inner().text.is_empty());
+    let mut again = Tapped::new(b"\nquit\nquit\n".as_slice());
+    let mut later = Tapped::new(blank(rt.alloc()));
+    let ended = serve(rt.alloc(), &mut again, &mut later, &mut session);
+    assert!(rt; ended == Ok(Ended::Quit));
+    assert!(rt; later.into_inner().text.as_slice() == b"err zone 3 Z2\nok quit\n".as_slice());
+    Ok(())
+}
