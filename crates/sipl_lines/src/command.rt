@@ -14,31 +14,31 @@ pub const MAX_LINE_LEN: usize = 65_536;
 /// The maximum number of lines of a zone's text.
 pub const MAX_ZONE_LINES: u64 = 1_048_576;
 
-/// A command, with its fields as they are in the line.
+// A command, with its fields as they are in the line.
 #[derive(Clone, Copy)]
-pub enum Command<'a> {
-    /// A line without fields, or a comment.
+pub(crate) enum Command<'a> {
+    // A line without fields, or a comment.
     Nothing,
-    /// An unknown command, or one with other fields than it takes: K1.
+    // An unknown command, or one with other fields than it takes: K1.
     Unknown,
-    /// More octets than a line may have: K2.
+    // More octets than a line may have: K2.
     TooLong,
-    /// `zone APEX COUNT`: loads the zone whose text is in so many lines after it.
+    // `zone APEX COUNT`: loads the zone whose text is in so many lines after it.
     Zone(&'a [u8], u64),
-    /// `drop APEX`: unloads a zone.
+    // `drop APEX`: unloads a zone.
     Drop(&'a [u8]),
-    /// `add RECORD`: adds a record.
+    // `add RECORD`: adds a record.
     Add(&'a [u8]),
-    /// `del RECORD`: removes a record.
+    // `del RECORD`: removes a record.
     Del(&'a [u8]),
-    /// `find URI DRAWS`: asks for the targets of a URI, for these random words.
+    // `find URI DRAWS`: asks for the targets of a URI, for these random words.
     Find(&'a [u8], Result<Draws, DrawsFault>),
-    /// `quit`: ends the session.
+    // `quit`: ends the session.
     Quit,
 }
 
-/// The command of a line, which has no line end. Command words are in lower case.
-pub fn read_command(line: &[u8]) -> Command<'_>
+// The command of a line, which has no line end. Command words are in lower case.
+pub(crate) fn read_command(line: &[u8]) -> Command<'_>
     ensures { meaning_of result ≡ request_of line.now }
 {
     if line.len() > MAX_LINE_LEN {

@@ -9,10 +9,10 @@ use sipl_srv::{Draws, DrawsFault};
 // One word more than draws can have: with so many they are refused, whatever follows.
 const MAX_KEPT_WORDS: usize = 33;
 
-/// The draws that these fields give: none, for which all words are 0; `seed N`, where N is a number
-/// of 64 bits; or `words W,W,..`, where each W is one of 32 bits, with V1 for more than 32 words.
-/// `None` for other fields. Linear in the length of the fields; does not allocate.
-pub fn read_draws(fields: &[u8]) -> Option<Result<Draws, DrawsFault>>
+// The draws that these fields give: none, for which all words are 0; `seed N`, where N is a number
+// of 64 bits; or `words W,W,..`, where each W is one of 32 bits, with V1 for more than 32 words.
+// `None` for other fields. Linear in the length of the fields; does not allocate.
+pub(crate) fn read_draws(fields: &[u8]) -> Option<Result<Draws, DrawsFault>>
     ensures { result ≡ draws_of (fields_of fields.now) }
 {
     let Some((form, rest)) = next_field(fields) else {

@@ -7,9 +7,9 @@ use sipl_names::{Name, NameFault};
 use std::alloc::{AllocError, Global};
 use std::marker::Model;
 
-/// A zone whose lines are taken: its apex, and the text of those that were, each followed by LF.
+// A zone whose lines are taken: its apex, and the text of those that were, each followed by LF.
 #[derive(Drop)]
-pub struct ZoneLines {
+pub(crate) struct ZoneLines {
     apex: Name,
     text: Vec<u8>,
 }
@@ -22,36 +22,36 @@ impl Model for ZoneLines {
     ghost view = { λ z. record { apex = z.apex; text = z.text.items } };
 }
 
-/// What is gathered of a zone's lines.
+// What is gathered of a zone's lines.
 #[derive(Drop)]
-pub enum Gathered {
-    /// The apex, and the lines that were taken.
+pub(crate) enum Gathered {
+    // The apex, and the lines that were taken.
     Lines(ZoneLines),
-    /// The apex is no name.
+    // The apex is no name.
     BadApex(NameFault),
-    /// A line has more octets than one may have: K2. No lines are kept.
+    // A line has more octets than one may have: K2. No lines are kept.
     LongLine,
-    /// An allocation failed. No lines are kept.
+    // An allocation failed. No lines are kept.
     Lost,
 }
 
-/// The lines that a `zone` command takes: how many are left, and what the others gave.
+// The lines that a `zone` command takes: how many are left, and what the others gave.
 #[derive(Drop)]
-pub struct Gathering {
+pub(crate) struct Gathering {
     left: u64,
     gathered: Gathered,
 }
 
 impl ZoneLines {
-    /// The zone's name.
-    pub fn apex(&self) -> &Name
+    // The zone's name.
+    pub(crate) fn apex(&self) -> &Name
         ensures { result.now ≡ self.now.apex }
     {
         &self.apex
     }
 
-    /// The lines that were taken, each followed by LF.
-    pub fn text(&self) -> &[u8]
+    // The lines that were taken, each followed by LF.
+    pub(crate) fn text(&self) -> &[u8]
         ensures { result.now ≡ self.now.text }
     {
         &self.text
@@ -89,9 +89,9 @@ impl Gathered {
 }
 
 impl Gathering {
-    /// The gathering of so many lines for the zone of an apex, which is relative to the root. Where
-    /// an allocation fails it is lost.
-    pub fn new(alloc: Global, apex: &[u8], lines: u64) -> Self
+    // The gathering of so many lines for the zone of an apex, which is relative to the root. Where
+    // an allocation fails it is lost.
+    pub(crate) fn new(alloc: Global, apex: &[u8], lines: u64) -> Self
         ensures { IsOrLost true (gathering_of apex.now lines) result }
     {
         let gathered = match Name::from_text(alloc, apex, &Name::root(alloc)) {
@@ -108,9 +108,9 @@ impl Gathering {
         }
     }
 
-    /// Takes a line, which has no line end. Where an allocation fails the gathering is lost. Linear
-    /// in the length of the line, over all lines.
-    pub fn push(&mut self, line: &[u8])
+    // Takes a line, which has no line end. Where an allocation fails the gathering is lost. Linear
+    // in the length of the line, over all lines.
+    pub(crate) fn push(&mut self, line: &[u8])
         ensures { IsOrLost (keeps_lines (after_line line.now self.old).gathered)
             (after_line line.now self.old) self.new }
     {
@@ -118,22 +118,22 @@ impl Gathering {
         self.gathered.push(line);
     }
 
-    /// Takes no more lines.
-    pub fn end(&mut self)
+    // Takes no more lines.
+    pub(crate) fn end(&mut self)
         ensures { self.new ≡ at_end self.old }
     {
         self.left = 0;
     }
 
-    /// Whether all lines are taken.
-    pub fn is_complete(&self) -> bool
+    // Whether all lines are taken.
+    pub(crate) fn is_complete(&self) -> bool
         ensures { result ≡ (self.now.left == 0) }
     {
         self.left == 0
     }
 
-    /// What was gathered.
-    pub fn into_gathered(self) -> Gathered
+    // What was gathered.
+    pub(crate) fn into_gathered(self) -> Gathered
         ensures { result ≡ self.gathered }
     {
         self.gathered

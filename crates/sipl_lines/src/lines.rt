@@ -15,10 +15,10 @@ use std::marker::Model;
 // its end too.
 const MAX_KEPT_LEN: usize = MAX_LINE_LEN + 2;
 
-/// The octets of a line whose end has not been read: the first 65,538 of them, on which its reply
-/// depends.
+// The octets of a line whose end has not been read: the first 65,538 of them, on which its reply
+// depends.
 #[derive(Drop)]
-pub struct Pending {
+pub(crate) struct Pending {
     kept: Vec<u8>,
 }
 
@@ -33,8 +33,8 @@ impl Model for Pending {
 }
 
 impl Pending {
-    /// No octets, with space for all that are ever kept.
-    pub fn new(alloc: Global) -> Result<Self, AllocError>
+    // No octets, with space for all that are ever kept.
+    pub(crate) fn new(alloc: Global) -> Result<Self, AllocError>
         ensures { IfOk result (λ pending. pending ≡ []) }
     {
         let kept = Vec::with_capacity(alloc, MAX_KEPT_LEN)?;
@@ -76,11 +76,11 @@ impl Pending {
         Ok(())
     }
 
-    /// Processes what a read gave, and appends the replies: each line that ends in it, or at the
-    /// end of the input, where a read gives nothing, the octets that are left, which are a line if
-    /// there are any. The octets after the last line end are kept. An error says that the space for
-    /// a reply could not be reserved: the lines before have theirs.
-    pub fn process(
+    // Processes what a read gave, and appends the replies: each line that ends in it, or at the
+    // end of the input, where a read gives nothing, the octets that are left, which are a line if
+    // there are any. The octets after the last line end are kept. An error says that the space for
+    // a reply could not be reserved: the lines before have theirs.
+    pub(crate) fn process(
         &mut self,
         alloc: Global,
         octets: &[u8],

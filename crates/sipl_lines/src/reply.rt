@@ -17,9 +17,9 @@ const MAX_TARGET_LINE_LEN: usize = 94;
 // The maximum length in octets of the line that counts the targets.
 const MAX_COUNT_LINE_LEN: usize = 29;
 
-/// Appends words, numbers with a space before each, and the end of the line, to space that is
-/// reserved: it does not allocate.
-pub fn write_counts(out: &mut Vec<u8>, words: &[u8], numbers: &[u64])
+// Appends words, numbers with a space before each, and the end of the line, to space that is
+// reserved: it does not allocate.
+pub(crate) fn write_counts(out: &mut Vec<u8>, words: &[u8], numbers: &[u64])
     requires { vec_len out.old + length words.now + MAX_NUMBER_FIELD_LEN * length numbers.now + 1
         ≤ vec_capacity out.old }
     ensures ok { out.new.items ≡ out.old.items ++ counts_line words.now numbers.now }
@@ -49,8 +49,8 @@ fn write_number(out: &mut Vec<u8>, number: u64)
         .unwrap();
 }
 
-/// Appends the reply to a command that is refused. An error leaves `out` as it was.
-pub fn write_refusal(out: &mut Vec<u8>, code: &str) -> Result<(), AllocError>
+// Appends the reply to a command that is refused. An error leaves `out` as it was.
+pub(crate) fn write_refusal(out: &mut Vec<u8>, code: &str) -> Result<(), AllocError>
     ensures ok { OnOk result (out.new.items ≡ out.old.items ++ refusal_line code.now) }
     ensures err { OnErr result (out.new.items ≡ out.old.items) }
     ensures capacity { vec_capacity out.old ≤ vec_capacity out.new }
@@ -60,9 +60,9 @@ pub fn write_refusal(out: &mut Vec<u8>, code: &str) -> Result<(), AllocError>
     write_line(out, b"err ", code.as_bytes())
 }
 
-/// Appends words, the line on which a faulty entry of a zone's text begins, and the fault's code. An
-/// error leaves `out` as it was.
-pub fn write_text_fault(
+// Appends words, the line on which a faulty entry of a zone's text begins, and the fault's code. An
+// error leaves `out` as it was.
+pub(crate) fn write_text_fault(
     out: &mut Vec<u8>,
     words: &[u8],
     line: u64,
@@ -100,8 +100,8 @@ fn write_line(out: &mut Vec<u8>, word: &[u8], text: &[u8]) -> Result<(), AllocEr
     Ok(())
 }
 
-/// Appends the reply to a question. An error leaves `out` as it was.
-pub fn write_answer(out: &mut Vec<u8>, answer: &Answer) -> Result<(), AllocError>
+// Appends the reply to a question. An error leaves `out` as it was.
+pub(crate) fn write_answer(out: &mut Vec<u8>, answer: &Answer) -> Result<(), AllocError>
     ensures ok { OnOk result (out.new.items ≡ out.old.items ++ answer_text answer.now) }
     ensures err { OnErr result (out.new.items ≡ out.old.items) }
     ensures capacity { vec_capacity out.old ≤ vec_capacity out.new }
