@@ -1,12 +1,8 @@
-use Rattle.std.proofs.Common.{◌≡◌, ◌∷◌, ◌++◌, ◌-◌, ◌<◌, length, Option, Some, refl, sym, ap, ◌∙◌, arith, rules}
+use Rattle.std.proofs.Common.{◌≡◌, ◌<◌, length, Some, refl, sym, ap, ◌∙◌, rules}
 use Rattle.std.specs.Option.{option_copied}
-use Rattle.std.specs.Result.{result_ok}
-use Rattle.std.specs.Prelude.{IfOk}
-use Rattle.sipl_records.specs.declared.record.Key.{Key}
-use Rattle.sipl_plans.specs.Runs.{RunState, IsGiven, wanted}
+use Rattle.sipl_plans.specs.Runs.{wanted}
 use Rattle.sipl_zonestore.specs.Looks.{looked}
-use Rattle.sipl_lines.specs.Locating.{IsLocated, IsLookedAt}
-use Rattle.sipl_lines.proofs.Locating.{GoesOn, goes_on, given_less, located, looked_same, looked_more, wanted_set}
+use Rattle.sipl_lines.proofs.Locating.{goes_on, given_less, located, looked_same, looked_more, wanted_set}
 use Rattle.sipl_lines.proofs.locate.complete.Goals as goal
 
 pub loop-key-init : goal.loop-key-init

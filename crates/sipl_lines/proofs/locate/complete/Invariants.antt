@@ -1,5 +1,4 @@
-use Rattle.std.proofs.Common.{ℕ, ◌-◌, length}
-use Rattle.sipl_plans.specs.Runs.{RunState}
+use Rattle.std.proofs.Common.{◌-◌, length}
 use Rattle.sipl_lines.proofs.Locating.{GoesOn}
 use Rattle.sipl_lines.proofs.locate.complete.Given as goal
 
