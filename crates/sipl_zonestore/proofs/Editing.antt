@@ -4,7 +4,7 @@ use Rattle.std.specs.Prelude.{OnOk, OnErr}
 use Rattle.std.specs.Option.{option_or}
 use Rattle.std.specs.List.{list_any}
 use Rattle.sipl_names.specs.Labels.{same_name}
-use Rattle.sipl_records.specs.Sets.{same_record}
+use Rattle.sipl_records.specs.Sets.{same_record, same_key}
 use Rattle.sipl_records.specs.declared.record.Record.{Record}
 use Rattle.sipl_records.specs.declared.record.Key.{Key}
 use Rattle.sipl_zonestore.specs.declared.fault.StoreFault.{StoreFault}
@@ -16,6 +16,7 @@ use Rattle.sipl_zonestore.specs.Numbers.{number_after, next_after, number_refusa
 use Rattle.sipl_zonestore.specs.NumberedRecords.{Numbered, IsReplaced}
 use Rattle.sipl_zonestore.specs.Edited.{IsEdited}
 use Rattle.sipl_zonestore.specs.Consistent.{IsConsistent}
+use Rattle.sipl_zonestore.proofs.Numbering.{kept-after}
 use Rattle.sipl_zonestore.proofs.Consistency.{IsGood, consistent-edited}
 
 -- the records of a store, with their numbers
@@ -34,58 +35,54 @@ first_some : (first second : Option StoreFault) (fault : StoreFault) → first �
 first_some None other fault is = cc
 first_some (Some first) other fault is = is
 
-first_none : (first second : Option StoreFault) → option_or first second ≡ None → first ≡ None
-first_none None other none = refl
-first_none (Some first) other none = cc
-
-both_none : (first second : Option StoreFault) → option_or first second ≡ None → second ≡ None
-both_none None other none = none
-both_none (Some first) other none = cc
-
 -- an edit that the zones accept is what the records say
-pub edited : (edit : Edit) (old new : Store) (result : Result (List Key) StoreFault) → refusal_of old.max_records edit old.zones ≡ None → IsReplaced (after edit old.zones).records (part old) (part new) result → OnOk result (new.zones.apexes ≡ (after edit old.zones).apexes) → OnErr result (new.zones.apexes ≡ old.zones.apexes) → new.max_records ≡ old.max_records → new.looks ≡ old.looks → IsEdited edit old new result
-edited edit old new (Ok keys) accepted is apexes _ limit looks = record {
+pub edited : (edit : Edit) (old new : Store) (result : Result (List Key) StoreFault) → IsGood edit → IsConsistent old → refusal_of old.max_records edit old.zones ≡ None → IsReplaced (after edit old.zones).records (part old) (part new) result → OnOk result (new.zones.apexes ≡ (after edit old.zones).apexes) → OnErr result (new.zones.apexes ≡ old.zones.apexes) → new.max_records ≡ old.max_records → new.looks ≡ old.looks → IsEdited edit old new result
+edited edit old new (Ok keys) good held accepted is apexes _ limit looks = record {
   accepted = second_none (refusal_of old.max_records edit old.zones) (number_refusal old.zones.records (after edit old.zones).records old.next) accepted is.accepted;
   after = λ i. record { apexes = apexes i; records = is.after i };
   changed = is.changed ∙ ap (changed_keys old.zones.records) (sym is.after);
   numbers = λ key. is.numbers key ∙ ap (λ records. number_after old.zones.records records old.next (number_in old) key) (sym is.after);
+  kept = λ key other.
+      let same = kept-after old.zones.records new.zones.records old.next (number_in old) held.numbered key (ap (list_any (same_key key)) (ap (changed_keys old.zones.records) is.after ∙ sym is.changed) ∙ other) in
+      (same.0, is.numbers key ∙ ap (λ records. number_after old.zones.records records old.next (number_in old) key) (sym is.after) ∙ same.1);
   next = is.next ∙ ap (λ records. next_after old.zones.records records old.next) (sym is.after);
   refused = tt;
   unchanged = tt;
   limit = limit;
   looks = looks;
+  consistent = consistent-edited edit old new good held accepted is.accepted (λ i. record { apexes = apexes i; records = is.after i }) limit is.next is.numbers;
 }
-edited edit old new (Err fault) accepted is _ apexes limit looks = record {
-  accepted = tt;
-  after = tt;
-  changed = tt;
-  numbers = tt;
-  next = tt;
-  refused = λ some. second (refusal_of old.max_records edit old.zones) (number_refusal old.zones.records (after edit old.zones).records old.next) fault accepted (is.refused some);
-  unchanged = λ i. record { zones = record { apexes = apexes i; records = (is.unchanged i).records }; max_records = limit i; numbers = (is.unchanged i).numbers; next = (is.unchanged i).next; looks = looks i };
-  limit = limit;
-  looks = looks;
-}
+edited edit old new (Err fault) good held accepted is _ apexes limit looks =
+    let same : new ≡ old = λ i. record { zones = record { apexes = apexes i; records = (is.unchanged i).records }; max_records = limit i; numbers = (is.unchanged i).numbers; next = (is.unchanged i).next; looks = looks i } in
+    record {
+      accepted = tt;
+      after = tt;
+      changed = tt;
+      numbers = tt;
+      kept = tt;
+      next = tt;
+      refused = λ some. second (refusal_of old.max_records edit old.zones) (number_refusal old.zones.records (after edit old.zones).records old.next) fault accepted (is.refused some);
+      unchanged = same;
+      limit = limit;
+      looks = looks;
+      consistent = subst IsConsistent (sym same) held;
+    }
 
 -- one that the zones refuse
-pub refused-edit : (edit : Edit) (store : Store) (fault : StoreFault) → refusal_of store.max_records edit store.zones ≡ Some fault → IsEdited edit store store (Err fault)
-refused-edit edit store fault why = record {
+pub refused-edit : (edit : Edit) (store : Store) (fault : StoreFault) → IsConsistent store → refusal_of store.max_records edit store.zones ≡ Some fault → IsEdited edit store store (Err fault)
+refused-edit edit store fault held why = record {
   accepted = tt;
   after = tt;
   changed = tt;
   numbers = tt;
+  kept = tt;
   next = tt;
   refused = λ some. first_some (refusal_of store.max_records edit store.zones) (number_refusal store.zones.records (after edit store.zones).records store.next) fault why;
   unchanged = refl;
   limit = refl;
   looks = refl;
+  consistent = held;
 }
-
--- a store is consistent after an edit
-pub consistent : (edit : Edit) (old new : Store) (result : Result (List Key) StoreFault) → IsGood edit → IsConsistent old → IsEdited edit old new result → IsConsistent new
-consistent edit old new (Ok keys) good held is =
-    consistent-edited edit old new good held (first_none (refusal_of old.max_records edit old.zones) _ is.accepted) (both_none (refusal_of old.max_records edit old.zones) (number_refusal old.zones.records (after edit old.zones).records old.next) is.accepted) is.after is.limit (is.next ∙ ap (λ (zones : Zones). next_after old.zones.records zones.records old.next) is.after) (λ key. is.numbers key ∙ ap (λ (zones : Zones). number_after old.zones.records zones.records old.next (number_in old) key) is.after)
-consistent edit old new (Err fault) good held is = subst IsConsistent (sym is.unchanged) held
 
 -- a fact, whatever the result
 pub always-ok : {P : Type 0} (result : Result (List Key) StoreFault) → P → OnOk result P
@@ -101,9 +98,9 @@ abbrev pub store_of : List (List (List ℕ)) → Numbered → ℕ → ℕ → St
 store_of apexes records max_records looks =
     record { zones = record { apexes = apexes; records = records.records }; max_records = max_records; numbers = records.numbers; next = records.next; looks = looks }
 
-pub edited-with : (edit : Edit) (apexes apexes' : List (List (List ℕ))) (records records' : Numbered) (max_records looks : ℕ) (result : Result (List Key) StoreFault) → refusal_of max_records edit (record { apexes = apexes; records = records.records }) ≡ None → IsReplaced (after edit (record { apexes = apexes; records = records.records })).records records records' result → OnOk result (apexes' ≡ (after edit (record { apexes = apexes; records = records.records })).apexes) → OnErr result (apexes' ≡ apexes) → IsEdited edit (store_of apexes records max_records looks) (store_of apexes' records' max_records looks) result
-edited-with edit apexes apexes' records records' max_records looks result accepted is done kept =
-    edited edit (store_of apexes records max_records looks) (store_of apexes' records' max_records looks) result accepted is done kept refl refl
+pub edited-with : (edit : Edit) (apexes apexes' : List (List (List ℕ))) (records records' : Numbered) (max_records looks : ℕ) (result : Result (List Key) StoreFault) → IsGood edit → IsConsistent (store_of apexes records max_records looks) → refusal_of max_records edit (record { apexes = apexes; records = records.records }) ≡ None → IsReplaced (after edit (record { apexes = apexes; records = records.records })).records records records' result → OnOk result (apexes' ≡ (after edit (record { apexes = apexes; records = records.records })).apexes) → OnErr result (apexes' ≡ apexes) → IsEdited edit (store_of apexes records max_records looks) (store_of apexes' records' max_records looks) result
+edited-with edit apexes apexes' records records' max_records looks result good held accepted is done kept =
+    edited edit (store_of apexes records max_records looks) (store_of apexes' records' max_records looks) result good held accepted is done kept refl refl
 
 -- a record that may be removed is there
 pub not_absent : (max_records : ℕ) (r : Record) (zones : Zones) → refusal_of max_records (remove r) zones ≡ None → list_any (same_record r) zones.records ≡ true

@@ -1,5 +1,5 @@
 -- The numbers that changed sets take.
-use Rattle.std.proofs.Common.{◌≡◌, ◌≢◌, ◌⊎◌, ℕ, ◌+◌, ◌^◌, ◌<◌, ◌≤◌, Bool, true, false, not, List, [], ◌∷◌, length, None, Some, if◌then◌else◌, refl, ap, sym, ◌∙◌, inl, inr, arith, nat_lt}
+use Rattle.std.proofs.Common.{◌≡◌, ◌≢◌, ◌⊎◌, ℕ, ◌+◌, ◌^◌, ◌<◌, ◌≤◌, Bool, true, false, not, ◌||◌, List, [], ◌∷◌, length, None, Some, if◌then◌else◌, refl, ap, sym, ◌∙◌, inl, inr, arith, nat_lt}
 use Rattle.std.specs.Prelude.{◌↔◌}
 use Rattle.std.specs.List.{list_any, position_from}
 use Rattle.std.proofs.lemmas.Bool.{cases_Bool}
@@ -77,6 +77,31 @@ number-cases old new next numbers key = elim (cases_Bool (is_empty (set_of new k
     | inr same ↦ inr (inr (record { filled = filled; same = unchanged-is old new key same; number = rw (from-none (λ other. same_key other key) next (numbered_keys old new) (numbered-none_same old new key same), filled) refl }))
   ]
 ]
+
+same_key-flipped : (key : Key) (keys : List Key) → list_any (λ other. same_key other key) keys ≡ list_any (same_key key) keys
+same_key-flipped key [] = refl
+same_key-flipped key (first ∷ keys) = λ i. same_key-sym first key i || same_key-flipped key keys i
+
+unchanged-none : (old new : List Record) (key : Key) → list_any (same_key key) (changed_keys old new) ≡ false → is_changed old new key ≡ false
+unchanged-none old new key none = elim (cases_Bool (is_changed old new key)) [
+  | inl differs ↦
+      let never : true ≡ false = sym (changed-any old new key differs) ∙ same_key-flipped key (changed_keys old new) ∙ none in cc
+  | inr same ↦ same
+]
+
+-- a set whose key is not among the changed keys is as it was, and so is its number
+pub kept-after : (old new : List Record) (next : ℕ) (numbers : Key → ℕ) → IsNumbered old numbers next → (key : Key) → list_any (same_key key) (changed_keys old new) ≡ false → (set_of new key ≡ set_of old key) × (number_after old new next numbers key ≡ numbers key)
+kept-after old new next numbers held key none =
+    let unchanged : is_changed old new key ≡ false = unchanged-none old new key none in
+    let same : set_of old key ≡ set_of new key = unchanged-is old new key unchanged in
+    let untaken : position_from (λ other. same_key other key) next (numbered_keys old new) ≡ None = from-none (λ other. same_key other key) next (numbered_keys old new) (numbered-none_same old new key unchanged) in (
+      sym same,
+      elim (number-cases old new next numbers key) [
+        | inl taken ↦ cc (sym untaken ∙ taken.found)
+        | inr (inl gone) ↦ gone.zero_number ∙ sym ((held.empty key).1 (same ∙ gone.empty))
+        | inr (inr kept) ↦ kept.number
+      ],
+    )
 
 not_filled : (old new : List Record) (key : Key) → is_empty (set_of new key) ≡ false → set_of new key ≢ []
 not_filled old new key filled none = let never : true ≡ false = ap is_empty (sym none) ∙ filled in cc

@@ -4,8 +4,8 @@ pub mod Numbers
 pub mod Store
 pub mod Looks
 pub mod Edits
-pub mod Edited
 pub mod Consistent
+pub mod Edited
 pub mod Machine
 pub mod SetTable
 pub mod NumberedRecords

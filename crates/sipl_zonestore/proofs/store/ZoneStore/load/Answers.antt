@@ -3,18 +3,17 @@ use Rattle.std.specs.Option.{option_to_list}
 use Rattle.sipl_zonestore.specs.Store.{records_outside, apexes_after_load}
 use Rattle.sipl_zonestore.specs.Edits.{load}
 use Rattle.sipl_zonestore.specs.NumberedRecords.{IsReplaced}
-use Rattle.sipl_zonestore.proofs.Editing.{store_of, edited-with, consistent}
+use Rattle.sipl_zonestore.proofs.Editing.{store_of, edited-with}
 use Rattle.sipl_zonestore.proofs.store.ZoneStore.load.Goals as goal
 
 pub invariant_of-self-2 : goal.invariant_of-self-2
 invariant_of-self-2 c =
     let added : c.self.inside.apexes.items ++ option_to_list c.in_ok-apex.apex ≡ apexes_after_load c.args.zone.now.apex c.self.inside.apexes.items = rw (c.deref-2.ensures.value, c.apex.ensures) at c.in_ok-apex.ensures in
     let apexes : c.push_apex.new.apexes.items ≡ apexes_after_load c.args.zone.now.apex c.self.inside.apexes.items = c.push_apex.ensures ∙ (λ i. c.in_ok-reserve.ensures.items i ++ option_to_list c.in_ok-apex.apex) ∙ added in
-    consistent (load c.args.zone.now) (store_of c.self.inside.apexes.items c.self.inside.records c.self.inside.max_records c.self.inside.looks) (store_of c.push_apex.new.apexes.items c.replace_within.new.self c.self.inside.max_records c.self.inside.looks) (Ok c.in_ok-keys.keys) c.records.ensures.zone c.self.invariant
-    (edited-with (load c.args.zone.now) c.self.inside.apexes.items c.push_apex.new.apexes.items c.self.inside.records c.replace_within.new.self c.self.inside.max_records c.self.inside.looks (Ok c.in_ok-keys.keys) (rw (c.deref.ensures.value, c.as_slice-records.ensures) at c.in_ok-check_load.ensures) (subst (λ records. IsReplaced records c.self.inside.records c.replace_within.new.self (Ok c.in_ok-keys.keys)) (λ i. records_outside (c.apex-2.ensures i) c.self.inside.records.records ++ c.records.ensures.value i) c.in_ok-keys.ensures) apexes tt)
+    (edited-with (load c.args.zone.now) c.self.inside.apexes.items c.push_apex.new.apexes.items c.self.inside.records c.replace_within.new.self c.self.inside.max_records c.self.inside.looks (Ok c.in_ok-keys.keys) c.records.ensures.zone c.self.invariant (rw (c.deref.ensures.value, c.as_slice-records.ensures) at c.in_ok-check_load.ensures) (subst (λ records. IsReplaced records c.self.inside.records c.replace_within.new.self (Ok c.in_ok-keys.keys)) (λ i. records_outside (c.apex-2.ensures i) c.self.inside.records.records ++ c.records.ensures.value i) c.in_ok-keys.ensures) apexes tt).consistent
 
 pub returns : goal.returns
 returns c =
     let added : c.self.inside.apexes.items ++ option_to_list c.in_ok-apex.apex ≡ apexes_after_load c.args.zone.now.apex c.self.inside.apexes.items = rw (c.deref-2.ensures.value, c.apex.ensures) at c.in_ok-apex.ensures in
     let apexes : c.push_apex.new.apexes.items ≡ apexes_after_load c.args.zone.now.apex c.self.inside.apexes.items = c.push_apex.ensures ∙ (λ i. c.in_ok-reserve.ensures.items i ++ option_to_list c.in_ok-apex.apex) ∙ added in
-    rw (← c.self.view_is) (edited-with (load c.args.zone.now) c.self.inside.apexes.items c.push_apex.new.apexes.items c.self.inside.records c.replace_within.new.self c.self.inside.max_records c.self.inside.looks (Ok c.in_ok-keys.keys) (rw (c.deref.ensures.value, c.as_slice-records.ensures) at c.in_ok-check_load.ensures) (subst (λ records. IsReplaced records c.self.inside.records c.replace_within.new.self (Ok c.in_ok-keys.keys)) (λ i. records_outside (c.apex-2.ensures i) c.self.inside.records.records ++ c.records.ensures.value i) c.in_ok-keys.ensures) apexes tt)
+    rw (← c.self.view_is) (edited-with (load c.args.zone.now) c.self.inside.apexes.items c.push_apex.new.apexes.items c.self.inside.records c.replace_within.new.self c.self.inside.max_records c.self.inside.looks (Ok c.in_ok-keys.keys) c.records.ensures.zone c.self.invariant (rw (c.deref.ensures.value, c.as_slice-records.ensures) at c.in_ok-check_load.ensures) (subst (λ records. IsReplaced records c.self.inside.records c.replace_within.new.self (Ok c.in_ok-keys.keys)) (λ i. records_outside (c.apex-2.ensures i) c.self.inside.records.records ++ c.records.ensures.value i) c.in_ok-keys.ensures) apexes tt)

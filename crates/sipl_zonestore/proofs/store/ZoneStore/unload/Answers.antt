@@ -4,14 +4,13 @@ use Rattle.sipl_names.specs.Labels.{same_name}
 use Rattle.sipl_zonestore.specs.Store.{records_outside}
 use Rattle.sipl_zonestore.specs.Edits.{unload}
 use Rattle.sipl_zonestore.specs.NumberedRecords.{IsReplaced}
-use Rattle.sipl_zonestore.proofs.Editing.{store_of, edited-with, consistent, loaded}
+use Rattle.sipl_zonestore.proofs.Editing.{store_of, edited-with, loaded}
 use Rattle.sipl_zonestore.proofs.store.ZoneStore.unload.Goals as goal
 
 pub invariant_of-self-2 : goal.invariant_of-self-2
 invariant_of-self-2 c =
-    consistent (unload c.args.apex.now) (store_of c.self.inside.apexes.items c.self.inside.records c.self.inside.max_records c.self.inside.looks) (store_of c.retain.new.self.items c.replace_within.new.self c.self.inside.max_records c.self.inside.looks) (Ok c.in_ok-keys.keys) tt c.self.invariant
-    (edited-with (unload c.args.apex.now) c.self.inside.apexes.items c.retain.new.self.items c.self.inside.records c.replace_within.new.self c.self.inside.max_records c.self.inside.looks (Ok c.in_ok-keys.keys) (loaded c.self.inside.max_records c.args.apex.now (record { apexes = c.self.inside.apexes.items; records = c.self.inside.records.records }) (rw c.deref.ensures.value at c.in_ok-check_unload.ensures)) (subst (λ records. IsReplaced records c.self.inside.records c.replace_within.new.self (Ok c.in_ok-keys.keys)) (append-nil (records_outside c.args.apex.now c.self.inside.records.records)) c.in_ok-keys.ensures) (filter_same _ (λ other. not (same_name c.args.apex.now other)) _ (λ x b f k. search rules) _ _ c.retain.ensures.filtered) tt)
+    (edited-with (unload c.args.apex.now) c.self.inside.apexes.items c.retain.new.self.items c.self.inside.records c.replace_within.new.self c.self.inside.max_records c.self.inside.looks (Ok c.in_ok-keys.keys) tt c.self.invariant (loaded c.self.inside.max_records c.args.apex.now (record { apexes = c.self.inside.apexes.items; records = c.self.inside.records.records }) (rw c.deref.ensures.value at c.in_ok-check_unload.ensures)) (subst (λ records. IsReplaced records c.self.inside.records c.replace_within.new.self (Ok c.in_ok-keys.keys)) (append-nil (records_outside c.args.apex.now c.self.inside.records.records)) c.in_ok-keys.ensures) (filter_same _ (λ other. not (same_name c.args.apex.now other)) _ (λ x b f k. search rules) _ _ c.retain.ensures.filtered) tt).consistent
 
 pub returns : goal.returns
 returns c =
-    rw (← c.self.view_is) (edited-with (unload c.args.apex.now) c.self.inside.apexes.items c.retain.new.self.items c.self.inside.records c.replace_within.new.self c.self.inside.max_records c.self.inside.looks (Ok c.in_ok-keys.keys) (loaded c.self.inside.max_records c.args.apex.now (record { apexes = c.self.inside.apexes.items; records = c.self.inside.records.records }) (rw c.deref.ensures.value at c.in_ok-check_unload.ensures)) (subst (λ records. IsReplaced records c.self.inside.records c.replace_within.new.self (Ok c.in_ok-keys.keys)) (append-nil (records_outside c.args.apex.now c.self.inside.records.records)) c.in_ok-keys.ensures) (filter_same _ (λ other. not (same_name c.args.apex.now other)) _ (λ x b f k. search rules) _ _ c.retain.ensures.filtered) tt)
+    rw (← c.self.view_is) (edited-with (unload c.args.apex.now) c.self.inside.apexes.items c.retain.new.self.items c.self.inside.records c.replace_within.new.self c.self.inside.max_records c.self.inside.looks (Ok c.in_ok-keys.keys) tt c.self.invariant (loaded c.self.inside.max_records c.args.apex.now (record { apexes = c.self.inside.apexes.items; records = c.self.inside.records.records }) (rw c.deref.ensures.value at c.in_ok-check_unload.ensures)) (subst (λ records. IsReplaced records c.self.inside.records c.replace_within.new.self (Ok c.in_ok-keys.keys)) (append-nil (records_outside c.args.apex.now c.self.inside.records.records)) c.in_ok-keys.ensures) (filter_same _ (λ other. not (same_name c.args.apex.now other)) _ (λ x b f k. search rules) _ _ c.retain.ensures.filtered) tt)
