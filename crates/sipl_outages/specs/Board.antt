@@ -27,7 +27,8 @@ pub record IsConsistent (board : BoardState) : Type 0 where
   pub time : board.holds.now ≤ 2 ^ 52
 
 -- how a call ends that makes an event of a board: it is accepted exactly where no fault applies,
--- and else the board stays; an allocation failure may come in place of either
+-- and else the board stays; an allocation failure may come in place of either; what always holds of
+-- a board holds after each
 pub record Makes {A : Type 0} (event : BoardEvent) (old new : BoardState)
     (result : Result A BoardFault) : Type 0 where
   pub accepted : OnOk result (refusal_of old.max_holds event old.holds ≡ None)
@@ -36,3 +37,4 @@ pub record Makes {A : Type 0} (event : BoardEvent) (old new : BoardState)
       (λ fault. fault ≢ Memory → refusal_of old.max_holds event old.holds ≡ Some fault)
   pub unchanged : OnErr result (new.holds ≡ old.holds)
   pub limit : new.max_holds ≡ old.max_holds
+  pub consistent : IsConsistent new

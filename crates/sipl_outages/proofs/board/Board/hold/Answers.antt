@@ -33,7 +33,8 @@ returns-in_ok-insert-in-Some-clause-event c =
     let is : new ≡ insert_entry same_endpoint es k (max c.in-Some.old (b.time + c.args.ms)) =
     c.in_ok-insert-in-Some.ensures.entries ∙ (λ i. insert_entry (derived_eq i) es k (c.max.ensures i)) in
     subst (λ old. Makes (Hold k c.args.ms) old (board_of b.time new b.max_holds) (Ok (tt {0}))) c.self.view_is
-    (extend_makes b.time es b.max_holds c.self.invariant k new c.args.ms (omega arith) c.in-Some.old found is)
+    (extend_makes b.time es b.max_holds c.self.invariant k new c.args.ms (omega arith) c.in-Some.old found is
+    (subst (λ same. IsDistinct same (keys_of new)) derived_eq c.insert.ensures.unique))
 
 pub invariant_of-self-in-None-1 : goal.invariant_of-self-in-None-1
 invariant_of-self-in-None-1 c =
@@ -58,4 +59,5 @@ returns-in_ok-insert-in-None-3-clause-event c =
     c.in_ok-insert-in-None-3.ensures.entries ∙ insert_entry-new eq-value.it b.ends k (b.time + c.args.ms) none in
     let absent = ap (λ same. lookup (same k) es) (sym derived_eq) ∙ none in
     subst (λ old. Makes (Hold k c.args.ms) old (board_of b.time new b.max_holds) (Ok (tt {0}))) c.self.view_is
-    (add_makes b.time es b.max_holds c.self.invariant k new c.args.ms (omega arith) absent (omega arith) (omega arith) is)
+    (add_makes b.time es b.max_holds c.self.invariant k new c.args.ms (omega arith) absent (omega arith) (omega arith) is
+    (subst (λ same. IsDistinct same (keys_of new)) derived_eq c.insert-in-None-3.ensures.unique))

@@ -31,4 +31,5 @@ returns-clause-event c =
     let found = ap (λ same. lookup (same k) b.ends.entries) (sym derived_eq) ∙ sym c.shift_remove.ensures.value ∙ c.in-Some.is in
     let is = c.shift_remove.ensures.entries ∙ ap (λ same. remove_entry (same k) b.ends.entries) derived_eq in
     subst (λ old. Makes (Release k) old (board_of b.time new b.max_holds) (Ok (tt {0}))) c.self.view_is
-    (release_makes b.time b.ends.entries b.max_holds c.self.invariant k new c.in-Some.field-0 found is)
+    (release_makes b.time b.ends.entries b.max_holds c.self.invariant k new c.in-Some.field-0 found is
+    (subst (λ same. IsDistinct same (keys_of new)) derived_eq c.shift_remove.ensures.unique))
