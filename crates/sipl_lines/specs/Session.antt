@@ -25,6 +25,7 @@ use Rattle.sipl_zonestore.specs.Numbers.{next_after, number_refusal}
 use Rattle.sipl_zonestore.specs.Changes.{changed_keys}
 use Rattle.sipl_zonestore.specs.StoreFault.{code_of as store_code}
 use Rattle.sipl_zonestore.specs.declared.fault.StoreFault.{StoreFault}
+use Rattle.sipl_outages.specs.Holds.{no_holds}
 use Rattle.sipl_plans.specs.Plan.{plan}
 use Rattle.sipl_names.specs.Labels.{Octets, Labels}
 use Rattle.sipl_lines.specs.Items.{Item, line, end_of_input}
@@ -155,7 +156,7 @@ del_outcome text state = record_outcome (codes "ok del") (λ r. remove r) (recor
 abbrev pub draws_outcome : Question → Result (List ℕ) DrawsFault → SessionState → Outcome
 draws_outcome question (Err fault) state = refuses (draws_code fault) state
 draws_outcome question (Ok words) state =
-    keeps (answer_text (plan (set_of state.zones.records) question client words)) state
+    keeps (answer_text (plan (set_of state.zones.records) no_holds question client words)) state
 
 -- the plan of a question: the URI's fault is reported before that of the words
 abbrev pub question_outcome : Result Question UriFault → Result (List ℕ) DrawsFault

@@ -14,6 +14,7 @@ use crate::reply::{write_answer, write_counts, write_refusal, write_text_fault};
 use sipl_choice::{Abilities, Families, Transport};
 use sipl_masterfile::{ZoneCause, ZoneFault, read_record, read_zone};
 use sipl_names::{Name, NameFault};
+use sipl_outages::Board;
 use sipl_plans::draw;
 use sipl_records::Record;
 use sipl_srv::{Draws, DrawsFault};
@@ -369,7 +370,7 @@ impl Session {
             Err(fault) => return write_refusal(out, fault.code()),
         };
         let finding = locate(alloc, &mut self.store, question, &self.abilities)?;
-        let answer = draw(alloc, finding.layout(), draws)?;
+        let answer = draw(alloc, finding.layout(), draws, &Board::new(alloc))?;
         write_answer(out, &answer)
     }
 }

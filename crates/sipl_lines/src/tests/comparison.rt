@@ -4,6 +4,7 @@ use itoa::Buffer;
 use sipl_choice::{Abilities, Families, Transport};
 use sipl_masterfile::{read_record, read_zone};
 use sipl_names::Name;
+use sipl_outages::Board;
 use sipl_plans::{Answer, draw, plan_of};
 use sipl_srv::Draws;
 use sipl_uri::{Question, Uri};
@@ -169,8 +170,16 @@ fn agreed(
     draws: &Draws,
 ) -> Result<Option<usize>, AllocError> {
     let finding = locate(alloc, store, question, abilities)?;
-    let answer = draw(alloc, finding.layout(), draws)?;
-    let plain = plan_of(alloc, store.records(), finding.question(), abilities, draws)?;
+    let board = Board::new(alloc);
+    let answer = draw(alloc, finding.layout(), draws, &board)?;
+    let plain = plan_of(
+        alloc,
+        store.records(),
+        &board,
+        finding.question(),
+        abilities,
+        draws,
+    )?;
     if !is_same(&answer, &plain) {
         return Ok(None);
     }

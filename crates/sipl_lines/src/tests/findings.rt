@@ -4,6 +4,7 @@ use sipl_choice::{Abilities, Endpoint, Families, Transport};
 use sipl_evidence::Evidence;
 use sipl_masterfile::{read_record, read_zone};
 use sipl_names::Name;
+use sipl_outages::Board;
 use sipl_plans::{Answer, Finding, Run, draw};
 use sipl_records::{Address, Key, Kind};
 use sipl_srv::Draws;
@@ -67,7 +68,7 @@ fn has_targets(
     want: &[Endpoint],
 ) -> Result<bool, Fail> {
     let draws = Draws::from_words(words)?;
-    match draw(alloc, finding.layout(), &draws)? {
+    match draw(alloc, finding.layout(), &draws, &Board::new(alloc))? {
         Answer::Targets(targets) => Ok(targets.as_slice() == want),
         Answer::None(_) => Ok(want.is_empty()),
     }
