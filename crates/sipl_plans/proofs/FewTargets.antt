@@ -12,11 +12,13 @@ use Rattle.sipl_choice.specs.declared.endpoint.Endpoint.{Endpoint}
 use Rattle.sipl_choice.specs.declared.transport.Transport.{Transport}
 use Rattle.sipl_srv.specs.Order.{Rank, ordered}
 use Rattle.sipl_srv.proofs.Orders.{ordered-IsPermutation}
+use Rattle.sipl_outages.specs.Holds.{Holds, is_held}
 use Rattle.sipl_plans.specs.Plan.{endpoints_of, source_rank}
 use Rattle.sipl_plans.specs.Servers.{AreFew, HasFewServers}
 use Rattle.sipl_plans.specs.declared.layout.Layout.{Layout}
 use Rattle.sipl_plans.specs.declared.layout.Layout.TheVariants.{Servers}
 use Rattle.sipl_plans.specs.declared.layout.Source.{Source}
+use Rattle.sipl_plans.proofs.FreeTargets.{free}
 
 length-unique : {A : Type 0} (same : A → A → Bool) (xs : List A) → length (unique same xs) ≤ length xs
 length-unique same [] = omega arith
@@ -46,10 +48,10 @@ module _ (transport : Transport) (servers : List Source) (few : All (λ server. 
           let more = flat_map (endpoints_of transport) (filter_map (slice_get servers) places) in
           omega (arith, own server refl, length-append (endpoints_of transport server) more, length-map server.addresses (λ address. let endpoint : Endpoint = record { transport = transport; address = address; port = server.port } in endpoint))
 
--- the endpoints of few servers, each once, are few
-pub draw-few : (layout : Layout) (transport : Transport) (servers slice : List Source) (words order places : List ℕ) (endpoints targets : List Endpoint) → HasFewServers layout → layout ≡ Servers transport servers → slice ≡ servers
-    → order ≡ ordered (map source_rank slice) words → places ≡ order → endpoints ≡ unique same_endpoint (flat_map (endpoints_of transport) (filter_map (slice_get slice) places)) → targets ≡ endpoints → length targets ≤ 2048
-draw-few layout transport servers slice words order places endpoints targets few at own by all is same =
+-- of few servers the endpoints, each once, that are left are few
+pub draw-few : (layout : Layout) (transport : Transport) (servers slice : List Source) (holds : Holds) (words order places : List ℕ) (endpoints left targets : List Endpoint) → HasFewServers layout → layout ≡ Servers transport servers → slice ≡ servers
+    → order ≡ ordered (map source_rank slice) words → places ≡ order → endpoints ≡ unique same_endpoint (flat_map (endpoints_of transport) (filter_map (slice_get slice) places)) → left ≡ free holds endpoints → targets ≡ left → length targets ≤ 2048
+draw-few layout transport servers slice holds words order places endpoints left targets few at own by all is kept same =
     let some : AreFew slice = subst AreFew (sym own) (subst HasFewServers at few) in
     let each : List Endpoint = flat_map (endpoints_of transport) (filter_map (slice_get slice) places) in
-    omega (arith, some.servers, ap length same, ap length is, length-unique same_endpoint each, length-endpoints transport slice some.addresses places, ap length all, ap length by, length-ordered (map source_rank slice) words, length-map slice source_rank)
+    omega (arith, some.servers, ap length same, ap length kept, length-filter (λ e. not (is_held holds e)) endpoints, count_by-le-length (λ e. not (is_held holds e)) endpoints, ap length is, length-unique same_endpoint each, length-endpoints transport slice some.addresses places, ap length all, ap length by, length-ordered (map source_rank slice) words, length-map slice source_rank)

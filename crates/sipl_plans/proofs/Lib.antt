@@ -6,6 +6,7 @@ pub mod FewReads
 pub mod FewRecords
 pub mod FewServers
 pub mod FewTargets
+pub mod FreeTargets
 pub mod Routing
 pub mod ItemRecords
 pub mod KnownLook

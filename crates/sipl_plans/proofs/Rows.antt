@@ -17,7 +17,9 @@ use Rattle.sipl_uri.specs.declared.question.Target.TheVariants.{Domain}
 use Rattle.sipl_evidence.specs.Looks.{key}
 use Rattle.sipl_plans.specs.Route.{route, reads}
 use Rattle.sipl_plans.specs.declared.layout.Layout.TheVariants.{Servers}
-use Rattle.sipl_plans.specs.declared.answer.Reason.TheVariants.{NoAddress}
+use Rattle.sipl_plans.specs.declared.answer.Reason.TheVariants.{NoAddress, AllHeld}
+use Rattle.sipl_choice.specs.declared.endpoint.Endpoint.{Endpoint}
+use Rattle.sipl_outages.specs.Holds.{Holds, no_holds}
 
 abbrev domain : Labels
 domain = codes "a" ∷ []
@@ -55,18 +57,37 @@ row_reads : reads (set_of zone) question client ≡ key domain Pointer ∷ key t
 row_reads = refl
 
 -- words 2,0 and 1,0
-row_plan2 : plan (set_of zone) question client (2 ∷ 0 ∷ []) ≡ Targets (record { transport = Tcp; address = v4 2; port = 5060 } ∷ record { transport = Tcp; address = v4 1; port = 5060 } ∷ [])
+row_plan2 : plan (set_of zone) no_holds question client (2 ∷ 0 ∷ []) ≡ Targets (record { transport = Tcp; address = v4 2; port = 5060 } ∷ record { transport = Tcp; address = v4 1; port = 5060 } ∷ [])
 row_plan2 = refl
 
-row_plan1 : plan (set_of zone) question client (1 ∷ 0 ∷ []) ≡ Targets (record { transport = Tcp; address = v4 1; port = 5060 } ∷ record { transport = Tcp; address = v4 2; port = 5060 } ∷ [])
+row_plan1 : plan (set_of zone) no_holds question client (1 ∷ 0 ∷ []) ≡ Targets (record { transport = Tcp; address = v4 1; port = 5060 } ∷ record { transport = Tcp; address = v4 2; port = 5060 } ∷ [])
 row_plan1 = refl
+
+-- one target is held until 5000, and then none
+abbrev at : ℕ → Endpoint
+at number = record { transport = Tcp; address = v4 number; port = 5060 }
+
+abbrev one_held : ℕ → Holds
+one_held now = record { now = now; ends = (at 2, 5000) ∷ [] }
+
+row_one_held : plan (set_of zone) (one_held 4999) question client (2 ∷ 0 ∷ []) ≡ Targets (at 1 ∷ [])
+row_one_held = refl
+
+row_ended : plan (set_of zone) (one_held 5000) question client (2 ∷ 0 ∷ []) ≡ Targets (at 2 ∷ at 1 ∷ [])
+row_ended = refl
+
+row_all_held : plan (set_of zone) (record { now = 0; ends = (at 2, 5000) ∷ (at 1, 1) ∷ [] }) question client (2 ∷ 0 ∷ []) ≡ none_of AllHeld
+row_all_held = refl
 
 -- transport=udp: four keys and no address
 abbrev udp_question : Question
 udp_question = record { secure = false; target = Domain domain; port = None; transport = Some Udp }
 
-row_udp : plan (set_of zone) udp_question client [] ≡ none_of NoAddress
+row_udp : plan (set_of zone) no_holds udp_question client [] ≡ none_of NoAddress
 row_udp = refl
+
+row_udp_held : plan (set_of zone) (one_held 0) udp_question client [] ≡ none_of NoAddress
+row_udp_held = refl
 
 abbrev udp_service : Labels
 udp_service = codes "_sip" ∷ codes "_udp" ∷ domain
@@ -87,8 +108,8 @@ chain = link 0 ∷ link 1 ∷ link 2 ∷ link 3 ∷ link 4 ∷ link 5 ∷ link 6
 abbrev n0_question : Question
 n0_question = record { secure = false; target = Domain (n 0); port = Some 5060; transport = None }
 
-row_chain8 : plan (set_of (chain ++ record { owner = n 8; value = a4 7 } ∷ [])) n0_question client [] ≡ Targets (record { transport = Udp; address = v4 7; port = 5060 } ∷ [])
+row_chain8 : plan (set_of (chain ++ record { owner = n 8; value = a4 7 } ∷ [])) no_holds n0_question client [] ≡ Targets (record { transport = Udp; address = v4 7; port = 5060 } ∷ [])
 row_chain8 = refl
 
-row_chain9 : plan (set_of (chain ++ link 8 ∷ record { owner = n 9; value = a4 7 } ∷ [])) n0_question client [] ≡ none_of NoAddress
+row_chain9 : plan (set_of (chain ++ link 8 ∷ record { owner = n 9; value = a4 7 } ∷ [])) no_holds n0_question client [] ≡ none_of NoAddress
 row_chain9 = refl

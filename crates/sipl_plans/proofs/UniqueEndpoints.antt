@@ -14,12 +14,7 @@ use Rattle.sipl_choice.specs.declared.transport.Transport.{Transport}
 use Rattle.sipl_choice.specs.Endpoints.{same_endpoint}
 use Rattle.sipl_choice.proofs.SameEndpoint.{same_endpoint-equivalence}
 use Rattle.sipl_plans.specs.declared.layout.Source.{Source}
-use Rattle.sipl_srv.specs.Order.{ordered}
-use Rattle.sipl_plans.specs.declared.layout.Layout.{Layout}
-use Rattle.sipl_plans.specs.declared.layout.Layout.TheVariants.{Servers}
-use Rattle.sipl_plans.specs.declared.answer.Answer.TheVariants.{None}
-use Rattle.sipl_plans.specs.declared.answer.Reason.TheVariants.{NoAddress}
-use Rattle.sipl_plans.specs.Plan.{endpoints_at, endpoints_of, source_rank, targets_or_no_address, draw}
+use Rattle.sipl_plans.specs.Plan.{endpoints_at, endpoints_of}
 
 -- one more endpoint
 push_if_new-unique : (before : List Endpoint) (endpoint : Endpoint) (old new : List Endpoint) → old ≡ unique same_endpoint before → new ≡ (if list_any (λ other. same_endpoint other endpoint) old then old else old ++ endpoint ∷ []) → new ≡ unique same_endpoint (before ++ endpoint ∷ [])
@@ -64,11 +59,3 @@ next_server transport servers order j server addresses i targets inside known at
     ∙ flat_map-append (endpoints_of transport) before (server ∷ [])
     ∙ ap (λ (all : List Endpoint). flat_map (endpoints_of transport) before ++ all) (append-nil (endpoints_of transport server)) in
     is ∙ ap (λ (all : List Endpoint). unique same_endpoint all) (ap (λ (all : List Endpoint). flat_map (endpoints_of transport) before ++ all) whole ∙ sym more)
-
--- without endpoints there is no address
-pub draw-none : (layout : Layout) (transport : Transport) (servers slice : List Source) (words order places : List ℕ) (targets : List Endpoint) → layout ≡ Servers transport servers → slice ≡ servers → order ≡ ordered (map source_rank slice) words → places ≡ order
-    → targets ≡ unique same_endpoint (flat_map (endpoints_of transport) (filter_map (slice_get slice) places)) → targets ≡ [] → None NoAddress ≡ draw layout words
-draw-none layout transport servers slice words order places targets at own by all is none =
-    ap targets_or_no_address (sym none ∙ is ∙ ap (λ ps. unique same_endpoint (flat_map (endpoints_of transport) (filter_map (slice_get slice) ps))) (all ∙ by))
-    ∙ ap (λ ss. draw (Servers transport ss) words) own
-    ∙ ap (λ l. draw l words) (sym at)

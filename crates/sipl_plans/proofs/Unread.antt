@@ -41,13 +41,6 @@ module _ {X : Type 0} (same : X → X → Bool) (p : X → Bool) (respects : (x 
     | inr fails ↦ rw fails (find-filter p (λ y. not (same x y)) (λ y passes. passes-apart x y fails passes) (unique same xs) ∙ find-unique xs)
   ]
 
-first_unread-find : (items : List Item) (keys : List Key) → first_unread items keys ≡ find (is_unknown items) keys
-first_unread-find items [] = refl
-first_unread-find items (k ∷ keys) = elim (cases_Bool (is_unknown items k)) [
-  | inl unread ↦ rw unread refl
-  | inr read ↦ rw read (first_unread-find items keys)
-]
-
 same_unknown : (items : List Item) (k other : Key) → same_key k other ≡ true → is_unknown items k ≡ is_unknown items other
 same_unknown items k other same = ap (is_unknown items) ((same_key-Decides k other).0 same)
 
@@ -57,7 +50,6 @@ module _ {A : Type 0} (asking : Asking A) (items : List Item) (look : Look) (agr
   first_unknown-unread =
       first_unknown-find look items agrees asking
       ∙ sym (find-unique same_key (is_unknown items) (same_unknown items) (asked look asking))
-      ∙ sym (first_unread-find items (unique same_key (asked look asking)))
 
   -- the keys are those of the items, and after them those that were not read
   pub reads-trace : IsTrace asking items → unique same_key (asked look asking) ≡ map (λ item. item.key) items ++ filter (is_unknown items) (unique same_key (asked look asking))

@@ -1,6 +1,6 @@
 -- Where a request is sent: the transport, and the servers with their addresses (RFC 3263, 4). Each
 -- step is a computation that asks for record sets; the route and the keys that it reads both follow.
-use Rattle.std.specs.Prelude.{ℕ, ◌≤◌, Bool, true, false, not, List, [], ◌∷◌, ◌++◌, length, map, filter, Option, None, Some, if◌then◌else◌}
+use Rattle.std.specs.Prelude.{ℕ, Bool, true, false, not, List, [], ◌∷◌, ◌++◌, filter, Option, None, Some, if◌then◌else◌}
 use Rattle.std.specs.List.{filter_map}
 use Rattle.sipl_names.specs.Labels.{Labels}
 use Rattle.sipl_records.specs.Sets.{same_key}
@@ -23,7 +23,7 @@ use Rattle.sipl_srv.specs.Offers.{offer_of}
 use Rattle.sipl_srv.specs.declared.pick.Pick.{Pick}
 use Rattle.sipl_srv.specs.declared.pick.Offer.{Offer}
 use Rattle.sipl_srv.specs.declared.pick.Offer.TheVariants.{Nothing, Closed, Picks}
-use Rattle.sipl_evidence.specs.Looks.{Look, Asking, done, ask, and_then, result_of, asked}
+use Rattle.sipl_evidence.specs.Looks.{Look, Asking, done, and_then, result_of, asked}
 use Rattle.sipl_evidence.specs.Answers.{asking}
 use Rattle.sipl_uri.specs.declared.question.Question.{Question}
 use Rattle.sipl_uri.specs.declared.question.Target.TheVariants.{Numeric, Domain}

@@ -1,6 +1,6 @@
 -- Runs: the route of a question, computed from record sets that are read one at a time.
-use Rattle.std.specs.Prelude.{◌≡◌, ◌↔◌, ◌≤◌, ℕ, true, List, [], ◌∷◌, ◌++◌, length, Option, None, Some, option_map, if◌then◌else◌}
-use Rattle.std.specs.List.{All}
+use Rattle.std.specs.Prelude.{◌≡◌, ◌↔◌, ◌≤◌, ℕ, true, List, [], ◌∷◌, ◌++◌, length, Option, None, Some, option_map}
+use Rattle.std.specs.List.{All, find}
 use Rattle.sipl_records.specs.Sets.{has_kind}
 use Rattle.sipl_records.specs.declared.data.Data.{Data}
 use Rattle.sipl_records.specs.declared.record.Key.{Key}
@@ -34,8 +34,7 @@ IsWanted (Some k) number content = IsSet k number content
 
 -- the first of the keys that was not read
 abbrev pub first_unread : List Item → List Key → Option Key
-first_unread items [] = None
-first_unread items (k ∷ keys) = if is_unknown items k then Some k else first_unread items keys
+first_unread items keys = find (is_unknown items) keys
 
 -- the sets of a run were read in the order in which the route asks for them, each once, and are sets
 -- of their keys; the client is one that there can be

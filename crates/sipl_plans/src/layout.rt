@@ -109,7 +109,7 @@ pub fn draw(
     }
     targets.retain(
         |target: &Endpoint| -> bool
-            ensures { result ≡ not (is_held board.now.holds target.now) }
+            ensures { result ≡ not (is_held board.entry.now.holds target.now) }
         { !board.is_held(target) },
     );
     if targets.is_empty() {
