@@ -1,11 +1,15 @@
 //! The route of a question on the records of a store.
 ghost use Rattle.std.specs.Prelude.{◌≡◌, IfOk};
+ghost use Rattle.sipl_outages.specs.Holds.{no_holds};
+ghost use Rattle.sipl_plans.specs.Plan.{draw};
 ghost use Rattle.sipl_records.specs.Sets.{set_of};
 ghost use Rattle.sipl_evidence.specs.Known.{Agrees};
 ghost use Rattle.sipl_lines.specs.Locating.{IsLocated, IsLookedAt};
 
 use sipl_choice::Abilities;
-use sipl_plans::{Finding, Run};
+use sipl_outages::Board;
+use sipl_plans::{Answer, Finding, Run, draw};
+use sipl_srv::Draws;
 use sipl_uri::Question;
 use sipl_zonestore::ZoneStore;
 use std::alloc::{AllocError, Global};
@@ -40,4 +44,15 @@ pub(crate) fn complete(
         run.give(alloc, number, content)?;
     }
     Ok(run.finish().ok().unwrap())
+}
+
+// The answer of a finding for these random words, where no endpoint is held.
+pub(crate) fn draw_unheld(
+    alloc: Global,
+    finding: &Finding,
+    draws: &Draws,
+) -> Result<Answer, AllocError>
+    ensures { IfOk result (λ answer. answer ≡ draw finding.now.layout no_holds draws.now) }
+{
+    draw(alloc, finding.layout(), draws, &Board::new(alloc))
 }

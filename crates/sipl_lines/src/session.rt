@@ -9,13 +9,11 @@ ghost use Rattle.sipl_masterfile.specs.Zones.{zone_of};
 
 use crate::command::{Command, read_command};
 use crate::gather::{Gathered, Gathering, ZoneLines};
-use crate::locate::locate;
+use crate::locate::{draw_unheld, locate};
 use crate::reply::{write_answer, write_counts, write_refusal, write_text_fault};
 use sipl_choice::{Abilities, Families, Transport};
 use sipl_masterfile::{ZoneCause, ZoneFault, read_record, read_zone};
 use sipl_names::{Name, NameFault};
-use sipl_outages::Board;
-use sipl_plans::draw;
 use sipl_records::Record;
 use sipl_srv::{Draws, DrawsFault};
 use sipl_uri::{Uri, UriFault};
@@ -370,7 +368,7 @@ impl Session {
             Err(fault) => return write_refusal(out, fault.code()),
         };
         let finding = locate(alloc, &mut self.store, question, &self.abilities)?;
-        let answer = draw(alloc, finding.layout(), draws, &Board::new(alloc))?;
+        let answer = draw_unheld(alloc, &finding, draws)?;
         write_answer(out, &answer)
     }
 }
