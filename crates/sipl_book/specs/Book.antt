@@ -1,0 +1,84 @@
+-- A book, and what always holds of it.
+use Rattle.std.specs.Prelude.{◌≡◌, ◌≢◌, ℕ, ◌<◌, ◌≤◌, List, [], length, IsTrue}
+use Rattle.std.specs.List.{All, AllPairs}
+use Rattle.sipl_records.specs.Sets.{set_of}
+use Rattle.sipl_choice.specs.Abilities.{Client}
+use Rattle.sipl_uri.specs.declared.question.Question.{Question}
+use Rattle.sipl_evidence.specs.Known.{Agrees}
+use Rattle.sipl_zonestore.specs.Store.{Store, number_in, no_zones}
+use Rattle.sipl_zonestore.specs.Consistent.{IsConsistent as IsConsistentStore}
+use Rattle.sipl_outages.specs.Board.{BoardState, IsConsistent as IsConsistentBoard}
+use Rattle.sipl_outages.specs.Holds.{no_holds}
+use Rattle.sipl_plans.specs.Findings.{Found, IsSound}
+use Rattle.sipl_plans.specs.declared.answer.Answer.{Answer as Targets}
+use Rattle.sipl_book.specs.Entries.{EntryState}
+use Rattle.sipl_book.specs.Machine.{State, empty_state, answer_in, IsLegal, replay}
+use Rattle.sipl_book.specs.declared.event.Event.{Event}
+use Rattle.sipl_book.specs.declared.limits.Limits.{Limits}
+
+-- what callers see of a book: the client's abilities, the zones with the numbers of their sets, the
+-- holds and the clock, the events so far, the entries, and the maxima of entries and events
+pub record BookState : Type 0 where
+  pub client : Client
+  pub store : Store
+  pub board : BoardState
+  pub journal : List Event
+  pub entries : List EntryState
+  pub max_entries : ℕ
+  pub max_events : ℕ
+
+-- the state of the plain machine
+abbrev pub state_of : BookState → State
+state_of book = record { zones = book.store.zones; holds = book.board.holds }
+
+-- the answer to a question, from scratch on the records and the holds as they are
+abbrev pub answer_now : BookState → Question → List ℕ → Targets
+answer_now book question words = answer_in (state_of book) question book.client words
+
+-- a book without zones, holds, events or entries, at time 0
+abbrev pub new_book : Client → Limits → BookState
+new_book client limits =
+    record {
+      client = client;
+      store = record {
+        zones = no_zones;
+        max_records = limits.records;
+        numbers = [];
+        next = limits.next;
+        looks = 0;
+      };
+      board = record { holds = no_holds; max_holds = limits.holds };
+      journal = [];
+      entries = [];
+      max_entries = limits.entries;
+      max_events = limits.journal;
+    }
+
+-- what an entry that is current has read is still so: the sets of the keys, and their numbers
+pub record IsUpToDate (store : Store) (found : Found) : Type 0 where
+  pub agrees : Agrees (set_of store.zones.records) found.items
+  pub numbers : All (λ item. number_in store item.key ≡ item.number) found.items
+
+-- an entry's finding is one for the client, is sound, and is up to date where the entry is current;
+-- the entry was made by an event before now
+pub record IsGoodEntry (book : BookState) (entry : EntryState) : Type 0 where
+  pub client : entry.found.client ≡ book.client
+  pub sound : IsSound entry.found
+  pub up_to_date : IsTrue entry.is_current → IsUpToDate book.store entry.found
+  pub made : entry.id < length book.journal
+
+-- the journal is legal from the empty state and leads to the state as it is; the entries are good,
+-- of distinct questions, and in the order in which they were made; the maxima are within the limits
+pub record IsConsistent (book : BookState) : Type 0 where
+  pub legal : IsLegal book.client book.journal empty_state
+  pub replayed : replay book.journal empty_state ≡ state_of book
+  pub store : IsConsistentStore book.store
+  pub board : IsConsistentBoard book.board
+  pub entries : All (IsGoodEntry book) book.entries
+  pub questions : AllPairs (λ a b. a.found.question ≢ b.found.question) book.entries
+  pub ids : AllPairs (λ a b. a.id < b.id) book.entries
+  pub few_entries : length book.entries ≤ book.max_entries
+  pub few_events : length book.journal ≤ book.max_events
+  pub records_limit : book.store.max_records ≤ 1048576
+  pub entries_limit : book.max_entries ≤ 65536
+  pub events_limit : book.max_events ≤ 1048576

@@ -1,0 +1,163 @@
+-- What the calls of a book do, and how they end.
+use Rattle.std.specs.Prelude.{◌≡◌, ◌≢◌, ℕ, Bool, not, ◌==◌, ◌&&◌, List, [], ◌∷◌, ◌++◌, length, map, position, nat_le, if◌then◌else◌, Option, None, Some, option_map, Result, OnOk, OnErr, IfOk, IfErr}
+use lib.Pointwise.{pointwise}
+use Rattle.sipl_records.specs.Sets.{set_of, same_data}
+use Rattle.sipl_records.specs.declared.record.Key.{Key}
+use Rattle.sipl_uri.specs.declared.question.Question.{Question}
+use Rattle.sipl_evidence.specs.Items.{Item}
+use Rattle.sipl_zonestore.specs.Store.{Store, number_in}
+use Rattle.sipl_zonestore.specs.Edits.{after as after_edit}
+use Rattle.sipl_zonestore.specs.Edited.{store_refusal}
+use Rattle.sipl_zonestore.specs.Looks.{looked}
+use Rattle.sipl_zonestore.specs.Changes.{changed_keys}
+use Rattle.sipl_zonestore.specs.Numbers.{number_after, next_after}
+use Rattle.sipl_outages.specs.Holds.{BoardEvent, refusal_of as hold_refusal, after as after_hold}
+use Rattle.sipl_outages.specs.Holds.BoardEvent.{Hold as HoldFor, Release as ReleaseOf, Advance as AdvanceTo}
+use Rattle.sipl_plans.specs.Findings.{Found}
+use Rattle.sipl_book.specs.Book.{BookState, answer_now}
+use Rattle.sipl_book.specs.Entries.{is_hot, marked, committed}
+use Rattle.sipl_book.specs.Machine.{zone_edit}
+use Rattle.sipl_book.specs.declared.edit.Edit.{Edit}
+use Rattle.sipl_book.specs.declared.event.Event.{Event}
+use Rattle.sipl_book.specs.declared.event.Event.TheVariants.{Change, Hold, Release, Advance, Answer}
+use Rattle.sipl_book.specs.declared.fault.BookFault.{BookFault}
+use Rattle.sipl_book.specs.declared.fault.BookFault.TheVariants.{JournalFull, Cold, Stale, Store as StoreFault, Board, Memory}
+use Rattle.sipl_book.specs.declared.outcome.Changed.{Changed}
+use Rattle.sipl_book.specs.declared.outcome.Handed.{Handed}
+use Rattle.sipl_book.specs.declared.outcome.Uncommitted.{Uncommitted}
+
+-- the fault of a call that records an event: a full journal comes before all others
+abbrev pub unless_full : BookState → Option BookFault → Option BookFault
+unless_full book fault =
+    if nat_le book.max_events (length book.journal) then Some JournalFull else fault
+
+-- a book with one more event
+abbrev pub recorded : Event → BookState → BookState
+recorded event book = record book { journal = book.journal ++ event ∷ [] }
+
+-- the fault of an edit
+abbrev pub change_refusal : Edit → BookState → Option BookFault
+change_refusal edit book =
+    unless_full book (option_map StoreFault (store_refusal (zone_edit edit) book.store))
+
+-- An accepted edit changes the zones, the numbers of their sets, and which entries are current, and
+-- is the next event. A refused one changes nothing.
+pub record IsChanged (edit : Edit) (old new : BookState) (result : Result Changed BookFault)
+    : Type 0 where
+  pub accepted : OnOk result (change_refusal edit old ≡ None)
+  pub number : IfOk result (λ changed. changed.number ≡ length old.journal)
+  pub sets : IfOk result (λ changed. changed.sets
+      ≡ length (changed_keys old.store.zones.records new.store.zones.records))
+  pub zones : OnOk result (new.store.zones ≡ after_edit (zone_edit edit) old.store.zones)
+  pub numbers : OnOk result ((key : Key) → number_in new.store key
+      ≡ number_after old.store.zones.records new.store.zones.records old.store.next
+      (number_in old.store) key)
+  pub next : OnOk result (new.store.next
+      ≡ next_after old.store.zones.records new.store.zones.records old.store.next)
+  pub journal : OnOk result (new.journal ≡ old.journal ++ Change edit ∷ [])
+  pub entries : OnOk result (new.entries
+      ≡ map (marked (changed_keys old.store.zones.records new.store.zones.records)) old.entries)
+  pub refused : IfErr result (λ fault. fault ≢ Memory → change_refusal edit old ≡ Some fault)
+  pub unchanged : OnErr result (new ≡ old)
+  pub looks : new.store.looks ≡ old.store.looks
+  pub max_records : new.store.max_records ≡ old.store.max_records
+  pub board : new.board ≡ old.board
+  pub client : new.client ≡ old.client
+  pub max_entries : new.max_entries ≡ old.max_entries
+  pub max_events : new.max_events ≡ old.max_events
+
+-- the event of a hold, a release or a move of the clock
+abbrev pub board_event : BoardEvent → Event
+board_event (HoldFor endpoint ms) = Hold endpoint ms
+board_event (ReleaseOf endpoint) = Release endpoint
+board_event (AdvanceTo to) = Advance to
+
+-- the fault of a hold, a release or a move of the clock
+abbrev pub board_refusal : BoardEvent → BookState → Option BookFault
+board_refusal event book =
+    unless_full book (option_map Board (hold_refusal book.board.max_holds event book.board.holds))
+
+-- the book after a hold, a release or a move of the clock
+abbrev pub after_board : BoardEvent → BookState → BookState
+after_board event book =
+    recorded (board_event event) (record book {
+      board = record { holds = after_hold event book.board.holds; max_holds = book.board.max_holds };
+    })
+
+-- An accepted hold, release or move of the clock is the next event. A refused one changes nothing.
+pub record MovesBoard (event : BoardEvent) (old new : BookState) (result : Result ℕ BookFault)
+    : Type 0 where
+  pub accepted : OnOk result (board_refusal event old ≡ None)
+  pub number : IfOk result (λ number. number ≡ length old.journal)
+  pub after : OnOk result (new ≡ after_board event old)
+  pub refused : IfErr result (λ fault. fault ≢ Memory → board_refusal event old ≡ Some fault)
+  pub unchanged : OnErr result (new ≡ old)
+
+-- the event of the answer to a question
+abbrev pub answer_event : BookState → Question → List ℕ → Event
+answer_event book question words = Answer question words (answer_now book question words)
+
+-- the fault of handing out an answer
+abbrev pub hand_refusal : Question → BookState → Option BookFault
+hand_refusal question book =
+    unless_full book (if is_hot book.entries question then None else Some Cold)
+
+-- An answer that is handed out is that of the records and the holds as they are, and is the next
+-- event. It looks at no set. A refused one changes nothing.
+pub record IsHanded (question : Question) (words : List ℕ) (old new : BookState)
+    (result : Result Handed BookFault) : Type 0 where
+  pub accepted : OnOk result (hand_refusal question old ≡ None)
+  pub number : IfOk result (λ handed. handed.number ≡ length old.journal)
+  pub answer : IfOk result (λ handed. handed.answer ≡ answer_now old question words)
+  pub after : OnOk result (new ≡ recorded (answer_event old question words) old)
+  pub refused : IfErr result (λ fault. fault ≢ Memory → hand_refusal question old ≡ Some fault)
+  pub unchanged : OnErr result (new ≡ old)
+
+-- whether a set that was read is no longer so, by its number or by its data
+abbrev pub is_stale : Store → Item → Bool
+is_stale store item =
+    not (number_in store item.key == item.number
+    && pointwise same_data (set_of store.zones.records item.key) item.content)
+
+-- the fault of a commit: the place, from 0, of the first set that is no longer as it was read
+abbrev pub commit_refusal : Found → BookState → Option BookFault
+commit_refusal found book =
+    unless_full book (option_map Stale (position (is_stale book.store) found.items))
+
+-- a book whose sets were looked at
+abbrev pub with_looks : ℕ → BookState → BookState
+with_looks looks book =
+    record book {
+      store = record {
+        zones = book.store.zones;
+        max_records = book.store.max_records;
+        numbers = book.store.numbers;
+        next = book.store.next;
+        looks = looks;
+      };
+    }
+
+-- the book after the commit of a finding
+abbrev pub after_commit : Found → List ℕ → BookState → BookState
+after_commit found words book =
+    recorded (answer_event book found.question words) (record book {
+      entries = committed found (length book.journal) book.max_entries book.entries;
+    })
+
+-- A finding that is committed gives the answer of the records and the holds as they are, which is
+-- the next event, and the question's entry is current. A refused one is handed back, and changes
+-- nothing. Either may count looks.
+pub record IsCommitted (found : Found) (words : List ℕ) (old new : BookState)
+    (result : Result Handed Uncommitted) : Type 0 where
+  pub accepted : OnOk result (commit_refusal found old ≡ None)
+  pub number : IfOk result (λ handed. handed.number ≡ length old.journal)
+  pub answer : IfOk result (λ handed. handed.answer ≡ answer_now old found.question words)
+  pub after : OnOk result (new ≡ with_looks new.store.looks (after_commit found words old))
+  pub refused : IfErr result (λ uncommitted. uncommitted.fault ≢ Memory
+      → commit_refusal found old ≡ Some uncommitted.fault)
+  pub finding : IfErr result (λ uncommitted. uncommitted.finding ≡ found)
+  pub unchanged : OnErr result (new ≡ with_looks new.store.looks old)
+
+-- a book after one look at a set
+abbrev pub after_look : BookState → BookState
+after_look book = record book { store = looked book.store }

@@ -1,0 +1,293 @@
+ghost use Rattle.std.specs.Prelude.{◌≡◌, ◌+◌, ◌^◌, ◌<◌, ◌≤◌, [], ◌∷◌, ◌++◌, length, IfOk, IfErr, IfSome, OnOk, OnErr, vec_len, vec_capacity};
+ghost use Rattle.std.specs.List.{All};
+ghost use Rattle.std.specs.Option.{option_copied};
+ghost use Rattle.sipl_records.specs.Sets.{set_of};
+ghost use Rattle.sipl_zonestore.specs.Store.{number_in};
+ghost use Rattle.sipl_outages.specs.Holds.BoardEvent.{Hold, Release, Advance};
+ghost use Rattle.sipl_plans.specs.Runs.{IsSet};
+ghost use Rattle.sipl_book.specs.Book.{IsConsistent, IsGoodEntry, new_book, state_of};
+ghost use Rattle.sipl_book.specs.Calls.{IsChanged, MovesBoard, IsHanded, IsCommitted, after_look};
+ghost use Rattle.sipl_book.specs.Entries.{entry_of};
+ghost use Rattle.sipl_book.specs.Machine.{IsLegal, replay, empty_state};
+
+use crate::checks::{first_stale, reserve_event};
+use crate::edit::Edit;
+use crate::entries::Entries;
+use crate::entry::Entry;
+use crate::event::Event;
+use crate::fault::BookFault;
+use crate::limits::Limits;
+use crate::outcome::{Changed, Handed, Uncommitted};
+use sipl_choice::{Abilities, Endpoint};
+use sipl_evidence::dup_data;
+use sipl_outages::Board;
+use sipl_plans::{Answer, Finding, Layout, draw};
+use sipl_records::{Data, Key, Sequence};
+use sipl_srv::Draws;
+use sipl_uri::Question;
+use sipl_zonestore::ZoneStore;
+use std::alloc::{AllocError, Global};
+use std::marker::Model;
+
+/// The zones, the holds and the clock of a locator for one client, the journal of all events, and
+/// the entries of questions that were answered.
+///
+/// Contracts see the state that the events lead to (the apexes, the records, the holds and the
+/// time), the numbers of the record sets, the journal and the entries. The journal is always legal
+/// from the empty state: each edit, hold, release and move of the clock in it was accepted there,
+/// and each answer is what RFC 3263, 4, gives from scratch on the records and holds at its place. A
+/// current entry's record sets are as they were read.
+#[derive(Drop)]
+pub struct Book {
+    alloc: Global,
+    abilities: Abilities,
+    store: ZoneStore,
+    board: Board,
+    journal: Vec<Event>,
+    entries: Entries,
+    max_entries: usize,
+    max_events: usize,
+}
+
+impl Model for Book {
+    ghost use Rattle.sipl_book.specs.Book.{BookState, IsConsistent};
+
+    ghost Value = { BookState };
+
+    ghost view = { λ b. record {
+      client = b.abilities;
+      store = b.store;
+      board = b.board;
+      journal = b.journal.items;
+      entries = b.entries;
+      max_entries = b.max_entries;
+      max_events = b.max_events;
+    } };
+
+    ghost invariant = { λ b. IsConsistent (record {
+      client = b.abilities;
+      store = b.store;
+      board = b.board;
+      journal = b.journal.items;
+      entries = b.entries;
+      max_entries = b.max_entries;
+      max_events = b.max_events;
+    }) };
+}
+
+impl Book {
+    /// A book for a client, without zones, holds, events or entries, at time 0. Does not allocate.
+    pub fn new(alloc: Global, abilities: Abilities, limits: &Limits) -> Self
+        requires records { limits.now.records ≤ 1048576 }
+        requires entries { limits.now.entries ≤ 65536 }
+        requires journal { limits.now.journal ≤ 1048576 }
+        requires holds { limits.now.holds ≤ 4096 }
+        requires first { 1 ≤ limits.now.next }
+        requires last { limits.now.next ≤ 2 ^ 52 }
+        ensures { result ≡ new_book abilities limits.now }
+    {
+        Book {
+            alloc,
+            abilities,
+            store: ZoneStore::with(alloc, limits.next, limits.records),
+            board: Board::with(alloc, limits.holds),
+            journal: Vec::new(alloc),
+            entries: Entries::new(alloc),
+            max_entries: limits.entries,
+            max_events: limits.journal,
+        }
+    }
+
+    /// Edits the zones. The entries whose evidence has the key of a set that changed are no longer
+    /// current. The cost is that of the edit, and a look-up for each entry and each key.
+    ///
+    /// The fault is the first one: a full journal (B3), a fault of the zones (S1 to S8).
+    pub fn change(&mut self, edit: Edit) -> Result<Changed, BookFault>
+        ensures { IsChanged edit self.old self.new result }
+    {
+        reserve_event(&mut self.journal, self.max_events)?;
+        let keys = edit.apply(&mut self.store)?;
+        self.entries.mark(keys.as_slice());
+        let number = self.journal.len() as u64;
+        self.journal.push_reserved(Event::Change(edit));
+        Ok(Changed {
+            number,
+            sets: keys.len() as u64,
+        })
+    }
+
+    /// Holds an endpoint for some milliseconds from now. One that is held already is held to the
+    /// later of the two ends. A hold of 0 ms of an endpoint that is not held is an event, and
+    /// changes nothing else. Returns the event's number. Constant time but for hashing.
+    ///
+    /// The fault is the first one: a full journal (B3), an end after 2^52 (O2), a new hold where as
+    /// many endpoints are held as the maximum (O4).
+    pub fn hold(&mut self, endpoint: &Endpoint, ms: u64) -> Result<u64, BookFault>
+        ensures { MovesBoard (Hold endpoint.now ms) self.old self.new result }
+    {
+        reserve_event(&mut self.journal, self.max_events)?;
+        self.board.hold(endpoint, ms)?;
+        let number = self.journal.len() as u64;
+        self.journal.push_reserved(Event::Hold(*endpoint, ms));
+        Ok(number)
+    }
+
+    /// Ends the hold of an endpoint. Returns the event's number. Linear in the number of held
+    /// endpoints.
+    ///
+    /// The fault is the first one: a full journal (B3), an endpoint that is not held (O3).
+    pub fn release(&mut self, endpoint: &Endpoint) -> Result<u64, BookFault>
+        ensures { MovesBoard (Release endpoint.now) self.old self.new result }
+    {
+        reserve_event(&mut self.journal, self.max_events)?;
+        self.board.release(endpoint)?;
+        let number = self.journal.len() as u64;
+        self.journal.push_reserved(Event::Release(*endpoint));
+        Ok(number)
+    }
+
+    /// Sets the time, in milliseconds, and drops the holds that end at or before it. Returns the
+    /// event's number. Linear in the number of held endpoints.
+    ///
+    /// The fault is the first one: a full journal (B3), a time before the present one (O1), a time
+    /// after 2^52 (O2).
+    pub fn advance(&mut self, to: u64) -> Result<u64, BookFault>
+        ensures { MovesBoard (Advance to) self.old self.new result }
+    {
+        reserve_event(&mut self.journal, self.max_events)?;
+        self.board.advance(to)?;
+        let number = self.journal.len() as u64;
+        self.journal.push_reserved(Event::Advance(to));
+        Ok(number)
+    }
+
+    /// A copy of the key's set, with its number: 0 and no data where it is empty. Counts one look,
+    /// also where an allocation fails, which is the only error.
+    pub fn read(&mut self, key: &Key) -> Result<(u64, Sequence<Data>), AllocError>
+        ensures number { IfOk result (λ read. read.0 ≡ number_in self.old.store key.now) }
+        ensures value { IfOk result
+            (λ read. read.1 ≡ set_of self.old.store.zones.records key.now) }
+        ensures set { IfOk result (λ read. IsSet key.now read.0 read.1) }
+        ensures looked { self.new ≡ after_look self.old }
+    {
+        let (number, content) = self.store.set(key);
+        let copy = dup_data(self.alloc, content)?;
+        Ok((number, Sequence::from_vec(copy)))
+    }
+
+    /// Hands out the answer to a question that has a current entry, for these random words: that of
+    /// the records and the holds as they are. Looks at no set. Linear in the targets.
+    ///
+    /// The fault is the first one: a full journal (B3), no current entry (B1).
+    pub fn hand(&mut self, question: &Question, draws: &Draws) -> Result<Handed, BookFault>
+        ensures { IsHanded question.now draws.now self.old self.new result }
+    {
+        reserve_event(&mut self.journal, self.max_events)?;
+        let layout = match self.entries.get(question) {
+            Some(entry) if entry.is_current() => entry.layout(),
+            _ => return Err(BookFault::Cold),
+        };
+        let (event, answer) = prepare(self.alloc, question, layout, draws, &self.board)?;
+        let number = self.journal.len() as u64;
+        self.journal.push_reserved(event);
+        Ok(Handed { number, answer })
+    }
+
+    /// Commits a finding: hands out its answer for these random words, which is that of the records
+    /// and the holds as they are, and makes the entry of its question current. With as many entries
+    /// as the maximum a question that has none gets none. Compares the sets that were read with
+    /// those of the zones, which counts looks. Linear in the evidence and the targets.
+    ///
+    /// The fault is the first one: a full journal (B3), a set whose number or data are no longer as
+    /// they were read (B2). The finding is returned with it.
+    pub fn commit_checked(&mut self, finding: Finding, draws: &Draws) -> Result<Handed, Uncommitted>
+        requires client { finding.client ≡ self.old.client }
+        ensures { IsCommitted finding draws.now self.old self.new result }
+    {
+        let (event, answer) = match self.answer_checked(&finding, draws) {
+            Ok(prepared) => prepared,
+            Err(fault) => return Err(Uncommitted { fault, finding }),
+        };
+        let number = self.journal.len() as u64;
+        if let Err(finding) = self.entries.commit(finding, number, self.max_entries) {
+            let fault = BookFault::Memory;
+            return Err(Uncommitted { fault, finding });
+        }
+        self.journal.push_reserved(event);
+        Ok(Handed { number, answer })
+    }
+
+    // The event and the answer of a finding whose sets are as they were read, with space in the
+    // journal.
+    fn answer_checked(
+        &mut self,
+        finding: &Finding,
+        draws: &Draws,
+    ) -> Result<(Event, Answer), BookFault> {
+        reserve_event(&mut self.journal, self.max_events)?;
+        if let Some(place) = first_stale(&mut self.store, finding.evidence().items()) {
+            return Err(BookFault::Stale(place));
+        }
+        let (question, layout) = (finding.question(), finding.layout());
+        Ok(prepare(self.alloc, question, layout, draws, &self.board)?)
+    }
+
+    /// The entry of a question, if there is one. Constant time but for hashing. Does not allocate.
+    pub fn entry(&self, question: &Question) -> Option<&Entry>
+        ensures entry { option_copied result ≡ entry_of self.now.entries question.now }
+        ensures good { All (IsGoodEntry self.now) self.now.entries }
+    {
+        self.entries.get(question)
+    }
+
+    /// The events so far. They are legal from the empty state and lead to the state as it is.
+    pub fn journal(&self) -> &[Event]
+        ensures journal { result.now ≡ self.now.journal }
+        ensures legal { IsLegal self.now.client self.now.journal empty_state }
+        ensures replayed { replay self.now.journal empty_state ≡ state_of self.now }
+        ensures few { length self.now.journal ≤ self.now.max_events }
+    {
+        &self.journal
+    }
+
+    /// How many looks at record sets were counted; at most 2^64 - 1.
+    pub fn looks(&self) -> u64
+        ensures { result ≡ self.now.store.looks }
+    {
+        self.store.looks()
+    }
+
+    /// The present time, in milliseconds.
+    pub fn now(&self) -> u64
+        ensures { result ≡ self.now.board.holds.now }
+    {
+        self.board.now()
+    }
+
+    /// The abilities of the client.
+    pub fn abilities(&self) -> &Abilities
+        ensures { result.now ≡ self.now.client }
+    {
+        &self.abilities
+    }
+
+    /// The held endpoints and the time.
+    pub fn board(&self) -> &Board
+        ensures { result.now ≡ self.now.board }
+    {
+        &self.board
+    }
+}
+
+// The event of an answer, and the answer: that of a layout for these random words.
+fn prepare(
+    alloc: Global,
+    question: &Question,
+    layout: &Layout,
+    draws: &Draws,
+    board: &Board,
+) -> Result<(Event, Answer), AllocError> {
+    let answer = draw(alloc, layout, draws, board)?;
+    let event = Event::Answer(question.dup(alloc)?, *draws, answer.dup(alloc)?);
+    Ok((event, answer))
+}

@@ -1,0 +1,33 @@
+// What is checked before a book records an event.
+ghost use Rattle.std.specs.Prelude.{◌≡◌, ◌+◌, ◌≤◌, ◌<◌, OnOk, IfErr, position, vec_len, vec_capacity};
+ghost use Rattle.sipl_zonestore.specs.Looks.{looked};
+ghost use Rattle.sipl_book.specs.Calls.{is_stale};
+
+use crate::event::Event;
+use crate::fault::BookFault;
+use sipl_evidence::Item;
+use sipl_zonestore::ZoneStore;
+
+// Reserves the place of the next event. B3 where the journal has as many as it may have, or else an
+// allocation failure.
+pub(crate) fn reserve_event(journal: &mut Vec<Event>, max_events: usize) -> Result<(), BookFault> {
+    if journal.len() >= max_events {
+        return Err(BookFault::JournalFull);
+    }
+    journal.reserve(1)?;
+    Ok(())
+}
+
+// The place of the first item whose set is no longer as it was read. Counts a look for each item up
+// to it.
+pub(crate) fn first_stale(store: &mut ZoneStore, items: &[Item]) -> Option<usize>
+    ensures place { result ≡ position (is_stale store.old) items.now }
+{
+    for (place, item) in items.iter().enumerate() {
+        let (number, content) = store.set(item.key());
+        if number != item.number() || *content != *item.content() {
+            return Some(place);
+        }
+    }
+    None
+}

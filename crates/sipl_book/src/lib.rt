@@ -1,0 +1,26 @@
+//! The book: the zones, the holds and the clock of a locator, a journal of all that happened, and
+//! an entry for each of the questions that were answered (RFC 3263, 4).
+//!
+//! Each call is one step. What a caller computes between two calls is checked when it is committed.
+//! Times are milliseconds that the caller passes in, from 0 to 2^52.
+#![tactic(auto)]
+
+mod book;
+mod checks;
+mod edit;
+mod entries;
+mod entry;
+mod event;
+mod fault;
+mod limits;
+mod outcome;
+#[cfg(test)]
+mod tests;
+
+pub use book::Book;
+pub use edit::Edit;
+pub use entry::Entry;
+pub use event::Event;
+pub use fault::BookFault;
+pub use limits::{Limits, MAX_ENTRIES, MAX_EVENTS};
+pub use outcome::{Changed, Handed, Uncommitted};

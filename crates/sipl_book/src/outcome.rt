@@ -1,0 +1,60 @@
+ghost use Rattle.std.specs.Prelude.{◌≡◌};
+ghost use Rattle.sipl_book.specs.BookFault.{code_of, message_of};
+
+use crate::fault::BookFault;
+use sipl_plans::{Answer, Finding};
+use std::error::Error;
+use std::fmt;
+
+/// An edit that was made.
+#[derive(Clone, Copy, Debug, PartialEq, Eq)]
+pub struct Changed {
+    /// The number of its event.
+    pub number: u64,
+    /// How many record sets changed.
+    pub sets: u64,
+}
+
+/// An answer that was handed out.
+#[derive(Debug, Drop)]
+pub struct Handed {
+    /// The number of its event.
+    pub number: u64,
+    /// The targets, or the reason that there are none.
+    pub answer: Answer,
+}
+
+/// A finding that was not committed, and why.
+#[derive(Drop)]
+pub struct Uncommitted {
+    pub fault: BookFault,
+    pub finding: Finding,
+}
+
+impl Uncommitted {
+    /// The error's code in replies, such as `B2`.
+    pub fn code(&self) -> &'static str
+        ensures { result.now ≡ code_of self.now.fault }
+    {
+        self.fault.code()
+    }
+}
+
+impl fmt::Display for Uncommitted {
+    ghost use Rattle.std.specs.Prelude.{Some};
+
+    ghost output = { λ uncommitted. Some (message_of uncommitted.fault) };
+
+    fn fmt<W: fmt::Write>(&self, f: &mut fmt::Formatter<W>) -> fmt::Result {
+        self.fault.fmt(f)
+    }
+}
+
+// The finding is not shown.
+impl fmt::Debug for Uncommitted {
+    fn fmt<W: fmt::Write>(&self, f: &mut fmt::Formatter<W>) -> fmt::Result {
+        f.write_str("Uncommitted")
+    }
+}
+
+impl Error for Uncommitted {}
