@@ -1,5 +1,6 @@
 //! The entries of a book, by their questions.
-ghost use Rattle.std.specs.Prelude.{◌≡◌, [], length, map, IfErr, OnOk, OnErr};
+ghost use Rattle.std.specs.Prelude.{◌≡◌, ◌≢◌, [], length, map, IfErr, OnOk, OnErr};
+ghost use Rattle.std.specs.List.{AllPairs};
 ghost use Rattle.std.specs.Option.{option_copied};
 ghost use Rattle.sipl_book.specs.Entries.{committed, entry_of, marked};
 
@@ -45,7 +46,8 @@ impl Entries {
 
     /// The entry of a question. Constant time but for hashing. Does not allocate.
     pub(crate) fn get(&self, question: &Question) -> Option<&Entry>
-        ensures { option_copied result ≡ entry_of self.now question.now }
+        ensures entry { option_copied result ≡ entry_of self.now question.now }
+        ensures questions { AllPairs (λ a b. a.found.question ≢ b.found.question) self.now }
     {
         self.table.get(question)
     }
