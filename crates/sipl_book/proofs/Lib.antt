@@ -1,3 +1,4 @@
 pub mod Questions
 pub mod Committed
 pub mod Table
+pub mod Staleness

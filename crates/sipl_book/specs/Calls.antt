@@ -124,18 +124,13 @@ abbrev pub commit_refusal : Found → BookState → Option BookFault
 commit_refusal found book =
     unless_full book (option_map Stale (position (is_stale book.store) found.items))
 
+-- a store with this count of looks
+abbrev pub store_with_looks : ℕ → Store → Store
+store_with_looks looks store = record store { looks = looks }
+
 -- a book whose sets were looked at
 abbrev pub with_looks : ℕ → BookState → BookState
-with_looks looks book =
-    record book {
-      store = record {
-        zones = book.store.zones;
-        max_records = book.store.max_records;
-        numbers = book.store.numbers;
-        next = book.store.next;
-        looks = looks;
-      };
-    }
+with_looks looks book = record book { store = store_with_looks looks book.store }
 
 -- the book after the commit of a finding
 abbrev pub after_commit : Found → List ℕ → BookState → BookState

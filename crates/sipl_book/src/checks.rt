@@ -1,7 +1,6 @@
 // What is checked before a book records an event.
 ghost use Rattle.std.specs.Prelude.{◌≡◌, ◌+◌, ◌≤◌, ◌<◌, OnOk, IfErr, position, vec_len, vec_capacity};
-ghost use Rattle.sipl_zonestore.specs.Looks.{looked};
-ghost use Rattle.sipl_book.specs.Calls.{is_stale};
+ghost use Rattle.sipl_book.specs.Calls.{is_stale, store_with_looks};
 
 use crate::event::Event;
 use crate::fault::BookFault;
@@ -22,12 +21,21 @@ pub(crate) fn reserve_event(journal: &mut Vec<Event>, max_events: usize) -> Resu
 // to it.
 pub(crate) fn first_stale(store: &mut ZoneStore, items: &[Item]) -> Option<usize>
     ensures place { result ≡ position (is_stale store.old) items.now }
+    ensures looks { store.new ≡ store_with_looks store.new.looks store.old }
 {
     for (place, item) in items.iter().enumerate() {
-        let (number, content) = store.set(item.key());
-        if number != item.number() || *content != *item.content() {
+        if is_stale(store, item) {
             return Some(place);
         }
     }
     None
+}
+
+// Whether the item's set is no longer as it was read. Counts a look.
+fn is_stale(store: &mut ZoneStore, item: &Item) -> bool
+    ensures stale { result ≡ is_stale store.old item.now }
+    ensures looks { store.new ≡ store_with_looks store.new.looks store.old }
+{
+    let (number, content) = store.set(item.key());
+    number != item.number() || *content != *item.content()
 }
