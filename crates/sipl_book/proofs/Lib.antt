@@ -2,3 +2,4 @@ pub mod Questions
 pub mod Committed
 pub mod Table
 pub mod Staleness
+pub mod Journal
