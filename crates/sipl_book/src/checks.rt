@@ -1,5 +1,5 @@
 // What is checked before a book records an event.
-ghost use Rattle.std.specs.Prelude.{◌≡◌, ◌+◌, ◌≤◌, ◌<◌, OnOk, IfErr, position, vec_len, vec_capacity};
+ghost use Rattle.std.specs.Prelude.{◌≡◌, ◌<◌, length, nat_le, if◌then◌else◌, OnOk, IfErr, position, vec_len, vec_capacity};
 ghost use Rattle.sipl_book.specs.Calls.{is_stale, store_with_looks};
 
 use crate::event::Event;
@@ -9,7 +9,14 @@ use sipl_zonestore::ZoneStore;
 
 // Reserves the place of the next event. B3 where the journal has as many as it may have, or else an
 // allocation failure.
-pub(crate) fn reserve_event(journal: &mut Vec<Event>, max_events: usize) -> Result<(), BookFault> {
+pub(crate) fn reserve_event(journal: &mut Vec<Event>, max_events: usize) -> Result<(), BookFault>
+    ensures items { journal.new.items ≡ journal.old.items }
+    ensures few { OnOk result (length journal.old.items < max_events) }
+    ensures space { OnOk result (vec_len journal.new < vec_capacity journal.new) }
+    ensures fault { IfErr result (λ fault. fault
+        ≡ (if nat_le max_events (length journal.old.items)
+        then BookFault.JournalFull else BookFault.Memory)) }
+{
     if journal.len() >= max_events {
         return Err(BookFault::JournalFull);
     }
