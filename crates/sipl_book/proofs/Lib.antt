@@ -3,3 +3,4 @@ pub mod Committed
 pub mod Table
 pub mod Staleness
 pub mod Journal
+pub mod Moving

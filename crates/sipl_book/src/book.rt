@@ -4,7 +4,9 @@ ghost use Rattle.std.specs.Option.{option_copied};
 ghost use Rattle.sipl_records.specs.Sets.{set_of};
 ghost use Rattle.sipl_zonestore.specs.Store.{number_in};
 ghost use Rattle.sipl_outages.specs.Holds.BoardEvent.{Hold, Release, Advance};
+ghost use Rattle.sipl_plans.specs.Plan.{draw};
 ghost use Rattle.sipl_plans.specs.Runs.{IsSet};
+ghost use Rattle.sipl_plans.specs.Servers.{HasFewServers};
 ghost use Rattle.sipl_book.specs.Book.{IsConsistent, IsGoodEntry, new_book, state_of};
 ghost use Rattle.sipl_book.specs.Calls.{IsChanged, MovesBoard, IsHanded, IsCommitted, after_look};
 ghost use Rattle.sipl_book.specs.Entries.{entry_of};
@@ -127,9 +129,7 @@ impl Book {
     {
         reserve_event(&mut self.journal, self.max_events)?;
         self.board.hold(endpoint, ms)?;
-        let number = self.journal.len() as u64;
-        self.journal.push_reserved(Event::Hold(*endpoint, ms));
-        Ok(number)
+        Ok(record_event(&mut self.journal, Event::Hold(*endpoint, ms)))
     }
 
     /// Ends the hold of an endpoint. Returns the event's number. Linear in the number of held
@@ -141,9 +141,7 @@ impl Book {
     {
         reserve_event(&mut self.journal, self.max_events)?;
         self.board.release(endpoint)?;
-        let number = self.journal.len() as u64;
-        self.journal.push_reserved(Event::Release(*endpoint));
-        Ok(number)
+        Ok(record_event(&mut self.journal, Event::Release(*endpoint)))
     }
 
     /// Sets the time, in milliseconds, and drops the holds that end at or before it. Returns the
@@ -156,9 +154,7 @@ impl Book {
     {
         reserve_event(&mut self.journal, self.max_events)?;
         self.board.advance(to)?;
-        let number = self.journal.len() as u64;
-        self.journal.push_reserved(Event::Advance(to));
-        Ok(number)
+        Ok(record_event(&mut self.journal, Event::Advance(to)))
     }
 
     /// A copy of the key's set, with its number: 0 and no data where it is empty. Counts one look,
@@ -188,8 +184,7 @@ impl Book {
             _ => return Err(BookFault::Cold),
         };
         let (event, answer) = prepare(self.alloc, question, layout, draws, &self.board)?;
-        let number = self.journal.len() as u64;
-        self.journal.push_reserved(event);
+        let number = record_event(&mut self.journal, event);
         Ok(Handed { number, answer })
     }
 
@@ -279,6 +274,17 @@ impl Book {
     }
 }
 
+// Appends an event to a journal that has space for it. Returns its number.
+fn record_event(journal: &mut Vec<Event>, event: Event) -> u64
+    requires { vec_len journal.old < vec_capacity journal.old }
+    ensures number { result ≡ length journal.old.items }
+    ensures items { journal.new.items ≡ journal.old.items ++ event ∷ [] }
+{
+    let number = journal.len() as u64;
+    journal.push_reserved(event);
+    number
+}
+
 // The event of an answer, and the answer: that of a layout for these random words.
 fn prepare(
     alloc: Global,
@@ -286,7 +292,13 @@ fn prepare(
     layout: &Layout,
     draws: &Draws,
     board: &Board,
-) -> Result<(Event, Answer), AllocError> {
+) -> Result<(Event, Answer), AllocError>
+    requires { HasFewServers layout.now }
+    ensures event { IfOk result (λ prepared. prepared.0
+        ≡ Event.Answer question.now draws.now (draw layout.now board.now.holds draws.now)) }
+    ensures answer { IfOk result
+        (λ prepared. prepared.1 ≡ draw layout.now board.now.holds draws.now) }
+{
     let answer = draw(alloc, layout, draws, board)?;
     let event = Event::Answer(question.dup(alloc)?, *draws, answer.dup(alloc)?);
     Ok((event, answer))
