@@ -4,3 +4,4 @@ pub mod Table
 pub mod Staleness
 pub mod Journal
 pub mod Moving
+pub mod Committing

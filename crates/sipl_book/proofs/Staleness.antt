@@ -1,5 +1,5 @@
 -- Sets that are no longer as they were read.
-use Rattle.std.proofs.Common.{◌≡◌, ℕ, ◌+◌, ◌<◌, ◌≤◌, Bool, true, false, cond, not, ltb, ◌&&◌, ◌==◌, List, [], ◌∷◌, length, length-take, take, get_or, Option, None, Some, position, refl, sym, ap, subst, ◌∙◌, inl, inr, arith}
+use Rattle.std.proofs.Common.{◌≡◌, ℕ, ◌<◌, Bool, true, false, ltb, List, [], ◌∷◌, length, length-take, take, get_or, None, Some, position, refl, sym, ap, ◌∙◌, inl, inr, arith}
 use Rattle.std.specs.Bool.{Decides}
 use Rattle.std.specs.List.{All, position_or_len}
 use Rattle.std.proofs.lemmas.Bool.{and_parts, not-false, eqb-true, cases_lt, lt-ltb, le-ltb, cond-true, cond-false}
@@ -7,13 +7,11 @@ use Rattle.std.proofs.lemmas.Bool.Decides.{Decides-and, Decides-eqb, Decides-lik
 use Rattle.std.proofs.lemmas.List.{get_or-take}
 use Rattle.std.proofs.lemmas.List.Sums.{position_or_len_is, fails_before_first}
 use Rattle.std.proofs.lemmas.Option.{none-some}
-use lib.Pointwise.{pointwise, pointwise_decides, bytes_decides}
-use Rattle.sipl_names.specs.Labels.{Labels, same_name}
+use lib.Pointwise.{pointwise_decides, bytes_decides}
 use Rattle.sipl_records.specs.declared.data.Data.{Data}
 use Rattle.sipl_records.specs.declared.data.Data.TheVariants.{Address4, Address6, Alias, Service, Pointer, Bare}
 use Rattle.sipl_records.specs.Sets.{same_data, set_of}
 use Rattle.sipl_evidence.specs.Items.{Item}
-use Rattle.sipl_evidence.specs.Known.{Agrees}
 use Rattle.sipl_zonestore.specs.Store.{Store, number_in}
 use Rattle.sipl_plans.specs.Findings.{Found}
 use Rattle.sipl_book.specs.Book.{IsUpToDate}

@@ -1,14 +1,15 @@
-ghost use Rattle.std.specs.Prelude.{◌≡◌, ◌+◌, ◌^◌, ◌<◌, ◌≤◌, [], ◌∷◌, ◌++◌, length, IfOk, IfErr, IfSome, OnOk, OnErr, vec_len, vec_capacity};
+ghost use Rattle.std.specs.Prelude.{◌≡◌, ◌≢◌, ◌+◌, ◌^◌, ◌<◌, ◌≤◌, [], ◌∷◌, ◌++◌, length, position, option_map, IfOk, IfErr, IfSome, OnOk, OnErr, vec_len, vec_capacity};
 ghost use Rattle.std.specs.List.{All};
 ghost use Rattle.std.specs.Option.{option_copied};
 ghost use Rattle.sipl_records.specs.Sets.{set_of};
 ghost use Rattle.sipl_zonestore.specs.Store.{number_in};
 ghost use Rattle.sipl_outages.specs.Holds.BoardEvent.{Hold, Release, Advance};
-ghost use Rattle.sipl_plans.specs.Plan.{draw};
+ghost use Rattle.sipl_plans.specs.Findings.{IsSound};
+ghost use Rattle.sipl_plans.specs.Plan.{draw, plan};
 ghost use Rattle.sipl_plans.specs.Runs.{IsSet};
 ghost use Rattle.sipl_plans.specs.Servers.{HasFewServers};
 ghost use Rattle.sipl_book.specs.Book.{IsConsistent, IsGoodEntry, new_book, state_of};
-ghost use Rattle.sipl_book.specs.Calls.{IsChanged, MovesBoard, IsHanded, IsCommitted, after_look};
+ghost use Rattle.sipl_book.specs.Calls.{IsChanged, MovesBoard, IsHanded, IsCommitted, after_look, is_stale, store_with_looks};
 ghost use Rattle.sipl_book.specs.Entries.{entry_of};
 ghost use Rattle.sipl_book.specs.Machine.{IsLegal, replay, empty_state};
 
@@ -199,32 +200,21 @@ impl Book {
         requires client { finding.client ≡ self.old.client }
         ensures { IsCommitted finding draws.now self.old self.new result }
     {
-        let (event, answer) = match self.answer_checked(&finding, draws) {
+        if let Err(fault) = reserve_event(&mut self.journal, self.max_events) {
+            return Err(Uncommitted { fault, finding });
+        }
+        let prepared = prepare_checked(self.alloc, &finding, draws, &mut self.store, &self.board);
+        let (event, answer) = match prepared {
             Ok(prepared) => prepared,
             Err(fault) => return Err(Uncommitted { fault, finding }),
         };
-        let number = self.journal.len() as u64;
-        if let Err(finding) = self.entries.commit(finding, number, self.max_entries) {
+        let id = self.journal.len() as u64;
+        if let Err(finding) = self.entries.commit(finding, id, self.max_entries) {
             let fault = BookFault::Memory;
             return Err(Uncommitted { fault, finding });
         }
-        self.journal.push_reserved(event);
+        let number = record_event(&mut self.journal, event);
         Ok(Handed { number, answer })
-    }
-
-    // The event and the answer of a finding whose sets are as they were read, with space in the
-    // journal.
-    fn answer_checked(
-        &mut self,
-        finding: &Finding,
-        draws: &Draws,
-    ) -> Result<(Event, Answer), BookFault> {
-        reserve_event(&mut self.journal, self.max_events)?;
-        if let Some(place) = first_stale(&mut self.store, finding.evidence().items()) {
-            return Err(BookFault::Stale(place));
-        }
-        let (question, layout) = (finding.question(), finding.layout());
-        Ok(prepare(self.alloc, question, layout, draws, &self.board)?)
     }
 
     /// The entry of a question, if there is one. Constant time but for hashing. Does not allocate.
@@ -302,4 +292,31 @@ fn prepare(
     let answer = draw(alloc, layout, draws, board)?;
     let event = Event::Answer(question.dup(alloc)?, *draws, answer.dup(alloc)?);
     Ok((event, answer))
+}
+
+// The event of a finding's answer, and the answer, where none of its sets has changed in the store
+// since it was read; else B2. Counts looks.
+fn prepare_checked(
+    alloc: Global,
+    finding: &Finding,
+    draws: &Draws,
+    store: &mut ZoneStore,
+    board: &Board,
+) -> Result<(Event, Answer), BookFault>
+    ensures sound { IsSound finding.now }
+    ensures fresh { OnOk result (position (is_stale store.old) finding.now.items ≡ None) }
+    ensures event { IfOk result (λ prepared. prepared.0
+        ≡ Event.Answer finding.now.question draws.now prepared.1) }
+    ensures answer { IfOk result (λ prepared. prepared.1
+        ≡ plan (set_of store.old.zones.records) board.now.holds finding.now.question
+        finding.now.client draws.now) }
+    ensures stale { IfErr result (λ fault. fault ≢ BookFault.Memory
+        → option_map BookFault.Stale (position (is_stale store.old) finding.now.items)
+        ≡ Some fault) }
+    ensures looks { store.new ≡ store_with_looks store.new.looks store.old }
+{
+    if let Some(place) = first_stale(store, finding.evidence().items()) {
+        return Err(BookFault::Stale(place));
+    }
+    Ok(prepare(alloc, finding.question(), finding.layout(), draws, board)?)
 }

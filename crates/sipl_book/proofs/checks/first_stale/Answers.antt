@@ -4,7 +4,7 @@ use Rattle.std.proofs.lemmas.List.{take_all}
 use Rattle.std.proofs.lemmas.List.Elements.{All-more}
 use Rattle.sipl_evidence.specs.Items.{Item}
 use Rattle.sipl_zonestore.specs.Store.{Store}
-use Rattle.sipl_book.specs.Calls.{is_stale, store_with_looks}
+use Rattle.sipl_book.specs.Calls.{is_stale}
 use Rattle.sipl_book.proofs.Staleness.{looked_more, position-first, position-none}
 use Rattle.sipl_book.proofs.checks.first_stale.Goals as goal
 

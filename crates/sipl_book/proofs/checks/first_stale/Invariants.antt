@@ -6,5 +6,5 @@ use Rattle.sipl_book.proofs.checks.first_stale.Given as goal
 abbrev pub invariant-loop-place : goal.invariant-loop-place
 invariant-loop-place l = record {
   looks : l.store ≡ store_with_looks l.store.looks l.initial.store;
-  fresh : All (λ item. is_stale l.initial.store item ≡ false) (take l.place l.items)
+  fresh : All (λ item. is_stale l.initial.store item ≡ false) (take l.place l.items);
 }
