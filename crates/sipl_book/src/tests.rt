@@ -181,7 +181,9 @@ fn a_full_journal_refuses_what_records_an_event(rt: HostRuntime) -> Result<(), F
     let draws = Draws::from_words(&[])?;
     assert!(rt; matches!(book.hand(&bob, &draws), Err(BookFault::JournalFull)));
     let finding = find(alloc, &mut book, b"sip:bob@example.com")?;
-    let refused = book.commit_checked(finding, &draws).err().unwrap();
+    let refused = book
+        .commit_checked(finding, &draws)
+        .expect_err(&rt, "the journal is full");
     assert!(rt; refused.fault == BookFault::JournalFull);
     assert!(rt; *refused.finding.question() == bob);
     assert!(rt; book.entry(&bob).is_none());
@@ -215,10 +217,154 @@ fn a_set_that_changed_since_it_was_read_is_stale(rt: HostRuntime) -> Result<(), 
     let pointer = b"example.com. NAPTR 70 50 \"s\" \"SIP+D2T\" \"\" _sip._tcp.example.com.";
     add(alloc, &mut book, pointer)?;
     let draws = Draws::from_words(&[])?;
-    let refused = book.commit_checked(finding, &draws).err().unwrap();
+    let refused = book
+        .commit_checked(finding, &draws)
+        .expect_err(&rt, "the set of pointers has changed");
     assert!(rt; refused.fault == BookFault::Stale(0));
     assert_eq!(rt; refused.code(), "B2");
     assert_eq!(rt; refused.finding.evidence().len(), 4);
     assert_eq!(rt; book.journal().len(), 2);
+    Ok(())
+}
+
+#[test]
+fn a_set_that_was_removed_and_added_again_is_stale(rt: HostRuntime) -> Result<(), Fail> {
+    let alloc = rt.alloc();
+    let mut book = new_book(alloc, &Limits::greatest())?;
+    load_zone(alloc, &mut book)?;
+    let finding = find(alloc, &mut book, b"sip:bob@example.com")?;
+    remove(alloc, &mut book, b"server2.example.com. A 192.0.2.2")?;
+    add(alloc, &mut book, b"server2.example.com. A 192.0.2.2")?;
+    let draws = Draws::from_words(&[])?;
+    let refused = book.commit_checked(finding, &draws).expect_err(
+        &rt,
+        "the addresses of the second server have another number",
+    );
+    assert!(rt; refused.fault == BookFault::Stale(3));
+
+    remove(alloc, &mut book, b"server1.example.com. A 192.0.2.1")?;
+    let refused = book
+        .commit_checked(refused.finding, &draws)
+        .expect_err(&rt, "the addresses of both servers have other numbers");
+    assert!(rt; refused.fault == BookFault::Stale(2));
+    assert_eq!(rt; book.journal().len(), 4);
+    Ok(())
+}
+
+#[test]
+fn an_absent_set_that_was_added_is_stale(rt: HostRuntime) -> Result<(), Fail> {
+    let alloc = rt.alloc();
+    let mut book = new_book(alloc, &Limits::greatest())?;
+    load_zone(alloc, &mut book)?;
+    let finding = find(alloc, &mut book, b"sip:server1.example.com")?;
+    let pointer = b"server1.example.com. NAPTR 50 50 \"s\" \"SIP+D2T\" \"\" _sip._tcp.example.com.";
+    add(alloc, &mut book, pointer)?;
+    let refused = book
+        .commit_checked(finding, &Draws::from_words(&[])?)
+        .expect_err(&rt, "the set of pointers was absent");
+    assert!(rt; refused.fault == BookFault::Stale(0));
+    Ok(())
+}
+
+#[test]
+fn a_set_of_other_data_with_the_same_number_is_stale(rt: HostRuntime) -> Result<(), Fail> {
+    let alloc = rt.alloc();
+    let mut book = new_book(alloc, &Limits::greatest())?;
+    let mut other = new_book(alloc, &Limits::greatest())?;
+    load_zone(alloc, &mut book)?;
+    load_zone(alloc, &mut other)?;
+    remove(alloc, &mut book, b"server2.example.com. A 192.0.2.2")?;
+    remove(alloc, &mut other, b"server2.example.com. A 192.0.2.2")?;
+    add(alloc, &mut book, b"server2.example.com. A 192.0.2.3")?;
+    add(alloc, &mut other, b"server2.example.com. A 192.0.2.2")?;
+    let finding = find(alloc, &mut other, b"sip:bob@example.com")?;
+    let refused = book
+        .commit_checked(finding, &Draws::from_words(&[])?)
+        .expect_err(&rt, "the second server has another address");
+    assert!(rt; refused.fault == BookFault::Stale(3));
+    Ok(())
+}
+
+#[test]
+fn a_commit_keeps_the_id_of_the_questions_entry(rt: HostRuntime) -> Result<(), Fail> {
+    let alloc = rt.alloc();
+    let mut book = new_book(alloc, &Limits::greatest())?;
+    load_zone(alloc, &mut book)?;
+    let bob = question(alloc, b"sip:bob@example.com")?;
+    let over_tcp = question(alloc, b"sip:bob@example.com;transport=tcp")?;
+    let draws = Draws::from_words(&[])?;
+    for (number, uri) in [
+        (1, b"sip:bob@example.com".as_slice()),
+        (2, b"sip:bob@example.com;transport=tcp"),
+        (3, b"sip:carol@EXAMPLE.COM"),
+        (4, b"sip:carol@EXAMPLE.COM;transport=TCP"),
+    ] {
+        let finding = find(alloc, &mut book, uri)?;
+        assert_eq!(rt; book.commit_checked(finding, &draws)?.number, number);
+    }
+    assert!(rt; book.entry(&bob).is_some_and(|entry| entry.id() == 1));
+    assert!(rt; book.entry(&over_tcp).is_some_and(|entry| entry.id() == 2));
+    Ok(())
+}
+
+#[test]
+fn a_change_that_failed_to_allocate_can_be_made_again(rt: HostRuntime) -> Result<(), Fail> {
+    let alloc = rt.alloc();
+    let mut book = new_book(alloc, &Limits::greatest())?;
+    let apex = Name::from_text(alloc, b"example.com.", &Name::root(alloc))?;
+    let (text, copy) = (
+        read_zone(alloc, ZONE, &apex)?,
+        read_zone(alloc, ZONE, &apex)?,
+    );
+    let loaded = match book.change(Edit::Load(text)) {
+        Ok(changed) => changed,
+        Err(fault) => {
+            assert!(rt; fault == BookFault::Memory && book.journal().is_empty());
+            book.change(Edit::Load(copy))?
+        }
+    };
+    assert_eq!(rt; loaded, Changed { number: 0, sets: 4 });
+    let held = match book.hold(&tcp(SERVER_2), 5000) {
+        Ok(number) => number,
+        Err(fault) => {
+            assert!(rt; fault == BookFault::Memory && !book.board().is_held(&tcp(SERVER_2)));
+            book.hold(&tcp(SERVER_2), 5000)?
+        }
+    };
+    assert_eq!(rt; held, 1);
+    assert!(rt; book.board().is_held(&tcp(SERVER_2)));
+    Ok(())
+}
+
+#[test]
+fn an_answer_that_failed_to_allocate_can_be_handed_out_again(rt: HostRuntime) -> Result<(), Fail> {
+    let alloc = rt.alloc();
+    let mut book = new_book(alloc, &Limits::greatest())?;
+    load_zone(alloc, &mut book)?;
+    let bob = question(alloc, b"sip:bob@example.com")?;
+    let draws = Draws::from_words(&[2, 0])?;
+    let finding = find(alloc, &mut book, b"sip:bob@example.com")?;
+    let committed = match book.commit_checked(finding, &draws) {
+        Ok(handed) => handed,
+        Err(refused) => {
+            assert!(rt; refused.fault == BookFault::Memory && book.entry(&bob).is_none());
+            book.commit_checked(refused.finding, &draws)?
+        }
+    };
+    assert_eq!(rt; committed.number, 1);
+    assert!(rt; is_tcp(&committed.answer, &[SERVER_2, SERVER_1]));
+    assert!(rt;
+        book.entry(&bob)
+            .is_some_and(|entry| entry.id() == 1 && entry.is_current())
+    );
+    let handed = match book.hand(&bob, &draws) {
+        Ok(handed) => handed,
+        Err(fault) => {
+            assert!(rt; fault == BookFault::Memory && book.journal().len() == 2);
+            book.hand(&bob, &draws)?
+        }
+    };
+    assert_eq!(rt; handed.number, 2);
+    assert!(rt; is_tcp(&handed.answer, &[SERVER_2, SERVER_1]));
     Ok(())
 }
