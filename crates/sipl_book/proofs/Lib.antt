@@ -5,3 +5,5 @@ pub mod Staleness
 pub mod Journal
 pub mod Moving
 pub mod Committing
+pub mod Answering
+pub mod Marking

@@ -57,9 +57,11 @@ impl Entries {
     pub(crate) fn mark(&mut self, changed: &[Key])
         ensures { self.new ≡ map (marked changed.now) self.old }
     {
-        for entry in self.table.values_mut() {
+        // Keeps each entry, and writes to it.
+        self.table.retain(|_, entry| {
             entry.mark(changed);
-        }
+            true
+        });
     }
 
     /// Makes a finding the current one of its question: of the question's entry, or else of a new

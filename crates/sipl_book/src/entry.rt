@@ -1,7 +1,7 @@
 ghost use Rattle.std.specs.Prelude.{◌≡◌, true};
 ghost use Rattle.sipl_plans.specs.Findings.{IsSound};
 ghost use Rattle.sipl_plans.specs.Servers.{HasFewServers};
-ghost use Rattle.sipl_book.specs.Entries.{marked};
+ghost use Rattle.sipl_book.specs.Entries.{depends_on, marked};
 
 use sipl_evidence::Evidence;
 use sipl_plans::{Finding, Layout};
@@ -50,9 +50,15 @@ impl Entry {
     pub(crate) fn mark(&mut self, changed: &[Key])
         ensures { self.new ≡ marked changed.now self.old }
     {
+        self.is_current = self.is_current && !self.depends_on(changed);
+    }
+
+    // Whether one of these keys is in the evidence. Linear in the number of keys.
+    fn depends_on(&self, keys: &[Key]) -> bool
+        ensures { result ≡ depends_on keys.now self.now }
+    {
         let evidence = self.finding.evidence();
-        self.is_current = self.is_current
-            && !changed.iter().any(|key| evidence.find(key).is_some());
+        keys.iter().any(|key| evidence.find(key).is_some())
     }
 
     /// The number of the event that made the entry.

@@ -1,0 +1,71 @@
+-- Entries whose evidence may have changed keys.
+use Rattle.std.proofs.Common.{◌≡◌, ℕ, suc, ◌+◌, Bool, true, false, not, cond, ltb, List, [], ◌∷◌, map, length, position, None, Some, is_some, refl, sym, subst, ◌∙◌, inl, inr, arith}
+use Rattle.std.specs.List.{IsDistinct, list_any, position_or_len}
+use Rattle.std.specs.Map.{keys_of, values_of}
+use Rattle.std.proofs.lemmas.Bool.{cases_Bool, lt-ltb}
+use Rattle.std.proofs.lemmas.Bool.Decides.{nat_tests}
+use Rattle.std.proofs.lemmas.List.Elements.{All-map}
+use Rattle.sipl_records.specs.declared.record.Key.{Key}
+use Rattle.sipl_records.specs.Sets.{same_key}
+use Rattle.sipl_uri.specs.declared.question.Question.{Question}
+use Rattle.sipl_evidence.specs.Items.{Item}
+use Rattle.sipl_evidence.specs.Known.{known, is_unknown}
+use Rattle.sipl_evidence.specs.Places.{place_of}
+use Rattle.sipl_book.specs.Questions.{same_question}
+use Rattle.sipl_book.specs.Entries.{EntryState, marked}
+use Rattle.sipl_book.specs.EntryTable.{IsTable}
+use Rattle.sipl_book.proofs.Table.{Rows}
+
+-- a list has a place that passes a test exactly where an element does
+place-before : {X : Type 0} (p : X → Bool) (xs : List X) → ltb (position_or_len p xs) (length xs) ≡ list_any p xs
+place-before p [] = refl
+place-before p (x ∷ xs) = elim (cases_Bool (p x)) [
+  | inl here ↦ rw here (lt-ltb 0 (length (x ∷ xs)) (omega arith))
+  | inr later ↦ rw later (step (position_or_len p xs) (length xs) ∙ place-before p xs)
+] where
+  step : (m n : ℕ) → ltb (1 + m) (suc n) ≡ ltb m n
+  step m n = grind (arith, nat_tests)
+
+is_some-position : {X : Type 0} (p : X → Bool) (xs : List X) → is_some (position p xs) ≡ list_any p xs
+is_some-position p xs =
+    at (ltb (position_or_len p xs) (length xs)) ∙ place-before p xs where
+      at : (b : Bool) → is_some (cond b (Some (position_or_len p xs)) None) ≡ b
+      at true = refl
+      at false = refl
+
+is_some-known : (items : List Item) (k : Key) → is_some (known items k) ≡ list_any (λ item. same_key item.key k) items
+is_some-known [] k = refl
+is_some-known (item ∷ items) k = elim (cases_Bool (same_key item.key k)) [
+  | inl same ↦ rw same refl
+  | inr other ↦ rw other (is_some-known items k)
+]
+
+not_not : (b : Bool) → not (not b) ≡ b
+not_not true = refl
+not_not false = refl
+
+-- a key has a place exactly where its set is known
+pub is_some-place_of : (items : List Item) (k : Key) → is_some (place_of items k) ≡ not (is_unknown items k)
+is_some-place_of items k =
+    is_some-position (λ item. same_key item.key k) items ∙ sym (is_some-known items k) ∙ sym (not_not (is_some (known items k)))
+
+-- ---- the table
+
+-- a table whose entries are marked
+abbrev pub marked_rows : List Key → Rows → Rows
+marked_rows keys es = map (λ e. (e.0, marked keys e.1)) es
+
+keys-marked : (keys : List Key) (es : Rows) → keys_of (marked_rows keys es) ≡ keys_of es
+keys-marked keys [] = refl
+keys-marked keys (e ∷ es) = λ i. e.0 ∷ keys-marked keys es i
+
+pub values-marked : (keys : List Key) (es : Rows) → values_of (marked_rows keys es) ≡ map (marked keys) (values_of es)
+values-marked keys [] = refl
+values-marked keys (e ∷ es) = λ i. marked keys e.1 ∷ values-marked keys es i
+
+pub IsTable-marked : (keys : List Key) (es : Rows) → IsTable es → IsTable (marked_rows keys es)
+IsTable-marked keys es table =
+    record {
+      keyed = All-map (λ (e : Question × EntryState). e.1.found.question ≡ e.0) (λ e. (e.0, marked keys e.1)) es table.keyed;
+      distinct = subst (IsDistinct same_question) (sym (keys-marked keys es)) table.distinct;
+    }
