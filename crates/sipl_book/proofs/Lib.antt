@@ -7,3 +7,4 @@ pub mod Moving
 pub mod Committing
 pub mod Answering
 pub mod Marking
+pub mod Changing

@@ -111,8 +111,7 @@ impl Book {
         reserve_event(&mut self.journal, self.max_events)?;
         let keys = edit.apply(&mut self.store)?;
         self.entries.mark(keys.as_slice());
-        let number = self.journal.len() as u64;
-        self.journal.push_reserved(Event::Change(edit));
+        let number = record_event(&mut self.journal, Event::Change(edit));
         Ok(Changed {
             number,
             sets: keys.len() as u64,
