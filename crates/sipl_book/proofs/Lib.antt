@@ -1,9 +1,10 @@
+pub mod Journal
+pub mod Moving
+pub mod StoreSets
 pub mod Questions
 pub mod Committed
 pub mod Table
 pub mod Staleness
-pub mod Journal
-pub mod Moving
 pub mod Committing
 pub mod Answering
 pub mod Marking
