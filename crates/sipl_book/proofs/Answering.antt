@@ -1,0 +1,50 @@
+-- Answers that are handed out: that of a current entry is the answer now, and the book stays consistent.
+use Rattle.std.proofs.Common.{◌≡◌, ℕ, ◌<◌, true, List, [], ◌∷◌, ◌++◌, length, Some, Ok, refl, sym, ap, subst, ◌∙◌}
+use Rattle.std.proofs.lemmas.Bool.{cond-true, cond-false, lt-leb}
+use Rattle.sipl_records.specs.Sets.{set_of}
+use Rattle.sipl_evidence.specs.Looks.{Look}
+use Rattle.sipl_uri.specs.declared.question.Question.{Question}
+use Rattle.sipl_plans.specs.Plan.{draw}
+use Rattle.sipl_plans.specs.Route.{route}
+use Rattle.sipl_plans.specs.declared.answer.Answer.{Answer as Targets}
+use Rattle.sipl_book.specs.Book.{BookState, IsConsistent, IsGoodEntry, answer_now}
+use Rattle.sipl_book.specs.Calls.{IsHanded, answer_event}
+use Rattle.sipl_book.specs.Entries.{EntryState, entry_of, is_hot}
+use Rattle.sipl_book.specs.declared.event.Event.{Event}
+use Rattle.sipl_book.proofs.Committed.{All-entry_of, question-entry_of}
+use Rattle.sipl_book.proofs.Journal.{consistent-recorded}
+
+-- what a current entry's route draws is the answer on the records and the holds as they are
+pub current_answer : (book : BookState) (question : Question) (words : List ℕ) (entry : EntryState) → IsConsistent book
+    → entry_of book.entries question ≡ Some entry → entry.is_current ≡ true
+    → draw entry.found.layout book.board.holds words ≡ answer_now book question words
+current_answer book question words entry good found current =
+    let is = All-entry_of (IsGoodEntry book) question book.entries entry good.entries found in
+    let own = question-entry_of question book.entries entry found in
+    let look : Look = set_of book.store.zones.records in
+    let routed : route look question book.client ≡ entry.found.layout =
+    (λ i. route look (sym own i) (sym is.client i)) ∙ is.sound.route look (is.up_to_date current).agrees in
+    ap (λ layout. draw layout book.board.holds words) (sym routed)
+
+-- a book stays consistent with the event of the answer now
+pub consistent-answered : (book : BookState) (question : Question) (words : List ℕ) (journal : List Event) → IsConsistent book
+    → length book.journal < book.max_events → journal ≡ book.journal ++ answer_event book question words ∷ []
+    → IsConsistent (record book { journal = journal })
+consistent-answered book question words journal good space is =
+    subst (λ events. IsConsistent (record book { journal = events })) (sym is)
+    (consistent-recorded book (answer_event book question words) book.board good good.board space refl refl)
+
+-- the answer of a current entry is handed out
+pub handed : (book : BookState) (question : Question) (words : List ℕ) (journal : List Event) (number : ℕ) (answer : Targets)
+    → length book.journal < book.max_events → is_hot book.entries question ≡ true → number ≡ length book.journal
+    → answer ≡ answer_now book question words → journal ≡ book.journal ++ answer_event book question words ∷ []
+    → IsHanded question words book (record book { journal = journal }) (Ok (record { number = number; answer = answer }))
+handed book question words journal number answer space hot number_is answer_is journal_is =
+    record {
+      accepted = cond-false _ _ _ (lt-leb book.max_events (length book.journal) space) ∙ cond-true _ _ _ hot;
+      number = number_is;
+      answer = answer_is;
+      after = λ i. record book { journal = journal_is i };
+      refused = tt;
+      unchanged = tt;
+    }
