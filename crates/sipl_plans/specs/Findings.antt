@@ -17,9 +17,9 @@ pub record Found : Type 0 where
   pub layout : Layout
   pub items : List Item
 
--- the client is one that there can be, no key is there twice, the data are of their keys' kinds, and
--- wherever the records agree with the evidence, the route is the layout and looks at the keys of the
--- evidence, in their order
+-- the client is one that there can be, no key is there twice, the data are of their keys' kinds,
+-- and wherever the records agree with the evidence, the route is the layout and looks at the keys
+-- of the evidence, in their order
 pub record IsSound (found : Found) : Type 0 where
   pub client : abilities_fault found.client.preference ≡ None
   pub distinct : HasDistinctKeys found.items

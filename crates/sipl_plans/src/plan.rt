@@ -16,8 +16,8 @@ use std::alloc::{AllocError, Global};
 
 /// The answer to a question from all records: the targets, in the order in which they are tried,
 /// without the endpoints that the board holds, or the reason that there are none (RFC 3263, 4).
-/// There are at most 2,048 targets: 32 servers of 64 addresses. Each of at most 32 SRV records takes
-/// one of the draws.
+/// There are at most 2,048 targets: 32 servers of 64 addresses. Each of at most 32 SRV records
+/// takes one of the draws.
 ///
 /// Linear in the records for each look-up of a record set. There are at most 1,156 look-ups: for
 /// the NAPTR records of the domain, the SRV records over 3 transports, and the IPv4 and IPv6

@@ -1,4 +1,4 @@
-use Rattle.std.proofs.Common.{◌≡◌, ◌<◌, Bool, true, not, vec_len, sym, ◌∙◌, rules, arith}
+use Rattle.std.proofs.Common.{◌≡◌, not, vec_len, sym, ◌∙◌, rules, arith}
 use Rattle.std.proofs.lemmas.Bool.{eqb-true, eqb-false}
 use Rattle.std.proofs.lemmas.Fn.{filter_same}
 use Rattle.std.proofs.lemmas.List.{nil_from_length}
