@@ -1,7 +1,9 @@
 //! The route of a question on the records of a store.
-ghost use Rattle.std.specs.Prelude.{◌≡◌, IfOk};
+ghost use Rattle.std.specs.Prelude.{◌≡◌, List, IfOk};
 ghost use Rattle.sipl_outages.specs.Holds.{no_holds};
 ghost use Rattle.sipl_plans.specs.Plan.{draw};
+ghost use Rattle.sipl_plans.specs.Route.{route};
+ghost use Rattle.sipl_records.specs.declared.record.Record.{Record};
 ghost use Rattle.sipl_records.specs.Sets.{set_of};
 ghost use Rattle.sipl_evidence.specs.Known.{Agrees};
 ghost use Rattle.sipl_lines.specs.Locating.{IsLocated, IsLookedAt};
@@ -46,13 +48,17 @@ pub(crate) fn complete(
     Ok(run.finish().ok().unwrap())
 }
 
-// The answer of a finding for these random words, where no endpoint is held.
+// The answer of a finding for these random words, where no endpoint is held; its layout is the
+// route on all records that agree with its evidence.
 pub(crate) fn draw_unheld(
     alloc: Global,
     finding: &Finding,
     draws: &Draws,
 ) -> Result<Answer, AllocError>
-    ensures { IfOk result (λ answer. answer ≡ draw finding.now.layout no_holds draws.now) }
+    ensures answer { IfOk result
+        (λ answer. answer ≡ draw finding.now.layout no_holds draws.now) }
+    ensures records { (records : List Record) → Agrees (set_of records) finding.now.items
+        → route (set_of records) finding.now.question finding.now.client ≡ finding.now.layout }
 {
     draw(alloc, finding.layout(), draws, &Board::new(alloc))
 }
