@@ -1,5 +1,5 @@
 //! Tests of a book over a zone of three NAPTR records, two SRV records and two addresses.
-ghost use Rattle.std.specs.Prelude.{◌≤◌, ◌^◌};
+ghost use Rattle.std.specs.Prelude.{◌≡◌, ◌≤◌, ◌^◌, [], ◌∷◌, IfOk};
 
 use crate::{Book, BookFault, Changed, Edit, Limits};
 use sipl_choice::{Abilities, Endpoint, Families, Transport};
@@ -43,6 +43,10 @@ fn new_book(alloc: Global, limits: &Limits) -> Result<Book, Fail>
     requires holds { limits.now.holds ≤ 4096 }
     requires first { 1 ≤ limits.now.next }
     requires last { limits.now.next ≤ 2 ^ 52 }
+    ensures { IfOk result (λ book. book.client ≡ record {
+      preference = Transport.Tcp ∷ Transport.Udp ∷ [];
+      families = Families.V4;
+    }) }
 {
     let preference = Vec::from_slice(alloc, &[Transport::Tcp, Transport::Udp])?;
     let abilities = Abilities::new(preference, Families::V4).unwrap();
@@ -50,7 +54,9 @@ fn new_book(alloc: Global, limits: &Limits) -> Result<Book, Fail>
 }
 
 // Loads the zone.
-fn load_zone(alloc: Global, book: &mut Book) -> Result<Changed, Fail> {
+fn load_zone(alloc: Global, book: &mut Book) -> Result<Changed, Fail>
+    ensures { book.new.client ≡ book.old.client }
+{
     let apex = Name::from_text(alloc, b"example.com.", &Name::root(alloc))?;
     let text = read_zone(alloc, ZONE, &apex)?;
     Ok(book.change(Edit::Load(text))?)
@@ -62,7 +68,10 @@ fn question(alloc: Global, uri: &[u8]) -> Result<Question, Fail> {
 }
 
 // What a run over the book's sets finds.
-fn find(alloc: Global, book: &mut Book, uri: &[u8]) -> Result<Finding, Fail> {
+fn find(alloc: Global, book: &mut Book, uri: &[u8]) -> Result<Finding, Fail>
+    ensures client { book.new.client ≡ book.old.client }
+    ensures finding { IfOk result (λ finding. finding.client ≡ book.old.client) }
+{
     let mut run = Run::start(alloc, question(alloc, uri)?, book.abilities())?;
     while let Some(key) = run.wants() {
         let (number, content) = book.read(key)?;
@@ -86,12 +95,16 @@ fn is_tcp(answer: &Answer, numbers: &[u32]) -> bool {
 }
 
 // Edits by the text of a record.
-fn add(alloc: Global, book: &mut Book, text: &[u8]) -> Result<Changed, Fail> {
+fn add(alloc: Global, book: &mut Book, text: &[u8]) -> Result<Changed, Fail>
+    ensures { book.new.client ≡ book.old.client }
+{
     let record = read_record(alloc, text, &Name::root(alloc))?;
     Ok(book.change(Edit::Add(record))?)
 }
 
-fn remove(alloc: Global, book: &mut Book, text: &[u8]) -> Result<Changed, Fail> {
+fn remove(alloc: Global, book: &mut Book, text: &[u8]) -> Result<Changed, Fail>
+    ensures { book.new.client ≡ book.old.client }
+{
     let record = read_record(alloc, text, &Name::root(alloc))?;
     Ok(book.change(Edit::Remove(record))?)
 }
