@@ -6,7 +6,7 @@ use sipl_choice::{Abilities, Endpoint, Families, Transport};
 use sipl_masterfile::{read_record, read_zone};
 use sipl_names::Name;
 use sipl_outages::BoardFault;
-use sipl_plans::{Answer, Finding, Reason, Run};
+use sipl_plans::{Answer, Finding, Run};
 use sipl_records::Address;
 use sipl_srv::Draws;
 use sipl_uri::{Question, Uri};
@@ -25,6 +25,8 @@ server2 A 192.0.2.2
 const SERVER_1: u32 = 0xC000_0201;
 
 const SERVER_2: u32 = 0xC000_0202;
+
+const BOB: &[u8] = b"sip:bob@example.com";
 
 // A TCP endpoint at port 5060.
 fn tcp(number: u32) -> Endpoint {
@@ -109,275 +111,188 @@ fn remove(alloc: Global, book: &mut Book, text: &[u8]) -> Result<Changed, Fail>
     Ok(book.change(Edit::Remove(record))?)
 }
 
-#[test]
-fn an_entry_stays_current_until_a_set_of_its_evidence_changes(rt: HostRuntime) -> Result<(), Fail> {
-    let alloc = rt.alloc();
-    let mut book = new_book(alloc, &Limits::greatest())?;
-    assert_eq!(rt;
-        load_zone(alloc, &mut book)?,
-        Changed { number: 0, sets: 4 }
-    );
-    let bob = question(alloc, b"sip:bob@example.com")?;
-    let draws = Draws::from_words(&[2, 0])?;
-    assert!(rt; matches!(book.hand(&bob, &draws), Err(BookFault::Cold)));
-    let finding = find(alloc, &mut book, b"sip:bob@example.com")?;
-    let handed = book.commit_checked(finding, &draws)?;
-    assert_eq!(rt; handed.number, 1);
-    assert!(rt; is_tcp(&handed.answer, &[SERVER_2, SERVER_1]));
+// Whether the targets over TCP that a run's finding gives are these, once it is committed.
+fn commits(
+    alloc: Global,
+    book: &mut Book,
+    uri: &[u8],
+    words: &[u32],
+    targets: &[u32],
+) -> Result<bool, Fail>
+    ensures { book.new.client ≡ book.old.client }
+{
+    let draws = Draws::from_words(words)?;
+    let finding = find(alloc, book, uri)?;
+    match book.commit_checked(finding, &draws) {
+        Ok(handed) => Ok(is_tcp(&handed.answer, targets)),
+        Err(_) => Ok(false),
+    }
+}
 
-    assert_eq!(rt;
-        add(alloc, &mut book, b"other.example.com. A 192.0.2.50")?.number,
-        2
-    );
-    assert!(rt; book.entry(&bob).is_some_and(|entry| entry.is_current()));
+// How a commit of a run's finding fails, where a record was removed, or else added, after the run.
+fn commit_fault(
+    alloc: Global,
+    book: &mut Book,
+    removed: Option<&[u8]>,
+    added: Option<&[u8]>,
+) -> Result<Option<BookFault>, Fail> {
+    let draws = Draws::from_words(&[])?;
+    let finding = find(alloc, book, BOB)?;
+    if let Some(text) = removed {
+        remove(alloc, book, text)?;
+    }
+    if let Some(text) = added {
+        add(alloc, book, text)?;
+    }
+    match book.commit_checked(finding, &draws) {
+        Ok(_) => Ok(None),
+        Err(refused) => Ok(Some(refused.fault)),
+    }
+}
+
+// Whether the targets over TCP of the answer from a current entry are these.
+fn hands(alloc: Global, book: &mut Book, words: &[u32], targets: &[u32]) -> Result<bool, Fail> {
+    let draws = Draws::from_words(words)?;
+    let question = question(alloc, BOB)?;
+    match book.hand(&question, &draws) {
+        Ok(handed) => Ok(is_tcp(&handed.answer, targets)),
+        Err(_) => Ok(false),
+    }
+}
+
+// The fault of handing out an answer.
+fn hand_fault(alloc: Global, book: &mut Book) -> Result<Option<BookFault>, Fail> {
+    let draws = Draws::from_words(&[])?;
+    let question = question(alloc, BOB)?;
+    Ok(book.hand(&question, &draws).err())
+}
+
+// The number of the entry of a URI's question, and whether it is current.
+fn entry(alloc: Global, book: &Book, uri: &[u8]) -> Result<Option<(u64, bool)>, Fail> {
+    let question = question(alloc, uri)?;
+    match book.entry(&question) {
+        Some(entry) => Ok(Some((entry.id(), entry.is_current()))),
+        None => Ok(None),
+    }
+}
+
+// An entry is current until a set of its evidence changes.
+fn follows_edits(alloc: Global, book: &mut Book) -> Result<bool, Fail> {
+    let loaded = load_zone(alloc, book)? == Changed { number: 0, sets: 4 }
+        && hand_fault(alloc, book)? == Some(BookFault::Cold)
+        && commits(alloc, book, BOB, &[2, 0], &[SERVER_2, SERVER_1])?;
+    let other = add(alloc, book, b"other.example.com. A 192.0.2.50")?;
     let looks = book.looks();
-    let handed = book.hand(&bob, &draws)?;
-    assert_eq!(rt; handed.number, 3);
-    assert!(rt; is_tcp(&handed.answer, &[SERVER_2, SERVER_1]));
-    assert_eq!(rt; book.looks(), looks);
-
-    let changed = remove(alloc, &mut book, b"server2.example.com. A 192.0.2.2")?;
-    assert_eq!(rt; changed, Changed { number: 4, sets: 1 });
-    assert!(rt; book.entry(&bob).is_some_and(|entry| !entry.is_current()));
-    assert!(rt; matches!(book.hand(&bob, &draws), Err(BookFault::Cold)));
-    let finding = find(alloc, &mut book, b"sip:bob@example.com")?;
-    assert!(rt; is_tcp(&book.commit_checked(finding, &draws)?.answer, &[SERVER_1]));
-    assert!(rt;
-        book.entry(&bob)
-            .is_some_and(|entry| entry.is_current() && entry.id() == 1)
-    );
-    assert_eq!(rt; book.journal().len(), 6);
-    Ok(())
+    let kept = entry(alloc, book, BOB)? == Some((1, true))
+        && hands(alloc, book, &[2, 0], &[SERVER_2, SERVER_1])?
+        && book.looks() == looks;
+    let changed = remove(alloc, book, b"server2.example.com. A 192.0.2.2")?;
+    let marked = entry(alloc, book, BOB)? == Some((1, false))
+        && hand_fault(alloc, book)? == Some(BookFault::Cold);
+    let renewed = commits(alloc, book, BOB, &[2, 0], &[SERVER_1])?
+        && entry(alloc, book, BOB)? == Some((1, true));
+    Ok(
+        loaded
+            && other.number == 2
+            && kept
+            && changed == Changed { number: 4, sets: 1 }
+            && marked
+            && renewed
+            && book.journal().len() == 6,
+    )
 }
 
 #[test]
-fn holds_leave_endpoints_out_until_their_end(rt: HostRuntime) -> Result<(), Fail> {
-    let alloc = rt.alloc();
-    let mut book = new_book(alloc, &Limits::greatest())?;
-    load_zone(alloc, &mut book)?;
-    let bob = question(alloc, b"sip:bob@example.com")?;
-    let draws = Draws::from_words(&[2, 0])?;
-    let finding = find(alloc, &mut book, b"sip:bob@example.com")?;
-    book.commit_checked(finding, &draws)?;
-
-    assert_eq!(rt; book.hold(&tcp(SERVER_2), 5000)?, 2);
-    assert_eq!(rt; book.hold(&tcp(SERVER_2), 100)?, 3);
-    assert_eq!(rt; book.advance(4999)?, 4);
-    assert!(rt; is_tcp(&book.hand(&bob, &draws)?.answer, &[SERVER_1]));
-    assert_eq!(rt; book.advance(5000)?, 6);
-    assert!(rt; is_tcp(&book.hand(&bob, &draws)?.answer, &[SERVER_2, SERVER_1]));
-    assert_eq!(rt; book.advance(5000)?, 8);
-    assert!(rt; book.advance(4000) == Err(BookFault::Board(BoardFault::ClockBack)));
-    assert!(rt; book.release(&tcp(SERVER_2)) == Err(BookFault::Board(BoardFault::NotHeld)));
-    assert_eq!(rt; book.now(), 5000);
-    book.hold(&tcp(SERVER_1), 1)?;
-    book.hold(&tcp(SERVER_2), 1)?;
-    let answer = book.hand(&bob, &draws)?.answer;
-    assert!(rt; matches!(answer, Answer::None(Reason::AllHeld)));
-    book.release(&tcp(SERVER_2))?;
-    assert!(rt; !book.board().is_held(&tcp(SERVER_2)) && book.board().is_held(&tcp(SERVER_1)));
+fn an_entry_is_current_until_a_set_of_its_evidence_changes(rt: HostRuntime) -> Result<(), Fail> {
+    let mut book = new_book(rt.alloc(), &Limits::greatest())?;
+    assert!(rt; follows_edits(rt.alloc(), &mut book)?);
     Ok(())
+}
+
+// Held endpoints are left out until the end of their holds.
+fn follows_holds(alloc: Global, book: &mut Book) -> Result<bool, Fail> {
+    load_zone(alloc, book)?;
+    let committed = commits(alloc, book, BOB, &[2, 0], &[SERVER_2, SERVER_1])?;
+    let held = book.hold(&tcp(SERVER_2), 5000) == Ok(2)
+        && book.hold(&tcp(SERVER_2), 100) == Ok(3)
+        && book.advance(4999) == Ok(4)
+        && hands(alloc, book, &[2, 0], &[SERVER_1])?;
+    let ended = book.advance(5000) == Ok(6)
+        && hands(alloc, book, &[2, 0], &[SERVER_2, SERVER_1])?
+        && book.advance(5000) == Ok(8);
+    let refused = book.advance(4000) == Err(BookFault::Board(BoardFault::ClockBack))
+        && book.release(&tcp(SERVER_2)) == Err(BookFault::Board(BoardFault::NotHeld));
+    let released = book.hold(&tcp(SERVER_2), 1) == Ok(9)
+        && book.release(&tcp(SERVER_2)) == Ok(10)
+        && hands(alloc, book, &[2, 0], &[SERVER_2, SERVER_1])?;
+    Ok(committed && held && ended && refused && released && book.now() == 5000)
+}
+
+#[test]
+fn held_endpoints_are_left_out_until_their_end(rt: HostRuntime) -> Result<(), Fail> {
+    let mut book = new_book(rt.alloc(), &Limits::greatest())?;
+    assert!(rt; follows_holds(rt.alloc(), &mut book)?);
+    Ok(())
+}
+
+// A journal of two events is full after a load and a hold.
+fn fills_its_journal(alloc: Global, book: &mut Book) -> Result<bool, Fail> {
+    load_zone(alloc, book)?;
+    Ok(
+        book.hold(&tcp(SERVER_1), 1) == Ok(1)
+            && book.hold(&tcp(SERVER_1), 1) == Err(BookFault::JournalFull)
+            && hand_fault(alloc, book)? == Some(BookFault::JournalFull)
+            && commit_fault(alloc, book, None, None)? == Some(BookFault::JournalFull)
+            && entry(alloc, book, BOB)?.is_none(),
+    )
 }
 
 #[test]
 fn a_full_journal_refuses_what_records_an_event(rt: HostRuntime) -> Result<(), Fail> {
-    let alloc = rt.alloc();
     let limits = Limits {
         journal: 2,
         ..Limits::greatest()
     };
-    let mut book = new_book(alloc, &limits)?;
-    load_zone(alloc, &mut book)?;
-    book.hold(&tcp(SERVER_1), 1)?;
-    assert!(rt; book.hold(&tcp(SERVER_1), 1) == Err(BookFault::JournalFull));
-    let bob = question(alloc, b"sip:bob@example.com")?;
-    let draws = Draws::from_words(&[])?;
-    assert!(rt; matches!(book.hand(&bob, &draws), Err(BookFault::JournalFull)));
-    let finding = find(alloc, &mut book, b"sip:bob@example.com")?;
-    let refused = book
-        .commit_checked(finding, &draws)
-        .expect_err(&rt, "the journal is full");
-    assert!(rt; refused.fault == BookFault::JournalFull);
-    assert!(rt; *refused.finding.question() == bob);
-    assert!(rt; book.entry(&bob).is_none());
+    let mut book = new_book(rt.alloc(), &limits)?;
+    assert!(rt; fills_its_journal(rt.alloc(), &mut book)?);
     Ok(())
 }
 
+// Without places for entries an answer is handed out and not kept.
+fn keeps_no_entry(alloc: Global, book: &mut Book) -> Result<bool, Fail> {
+    load_zone(alloc, book)?;
+    Ok(
+        commits(alloc, book, BOB, &[2, 0], &[SERVER_2, SERVER_1])?
+            && entry(alloc, book, BOB)?.is_none(),
+    )
+}
+
 #[test]
-fn a_book_without_places_for_entries_hands_out_and_keeps_none(rt: HostRuntime) -> Result<(), Fail> {
-    let alloc = rt.alloc();
+fn a_book_without_places_for_entries_keeps_none(rt: HostRuntime) -> Result<(), Fail> {
     let limits = Limits {
         entries: 0,
         ..Limits::greatest()
     };
-    let mut book = new_book(alloc, &limits)?;
-    load_zone(alloc, &mut book)?;
-    let bob = question(alloc, b"sip:bob@example.com")?;
-    let draws = Draws::from_words(&[2, 0])?;
-    let finding = find(alloc, &mut book, b"sip:bob@example.com")?;
-    let handed = book.commit_checked(finding, &draws)?;
-    assert!(rt; is_tcp(&handed.answer, &[SERVER_2, SERVER_1]));
-    assert!(rt; book.entry(&bob).is_none());
+    let mut book = new_book(rt.alloc(), &limits)?;
+    assert!(rt; keeps_no_entry(rt.alloc(), &mut book)?);
     Ok(())
+}
+
+// A set is stale where it changed since it was read, also where its data are the same again.
+fn refuses_stale_sets(alloc: Global, book: &mut Book) -> Result<bool, Fail> {
+    load_zone(alloc, book)?;
+    let address = b"server2.example.com. A 192.0.2.2".as_slice();
+    let pointer = b"example.com. NAPTR 70 50 \"s\" \"SIP+D2T\" \"\" _sip._tcp.example.com.";
+    Ok(
+        commit_fault(alloc, book, Some(address), Some(address))? == Some(BookFault::Stale(3))
+            && commit_fault(alloc, book, None, Some(pointer))? == Some(BookFault::Stale(0))
+            && book.journal().len() == 4,
+    )
 }
 
 #[test]
 fn a_set_that_changed_since_it_was_read_is_stale(rt: HostRuntime) -> Result<(), Fail> {
-    let alloc = rt.alloc();
-    let mut book = new_book(alloc, &Limits::greatest())?;
-    load_zone(alloc, &mut book)?;
-    let finding = find(alloc, &mut book, b"sip:bob@example.com")?;
-    let pointer = b"example.com. NAPTR 70 50 \"s\" \"SIP+D2T\" \"\" _sip._tcp.example.com.";
-    add(alloc, &mut book, pointer)?;
-    let draws = Draws::from_words(&[])?;
-    let refused = book
-        .commit_checked(finding, &draws)
-        .expect_err(&rt, "the set of pointers has changed");
-    assert!(rt; refused.fault == BookFault::Stale(0));
-    assert_eq!(rt; refused.code(), "B2");
-    assert_eq!(rt; refused.finding.evidence().len(), 4);
-    assert_eq!(rt; book.journal().len(), 2);
-    Ok(())
-}
-
-#[test]
-fn a_set_that_was_removed_and_added_again_is_stale(rt: HostRuntime) -> Result<(), Fail> {
-    let alloc = rt.alloc();
-    let mut book = new_book(alloc, &Limits::greatest())?;
-    load_zone(alloc, &mut book)?;
-    let finding = find(alloc, &mut book, b"sip:bob@example.com")?;
-    remove(alloc, &mut book, b"server2.example.com. A 192.0.2.2")?;
-    add(alloc, &mut book, b"server2.example.com. A 192.0.2.2")?;
-    let draws = Draws::from_words(&[])?;
-    let refused = book.commit_checked(finding, &draws).expect_err(
-        &rt,
-        "the addresses of the second server have another number",
-    );
-    assert!(rt; refused.fault == BookFault::Stale(3));
-
-    remove(alloc, &mut book, b"server1.example.com. A 192.0.2.1")?;
-    let refused = book
-        .commit_checked(refused.finding, &draws)
-        .expect_err(&rt, "the addresses of both servers have other numbers");
-    assert!(rt; refused.fault == BookFault::Stale(2));
-    assert_eq!(rt; book.journal().len(), 4);
-    Ok(())
-}
-
-#[test]
-fn an_absent_set_that_was_added_is_stale(rt: HostRuntime) -> Result<(), Fail> {
-    let alloc = rt.alloc();
-    let mut book = new_book(alloc, &Limits::greatest())?;
-    load_zone(alloc, &mut book)?;
-    let finding = find(alloc, &mut book, b"sip:server1.example.com")?;
-    let pointer = b"server1.example.com. NAPTR 50 50 \"s\" \"SIP+D2T\" \"\" _sip._tcp.example.com.";
-    add(alloc, &mut book, pointer)?;
-    let refused = book
-        .commit_checked(finding, &Draws::from_words(&[])?)
-        .expect_err(&rt, "the set of pointers was absent");
-    assert!(rt; refused.fault == BookFault::Stale(0));
-    Ok(())
-}
-
-#[test]
-fn a_set_of_other_data_with_the_same_number_is_stale(rt: HostRuntime) -> Result<(), Fail> {
-    let alloc = rt.alloc();
-    let mut book = new_book(alloc, &Limits::greatest())?;
-    let mut other = new_book(alloc, &Limits::greatest())?;
-    load_zone(alloc, &mut book)?;
-    load_zone(alloc, &mut other)?;
-    remove(alloc, &mut book, b"server2.example.com. A 192.0.2.2")?;
-    remove(alloc, &mut other, b"server2.example.com. A 192.0.2.2")?;
-    add(alloc, &mut book, b"server2.example.com. A 192.0.2.3")?;
-    add(alloc, &mut other, b"server2.example.com. A 192.0.2.2")?;
-    let finding = find(alloc, &mut other, b"sip:bob@example.com")?;
-    let refused = book
-        .commit_checked(finding, &Draws::from_words(&[])?)
-        .expect_err(&rt, "the second server has another address");
-    assert!(rt; refused.fault == BookFault::Stale(3));
-    Ok(())
-}
-
-#[test]
-fn a_commit_keeps_the_id_of_the_questions_entry(rt: HostRuntime) -> Result<(), Fail> {
-    let alloc = rt.alloc();
-    let mut book = new_book(alloc, &Limits::greatest())?;
-    load_zone(alloc, &mut book)?;
-    let bob = question(alloc, b"sip:bob@example.com")?;
-    let over_tcp = question(alloc, b"sip:bob@example.com;transport=tcp")?;
-    let draws = Draws::from_words(&[])?;
-    for (number, uri) in [
-        (1, b"sip:bob@example.com".as_slice()),
-        (2, b"sip:bob@example.com;transport=tcp"),
-        (3, b"sip:carol@EXAMPLE.COM"),
-        (4, b"sip:carol@EXAMPLE.COM;transport=TCP"),
-    ] {
-        let finding = find(alloc, &mut book, uri)?;
-        assert_eq!(rt; book.commit_checked(finding, &draws)?.number, number);
-    }
-    assert!(rt; book.entry(&bob).is_some_and(|entry| entry.id() == 1));
-    assert!(rt; book.entry(&over_tcp).is_some_and(|entry| entry.id() == 2));
-    Ok(())
-}
-
-#[test]
-fn a_change_that_failed_to_allocate_can_be_made_again(rt: HostRuntime) -> Result<(), Fail> {
-    let alloc = rt.alloc();
-    let mut book = new_book(alloc, &Limits::greatest())?;
-    let apex = Name::from_text(alloc, b"example.com.", &Name::root(alloc))?;
-    let (text, copy) = (
-        read_zone(alloc, ZONE, &apex)?,
-        read_zone(alloc, ZONE, &apex)?,
-    );
-    let loaded = match book.change(Edit::Load(text)) {
-        Ok(changed) => changed,
-        Err(fault) => {
-            assert!(rt; fault == BookFault::Memory && book.journal().is_empty());
-            book.change(Edit::Load(copy))?
-        }
-    };
-    assert_eq!(rt; loaded, Changed { number: 0, sets: 4 });
-    let held = match book.hold(&tcp(SERVER_2), 5000) {
-        Ok(number) => number,
-        Err(fault) => {
-            assert!(rt; fault == BookFault::Memory && !book.board().is_held(&tcp(SERVER_2)));
-            book.hold(&tcp(SERVER_2), 5000)?
-        }
-    };
-    assert_eq!(rt; held, 1);
-    assert!(rt; book.board().is_held(&tcp(SERVER_2)));
-    Ok(())
-}
-
-#[test]
-fn an_answer_that_failed_to_allocate_can_be_handed_out_again(rt: HostRuntime) -> Result<(), Fail> {
-    let alloc = rt.alloc();
-    let mut book = new_book(alloc, &Limits::greatest())?;
-    load_zone(alloc, &mut book)?;
-    let bob = question(alloc, b"sip:bob@example.com")?;
-    let draws = Draws::from_words(&[2, 0])?;
-    let finding = find(alloc, &mut book, b"sip:bob@example.com")?;
-    let committed = match book.commit_checked(finding, &draws) {
-        Ok(handed) => handed,
-        Err(refused) => {
-            assert!(rt; refused.fault == BookFault::Memory && book.entry(&bob).is_none());
-            book.commit_checked(refused.finding, &draws)?
-        }
-    };
-    assert_eq!(rt; committed.number, 1);
-    assert!(rt; is_tcp(&committed.answer, &[SERVER_2, SERVER_1]));
-    assert!(rt;
-        book.entry(&bob)
-            .is_some_and(|entry| entry.id() == 1 && entry.is_current())
-    );
-    let handed = match book.hand(&bob, &draws) {
-        Ok(handed) => handed,
-        Err(fault) => {
-            assert!(rt; fault == BookFault::Memory && book.journal().len() == 2);
-            book.hand(&bob, &draws)?
-        }
-    };
-    assert_eq!(rt; handed.number, 2);
-    assert!(rt; is_tcp(&handed.answer, &[SERVER_2, SERVER_1]));
+    let mut book = new_book(rt.alloc(), &Limits::greatest())?;
+    assert!(rt; refuses_stale_sets(rt.alloc(), &mut book)?);
     Ok(())
 }
