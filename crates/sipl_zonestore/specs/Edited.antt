@@ -25,8 +25,8 @@ IsKept old new key =
     × (number_in new key ≡ number_in old key)
 
 -- An accepted edit changes the zones, returns the keys whose sets differ, gives those of them that
--- are not empty the next numbers, and keeps all other sets with their numbers. A refused one changes
--- nothing. What always holds of a store holds after either.
+-- are not empty the next numbers, and keeps all other sets with their numbers. A refused one
+-- changes nothing. What always holds of a store holds after either.
 pub record IsEdited (edit : Edit) (old new : Store) (result : Result (List Key) StoreFault) : Type 0 where
   pub accepted : OnOk result (store_refusal edit old ≡ None)
   pub after : OnOk result (new.zones ≡ after edit old.zones)
