@@ -17,7 +17,7 @@ use Rattle.sipl_book.specs.declared.event.Event.{Event}
 use Rattle.sipl_book.specs.declared.limits.Limits.{Limits}
 
 -- what callers see of a book: the client's abilities, the zones with the numbers of their sets, the
--- holds and the clock, the events so far, the entries, and the maxima of entries and events
+-- holds and the clock, the events, the entries, and the maxima of entries and events
 pub record BookState : Type 0 where
   pub client : Client
   pub store : Store

@@ -33,7 +33,7 @@ use std::alloc::{AllocError, Global};
 use std::marker::Model;
 
 /// The zones, the holds and the clock of a locator for one client, the journal of all events, and
-/// the entries of questions that were answered.
+/// an entry for each question whose answer was committed.
 ///
 /// Contracts see the state that the events lead to (the apexes, the records, the holds and the
 /// time), the numbers of the record sets, the journal and the entries. The journal is always legal
@@ -171,7 +171,7 @@ impl Book {
         Ok((number, Sequence::from_vec(copy)))
     }
 
-    /// Hands out the answer to a question that has a current entry, for these random words: that of
+    /// Returns the answer to a question that has a current entry, for these random words: that of
     /// the records and the holds as they are. Looks at no set. Linear in the targets.
     ///
     /// The fault is the first one: a full journal (B3), no current entry (B1).
@@ -188,7 +188,7 @@ impl Book {
         Ok(Handed { number, answer })
     }
 
-    /// Commits a finding: hands out its answer for these random words, which is that of the records
+    /// Commits a finding: returns its answer for these random words, which is that of the records
     /// and the holds as they are, and makes the entry of its question current. With as many entries
     /// as the maximum a question that has none gets none. Compares the sets that were read with
     /// those of the zones, which counts looks. Linear in the evidence and the targets.
@@ -224,7 +224,7 @@ impl Book {
         self.entries.get(question)
     }
 
-    /// The events so far. They are legal from the empty state and lead to the state as it is.
+    /// The events, in their order. They are legal from the empty state and lead to the state as it is.
     pub fn journal(&self) -> &[Event]
         ensures journal { result.now ≡ self.now.journal }
         ensures legal { IsLegal self.now.client self.now.journal empty_state }

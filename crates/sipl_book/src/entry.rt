@@ -9,7 +9,7 @@ use sipl_records::Key;
 use sipl_uri::Question;
 use std::marker::Model;
 
-/// What a book keeps of an answered question: its route, and the record sets that decide it. It is
+/// What a book keeps of a question: its route, and the record sets that decide it. It is
 /// current while none of these sets has changed.
 #[derive(Drop)]
 pub struct Entry {

@@ -15,6 +15,6 @@ pub enum Event {
     Release(Endpoint),
     /// The clock was set to this time, in milliseconds.
     Advance(u64),
-    /// This answer to a question was handed out, for these random words.
+    /// This answer to a question was returned, for these random words.
     Answer(Question, Draws, Answer),
 }

@@ -1,5 +1,5 @@
 //! The book: the zones, the holds and the clock of a locator, a journal of all that happened, and
-//! an entry for each of the questions that were answered (RFC 3263, 4).
+//! an entry for each question whose answer was committed (RFC 3263, 4).
 //!
 //! Each call is one step. What a caller computes between two calls is checked when it is committed.
 //! Times are milliseconds that the caller passes in, from 0 to 2^52.

@@ -15,7 +15,7 @@ pub struct Changed {
     pub sets: u64,
 }
 
-/// An answer that was handed out.
+/// An answer, and the number of its event.
 #[derive(Debug, Drop)]
 pub struct Handed {
     /// The number of its event.
