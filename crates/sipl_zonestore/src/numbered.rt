@@ -67,11 +67,12 @@ impl NumberedRecords {
         &self.records
     }
 
-    // The data of the key's set.
-    pub(crate) fn values(&self, key: &Key) -> &[Data]
-        ensures { result.now ≡ set_of self.now.records key.now }
+    // The number of the key's set, and its data.
+    pub(crate) fn set(&self, key: &Key) -> (u64, &[Data])
+        ensures number { result.0 ≡ number_of self.now.numbers key.now }
+        ensures values { result.1.now ≡ set_of self.now.records key.now }
     {
-        self.sets.values(key)
+        self.sets.get(key)
     }
 
     // The number of the key's set.

@@ -55,24 +55,32 @@ impl SetTable {
         }
     }
 
+    // The number of the key's set and its data, 0 and none where it has no set.
+    pub(crate) fn get(&self, key: &Key) -> (u64, &[Data])
+        ensures number { result.0 ≡ (content_of self.now key.now).number }
+        ensures values { result.1.now ≡ (content_of self.now key.now).values }
+    {
+        match self.position(key) {
+            Some(place) => {
+                let set = &self.sets[place];
+                (set.number, &set.values)
+            }
+            None => (0, &[]),
+        }
+    }
+
     // The data of the key's set, none where it has no set.
     pub(crate) fn values(&self, key: &Key) -> &[Data]
         ensures { result.now ≡ (content_of self.now key.now).values }
     {
-        match self.position(key) {
-            Some(place) => &self.sets[place].values,
-            None => &[],
-        }
+        self.get(key).1
     }
 
     // The number of the key's set, 0 where it has no set.
     pub(crate) fn number(&self, key: &Key) -> u64
         ensures { result ≡ (content_of self.now key.now).number }
     {
-        match self.position(key) {
-            Some(place) => self.sets[place].number,
-            None => 0,
-        }
+        self.get(key).0
     }
 
     // Appends a datum to the key's set, which gets this number.

@@ -166,7 +166,7 @@ impl ZoneStore {
         ensures* looks { sem 𝓛 (Rests the_row self.entry (λ new. new ≡ looked self.old)) }
     {
         self.looks = self.looks.saturating_add(1);
-        (self.records.number(key), self.records.values(key))
+        self.records.set(key)
     }
 
     /// The number of the key's set, 0 where it is empty. Counts no look. Linear in the number of
