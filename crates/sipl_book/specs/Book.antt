@@ -10,6 +10,7 @@ use Rattle.sipl_zonestore.specs.Consistent.{IsConsistent as IsConsistentStore}
 use Rattle.sipl_outages.specs.Board.{BoardState, IsConsistent as IsConsistentBoard}
 use Rattle.sipl_outages.specs.Holds.{no_holds}
 use Rattle.sipl_plans.specs.Findings.{Found, IsSound}
+use Rattle.sipl_plans.specs.Route.{route}
 use Rattle.sipl_plans.specs.declared.answer.Answer.{Answer as Targets}
 use Rattle.sipl_book.specs.Entries.{EntryState}
 use Rattle.sipl_book.specs.Machine.{State, empty_state, answer_in, IsLegal, replay}
@@ -66,6 +67,12 @@ pub record IsGoodEntry (book : BookState) (entry : EntryState) : Type 0 where
   pub sound : IsSound entry.found
   pub up_to_date : IsTrue entry.is_current → IsUpToDate book.store entry.found
   pub made : entry.id < length book.journal
+
+-- a current entry's layout is the route of its question on the records as they are
+abbrev pub HasRoute : BookState → EntryState → Type 0
+HasRoute book entry =
+    IsTrue entry.is_current
+    → route (set_of book.store.zones.records) entry.found.question book.client ≡ entry.found.layout
 
 -- the journal is legal from the empty state and leads to the state as it is; the entries are good,
 -- of distinct questions, and in the order in which they were made; the maxima are within the limits

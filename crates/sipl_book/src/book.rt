@@ -8,7 +8,7 @@ ghost use Rattle.sipl_plans.specs.Findings.{IsSound};
 ghost use Rattle.sipl_plans.specs.Plan.{draw, plan};
 ghost use Rattle.sipl_plans.specs.Runs.{IsSet};
 ghost use Rattle.sipl_plans.specs.Servers.{HasFewServers};
-ghost use Rattle.sipl_book.specs.Book.{IsConsistent, IsGoodEntry, new_book, state_of};
+ghost use Rattle.sipl_book.specs.Book.{HasRoute, IsConsistent, IsGoodEntry, new_book, state_of};
 ghost use Rattle.sipl_book.specs.Calls.{IsChanged, MovesBoard, IsHanded, IsCommitted, after_look, is_stale, store_with_looks};
 ghost use Rattle.sipl_book.specs.Entries.{entry_of};
 ghost use Rattle.sipl_book.specs.Machine.{IsLegal, replay, empty_state};
@@ -220,6 +220,7 @@ impl Book {
     pub fn entry(&self, question: &Question) -> Option<&Entry>
         ensures entry { option_copied result ≡ entry_of self.now.entries question.now }
         ensures good { All (IsGoodEntry self.now) self.now.entries }
+        ensures routes { All (HasRoute self.now) self.now.entries }
     {
         self.entries.get(question)
     }
