@@ -6,8 +6,8 @@ pub mod Rules
 pub mod Results
 pub mod Steps
 pub mod Words
-pub mod SmallSets
 pub mod Locating
+pub mod Finding
 pub mod InOrder
 pub mod Listening
 pub mod Rows

@@ -1,21 +1,24 @@
 -- The protocol of a session is a line protocol.
-use Rattle.std.proofs.Common.{◌≡◌, ◌<◌, ◌-◌, [], true, if◌then◌else◌, length, refl, sym, ap, ◌∙◌, subst, inl}
+use Rattle.std.proofs.Common.{◌≡◌, ◌<◌, ◌-◌, [], true, if◌then◌else◌, length, refl, sym, ap, ◌∙◌, subst}
 use Rattle.std.specs.Prelude.{Option, None, Some}
+use Rattle.std.specs.Bool.{OnTrue, OnFalse}
 use Rattle.std.proofs.lemmas.Bool.{lt-ltb}
 use Rattle.sipl_records.specs.Fields.{fields_of}
 use Rattle.sipl_names.specs.Labels.{Octets}
+use Rattle.sipl_lines.specs.Commands.{Keeps}
+use Rattle.sipl_lines.specs.Desk.{DeskRules}
 use Rattle.sipl_lines.specs.Items.{Item, line}
 use Rattle.sipl_lines.specs.Requests.{nothing, too_long, is_comment, fields_request, request_of}
 use Rattle.sipl_lines.specs.Gathering.{gathered_after, after_long_line, after_short_line}
 use Rattle.sipl_lines.specs.declared.gather.Gathered.{Gathered}
 use Rattle.sipl_lines.specs.declared.gather.Gathering.{Gathering}
-use Rattle.sipl_lines.specs.Session.{SessionState, Step, Performs, MayReply, certain, keeps, request_step, gathering_step, line_step, live_step, session_protocol}
+use Rattle.sipl_lines.specs.Session.{SessionState, Obeys, GathersOrLoses, TakesLine, TakesItem, MayReply, session_protocol}
 use Rattle.sipl_lines.proofs.Replies.{IsLineProtocol}
 
 -- once a session has ended an item has no reply
-ended_silent : (s : SessionState) (item : Item) → s.ended ≡ true → MayReply s item [] s
-ended_silent s item ended =
-    subst (λ b. Performs (if b then certain (keeps [] s) else live_step item s) [] s) (sym ended) (inl record { reply = refl; state = refl })
+ended_silent : {D : Type 0} (rules : DeskRules D) (s : SessionState D) (item : Item) → s.ended ≡ true → MayReply rules s item [] s
+ended_silent rules s item ended =
+    subst (λ b. OnTrue b (Keeps [] s [] s) × OnFalse b (TakesItem rules item s [] s)) (sym ended) ((refl, refl), tt {0})
 
 request_of-long : (octets : Octets) → 65536 < length octets → request_of octets ≡ too_long
 request_of-long octets long =
@@ -26,16 +29,17 @@ gathered_after-long : (octets : Octets) (gathered : Gathered) → 65536 < length
 gathered_after-long octets gathered long =
     ap (λ b. if b then after_long_line gathered else after_short_line octets gathered) (lt-ltb 65536 (length octets) long)
 
-line_step-long : (gathering : Option Gathering) (a b : Octets) (s : SessionState) → 65536 < length a → 65536 < length b → line_step gathering a s ≡ line_step gathering b s
-line_step-long None a b s long long' = ap (λ r. request_step r s) (request_of-long a long ∙ sym (request_of-long b long'))
-line_step-long (Some gathering) a b s long long' =
-    let F : Gathered → Step = λ gathered. gathering_step (record { left = gathering.left - 1; gathered = gathered }) s in
-    ap F (gathered_after-long a gathering.gathered long ∙ sym (gathered_after-long b gathering.gathered long'))
+takes_line-long : {D : Type 0} (rules : DeskRules D) (gathering : Option Gathering) (a b text : Octets) (s u : SessionState D) → 65536 < length a → 65536 < length b → OnFalse s.ended (TakesLine rules gathering a s text u) → OnFalse s.ended (TakesLine rules gathering b s text u)
+takes_line-long rules None a b text s u long long' takes =
+    subst (λ r. OnFalse s.ended (Obeys rules r s text u)) (request_of-long a long ∙ sym (request_of-long b long')) takes
+takes_line-long rules (Some gathering) a b text s u long long' takes =
+    subst (λ gathered. OnFalse s.ended (GathersOrLoses rules (record { left = gathering.left - 1; gathered = gathered }) s text u))
+    (gathered_after-long a gathering.gathered long ∙ sym (gathered_after-long b gathering.gathered long')) takes
 
 -- two lines that are too long have the same replies
-long_alike : (s u : SessionState) (a b text : Octets) → 65536 < length a → 65536 < length b → MayReply s (line a) text u → MayReply s (line b) text u
-long_alike s u a b text long long' reply =
-    subst (λ step. Performs (if s.ended then certain (keeps [] s) else step) text u) (line_step-long s.gathering a b s long long') reply
+long_alike : {D : Type 0} (rules : DeskRules D) (s u : SessionState D) (a b text : Octets) → 65536 < length a → 65536 < length b → MayReply rules s (line a) text u → MayReply rules s (line b) text u
+long_alike rules s u a b text long long' reply =
+    (reply.0, takes_line-long rules s.gathering a b text s u long long' reply.1)
 
-pub session_rules : IsLineProtocol session_protocol
-session_rules = record { silent = ended_silent; long = long_alike }
+pub session_rules : {D : Type 0} (rules : DeskRules D) → IsLineProtocol (session_protocol rules)
+session_rules rules = record { silent = ended_silent rules; long = long_alike rules }

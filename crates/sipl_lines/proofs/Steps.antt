@@ -1,24 +1,63 @@
--- A zone whose lines are all taken, where an allocation fails.
-use Rattle.std.proofs.Common.{◌≡◌, [], ◌++◌, ◌==◌, Bool, true, if◌then◌else◌, Some, refl, sym, ap, subst, ◌∙◌, inr}
-use Rattle.std.specs.Prelude.{Option, None, IsTrue, codes}
+-- What a step of a session does: a zone whose lines are all taken and an allocation fails, an endpoint
+-- that is held or released, a question that is answered.
+use Rattle.std.proofs.Common.{◌≡◌, ◌⊎◌, ℕ, List, ◌++◌, ◌==◌, true, refl, sym, subst, inl, inr}
+use Rattle.std.specs.Prelude.{None, Some, Result, Ok, [], IsTrue, codes}
+use Rattle.std.specs.Bool.{OnTrue, OnFalse}
 use Rattle.sipl_names.specs.Labels.{Octets}
+use Rattle.sipl_records.specs.Addresses.{address_of}
+use Rattle.sipl_choice.specs.declared.transport.Transport.{Transport}
+use Rattle.sipl_srv.specs.declared.fault.DrawsFault.{DrawsFault}
+use Rattle.sipl_uri.specs.declared.fault.UriFault.{UriFault}
+use Rattle.sipl_uri.specs.declared.question.Question.{Question}
+use Rattle.sipl_book.specs.declared.outcome.Handed.{Handed}
+use Rattle.sipl_lines.specs.Commands.{Keeps, Holds, Releases, Answers, AnswersUri, handed_text}
+use Rattle.sipl_lines.specs.Desk.{DeskRules}
 use Rattle.sipl_lines.specs.ReplyText.{refusal_line}
+use Rattle.sipl_lines.specs.Requests.{hold, release}
 use Rattle.sipl_lines.specs.Gathering.{lost, keeps_lines}
 use Rattle.sipl_lines.specs.declared.gather.Gathering.{Gathering}
-use Rattle.sipl_lines.specs.Session.{SessionState, Outcome, AppendsStep, IsFailure, keeps, refuses, with_gathering, gathering_outcome, gathering_step}
+use Rattle.sipl_lines.specs.declared.gather.Gathered.TheVariants.{Lost}
+use Rattle.sipl_lines.specs.declared.session.Session.{Session}
+use Rattle.sipl_lines.specs.Session.{SessionState, AppendsText, AtDesk, LoadsGathered, GathersOrLoses, Obeys, at_desk, with_gathering}
 
-if_true : {A : Type 0} (b : Bool) (x y : A) → b ≡ true → (if b then x else y) ≡ x
-if_true b x y is = ap (λ v. if v then x else y) is
-
-pub all_lost : (gathering : Gathering) (before : SessionState) (old : Octets) (after : SessionState) (new : Octets)
+pub all_lost : {D : Type 0} (rules : DeskRules D) (gathering : Gathering) (before after : SessionState D) (old new : Octets)
     → (gathering.left == 0) ≡ true → IsTrue (keeps_lines gathering.gathered)
     → new ≡ old ++ refusal_line (codes "Memory") → after ≡ with_gathering None before
-    → AppendsStep (gathering_step gathering before) old after new
-all_lost gathering before old after new all kept reply state =
-    let failure : (gathering_step gathering before).failure ≡ Some (refuses (codes "Memory") (with_gathering None before)) =
-    if_true (keeps_lines gathering.gathered) (Some (gathering_outcome (lost gathering.left) before)) None kept
-    ∙ ap (λ (o : Outcome). Some o) (if_true (gathering.left == 0) (refuses (codes "Memory") (with_gathering None before)) (keeps [] (with_gathering (Some (lost gathering.left)) before)) all) in (
-      refusal_line (codes "Memory"),
-      inr (subst (λ (f : Option Outcome). IsFailure f (refusal_line (codes "Memory")) after) (sym failure) record { reply = refl; state = state }),
-      reply,
-    )
+    → AppendsText (GathersOrLoses rules gathering) before old after new
+all_lost rules gathering before after old new all kept reply state = (
+  refusal_line (codes "Memory"),
+  inr (
+    kept,
+    subst (λ b. OnTrue b (AtDesk (LoadsGathered rules Lost) (with_gathering None before) (refusal_line (codes "Memory")) after)
+        × OnFalse b (Keeps [] (with_gathering (Some (lost gathering.left)) before) (refusal_line (codes "Memory")) after)) (sym all) (
+          subst (λ s. AtDesk (LoadsGathered rules Lost) (with_gathering None before) (refusal_line (codes "Memory")) s) (sym state) ((refl, refl), refl),
+          tt {0},
+        ),
+  ),
+  reply,
+)
+
+module _ {D : Type 0} (rules : DeskRules D) (before after : D) (old new : Octets) where
+  pub held_at_desk : (session : Session) (transport : Transport) (address : Octets) (port ms : ℕ)
+      → AppendsText (Holds rules transport (address_of address) port ms) before old after new
+      → AppendsText (Obeys rules (hold transport address port ms)) (at_desk before session) old (at_desk after session) new
+  held_at_desk session transport address port ms done = (done.0, (done.1, refl), done.2)
+
+  pub released_at_desk : (session : Session) (transport : Transport) (address : Octets) (port : ℕ)
+      → AppendsText (Releases rules transport (address_of address) port) before old after new
+      → AppendsText (Obeys rules (release transport address port)) (at_desk before session) old (at_desk after session) new
+  released_at_desk session transport address port done = (done.0, (done.1, refl), done.2)
+
+  pub answered : (question : Question) (words : List ℕ) (handed : Handed) → rules.Finds question words before (Ok handed) after
+      → (new ≡ old ++ handed_text handed) ⊎ (new ≡ old ++ refusal_line (codes "Memory"))
+      → AppendsText (Answers rules question words) before old after new
+  answered question words handed finds (inl whole) = (handed_text handed, inl (Ok handed, finds, refl), whole)
+  answered question words handed finds (inr none) = (refusal_line (codes "Memory"), inr (Ok handed, finds, refl), none)
+
+  pub answered_uri : (read : Result Question UriFault) (draws : Result (List ℕ) DrawsFault) (question : Question) (words : List ℕ) (handed : Handed)
+      → read ≡ Ok question → draws ≡ Ok words → rules.Finds question words before (Ok handed) after
+      → (new ≡ old ++ handed_text handed) ⊎ (new ≡ old ++ refusal_line (codes "Memory"))
+      → AppendsText (AnswersUri rules read draws) before old after new
+  answered_uri read draws question words handed is_read is_draws finds reply =
+      subst (λ q. AppendsText (AnswersUri rules q draws) before old after new) (sym is_read)
+      (subst (λ d. AppendsText (AnswersUri rules (Ok question) d) before old after new) (sym is_draws) (answered question words handed finds reply))

@@ -16,6 +16,8 @@ pub mod Gathering
 pub mod CommandMeaning
 pub mod ReplyText
 pub mod Locating
+pub mod Desk
+pub mod Commands
 pub mod Session
 pub mod Checking
 pub mod Settings

@@ -1,11 +1,13 @@
 -- What a line of a session asks for.
-use Rattle.std.specs.Prelude.{ℕ, Bool, false, List, [], ◌∷◌, None, Some, Result, codes, nat_eq, nat_lt, length, if◌then◌else◌, ◌==◌}
+use Rattle.std.specs.Prelude.{ℕ, Bool, false, List, [], ◌∷◌, Option, None, Some, Result, codes, nat_eq, nat_lt, length, if◌then◌else◌, ◌==◌}
 use lib.Pointwise.{pointwise}
 use Rattle.sipl_records.specs.Fields.{fields_of, trim_start, after_field}
 use Rattle.sipl_records.specs.Numbers.{number_of}
+use Rattle.sipl_choice.specs.declared.transport.Transport.{Transport}
 use Rattle.sipl_srv.specs.declared.fault.DrawsFault.{DrawsFault}
 use Rattle.sipl_names.specs.Labels.{Octets}
 use Rattle.sipl_lines.specs.DrawsField.{draws_of}
+use Rattle.sipl_lines.specs.Values.{transport_named}
 
 -- a request with its fields; a line without fields and a comment ask for nothing
 pub data Request : Type 0 where
@@ -17,6 +19,9 @@ pub data Request : Type 0 where
   add : Octets → Request
   del : Octets → Request
   find : Octets → Result (List ℕ) DrawsFault → Request
+  hold : Transport → Octets → ℕ → ℕ → Request
+  release : Transport → Octets → ℕ → Request
+  clock : ℕ → Request
   quit : Request
 
 -- a comment begins with # as the first octet of its line
@@ -51,10 +56,46 @@ find_request [] = unknown
 find_request (uri ∷ others) =
     elim (draws_of others) [ Some draws ↦ find uri draws | None ↦ unknown ]
 
+-- a hold, if its transport and numbers are ones
+abbrev pub hold_of : Option Transport → Octets → Option ℕ → Option ℕ → Request
+hold_of (Some transport) address (Some port) (Some ms) = hold transport address port ms
+hold_of _ address _ _ = unknown
+
+-- `hold TRANSPORT ADDRESS PORT MS`: a port of 16 bits, and milliseconds of 64 bits
+abbrev pub hold_request : List Octets → Request
+hold_request (transport ∷ address ∷ port ∷ ms ∷ []) =
+    hold_of (transport_named transport) address (number_of port 65535)
+    (number_of ms 18446744073709551615)
+hold_request _ = unknown
+
+-- a release, if its transport and port are ones
+abbrev pub release_of : Option Transport → Octets → Option ℕ → Request
+release_of (Some transport) address (Some port) = release transport address port
+release_of _ address _ = unknown
+
+-- `release TRANSPORT ADDRESS PORT`: a port of 16 bits
+abbrev pub release_request : List Octets → Request
+release_request (transport ∷ address ∷ port ∷ []) =
+    release_of (transport_named transport) address (number_of port 65535)
+release_request _ = unknown
+
+-- `clock MS`: milliseconds of 64 bits
+abbrev pub clock_request : List Octets → Request
+clock_request (ms ∷ []) =
+    elim (number_of ms 18446744073709551615) [ Some to ↦ clock to | None ↦ unknown ]
+clock_request _ = unknown
+
 -- `quit`
 abbrev pub quit_request : List Octets → Request
 quit_request [] = quit
 quit_request _ = unknown
+
+-- `hold`, `release` and `clock`
+abbrev pub outage_request : Octets → List Octets → Request
+outage_request word others =
+    if pointwise nat_eq word (codes "hold") then hold_request others
+    else (if pointwise nat_eq word (codes "release") then release_request others
+    else (if pointwise nat_eq word (codes "clock") then clock_request others else unknown))
 
 -- what the command word asks for, with the fields after it, and the whole line for a record
 abbrev pub command_request : Octets → List Octets → Octets → Request
@@ -64,7 +105,8 @@ command_request word others line =
     else (if pointwise nat_eq word (codes "add") then add_request (trim_start (after_field line))
     else (if pointwise nat_eq word (codes "del") then del_request (trim_start (after_field line))
     else (if pointwise nat_eq word (codes "find") then find_request others
-    else (if pointwise nat_eq word (codes "quit") then quit_request others else unknown)))))
+    else (if pointwise nat_eq word (codes "quit") then quit_request others
+    else outage_request word others)))))
 
 -- what the fields of a line ask for
 abbrev pub fields_request : List Octets → Octets → Request

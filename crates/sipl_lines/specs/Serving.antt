@@ -2,7 +2,9 @@
 use Rattle.std.specs.Prelude.{◌≡◌, ℕ, false, ◌+◌, ◌-◌, ◌^◌, ◌≤◌, ◌||◌, ◌↔◌, min, Option, Result, IfOk, OnOk, OnErr, IsTrue}
 use Rattle.std.specs.Io.KnownBytes.{IsAtEnd}
 use Rattle.sipl_names.specs.Labels.{Octets}
+use Rattle.sipl_lines.specs.Desk.{DeskRules}
 use Rattle.sipl_lines.specs.Protocol.{Protocol}
+use Rattle.sipl_lines.specs.Session.{SessionState, new_session, session_protocol}
 use Rattle.sipl_lines.specs.Streams.{ServesAll, ServesPrefix, ServesRead}
 use Rattle.sipl_lines.specs.Tapped.{tapped_inner, has_failed, read_count}
 use Rattle.sipl_lines.specs.ServeFault.{is_read_fault, is_write_fault, OnReadFault, OnTooManyTurns}
@@ -39,3 +41,13 @@ pub record ServesWithin {A B : Type 0} (p : Protocol) (limit : ℕ) (result : Re
   pub too_many : OnTooManyTurns result
       (read_count reader' ≡ min (read_count reader + limit) (2 ^ 64 - 1))
   pub at_most : read_count reader' ≤ read_count reader + limit
+
+-- Serving a session at a desk went so, from a session that has had no line to one at the desk as it
+-- is then.
+pub record ServesDesk {A B D : Type 0} (rules : DeskRules D) (limit : ℕ)
+    (result : Result Ended ServeFault) (remaining : A → Option Octets) (contents : B → Option Octets)
+    (before after : D) (reader reader' : Tapped A) (writer writer' : Tapped B) : Type 0 where
+  pub session : SessionState D
+  pub desk : session.desk ≡ after
+  pub serves : ServesWithin (session_protocol rules) limit result remaining contents
+      (new_session before) session reader reader' writer writer'

@@ -1,5 +1,5 @@
 -- The settings of a TOML document.
-use Rattle.std.specs.Prelude.{IfSome, ◌≡◌, ℕ, Bool, List, [], ◌∷◌, Option, None, Some, Result, Ok, Err, codes, nat_eq, is_some, unwrap_or, option_map, option_and_then, if◌then◌else◌}
+use Rattle.std.specs.Prelude.{IfSome, ◌≡◌, ◌≤◌, ℕ, Bool, List, [], ◌∷◌, Option, None, Some, Result, Ok, Err, codes, nat_eq, is_some, unwrap_or, option_map, option_and_then, if◌then◌else◌}
 use Rattle.std.specs.Option.{option_map_or}
 use Rattle.std.specs.Map.{lookup}
 use Rattle.std.specs.Ordering.{nat_cmp, is_lt}
@@ -51,6 +51,13 @@ defaults = record {
   sessions = 1;
   listen = socket (127 ∷ 0 ∷ 0 ∷ 1 ∷ []) 5099;
 }
+
+-- the maxima of what is kept are at most the greatest ones
+pub record IsWithinLimits (settings : Settings) : Type 0 where
+  pub records : settings.records ≤ 1048576
+  pub entries : settings.entries ≤ 65536
+  pub journal : settings.journal ≤ 1048576
+  pub holds : settings.holds ≤ 4096
 
 -- whether a value is as it may be
 abbrev pub allows : Allowed → Data → Bool

@@ -1,10 +1,13 @@
 // What a line of a session asks for.
 ghost use Rattle.std.specs.Prelude.{◌≡◌};
 ghost use Rattle.sipl_records.specs.Fields.{fields_of, trim_start};
-ghost use Rattle.sipl_lines.specs.Requests.{add_request, del_request, drop_request, find_request, quit_request, request_of, zone_request};
+ghost use Rattle.sipl_lines.specs.Requests.{add_request, del_request, drop_request, find_request, hold_request, release_request, clock_request, outage_request, quit_request, request_of, zone_request, unknown};
+ghost use Rattle.std.specs.Option.{option_map_or};
 ghost use Rattle.sipl_lines.specs.CommandMeaning.{meaning_of};
+ghost use Rattle.sipl_lines.specs.Values.{transport_named};
 
 use crate::draws_field::read_draws;
+use sipl_choice::Transport;
 use sipl_records::{next_field, read_number, trim_start};
 use sipl_srv::{Draws, DrawsFault};
 
@@ -33,6 +36,12 @@ pub(crate) enum Command<'a> {
     Del(&'a [u8]),
     // `find URI DRAWS`: asks for the targets of a URI, for these random words.
     Find(&'a [u8], Result<Draws, DrawsFault>),
+    // `hold TRANSPORT ADDRESS PORT MS`: holds an endpoint for some milliseconds.
+    Hold(Transport, &'a [u8], u16, u64),
+    // `release TRANSPORT ADDRESS PORT`: ends an endpoint's hold.
+    Release(Transport, &'a [u8], u16),
+    // `clock MS`: sets the time, in milliseconds.
+    Clock(u64),
     // `quit`: ends the session.
     Quit,
 }
@@ -50,14 +59,20 @@ pub(crate) fn read_command(line: &[u8]) -> Command<'_>
     let Some((word, rest)) = next_field(line) else {
         return Command::Nothing;
     };
-    match word {
-        b"zone" => zone_command(rest),
-        b"drop" => drop_command(rest),
-        b"add" => add_command(trim_start(rest)),
-        b"del" => del_command(trim_start(rest)),
-        b"find" => find_command(rest),
-        b"quit" => quit_command(rest),
-        _ => Command::Unknown,
+    if word == b"zone".as_slice() {
+        zone_command(rest)
+    } else if word == b"drop".as_slice() {
+        drop_command(rest)
+    } else if word == b"add".as_slice() {
+        add_command(trim_start(rest))
+    } else if word == b"del".as_slice() {
+        del_command(trim_start(rest))
+    } else if word == b"find".as_slice() {
+        find_command(rest)
+    } else if word == b"quit".as_slice() {
+        quit_command(rest)
+    } else {
+        outage_command(word, rest)
     }
 }
 
@@ -122,6 +137,88 @@ fn find_command(rest: &[u8]) -> Command<'_>
     match read_draws(rest) {
         Some(draws) => Command::Find(uri, draws),
         None => Command::Unknown,
+    }
+}
+
+// `hold`, `release` or `clock`.
+fn outage_command<'a>(word: &[u8], rest: &'a [u8]) -> Command<'a>
+    ensures { meaning_of result ≡ outage_request word.now (fields_of rest.now) }
+{
+    match read_outage(word, rest) {
+        Some(command) => command,
+        None => Command::Unknown,
+    }
+}
+
+// `hold`, `release` or `clock`, if the fields are so.
+fn read_outage<'a>(word: &[u8], rest: &'a [u8]) -> Option<Command<'a>>
+    ensures { option_map_or meaning_of result unknown
+        ≡ outage_request word.now (fields_of rest.now) }
+{
+    if word == b"hold".as_slice() {
+        hold_command(rest)
+    } else if word == b"release".as_slice() {
+        release_command(rest)
+    } else if word == b"clock".as_slice() {
+        clock_command(rest)
+    } else {
+        None
+    }
+}
+
+// `hold TRANSPORT ADDRESS PORT MS`, if the fields are so.
+fn hold_command(rest: &[u8]) -> Option<Command<'_>>
+    ensures { option_map_or meaning_of result unknown ≡ hold_request (fields_of rest.now) }
+{
+    let (transport, rest) = next_field(rest)?;
+    let (address, rest) = next_field(rest)?;
+    let (port, rest) = next_field(rest)?;
+    let (ms, rest) = next_field(rest)?;
+    if next_field(rest).is_some() {
+        return None;
+    }
+    let transport = read_transport(transport)?;
+    let port = read_number(port, u64::from(u16::MAX))?;
+    let ms = read_number(ms, u64::MAX)?;
+    Some(Command::Hold(transport, address, port as u16, ms))
+}
+
+// `release TRANSPORT ADDRESS PORT`, if the fields are so.
+fn release_command(rest: &[u8]) -> Option<Command<'_>>
+    ensures { option_map_or meaning_of result unknown ≡ release_request (fields_of rest.now) }
+{
+    let (transport, rest) = next_field(rest)?;
+    let (address, rest) = next_field(rest)?;
+    let (port, rest) = next_field(rest)?;
+    if next_field(rest).is_some() {
+        return None;
+    }
+    let transport = read_transport(transport)?;
+    let port = read_number(port, u64::from(u16::MAX))?;
+    Some(Command::Release(transport, address, port as u16))
+}
+
+// `clock MS`, if the fields are so.
+fn clock_command(rest: &[u8]) -> Option<Command<'_>>
+    ensures { option_map_or meaning_of result unknown ≡ clock_request (fields_of rest.now) }
+{
+    let (ms, rest) = next_field(rest)?;
+    if next_field(rest).is_some() {
+        return None;
+    }
+    Some(Command::Clock(read_number(ms, u64::MAX)?))
+}
+
+// A transport by its name, in lower case.
+fn read_transport(word: &[u8]) -> Option<Transport>
+    ensures { result ≡ transport_named word.now }
+{
+    match word {
+        b"udp" => Some(Transport::Udp),
+        b"tcp" => Some(Transport::Tcp),
+        b"tls" => Some(Transport::Tls),
+        b"sctp" => Some(Transport::Sctp),
+        _ => None,
     }
 }
 

@@ -2,7 +2,7 @@ ghost use Rattle.std.specs.Prelude.{◌≡◌, ◌≢◌, None, Some, Ok, Err, I
 ghost use Rattle.toml.specs.Parse.{parse_document};
 ghost use Rattle.toml.specs.View.{table_view};
 ghost use Rattle.sipl_lines.specs.SettingsFault.{fault_of};
-ghost use Rattle.sipl_lines.specs.Settings.{settings_of};
+ghost use Rattle.sipl_lines.specs.Settings.{IsWithinLimits, settings_of};
 
 use crate::fault::SettingsFault;
 use crate::keys::Settings;
@@ -20,6 +20,7 @@ use toml::Table;
 /// the order of the keys' octets, that is unknown (G2) or does not allow its value (G3).
 pub fn settings(alloc: Global, text: &str) -> Result<Settings, SettingsFault>
     ensures read { IfOk result (λ settings. settings_of text.now ≡ Ok settings) }
+    ensures limits { IfOk result (λ settings. IsWithinLimits settings) }
     ensures refused { IfErr result (λ fault. IfSome (fault_of fault)
         (λ fault. settings_of text.now ≡ Err fault)) }
 {

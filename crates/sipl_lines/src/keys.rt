@@ -1,25 +1,16 @@
 ghost use Rattle.std.specs.Prelude.{◌≡◌, IfOk};
 ghost use Rattle.toml.specs.View.{view};
-ghost use Rattle.sipl_lines.specs.Settings.{defaults, SetsKey};
+ghost use Rattle.sipl_lines.specs.Settings.{defaults, IsWithinLimits, SetsKey};
 
 use crate::fault::Refusal;
 use crate::values;
+use sipl_book::{MAX_ENTRIES, MAX_EVENTS};
 use sipl_choice::{Abilities, Families, Transport};
+use sipl_outages::MAX_HOLDS;
+use sipl_zonestore::MAX_RECORDS;
 use std::alloc::{AllocError, Global};
 use std::net::{Ipv4Addr, SocketAddrV4};
 use toml::Value;
-
-// The maximum of `records`, which is its default too.
-const MAX_RECORDS: usize = 1_048_576;
-
-// The maximum and default of `entries`.
-const MAX_ENTRIES: usize = 65_536;
-
-// The maximum and default of `journal`.
-const MAX_EVENTS: usize = 1_048_576;
-
-// The maximum and default of `holds`.
-const MAX_HOLDS: usize = 4096;
 
 /// The settings of the program, each by the name of its key, but for `abilities`.
 #[derive(Debug, Drop)]
@@ -67,7 +58,8 @@ impl Settings {
 
     // Sets the fields that a key stands for.
     pub(crate) fn set(&mut self, alloc: Global, key: &str, value: &Value) -> Result<(), Refusal>
-        ensures { SetsKey key.now (view value.now) self.old result self.new }
+        ensures set { SetsKey key.now (view value.now) self.old result self.new }
+        ensures limits { IsWithinLimits self.old → IsWithinLimits self.new }
     {
         match key {
             "transports" => {

@@ -4,6 +4,8 @@
 
 mod check;
 mod command;
+mod desk;
+mod desk_commands;
 mod document;
 mod draws_field;
 mod fault;
@@ -21,9 +23,9 @@ mod values;
 
 pub use check::check_zone;
 pub use command::{MAX_LINE_LEN, MAX_ZONE_LINES};
+pub use desk::Desk;
 pub use document::settings;
 pub use fault::SettingsFault;
 pub use keys::Settings;
 pub use server::{Ended, MAX_READS, ServeFault, serve};
-pub use session::Session;
 pub use tapped::Tapped;

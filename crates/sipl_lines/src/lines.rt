@@ -3,9 +3,10 @@ ghost use Rattle.sipl_lines.specs.Lines.{without_cr};
 ghost use Rattle.sipl_lines.specs.Items.{Item};
 ghost use Rattle.sipl_lines.specs.Replies.{AppendsReplies, AppendsFirstReplies};
 ghost use Rattle.sipl_lines.specs.Machine.{items_from, pending_after, kept_prefix, last_items, read_items, EndsNoLine, EndsLine};
-ghost use Rattle.sipl_lines.specs.Session.{session_protocol};
+ghost use Rattle.sipl_lines.specs.Session.{at_desk, session_protocol};
 
 use crate::command::MAX_LINE_LEN;
+use crate::desk::Desk;
 use crate::session::Session;
 use memchr::memchr;
 use std::alloc::{AllocError, Global};
@@ -53,25 +54,27 @@ impl Pending {
     }
 
     // Processes the line that ends after the piece.
-    fn end_line(
+    fn end_line<D: Desk>(
         &mut self,
         alloc: Global,
+        desk: &mut D,
         piece: &[u8],
         session: &mut Session,
         out: &mut Vec<u8>,
     ) -> Result<(), AllocError>
-        ensures ok { OnOk result (AppendsReplies session_protocol session.old
+        ensures ok { OnOk result (AppendsReplies (session_protocol D.rules)
+            (at_desk desk.old session.old)
             (Item.line (without_cr (self.old ++ piece.now)) ∷ [])
-            out.old.items session.new out.new.items) }
+            out.old.items (at_desk desk.new session.new) out.new.items) }
         ensures emptied { OnOk result (self.new ≡ []) }
-        ensures err { OnErr result (session.new ≡ session.old) }
+        ensures err { OnErr result (at_desk desk.new session.new ≡ at_desk desk.old session.old) }
         ensures err_out { OnErr result (out.new.items ≡ out.old.items) }
     {
         if self.kept.is_empty() {
-            return session.process_line(alloc, trim_cr(piece), out);
+            return session.process_line(alloc, desk, trim_cr(piece), out);
         }
         self.keep(piece);
-        session.process_line(alloc, trim_cr(&self.kept), out)?;
+        session.process_line(alloc, desk, trim_cr(&self.kept), out)?;
         self.kept.clear();
         Ok(())
     }
@@ -80,43 +83,49 @@ impl Pending {
     // end of the input, where a read gives nothing, the octets that are left, which are a line if
     // there are any. The octets after the last line end are kept. An error says that the space for
     // a reply could not be reserved: the lines before have theirs.
-    pub(crate) fn process(
+    pub(crate) fn process<D: Desk>(
         &mut self,
         alloc: Global,
+        desk: &mut D,
         octets: &[u8],
         session: &mut Session,
         out: &mut Vec<u8>,
     ) -> Result<(), AllocError>
-        ensures ok { OnOk result (AppendsReplies session_protocol session.old
-            (read_items self.old octets.now) out.old.items session.new out.new.items) }
+        ensures ok { OnOk result (AppendsReplies (session_protocol D.rules)
+            (at_desk desk.old session.old)
+            (read_items self.old octets.now) out.old.items (at_desk desk.new session.new) out.new.items) }
         ensures rest { OnOk result (octets.now ≢ []
             → self.new ≡ kept_prefix (pending_after self.old octets.now)) }
-        ensures err { OnErr result (AppendsFirstReplies session_protocol session.old
-            (read_items self.old octets.now) out.old.items session.new out.new.items) }
+        ensures err { OnErr result (AppendsFirstReplies (session_protocol D.rules)
+            (at_desk desk.old session.old)
+            (read_items self.old octets.now) out.old.items (at_desk desk.new session.new) out.new.items) }
     {
         if octets.is_empty() {
-            return self.finish(alloc, session, out);
+            return self.finish(alloc, desk, session, out);
         }
-        self.feed(alloc, octets, session, out)
+        self.feed(alloc, desk, octets, session, out)
     }
 
     // Processes each line that ends in a chunk, and keeps the octets after the last.
-    fn feed(
+    fn feed<D: Desk>(
         &mut self,
         alloc: Global,
+        desk: &mut D,
         chunk: &[u8],
         session: &mut Session,
         out: &mut Vec<u8>,
     ) -> Result<(), AllocError>
-        ensures ok { OnOk result (AppendsReplies session_protocol session.old
-            (items_from self.old chunk.now) out.old.items session.new out.new.items) }
+        ensures ok { OnOk result (AppendsReplies (session_protocol D.rules)
+            (at_desk desk.old session.old)
+            (items_from self.old chunk.now) out.old.items (at_desk desk.new session.new) out.new.items) }
         ensures rest { OnOk result (self.new ≡ kept_prefix (pending_after self.old chunk.now)) }
-        ensures err { OnErr result (AppendsFirstReplies session_protocol session.old
-            (items_from self.old chunk.now) out.old.items session.new out.new.items) }
+        ensures err { OnErr result (AppendsFirstReplies (session_protocol D.rules)
+            (at_desk desk.old session.old)
+            (items_from self.old chunk.now) out.old.items (at_desk desk.new session.new) out.new.items) }
     {
         let mut rest = chunk;
         while let Some((piece, tail)) = split_line(rest) {
-            self.end_line(alloc, piece, session, out)?;
+            self.end_line(alloc, desk, piece, session, out)?;
             rest = tail;
         }
         self.keep(rest);
@@ -124,22 +133,25 @@ impl Pending {
     }
 
     // Processes the octets that are left, and then the end of the input.
-    fn finish(
+    fn finish<D: Desk>(
         &self,
         alloc: Global,
+        desk: &mut D,
         session: &mut Session,
         out: &mut Vec<u8>,
     ) -> Result<(), AllocError>
-        ensures ok { OnOk result (AppendsReplies session_protocol session.old
-            (last_items self.now) out.old.items session.new out.new.items) }
-        ensures err { OnErr result (AppendsFirstReplies session_protocol session.old
-            (last_items self.now) out.old.items session.new out.new.items) }
+        ensures ok { OnOk result (AppendsReplies (session_protocol D.rules)
+            (at_desk desk.old session.old)
+            (last_items self.now) out.old.items (at_desk desk.new session.new) out.new.items) }
+        ensures err { OnErr result (AppendsFirstReplies (session_protocol D.rules)
+            (at_desk desk.old session.old)
+            (last_items self.now) out.old.items (at_desk desk.new session.new) out.new.items) }
     {
         if self.kept.is_empty() {
-            return session.finish(alloc, out);
+            return session.finish(alloc, desk, out);
         }
-        session.process_line(alloc, &self.kept, out)?;
-        session.finish(alloc, out)
+        session.process_line(alloc, desk, &self.kept, out)?;
+        session.finish(alloc, desk, out)
     }
 }
 

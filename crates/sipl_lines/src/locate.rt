@@ -1,64 +1,38 @@
-//! The route of a question on the records of a store.
-ghost use Rattle.std.specs.Prelude.{◌≡◌, List, IfOk};
-ghost use Rattle.sipl_outages.specs.Holds.{no_holds};
-ghost use Rattle.sipl_plans.specs.Plan.{draw};
-ghost use Rattle.sipl_plans.specs.Route.{route};
-ghost use Rattle.sipl_records.specs.declared.record.Record.{Record};
-ghost use Rattle.sipl_records.specs.Sets.{set_of};
-ghost use Rattle.sipl_evidence.specs.Known.{Agrees};
-ghost use Rattle.sipl_lines.specs.Locating.{IsLocated, IsLookedAt};
+//! The route of a question on the records of a book.
+ghost use Rattle.std.specs.Prelude.{◌≡◌, IfOk};
+ghost use Rattle.sipl_book.specs.Calls.{with_looks};
+ghost use Rattle.sipl_lines.specs.Locating.{AreRead, IsLocated};
 
-use sipl_choice::Abilities;
-use sipl_outages::Board;
-use sipl_plans::{Answer, Finding, Run, draw};
-use sipl_srv::Draws;
+use sipl_book::Book;
+use sipl_plans::{Finding, Run};
 use sipl_uri::Question;
-use sipl_zonestore::ZoneStore;
 use std::alloc::{AllocError, Global};
 
-// The route of a question on the records as they are, and the record sets that it looks at.
+// The route of a question on the records as they are, and the record sets that it looks at. The
+// only error is an allocation failure. Only the count of looks changes.
 pub(crate) fn locate(
     alloc: Global,
-    store: &mut ZoneStore,
+    book: &mut Book,
     question: Question,
-    abilities: &Abilities,
 ) -> Result<Finding, AllocError>
     ensures located { IfOk result
-        (λ finding. IsLocated store.old.zones.records question abilities.now finding) }
-    ensures unchanged { IsLookedAt store.old store.new }
+        (λ finding. IsLocated book.old.store question book.old.client finding) }
+    ensures unchanged { book.new ≡ with_looks book.new.store.looks book.old }
 {
-    complete(alloc, store, Run::start(alloc, question, abilities)?)
+    let run = Run::start(alloc, question, book.abilities())?;
+    complete(alloc, book, run)
 }
 
 // Gives a run the sets that it wants, and returns what it finds.
-pub(crate) fn complete(
-    alloc: Global,
-    store: &mut ZoneStore,
-    run: Run,
-) -> Result<Finding, AllocError>
-    ensures located { Agrees (set_of store.old.zones.records) run.items → IfOk result
-        (λ finding. IsLocated store.old.zones.records run.question run.client finding) }
-    ensures unchanged { IsLookedAt store.old store.new }
+pub(crate) fn complete(alloc: Global, book: &mut Book, run: Run) -> Result<Finding, AllocError>
+    ensures located { AreRead book.old.store run.items → IfOk result
+        (λ finding. IsLocated book.old.store run.question run.client finding) }
+    ensures unchanged { book.new ≡ with_looks book.new.store.looks book.old }
 {
     let mut run = run;
     while let Some(key) = run.wants() {
-        let (number, content) = store.set(key);
-        run.give(alloc, number, content)?;
+        let (number, content) = book.read(key)?;
+        run.give(alloc, number, content.as_slice())?;
     }
     Ok(run.finish().ok().unwrap())
-}
-
-// The answer of a finding for these random words, where no endpoint is held; its layout is the
-// route on all records that agree with its evidence.
-pub(crate) fn draw_unheld(
-    alloc: Global,
-    finding: &Finding,
-    draws: &Draws,
-) -> Result<Answer, AllocError>
-    ensures answer { IfOk result
-        (λ answer. answer ≡ draw finding.now.layout no_holds draws.now) }
-    ensures records { (records : List Record) → Agrees (set_of records) finding.now.items
-        → route (set_of records) finding.now.question finding.now.client ≡ finding.now.layout }
-{
-    draw(alloc, finding.layout(), draws, &Board::new(alloc))
 }

@@ -3,10 +3,11 @@ ghost use Rattle.std.specs.Bool.{OnTrue, OnFalse};
 ghost use Rattle.std.specs.Io.KnownBytes.{Appends};
 ghost use Rattle.sipl_lines.specs.Tapped.{tapped_inner, has_failed, read_count};
 ghost use Rattle.sipl_lines.specs.ServeFault.{code_of, is_read_fault, is_write_fault};
-ghost use Rattle.sipl_lines.specs.Serving.{ServesWithin};
-ghost use Rattle.sipl_lines.specs.Session.{session_protocol};
+ghost use Rattle.sipl_lines.specs.Serving.{ServesDesk, ServesWithin};
+ghost use Rattle.sipl_lines.specs.Session.{at_desk, session_protocol};
 ghost use Rattle.sipl_lines.specs.Turns.{AppendsPrefix, CompletesTurn, FailsTurn};
 
+use crate::desk::Desk;
 use crate::lines::Pending;
 use crate::session::Session;
 use crate::tapped::Tapped;
@@ -87,34 +88,50 @@ impl From<AllocError> for ServeFault {
     }
 }
 
-/// Serves a session: processes the lines of a reader and writes the replies, with at most
+/// Serves a session at a desk: processes the lines of a reader and writes the replies, with at most
 /// [`MAX_READS`] reads.
 ///
 /// After each read the replies to all complete lines are written and flushed before the next read.
 /// Once the session has ended it reads no more. An error of the reader or the writer is a fault at
-/// once; what the session has accepted stays.
-pub fn serve<R: Read, W: Write>(
+/// once; what the desk has accepted stays.
+pub fn serve<R: Read, W: Write, D: Desk>(
     alloc: Global,
     reader: &mut Tapped<R>,
     writer: &mut Tapped<W>,
-    session: &mut Session,
+    desk: &mut D,
 ) -> Result<Ended, ServeFault>
-    ensures { ServesWithin session_protocol (2 ^ 32) result R.remaining W.contents
-        session.old session.new reader.old reader.new writer.old writer.new }
+    ensures { ServesDesk D.rules (2 ^ 32) result R.remaining W.contents
+        desk.old desk.new reader.old reader.new writer.old writer.new }
 {
-    serve_within(alloc, reader, writer, session, MAX_READS)
+    serve_within(alloc, reader, writer, desk, MAX_READS)
 }
 
 // Serves with at most so many reads.
-pub(crate) fn serve_within<R: Read, W: Write>(
+pub(crate) fn serve_within<R: Read, W: Write, D: Desk>(
     alloc: Global,
     reader: &mut Tapped<R>,
     writer: &mut Tapped<W>,
+    desk: &mut D,
+    limit: u64,
+) -> Result<Ended, ServeFault>
+    ensures { ServesDesk D.rules limit result R.remaining W.contents
+        desk.old desk.new reader.old reader.new writer.old writer.new }
+{
+    serve_session(alloc, reader, writer, desk, &mut Session::new(), limit)
+}
+
+// Serves a session that has begun, with at most so many reads.
+pub(crate) fn serve_session<R: Read, W: Write, D: Desk>(
+    alloc: Global,
+    reader: &mut Tapped<R>,
+    writer: &mut Tapped<W>,
+    desk: &mut D,
     session: &mut Session,
     limit: u64,
 ) -> Result<Ended, ServeFault>
-    ensures { ServesWithin session_protocol limit result R.remaining W.contents
-        session.old session.new reader.old reader.new writer.old writer.new }
+    ensures { ServesWithin (session_protocol D.rules) limit result R.remaining W.contents
+        (at_desk desk.old session.old) (at_desk desk.new session.new)
+        reader.old reader.new writer.old writer.new }
 {
     let mut server = Server::new(alloc)?;
     let _reads = reader.reads();
@@ -122,7 +139,7 @@ pub(crate) fn serve_within<R: Read, W: Write>(
         if session.has_ended() {
             return Ok(Ended::Quit);
         }
-        if !server.turn(alloc, reader, writer, session)? {
+        if !server.turn(alloc, reader, writer, desk, session)? {
             return Ok(end_of(session));
         }
     }
@@ -174,20 +191,23 @@ impl Server {
 
     // Reads once, processes the lines that are complete, and writes the replies. Returns whether
     // there may be more to read.
-    fn turn<R: Read, W: Write>(
+    fn turn<R: Read, W: Write, D: Desk>(
         &mut self,
         alloc: Global,
         reader: &mut Tapped<R>,
         writer: &mut Tapped<W>,
+        desk: &mut D,
         session: &mut Session,
     ) -> Result<bool, ServeFault>
-        ensures ok { IfOk result (λ more. CompletesTurn session_protocol more session.old self.old
+        ensures ok { IfOk result (λ more. CompletesTurn (session_protocol D.rules) more
+            (at_desk desk.old session.old) self.old
             (R.remaining (tapped_inner reader.old)) (R.remaining (tapped_inner reader.new))
-            (W.contents (tapped_inner writer.old)) session.new self.new
+            (W.contents (tapped_inner writer.old)) (at_desk desk.new session.new) self.new
             (W.contents (tapped_inner writer.new))) }
-        ensures err { IfErr result (λ fault. FailsTurn fault session_protocol session.old self.old
+        ensures err { IfErr result (λ fault. FailsTurn fault (session_protocol D.rules)
+            (at_desk desk.old session.old) self.old
             (R.remaining (tapped_inner reader.old)) (R.remaining (tapped_inner reader.new))
-            (W.contents (tapped_inner writer.old)) session.new
+            (W.contents (tapped_inner writer.old)) (at_desk desk.new session.new)
             (W.contents (tapped_inner writer.new))) }
         ensures reader_failed { has_failed reader.new
             ≡ (has_failed reader.old || is_read_fault result) }
@@ -200,9 +220,13 @@ impl Server {
             Err(_) => return Err(ServeFault::Read),
         };
         self.replies.clear();
-        let processed = self
-            .pending
-            .process(alloc, &self.chunk[..count], session, &mut self.replies);
+        let processed = self.pending.process(
+            alloc,
+            desk,
+            &self.chunk[..count],
+            session,
+            &mut self.replies,
+        );
         if !send(writer, &self.replies) {
             return Err(ServeFault::Write);
         }

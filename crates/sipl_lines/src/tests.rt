@@ -2,16 +2,16 @@
 mod comparison;
 mod findings;
 mod finds;
+mod holds;
 mod routes;
 mod settings;
 mod streams;
 mod zone_files;
 mod zones;
 
-use self::streams::{Failing, Paper, Pieces, blank, replies, whole};
+use self::streams::{Failing, Paper, Pieces, blank, new_desk, replies, whole};
 use crate::command::MAX_LINE_LEN;
 use crate::server::{Ended, MAX_READS, ServeFault, serve, serve_within};
-use crate::session::Session;
 use crate::tapped::Tapped;
 use std::alloc::{AllocError, Global};
 use std::io::{ErrorKind, Read, Write};
@@ -112,7 +112,8 @@ fn each_line_has_its_reply(rt: HostRuntime) -> Result<(), Fail> {
             b"err K1\nerr K1\nerr K1\nerr K1\n",
         ),
         (b"zone a. 000\n", b"ok zone 0 0 0 0\n"),
-        (b"hold\nclock 1\n", b"err K1\nerr K1\n"),
+        (b"hold\nclock 1\n", b"err K1\nok clock 1\n"),
+        (b"deps sip:a\nrepair\n", b"err K1\nerr K1\n"),
     ] {
         let text = replies(rt.alloc(), input)?;
         assert!(rt; text.as_slice() == want);
@@ -253,8 +254,8 @@ fn replies_do_not_depend_on_the_sizes_of_reads_and_writes(rt: HostRuntime) -> Re
             calls: 0,
             flushed: 0,
         });
-        let mut session = Session::new(rt.alloc())?;
-        let ended = serve(rt.alloc(), &mut reader, &mut writer, &mut session);
+        let mut desk = new_desk(rt.alloc())?;
+        let ended = serve(rt.alloc(), &mut reader, &mut writer, &mut desk);
         assert!(rt; ended == Ok(Ended::EndOfInput));
         assert!(rt; writer.into_inner().text.as_slice() == REPLIES);
     }
@@ -271,8 +272,8 @@ fn a_failing_read_is_a_fault(rt: HostRuntime) -> Result<(), Fail> {
             calls: 0,
         });
         let mut writer = Tapped::new(blank(rt.alloc()));
-        let mut session = Session::new(rt.alloc())?;
-        let ended = serve(rt.alloc(), &mut reader, &mut writer, &mut session);
+        let mut desk = new_desk(rt.alloc())?;
+        let ended = serve(rt.alloc(), &mut reader, &mut writer, &mut desk);
         assert!(rt; ended == Err(ServeFault::Read));
         assert!(rt; reader.failed() && reader.reads() == fails_at && !writer.failed());
         let want = replies_within(fails_at - 1);
@@ -294,13 +295,13 @@ fn session_keeps_accepted_commands_after_a_fault(rt: HostRuntime) -> Result<(), 
             fails_at,
             calls: 0,
         });
-        let mut session = Session::new(rt.alloc())?;
+        let mut desk = new_desk(rt.alloc())?;
         let mut writer = Tapped::new(blank(rt.alloc()));
-        let ended = serve(rt.alloc(), &mut reader, &mut writer, &mut session);
+        let ended = serve(rt.alloc(), &mut reader, &mut writer, &mut desk);
         assert!(rt; ended == Err(ServeFault::Read));
         let mut again = Tapped::new(whole(b"find sip:a.e:7"));
         let mut later = Tapped::new(blank(rt.alloc()));
-        let ended = serve(rt.alloc(), &mut again, &mut later, &mut session);
+        let ended = serve(rt.alloc(), &mut again, &mut later, &mut desk);
         assert!(rt; ended == Ok(Ended::EndOfInput));
         assert!(rt; later.into_inner().text.as_slice() == want);
     }
@@ -325,8 +326,8 @@ fn a_failing_write_is_a_fault(rt: HostRuntime) -> Result<(), Fail> {
                 calls: 0,
                 flushed: 0,
             });
-            let mut session = Session::new(rt.alloc())?;
-            let ended = serve(rt.alloc(), &mut reader, &mut writer, &mut session);
+            let mut desk = new_desk(rt.alloc())?;
+            let ended = serve(rt.alloc(), &mut reader, &mut writer, &mut desk);
             assert!(rt; ended == Err(ServeFault::Write));
             assert!(rt; writer.failed() && !reader.failed());
             let text = writer.into_inner().text;
@@ -345,8 +346,8 @@ fn reads_are_bounded(rt: HostRuntime) -> Result<(), Fail> {
         calls: 0,
     });
     let mut writer = Tapped::new(blank(rt.alloc()));
-    let mut session = Session::new(rt.alloc())?;
-    let ended = serve_within(rt.alloc(), &mut reader, &mut writer, &mut session, 11);
+    let mut desk = new_desk(rt.alloc())?;
+    let ended = serve_within(rt.alloc(), &mut reader, &mut writer, &mut desk, 11);
     assert!(rt; ended == Err(ServeFault::TooManyTurns));
     assert!(rt; reader.reads() == 11 && MAX_READS == 4_294_967_296);
     assert!(rt; writer.into_inner().text.as_slice() == b"ok zone 0 0 0 0\n".as_slice());
@@ -362,9 +363,9 @@ fn quit_reads_no_more(rt: HostRuntime) -> Result<(), Fail> {
         calls: 0,
     });
     let mut writer = Tapped::new(blank(rt.alloc()));
-    let mut session = Session::new(rt.alloc())?;
-    let ended = serve(rt.alloc(), &mut reader, &mut writer, &mut session);
-    assert!(rt; ended == Ok(Ended::Quit) && session.has_ended() && reader.reads() == 1);
+    let mut desk = new_desk(rt.alloc())?;
+    let ended = serve(rt.alloc(), &mut reader, &mut writer, &mut desk);
+    assert!(rt; ended == Ok(Ended::Quit) && reader.reads() == 1);
     assert!(rt; writer.into_inner().text.as_slice() == b"ok quit\n".as_slice());
     Ok(())
 }

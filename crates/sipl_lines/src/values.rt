@@ -1,5 +1,5 @@
 //! The values that the keys of the settings may have.
-ghost use Rattle.std.specs.Prelude.{◌≡◌, ◌≢◌, None, Some, IfOk, IfErr};
+ghost use Rattle.std.specs.Prelude.{◌≡◌, ◌≢◌, ◌≤◌, None, Some, IfOk, IfErr};
 ghost use Rattle.std.specs.Option.{ok_or};
 ghost use Rattle.toml.specs.View.{view};
 ghost use Rattle.sipl_lines.specs.Values.{families_in, listen_at, listen_in, number_from, transport_in, transports_listed};
@@ -13,7 +13,8 @@ use toml::Value;
 
 // A whole number from `min` to `max`.
 pub(crate) fn number(value: &Value, min: usize, max: usize) -> Result<usize, Refusal>
-    ensures { result ≡ ok_or (number_from min max (view value.now)) Refusal.BadValue }
+    ensures read { result ≡ ok_or (number_from min max (view value.now)) Refusal.BadValue }
+    ensures within { IfOk result (λ number. number ≤ max) }
 {
     let Some(integer) = value.as_integer() else {
         return Err(Refusal::BadValue);

@@ -1,10 +1,10 @@
-// A run over a store's sets against the plain program over its records, for zones made from seeds.
+// A run over a book's sets against the plain program over its records, for zones made from seeds.
 use crate::locate::locate;
 use itoa::Buffer;
+use sipl_book::{Book, Edit, Limits};
 use sipl_choice::{Abilities, Families, Transport};
 use sipl_masterfile::{read_record, read_zone};
 use sipl_names::Name;
-use sipl_outages::Board;
 use sipl_plans::{Answer, draw, plan_of};
 use sipl_srv::Draws;
 use sipl_uri::{Question, Uri};
@@ -132,17 +132,18 @@ impl Numbers {
         Ok(text)
     }
 
-    // A store of a zone with up to 24 records; those that the store refuses are left out.
-    fn store(&mut self, alloc: Global) -> Result<ZoneStore, Fail> {
-        let mut store = ZoneStore::new(alloc);
+    // Loads the empty zone into a book and a store, and adds up to 24 records to both; those that the
+    // store refuses are left out.
+    fn fill(&mut self, alloc: Global, book: &mut Book, store: &mut ZoneStore) -> Result<(), Fail> {
+        load(alloc, b"", book, store)?;
         let root = Name::root(alloc);
-        let apex = Name::from_text(alloc, b"e.", &root)?;
-        store.load(&read_zone(alloc, b"", &apex)?)?;
         for _ in 0..24 {
             let record = read_record(alloc, &self.record(alloc)?, &root)?;
-            let _ = store.add(&record);
+            if store.add(&record).is_ok() {
+                book.change(Edit::Add(record))?;
+            }
         }
-        Ok(store)
+        Ok(())
     }
 
     fn abilities(&mut self, alloc: Global) -> Result<Abilities, Fail> {
@@ -150,6 +151,14 @@ impl Numbers {
         let families = FAMILIES.get(self.below(4)).copied().unwrap_or(Families::V4);
         Ok(Abilities::new(Vec::from_slice(alloc, transports)?, families)?)
     }
+}
+
+// Loads the zone `e.` into a book and a store.
+fn load(alloc: Global, text: &[u8], book: &mut Book, store: &mut ZoneStore) -> Result<(), Fail> {
+    let apex = Name::from_text(alloc, b"e.", &Name::root(alloc))?;
+    store.load(&read_zone(alloc, text, &apex)?)?;
+    book.change(Edit::Load(read_zone(alloc, text, &apex)?))?;
+    Ok(())
 }
 
 // Whether two answers are the same.
@@ -164,20 +173,19 @@ fn is_same(one: &Answer, other: &Answer) -> bool {
 // How many targets the answer has, where the run and the plain program agree on it.
 fn agreed(
     alloc: Global,
+    book: &mut Book,
     store: &mut ZoneStore,
     question: Question,
-    abilities: &Abilities,
     draws: &Draws,
 ) -> Result<Option<usize>, AllocError> {
-    let finding = locate(alloc, store, question, abilities)?;
-    let board = Board::new(alloc);
-    let answer = draw(alloc, finding.layout(), draws, &board)?;
+    let finding = locate(alloc, book, question)?;
+    let answer = draw(alloc, finding.layout(), draws, book.board())?;
     let plain = plan_of(
         alloc,
         store.records(),
-        &board,
+        book.board(),
         finding.question(),
-        abilities,
+        book.abilities(),
         draws,
     )?;
     if !is_same(&answer, &plain) {
@@ -189,26 +197,51 @@ fn agreed(
     }))
 }
 
-#[test]
-fn runs_agree_with_the_plain_program(rt: HostRuntime) -> Result<(), Fail> {
-    let alloc = rt.alloc();
+// How many of the questions have targets and how many have none, over the zone of a seed, where the
+// run and the plain program agree on all.
+fn counted(
+    alloc: Global,
+    seed: u64,
+    numbers: &mut Numbers,
+    book: &mut Book,
+    store: &mut ZoneStore,
+) -> Result<Option<(u64, u64)>, Fail> {
+    numbers.fill(alloc, book, store)?;
+    let draws = Draws::from_seed(seed);
     let (mut found, mut none) = (0_u64, 0_u64);
-    for seed in 0..300_u64 {
-        let mut numbers = Numbers::new(seed);
-        let mut store = numbers.store(alloc)?;
-        let abilities = numbers.abilities(alloc)?;
-        for uri in URIS {
-            let question = Uri::parse(alloc, uri.as_bytes())?;
-            let draws = Draws::from_seed(seed);
-            match agreed(alloc, &mut store, question, &abilities, &draws)? {
-                Some(0) => none = none.saturating_add(1),
-                Some(_) => found = found.saturating_add(1),
-                None => assert!(rt; false),
-            }
+    for uri in URIS {
+        let question = Uri::parse(alloc, uri.as_bytes())?;
+        match agreed(alloc, book, store, question, &draws)? {
+            Some(0) => none = none.saturating_add(1),
+            Some(_) => found = found.saturating_add(1),
+            None => return Ok(None),
         }
     }
+    Ok(Some((found, none)))
+}
+
+// The same for a new book and a new store.
+fn counted_over(alloc: Global, seed: u64) -> Result<Option<(u64, u64)>, Fail> {
+    let mut numbers = Numbers::new(seed);
+    let abilities = numbers.abilities(alloc)?;
+    let mut store = ZoneStore::new(alloc);
+    let mut book = Book::new(alloc, abilities, &Limits::greatest());
+    counted(alloc, seed, &mut numbers, &mut book, &mut store)
+}
+
+#[test]
+fn runs_agree_with_the_plain_program(rt: HostRuntime) -> Result<(), Fail> {
+    let (mut all_found, mut all_none) = (0_u64, 0_u64);
+    for seed in 0..300_u64 {
+        let Some((found, none)) = counted_over(rt.alloc(), seed)? else {
+            assert!(rt; false);
+            continue;
+        };
+        all_found = all_found.saturating_add(found);
+        all_none = all_none.saturating_add(none);
+    }
     // Both kinds of results occur.
-    assert!(rt; found > 100 && none > 100);
+    assert!(rt; all_found > 100 && all_none > 100);
     Ok(())
 }
 
@@ -238,22 +271,30 @@ fn push_addresses(text: &mut Vec<u8>, server: u8) -> Result<(), AllocError> {
     Ok(())
 }
 
-#[test]
-fn runs_agree_over_32_servers_of_32_addresses(rt: HostRuntime) -> Result<(), Fail> {
-    let alloc = rt.alloc();
-    let apex = Name::from_text(alloc, b"e.", &Name::root(alloc))?;
-    let mut store = ZoneStore::new(alloc);
-    store.load(&read_zone(alloc, &full_service(alloc)?, &apex)?)?;
+// How many targets the answer has over a zone's text, where the run and the plain program agree.
+fn agreed_over(
+    alloc: Global,
+    text: &[u8],
+    book: &mut Book,
+    store: &mut ZoneStore,
+) -> Result<Option<usize>, Fail> {
+    load(alloc, text, book, store)?;
+    let question = Uri::parse(alloc, b"sip:e.")?;
+    Ok(agreed(alloc, book, store, question, &Draws::from_seed(7))?)
+}
+
+// The same for a new book and a new store.
+fn agreed_anew(alloc: Global, text: &[u8]) -> Result<Option<usize>, Fail> {
     let preference = Vec::from_slice(alloc, &[Transport::Udp, Transport::Tcp])?;
     let abilities = Abilities::new(preference, Families::V4)?;
-    let question = Uri::parse(alloc, b"sip:e.")?;
-    let targets = agreed(
-        alloc,
-        &mut store,
-        question,
-        &abilities,
-        &Draws::from_seed(7),
-    )?;
-    assert_eq!(rt; targets, Some(1024));
+    let mut store = ZoneStore::new(alloc);
+    let mut book = Book::new(alloc, abilities, &Limits::greatest());
+    agreed_over(alloc, text, &mut book, &mut store)
+}
+
+#[test]
+fn runs_agree_over_32_servers_of_32_addresses(rt: HostRuntime) -> Result<(), Fail> {
+    let text = full_service(rt.alloc())?;
+    assert_eq!(rt; agreed_anew(rt.alloc(), &text)?, Some(1024));
     Ok(())
 }

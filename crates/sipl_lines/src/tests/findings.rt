@@ -1,15 +1,15 @@
-// Runs over a store: what they find, and the record sets that they read.
+// Runs over a book: what they find, and the record sets that they read.
 use crate::locate::{complete, locate};
+use sipl_book::{Book, Edit, Limits};
 use sipl_choice::{Abilities, Endpoint, Families, Transport};
 use sipl_evidence::Evidence;
-use sipl_masterfile::{read_record, read_zone};
+use sipl_masterfile::read_zone;
 use sipl_names::Name;
 use sipl_outages::Board;
 use sipl_plans::{Answer, Finding, Run, draw};
 use sipl_records::{Address, Key, Kind};
 use sipl_srv::Draws;
 use sipl_uri::Uri;
-use sipl_zonestore::ZoneStore;
 use std::alloc::{AllocError, Global};
 use std::test::Fail;
 
@@ -28,16 +28,51 @@ server1 A 192.0.2.1
 server2 A 192.0.2.2
 ";
 
-// A store of the example's zone, and of one record more.
-fn example(alloc: Global, more: &[u8]) -> Result<ZoneStore, Fail> {
-    let root = Name::root(alloc);
-    let apex = Name::from_text(alloc, b"example.com.", &root)?;
-    let mut store = ZoneStore::new(alloc);
-    store.load(&read_zone(alloc, EXAMPLE.as_bytes(), &apex)?)?;
-    if !more.is_empty() {
-        store.add(&read_record(alloc, more, &apex)?)?;
-    }
-    Ok(store)
+// What is found for a URI in a new book of one zone.
+fn finding_in(
+    alloc: Global,
+    apex: &[u8],
+    text: &[u8],
+    abilities: Abilities,
+    uri: &[u8],
+) -> Result<Finding, Fail> {
+    let mut book = Book::new(alloc, abilities, &Limits::greatest());
+    found(alloc, &mut book, apex, text, uri)
+}
+
+// Loads a zone, and returns what is found for a URI.
+fn found(
+    alloc: Global,
+    book: &mut Book,
+    apex: &[u8],
+    text: &[u8],
+    uri: &[u8],
+) -> Result<Finding, Fail> {
+    load(alloc, book, apex, text)?;
+    Ok(locate(alloc, book, Uri::parse(alloc, uri)?)?)
+}
+
+fn load(alloc: Global, book: &mut Book, apex: &[u8], text: &[u8]) -> Result<(), Fail> {
+    let apex = Name::from_text(alloc, apex, &Name::root(alloc))?;
+    book.change(Edit::Load(read_zone(alloc, text, &apex)?))?;
+    Ok(())
+}
+
+// What is found for a URI in the example's zone and one record more.
+fn example_with(
+    alloc: Global,
+    more: &[u8],
+    abilities: Abilities,
+    uri: &[u8],
+) -> Result<Finding, Fail> {
+    let mut text = Vec::from_slice(alloc, EXAMPLE.as_bytes())?;
+    text.extend_from_slice(more)?;
+    finding_in(alloc, b"example.com.", &text, abilities, uri)
+}
+
+// What is found for a URI in the example's zone, for a client of TCP and UDP.
+fn example(alloc: Global, uri: &[u8]) -> Result<Finding, Fail> {
+    example_with(alloc, b"", tcp_client(alloc)?, uri)
 }
 
 fn client(alloc: Global, transports: &[Transport], families: Families) -> Result<Abilities, Fail> {
@@ -47,17 +82,6 @@ fn client(alloc: Global, transports: &[Transport], families: Families) -> Result
 // A client of TCP and UDP, in this order, and IPv4.
 fn tcp_client(alloc: Global) -> Result<Abilities, Fail> {
     client(alloc, &[Transport::Tcp, Transport::Udp], Families::V4)
-}
-
-// What is found for a URI.
-fn found(
-    alloc: Global,
-    store: &mut ZoneStore,
-    uri: &[u8],
-    abilities: &Abilities,
-) -> Result<Finding, Fail> {
-    let question = Uri::parse(alloc, uri)?;
-    Ok(locate(alloc, store, question, abilities)?)
 }
 
 // Whether the targets of a finding, for these words, are these.
@@ -104,13 +128,7 @@ fn has_sets(
 #[test]
 fn words_decide_the_order_of_the_servers(rt: HostRuntime) -> Result<(), Fail> {
     let alloc = rt.alloc();
-    let mut store = example(alloc, b"")?;
-    let finding = found(
-        alloc,
-        &mut store,
-        b"sip:bob@example.com",
-        &tcp_client(alloc)?,
-    )?;
+    let finding = example(alloc, b"sip:bob@example.com")?;
     let one = endpoint(Transport::Tcp, SERVER1, 5060);
     let two = endpoint(Transport::Tcp, SERVER2, 5060);
     assert!(rt; has_targets(alloc, &finding, &[2, 0], &[two, one])?);
@@ -128,9 +146,7 @@ fn words_decide_the_order_of_the_servers(rt: HostRuntime) -> Result<(), Fail> {
 #[test]
 fn evidence_has_the_sets_that_are_empty(rt: HostRuntime) -> Result<(), Fail> {
     let alloc = rt.alloc();
-    let mut store = example(alloc, b"")?;
-    let uri = b"sip:example.com;transport=udp";
-    let finding = found(alloc, &mut store, uri, &tcp_client(alloc)?)?;
+    let finding = example(alloc, b"sip:example.com;transport=udp")?;
     assert!(rt; has_targets(alloc, &finding, &[], &[])?);
     let keys = [
         (b"_sip._udp.example.com.".as_slice(), Kind::Service, 0),
@@ -145,13 +161,10 @@ fn evidence_has_the_sets_that_are_empty(rt: HostRuntime) -> Result<(), Fail> {
 #[test]
 fn a_set_is_read_once(rt: HostRuntime) -> Result<(), Fail> {
     let alloc = rt.alloc();
-    let apex = Name::from_text(alloc, b"example.com.", &Name::root(alloc))?;
     let text = b"_sip._udp SRV 1 0 5060 a\n_sip._udp SRV 2 0 5060 b\na CNAME c\nb CNAME c\n\
 c A 192.0.2.1";
-    let mut store = ZoneStore::new(alloc);
-    store.load(&read_zone(alloc, text, &apex)?)?;
     let uri = b"sip:example.com;transport=udp";
-    let finding = found(alloc, &mut store, uri, &tcp_client(alloc)?)?;
+    let finding = finding_in(alloc, b"example.com.", text, tcp_client(alloc)?, uri)?;
     let target = endpoint(Transport::Udp, SERVER1, 5060);
     assert!(rt; has_targets(alloc, &finding, &[], &[target])?);
     let keys = [
@@ -169,9 +182,9 @@ c A 192.0.2.1";
 #[test]
 fn naptr_order_goes_before_the_preference_list(rt: HostRuntime) -> Result<(), Fail> {
     let alloc = rt.alloc();
-    let mut store = example(alloc, b"_sips._tcp SRV 0 0 5061 server1")?;
     let abilities = client(alloc, &[Transport::Tcp, Transport::Tls], Families::V4)?;
-    let finding = found(alloc, &mut store, b"sip:example.com", &abilities)?;
+    let more = b"_sips._tcp SRV 0 0 5061 server1";
+    let finding = example_with(alloc, more, abilities, b"sip:example.com")?;
     let want = endpoint(Transport::Tls, SERVER1, 5061);
     assert!(rt; has_targets(alloc, &finding, &[], &[want])?);
     Ok(())
@@ -180,14 +193,9 @@ fn naptr_order_goes_before_the_preference_list(rt: HostRuntime) -> Result<(), Fa
 #[test]
 fn families_are_looked_up_in_their_order(rt: HostRuntime) -> Result<(), Fail> {
     let alloc = rt.alloc();
-    let mut store = example(alloc, b"server1 AAAA 2001:db8::1")?;
     let abilities = client(alloc, &[Transport::Udp], Families::V4ThenV6)?;
-    let finding = found(
-        alloc,
-        &mut store,
-        b"sip:server1.example.com:5070",
-        &abilities,
-    )?;
+    let more = b"server1 AAAA 2001:db8::1";
+    let finding = example_with(alloc, more, abilities, b"sip:server1.example.com:5070")?;
     let address6 = Address::V6(0x2001_0DB8_0000_0000_0000_0000_0000_0001);
     let want = [
         endpoint(Transport::Udp, SERVER1, 5070),
@@ -213,12 +221,9 @@ fn long_name(alloc: Global) -> Result<Vec<u8>, AllocError> {
 fn nothing_is_read_for_names_that_are_too_long(rt: HostRuntime) -> Result<(), Fail> {
     let alloc = rt.alloc();
     let name = long_name(alloc)?;
-    let apex = Name::from_text(alloc, &name, &Name::root(alloc))?;
-    let mut store = ZoneStore::new(alloc);
-    store.load(&read_zone(alloc, b"@ A 192.0.2.7", &apex)?)?;
     let mut uri = Vec::from_slice(alloc, b"sip:")?;
     uri.extend_from_slice(&name)?;
-    let finding = found(alloc, &mut store, &uri, &tcp_client(alloc)?)?;
+    let finding = finding_in(alloc, &name, b"@ A 192.0.2.7", tcp_client(alloc)?, &uri)?;
     let keys = [
         (name.as_slice(), Kind::Pointer, 0),
         (&name, Kind::Alias, 0),
@@ -228,18 +233,32 @@ fn nothing_is_read_for_names_that_are_too_long(rt: HostRuntime) -> Result<(), Fa
     Ok(())
 }
 
+// What a run finds in the example's zone that was told to finish before its first set.
+fn found_late(alloc: Global, book: &mut Book, uri: &[u8]) -> Result<Option<Finding>, Fail> {
+    load(alloc, book, b"example.com.", EXAMPLE.as_bytes())?;
+    let run = Run::start(alloc, Uri::parse(alloc, uri)?, book.abilities())?;
+    let Err(unfinished) = run.finish() else {
+        return Ok(None);
+    };
+    if unfinished.code() != "P1" {
+        return Ok(None);
+    }
+    Ok(Some(complete(alloc, book, unfinished.run)?))
+}
+
+// The same in a new book.
+fn finding_late(alloc: Global, uri: &[u8]) -> Result<Option<Finding>, Fail> {
+    let mut book = Book::new(alloc, tcp_client(alloc)?, &Limits::greatest());
+    found_late(alloc, &mut book, uri)
+}
+
 #[test]
 fn a_run_goes_on_after_an_early_finish(rt: HostRuntime) -> Result<(), Fail> {
     let alloc = rt.alloc();
-    let mut store = example(alloc, b"")?;
-    let question = Uri::parse(alloc, b"sip:server1.example.com:5070")?;
-    let run = Run::start(alloc, question, &tcp_client(alloc)?)?;
-    let Err(unfinished) = run.finish() else {
+    let Some(finding) = finding_late(alloc, b"sip:server1.example.com:5070")? else {
         assert!(rt; false);
         return Ok(());
     };
-    assert_eq!(rt; unfinished.code(), "P1");
-    let finding = complete(alloc, &mut store, unfinished.run)?;
     let want = endpoint(Transport::Udp, SERVER1, 5070);
     assert!(rt; has_targets(alloc, &finding, &[], &[want])?);
     Ok(())

@@ -1,7 +1,6 @@
 // The targets of URIs, from the records of zones and for random words.
 use super::streams::replies;
 use crate::command::MAX_LINE_LEN;
-use crate::server::ServeFault;
 use sipl_srv::Draws;
 use std::alloc::{AllocError, Global};
 use std::test::Fail;
@@ -34,7 +33,7 @@ e A 192.0.2.5
 ";
 
 // The replies to two texts, one after the other.
-fn replies_to(alloc: Global, first: &[u8], second: &[u8]) -> Result<Vec<u8>, ServeFault> {
+fn replies_to(alloc: Global, first: &[u8], second: &[u8]) -> Result<Vec<u8>, Fail> {
     let mut input = Vec::from_slice(alloc, first)?;
     input.extend_from_slice(second)?;
     replies(alloc, &input)

@@ -1,10 +1,12 @@
 // Readers and writers of the tests' own.
-use crate::server::{ServeFault, serve};
-use crate::session::Session;
+use crate::server::serve;
 use crate::tapped::Tapped;
+use sipl_book::{Book, Limits};
+use sipl_choice::{Abilities, Families, Transport};
 use std::alloc::Global;
 use std::io;
 use std::io::{ErrorKind, Read, Write};
+use std::test::Fail;
 
 // A text that is read in pieces of `most` octets. The read of the number `fails_at`, from 1, fails.
 #[derive(Drop)]
@@ -89,11 +91,23 @@ pub fn blank(alloc: Global) -> Paper {
     }
 }
 
+// A book with the greatest limits, for a client of UDP and TCP, in this order, and IPv4.
+pub fn new_desk(alloc: Global) -> Result<Book, Fail> {
+    client_desk(alloc, &[Transport::Udp, Transport::Tcp])
+}
+
+// A book with the greatest limits, for a client of these transports and IPv4.
+pub fn client_desk(alloc: Global, transports: &[Transport]) -> Result<Book, Fail> {
+    let preference = Vec::from_slice(alloc, transports)?;
+    let abilities = Abilities::new(preference, Families::V4)?;
+    Ok(Book::new(alloc, abilities, &Limits::greatest()))
+}
+
 // What a new session writes for an input.
-pub fn replies(alloc: Global, input: &[u8]) -> Result<Vec<u8>, ServeFault> {
+pub fn replies(alloc: Global, input: &[u8]) -> Result<Vec<u8>, Fail> {
     let mut reader = Tapped::new(input);
     let mut writer = Tapped::new(Vec::new(alloc));
-    let mut session = Session::new(alloc)?;
-    serve(alloc, &mut reader, &mut writer, &mut session)?;
+    let mut desk = new_desk(alloc)?;
+    serve(alloc, &mut reader, &mut writer, &mut desk)?;
     Ok(writer.into_inner())
 }

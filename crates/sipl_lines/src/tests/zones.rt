@@ -1,7 +1,7 @@
 // Zones whose text is in lines of the session.
-use super::streams::{Pieces, blank, replies};
+use super::streams::{Pieces, blank, new_desk, replies};
 use crate::command::MAX_LINE_LEN;
-use crate::server::{Ended, ServeFault, serve};
+use crate::server::{Ended, ServeFault, serve, serve_session};
 use crate::session::Session;
 use crate::tapped::Tapped;
 use std::test::Fail;
@@ -104,8 +104,8 @@ fn a_zone_does_not_depend_on_the_sizes_of_reads(rt: HostRuntime) -> Result<(), F
             calls: 0,
         });
         let mut writer = Tapped::new(blank(rt.alloc()));
-        let mut session = Session::new(rt.alloc())?;
-        let ended = serve(rt.alloc(), &mut reader, &mut writer, &mut session);
+        let mut desk = new_desk(rt.alloc())?;
+        let ended = serve(rt.alloc(), &mut reader, &mut writer, &mut desk);
         assert!(rt; ended == Ok(Ended::EndOfInput));
         let want = b"err U1\nok zone 0 0 0 0\nerr U1\nerr zone 1 Z2\n";
         assert!(rt; writer.into_inner().text.as_slice() == want.as_slice());
@@ -121,13 +121,28 @@ fn a_failing_read_leaves_the_lines_that_were_taken(rt: HostRuntime) -> Result<()
         fails_at: 2,
         calls: 0,
     });
-    let mut session = Session::new(rt.alloc())?;
+    let mut desk = new_desk(rt.alloc())?;
+    let mut session = Session::new();
     let mut writer = Tapped::new(blank(rt.alloc()));
-    let ended = serve(rt.alloc(), &mut reader, &mut writer, &mut session);
+    let ended = serve_session(
+        rt.alloc(),
+        &mut reader,
+        &mut writer,
+        &mut desk,
+        &mut session,
+        9,
+    );
     assert!(rt; ended == Err(ServeFault::Read) && writer.into_inner().text.is_empty());
     let mut again = Tapped::new(b"\nquit\nquit\n".as_slice());
     let mut later = Tapped::new(blank(rt.alloc()));
-    let ended = serve(rt.alloc(), &mut again, &mut later, &mut session);
+    let ended = serve_session(
+        rt.alloc(),
+        &mut again,
+        &mut later,
+        &mut desk,
+        &mut session,
+        9,
+    );
     assert!(rt; ended == Ok(Ended::Quit));
     assert!(rt; later.into_inner().text.as_slice() == b"err zone 3 Z2\nok quit\n".as_slice());
     Ok(())

@@ -3,12 +3,13 @@ use Rattle.std.specs.Map.{keys_of}
 use Rattle.std.specs.String.{string_cmp}
 use Rattle.std.specs.List.Sorted.{IsStrictlySortedBy}
 use Rattle.toml.specs.View.{members_view}
-use Rattle.sipl_lines.specs.Settings.{settings_of}
+use Rattle.sipl_lines.specs.Settings.{IsWithinLimits, settings_of}
 use Rattle.sipl_lines.proofs.InOrder.{settings_from}
 use Rattle.sipl_lines.proofs.document.settings.Given as goal
 
 abbrev pub invariant-loop-key : goal.invariant-loop-key
 invariant-loop-key l = record {
   given : settings_of l.text ≡ settings_from (members_view l.key-iterator) l.settings;
+  limits : IsWithinLimits l.settings;
   in_order : IsStrictlySortedBy string_cmp (keys_of l.key-iterator);
 }

@@ -1,9 +1,12 @@
-use Rattle.std.proofs.Common.{◌≡◌, true, subst, sym}
-use Rattle.sipl_masterfile.specs.Zones.{sets_fit}
-use Rattle.sipl_lines.proofs.SmallSets.{sets_fit-small}
+use Rattle.std.proofs.Common.{◌≡◌, ◌≤◌, length, subst, sym}
+use Rattle.sipl_records.specs.Sets.{set_of}
+use Rattle.sipl_book.proofs.StoreSets.{set_is_set}
 use Rattle.sipl_lines.proofs.tests.comparison.agreed.Goals as goal
 
 pub plan_of-requires : goal.plan_of-requires
 plan_of-requires c =
-    let fit : sets_fit c.records.result.now ≡ true = subst (λ records. sets_fit records ≡ true) (sym c.records.ensures.value) c.records.ensures.consistent.sets_fit in
-    record { small_sets = sets_fit-small c.records.result.now fit }
+    record {
+      small_sets = λ key.
+          subst (λ records. length (set_of records key) ≤ 32) (sym c.records.ensures.value)
+          (set_is_set c.args.store.now key c.records.ensures.consistent).few;
+    }

@@ -1,0 +1,127 @@
+-- What each command asks of the desk, and its reply.
+use Rattle.std.specs.Prelude.{◌≡◌, ◌⊎◌, ℕ, List, [], ◌∷◌, ◌++◌, length, Option, None, Some, Result, Ok, Err, codes}
+use Rattle.sipl_names.specs.Labels.{Octets, Labels}
+use Rattle.sipl_names.specs.NameFault.{code_of as name_code}
+use Rattle.sipl_names.specs.declared.fault.NameFault.{NameFault}
+use Rattle.sipl_records.specs.declared.address.Address.{Address}
+use Rattle.sipl_records.specs.declared.record.Record.{Record}
+use Rattle.sipl_masterfile.specs.Zones.{Zone}
+use Rattle.sipl_masterfile.specs.ZoneFault.{code_of as zone_code}
+use Rattle.sipl_masterfile.specs.declared.fault.ZoneFault.{ZoneFault}
+use Rattle.sipl_choice.specs.declared.transport.Transport.{Transport}
+use Rattle.sipl_srv.specs.DrawsFault.{code_of as draws_code}
+use Rattle.sipl_srv.specs.declared.fault.DrawsFault.{DrawsFault}
+use Rattle.sipl_uri.specs.declared.fault.UriFault.{UriFault}
+use Rattle.sipl_uri.specs.declared.question.Question.{Question}
+use Rattle.sipl_uri.specs.UriFault.{code_of as uri_code}
+use Rattle.sipl_outages.specs.Holds.{BoardEvent}
+use Rattle.sipl_outages.specs.Holds.BoardEvent.{Hold, Release, Advance}
+use Rattle.sipl_book.specs.BookFault.{code_of as book_code}
+use Rattle.sipl_book.specs.declared.edit.Edit.{Edit}
+use Rattle.sipl_book.specs.declared.edit.Edit.TheVariants.{Load, Unload, Add, Remove}
+use Rattle.sipl_book.specs.declared.fault.BookFault.{BookFault}
+use Rattle.sipl_book.specs.declared.outcome.Changed.{Changed}
+use Rattle.sipl_book.specs.declared.outcome.Handed.{Handed}
+use Rattle.sipl_lines.specs.Desk.{DeskRules}
+use Rattle.sipl_lines.specs.ReplyText.{counts_line, refusal_line, text_fault_line, answer_text}
+
+-- this is the reply, and the desk is as it was
+abbrev pub Keeps : {D : Type 0} → Octets → D → Octets → D → Type 0
+Keeps reply before text after = (text ≡ reply) × (after ≡ before)
+
+-- the command is refused with a code
+abbrev pub Refuses : {D : Type 0} → Octets → D → Octets → D → Type 0
+Refuses code before text after = Keeps (refusal_line code) before text after
+
+-- an allocation failed: the reply is `err Memory`, and the desk is as it was
+abbrev pub Fails : {D : Type 0} → D → Octets → D → Type 0
+Fails before text after = Refuses (codes "Memory") before text after
+
+-- the reply to what a desk did: that of its result, or its fault
+abbrev pub result_text : {A : Type 0} → (A → Octets) → Result A BookFault → Octets
+result_text reply_of (Ok value) = reply_of value
+result_text reply_of (Err fault) = refusal_line (book_code fault)
+
+-- the desk does its part, and the reply is that of how it ended
+abbrev pub Does : {D A : Type 0} → (D → Result A BookFault → D → Type 0) → (A → Octets) → D
+    → Octets → D → Type 0
+Does {D} {A} Acts reply_of before text after =
+    (outcome : Result A BookFault) × Acts before outcome after × (text ≡ result_text reply_of outcome)
+
+-- the reply to an accepted edit: words, counts, and how many sets changed
+abbrev pub changed_text : Octets → List ℕ → Changed → Octets
+changed_text words counts changed = counts_line words (counts ++ changed.sets ∷ [])
+
+-- the reply to a question that was answered
+abbrev pub handed_text : Handed → Octets
+handed_text handed = answer_text handed.answer
+
+-- an edit, and the words and counts of its reply
+abbrev pub Edits : {D : Type 0} → DeskRules D → Octets → List ℕ → Edit → D → Octets → D → Type 0
+Edits rules words counts edit before text after =
+    Does (rules.Changes edit) (changed_text words counts) before text after
+
+-- a zone's text is loaded; a fault in it is reported with its line
+abbrev pub Loads : {D : Type 0} → DeskRules D → Result Zone ZoneFault → D → Octets → D → Type 0
+Loads rules (Err fault) before text after =
+    Keeps (text_fault_line (codes "err zone") fault.line (zone_code fault)) before text after
+Loads rules (Ok zone) before text after =
+    Edits rules (codes "ok zone") (length zone.records ∷ zone.outside ∷ zone.repeated ∷ [])
+    (Load zone) before text after
+
+-- the zone of an apex is unloaded
+abbrev pub Unloads : {D : Type 0} → DeskRules D → Result Labels NameFault → D → Octets → D → Type 0
+Unloads rules (Err fault) before text after = Refuses (name_code fault) before text after
+Unloads rules (Ok apex) before text after = Edits rules (codes "ok drop") [] (Unload apex) before text after
+
+-- the record of a text is added
+abbrev pub Adds : {D : Type 0} → DeskRules D → Result Record ZoneFault → D → Octets → D → Type 0
+Adds rules (Err fault) before text after = Refuses (zone_code fault) before text after
+Adds rules (Ok r) before text after = Edits rules (codes "ok add") [] (Add r) before text after
+
+-- the record of a text is removed
+abbrev pub Removes : {D : Type 0} → DeskRules D → Result Record ZoneFault → D → Octets → D → Type 0
+Removes rules (Err fault) before text after = Refuses (zone_code fault) before text after
+Removes rules (Ok r) before text after = Edits rules (codes "ok del") [] (Remove r) before text after
+
+-- a question is answered for random words; where the answer's text can't be written for want of
+-- memory, the reply is `err Memory`, and the answer has been handed out
+abbrev pub Answers : {D : Type 0} → DeskRules D → Question → List ℕ → D → Octets → D → Type 0
+Answers rules question words before text after =
+    Does (rules.Finds question words) handed_text before text after
+    ⊎ Does (rules.Finds question words) (λ handed. refusal_line (codes "Memory")) before text after
+
+-- a question is answered for the words that were given, if they are good
+abbrev pub AnswersWith : {D : Type 0} → DeskRules D → Question → Result (List ℕ) DrawsFault → D → Octets → D → Type 0
+AnswersWith rules question (Err fault) before text after = Refuses (draws_code fault) before text after
+AnswersWith rules question (Ok words) before text after = Answers rules question words before text after
+
+-- a URI's question is answered: the URI's fault is reported before that of the words
+abbrev pub AnswersUri : {D : Type 0} → DeskRules D → Result Question UriFault → Result (List ℕ) DrawsFault → D → Octets → D
+    → Type 0
+AnswersUri rules (Err fault) draws before text after = Refuses (uri_code fault) before text after
+AnswersUri rules (Ok question) draws before text after = AnswersWith rules question draws before text after
+
+-- a hold, a release or a move of the clock, and its reply
+abbrev pub MovesTo : {D : Type 0} → DeskRules D → Octets → BoardEvent → D → Octets → D → Type 0
+MovesTo rules reply event before text after =
+    Does (rules.Moves event) (λ number. reply) before text after
+
+-- an endpoint is held for some milliseconds
+abbrev pub Holds : {D : Type 0} → DeskRules D → Transport → Option Address → ℕ → ℕ → D → Octets → D → Type 0
+Holds rules transport None port ms before text after = Refuses (codes "A1") before text after
+Holds rules transport (Some address) port ms before text after =
+    MovesTo rules (counts_line (codes "ok hold") [])
+    (Hold (record { transport = transport; address = address; port = port }) ms) before text after
+
+-- an endpoint's hold is ended
+abbrev pub Releases : {D : Type 0} → DeskRules D → Transport → Option Address → ℕ → D → Octets → D → Type 0
+Releases rules transport None port before text after = Refuses (codes "A1") before text after
+Releases rules transport (Some address) port before text after =
+    MovesTo rules (counts_line (codes "ok release") [])
+    (Release (record { transport = transport; address = address; port = port })) before text after
+
+-- the clock is set
+abbrev pub SetsClock : {D : Type 0} → DeskRules D → ℕ → D → Octets → D → Type 0
+SetsClock rules ms before text after =
+    MovesTo rules (counts_line (codes "ok clock") (ms ∷ [])) (Advance ms) before text after

@@ -1,0 +1,292 @@
+// What each command asks of a desk, and its reply.
+ghost use Rattle.std.specs.Prelude.{◌≡◌, ◌⊎◌, ◌+◌, ◌≤◌, [], ◌++◌, ◌≢◌, Ok, Err, length, codes, IfOk, IfErr, OnOk, OnErr, vec_len, vec_capacity};
+ghost use Rattle.sipl_masterfile.specs.RecordText.{record_of};
+ghost use Rattle.sipl_masterfile.specs.Zones.{zone_of};
+ghost use Rattle.sipl_names.specs.NameText.{name_of};
+ghost use Rattle.sipl_records.specs.Addresses.{address_of};
+ghost use Rattle.sipl_uri.specs.Uris.{question_of};
+ghost use Rattle.sipl_lines.specs.Commands.{AnswersUri, Adds, Edits, Holds, Loads, Releases, Removes, SetsClock, Unloads, handed_text, result_text};
+ghost use Rattle.sipl_lines.specs.ReplyText.{counts_line, refusal_line};
+ghost use Rattle.sipl_lines.specs.Session.{AppendsText};
+
+use crate::desk::Desk;
+use crate::gather::ZoneLines;
+use crate::reply::{write_answer, write_counts, write_refusal, write_text_fault};
+use sipl_book::{BookFault, Edit, Handed};
+use sipl_choice::{Endpoint, Transport};
+use sipl_masterfile::{ZoneCause, ZoneFault, read_record, read_zone};
+use sipl_names::{Name, NameFault};
+use sipl_records::{Address, Record};
+use sipl_srv::{Draws, DrawsFault};
+use sipl_uri::{Uri, UriFault};
+use std::alloc::{AllocError, Global};
+
+// The maximum length of a short reply in octets. Space for one is reserved before each command.
+pub(crate) const MAX_SHORT_REPLY_LEN: usize = 128;
+
+// Loads the zone of a text, and appends the reply.
+pub(crate) fn load_zone<D: Desk>(
+    alloc: Global,
+    desk: &mut D,
+    zone: &ZoneLines,
+    out: &mut Vec<u8>,
+) -> Result<(), AllocError>
+    requires space { vec_len out.old + MAX_SHORT_REPLY_LEN ≤ vec_capacity out.old }
+    ensures ok { OnOk result (AppendsText (Loads D.rules (zone_of zone.now.text zone.now.apex))
+        desk.old out.old.items desk.new out.new.items) }
+    ensures err { OnErr result (desk.new ≡ desk.old) }
+    ensures err_out { OnErr result (out.new.items ≡ out.old.items) }
+    ensures capacity { vec_capacity out.old ≤ vec_capacity out.new }
+{
+    let text = match read_zone(alloc, zone.text(), zone.apex()) {
+        Ok(text) => text,
+        Err(
+            ZoneFault {
+                cause: ZoneCause::Memory,
+                ..
+            },
+        ) => return Err(AllocError),
+        Err(fault) => return write_text_fault(out, b"err zone", fault.line, fault.code()),
+    };
+    let records = text.records().len() as u64;
+    let counts = [records, text.outside(), text.repeated()];
+    match desk.change(Edit::Load(text)) {
+        Ok(changed) => {
+            let [records, outside, repeated] = counts;
+            write_counts(out, b"ok zone", &[records, outside, repeated, changed.sets]);
+            Ok(())
+        }
+        Err(fault) => write_refusal(out, fault.code()),
+    }
+}
+
+// `drop APEX`: unloads a zone, and appends the reply.
+pub(crate) fn unload_zone<D: Desk>(
+    alloc: Global,
+    desk: &mut D,
+    apex: &[u8],
+    out: &mut Vec<u8>,
+) -> Result<(), AllocError>
+    requires space { vec_len out.old + MAX_SHORT_REPLY_LEN ≤ vec_capacity out.old }
+    ensures ok { OnOk result (AppendsText (Unloads D.rules (name_of apex.now []))
+        desk.old out.old.items desk.new out.new.items) }
+    ensures err { OnErr result (desk.new ≡ desk.old) }
+    ensures err_out { OnErr result (out.new.items ≡ out.old.items) }
+    ensures capacity { vec_capacity out.old ≤ vec_capacity out.new }
+{
+    match read_absolute_name(alloc, apex) {
+        Ok(apex) => edit(desk, Edit::Unload(apex), b"ok drop", out),
+        Err(NameFault::Memory) => Err(AllocError),
+        Err(fault) => write_refusal(out, fault.code()),
+    }
+}
+
+// `add RECORD`: adds a record, and appends the reply.
+pub(crate) fn add_record<D: Desk>(
+    alloc: Global,
+    desk: &mut D,
+    text: &[u8],
+    out: &mut Vec<u8>,
+) -> Result<(), AllocError>
+    requires space { vec_len out.old + MAX_SHORT_REPLY_LEN ≤ vec_capacity out.old }
+    ensures ok { OnOk result (AppendsText (Adds D.rules (record_of text.now []))
+        desk.old out.old.items desk.new out.new.items) }
+    ensures err { OnErr result (desk.new ≡ desk.old) }
+    ensures err_out { OnErr result (out.new.items ≡ out.old.items) }
+    ensures capacity { vec_capacity out.old ≤ vec_capacity out.new }
+{
+    match read_absolute_record(alloc, text)? {
+        Ok(record) => edit(desk, Edit::Add(record), b"ok add", out),
+        Err(fault) => write_refusal(out, fault.code()),
+    }
+}
+
+// `del RECORD`: removes a record, and appends the reply.
+pub(crate) fn remove_record<D: Desk>(
+    alloc: Global,
+    desk: &mut D,
+    text: &[u8],
+    out: &mut Vec<u8>,
+) -> Result<(), AllocError>
+    requires space { vec_len out.old + MAX_SHORT_REPLY_LEN ≤ vec_capacity out.old }
+    ensures ok { OnOk result (AppendsText (Removes D.rules (record_of text.now []))
+        desk.old out.old.items desk.new out.new.items) }
+    ensures err { OnErr result (desk.new ≡ desk.old) }
+    ensures err_out { OnErr result (out.new.items ≡ out.old.items) }
+    ensures capacity { vec_capacity out.old ≤ vec_capacity out.new }
+{
+    match read_absolute_record(alloc, text)? {
+        Ok(record) => edit(desk, Edit::Remove(record), b"ok del", out),
+        Err(fault) => write_refusal(out, fault.code()),
+    }
+}
+
+// Makes an edit, and appends the reply: the words, and how many sets changed.
+fn edit<D: Desk>(
+    desk: &mut D,
+    edit: Edit,
+    words: &[u8],
+    out: &mut Vec<u8>,
+) -> Result<(), AllocError>
+    requires space { vec_len out.old + MAX_SHORT_REPLY_LEN ≤ vec_capacity out.old }
+    requires words { length words.now ≤ 7 }
+    ensures ok { OnOk result (AppendsText (Edits D.rules words.now [] edit)
+        desk.old out.old.items desk.new out.new.items) }
+    ensures err { OnErr result (desk.new ≡ desk.old) }
+    ensures err_out { OnErr result (out.new.items ≡ out.old.items) }
+    ensures capacity { vec_capacity out.old ≤ vec_capacity out.new }
+{
+    match desk.change(edit) {
+        Ok(changed) => {
+            write_counts(out, words, &[changed.sets]);
+            Ok(())
+        }
+        Err(fault) => write_refusal(out, fault.code()),
+    }
+}
+
+// `find URI DRAWS`: answers a URI's question for these random words, and appends the reply.
+pub(crate) fn find<D: Desk>(
+    alloc: Global,
+    desk: &mut D,
+    uri: &[u8],
+    draws: &Result<Draws, DrawsFault>,
+    out: &mut Vec<u8>,
+) -> Result<(), AllocError>
+    requires space { vec_len out.old + MAX_SHORT_REPLY_LEN ≤ vec_capacity out.old }
+    ensures ok { OnOk result (AppendsText (AnswersUri D.rules (question_of uri.now) draws.now)
+        desk.old out.old.items desk.new out.new.items) }
+    ensures err { OnErr result (desk.new ≡ desk.old) }
+    ensures err_out { OnErr result (out.new.items ≡ out.old.items) }
+    ensures capacity { vec_capacity out.old ≤ vec_capacity out.new }
+{
+    let question = match Uri::parse(alloc, uri) {
+        Ok(question) => question,
+        Err(UriFault::Memory) => return Err(AllocError),
+        Err(fault) => return write_refusal(out, fault.code()),
+    };
+    let draws = match draws {
+        Ok(draws) => draws,
+        Err(fault) => return write_refusal(out, fault.code()),
+    };
+    match desk.find(alloc, question, draws) {
+        Ok(handed) => {
+            reply_handed(&handed, out);
+            Ok(())
+        }
+        Err(fault) => write_refusal(out, fault.code()),
+    }
+}
+
+// Appends the reply to a question that was answered, or `err Memory` where there is no space for it.
+fn reply_handed(handed: &Handed, out: &mut Vec<u8>)
+    requires space { vec_len out.old + MAX_SHORT_REPLY_LEN ≤ vec_capacity out.old }
+    ensures text { (out.new.items ≡ out.old.items ++ handed_text handed.now)
+        ⊎ (out.new.items ≡ out.old.items ++ refusal_line (codes "Memory")) }
+    ensures capacity { vec_capacity out.old ≤ vec_capacity out.new }
+{
+    if write_answer(out, &handed.answer).is_err() {
+        write_refusal(out, "Memory").unwrap();
+    }
+}
+
+// `hold TRANSPORT ADDRESS PORT MS`: holds an endpoint, and appends the reply.
+pub(crate) fn hold<D: Desk>(
+    desk: &mut D,
+    transport: Transport,
+    address: &[u8],
+    port: u16,
+    ms: u64,
+    out: &mut Vec<u8>,
+)
+    requires space { vec_len out.old + MAX_SHORT_REPLY_LEN ≤ vec_capacity out.old }
+    ensures done { AppendsText (Holds D.rules transport (address_of address.now) port ms)
+        desk.old out.old.items desk.new out.new.items }
+    ensures capacity { vec_capacity out.old ≤ vec_capacity out.new }
+{
+    let address = match Address::from_text(address) {
+        Ok(address) => address,
+        Err(fault) => return write_refusal(out, fault.code()).unwrap(),
+    };
+    let endpoint = Endpoint {
+        transport,
+        address,
+        port,
+    };
+    reply_moved(desk.hold(&endpoint, ms), b"ok hold", &[], out);
+}
+
+// `release TRANSPORT ADDRESS PORT`: ends the hold of an endpoint, and appends the reply.
+pub(crate) fn release<D: Desk>(
+    desk: &mut D,
+    transport: Transport,
+    address: &[u8],
+    port: u16,
+    out: &mut Vec<u8>,
+)
+    requires space { vec_len out.old + MAX_SHORT_REPLY_LEN ≤ vec_capacity out.old }
+    ensures done { AppendsText (Releases D.rules transport (address_of address.now) port)
+        desk.old out.old.items desk.new out.new.items }
+    ensures capacity { vec_capacity out.old ≤ vec_capacity out.new }
+{
+    let address = match Address::from_text(address) {
+        Ok(address) => address,
+        Err(fault) => return write_refusal(out, fault.code()).unwrap(),
+    };
+    let endpoint = Endpoint {
+        transport,
+        address,
+        port,
+    };
+    reply_moved(desk.release(&endpoint), b"ok release", &[], out);
+}
+
+// `clock MS`: sets the time, and appends the reply.
+pub(crate) fn set_clock<D: Desk>(desk: &mut D, to: u64, out: &mut Vec<u8>)
+    requires space { vec_len out.old + MAX_SHORT_REPLY_LEN ≤ vec_capacity out.old }
+    ensures done { AppendsText (SetsClock D.rules to)
+        desk.old out.old.items desk.new out.new.items }
+    ensures capacity { vec_capacity out.old ≤ vec_capacity out.new }
+{
+    reply_moved(desk.advance(to), b"ok clock", &[to], out);
+}
+
+// Appends the reply to a hold, a release or a move of the clock: words and numbers, or its fault.
+fn reply_moved(outcome: Result<u64, BookFault>, words: &[u8], numbers: &[u64], out: &mut Vec<u8>)
+    requires space { vec_len out.old + MAX_SHORT_REPLY_LEN ≤ vec_capacity out.old }
+    requires words { length words.now ≤ 10 }
+    requires numbers { length numbers.now ≤ 1 }
+    ensures done { out.new.items ≡ out.old.items
+        ++ result_text (λ number. counts_line words.now numbers.now) outcome }
+    ensures capacity { vec_capacity out.old ≤ vec_capacity out.new }
+{
+    match outcome {
+        Ok(_) => write_counts(out, words, numbers),
+        Err(fault) => write_refusal(out, fault.code()).unwrap(),
+    }
+}
+
+// The name of a text that is relative to the root, or its fault.
+fn read_absolute_name(alloc: Global, text: &[u8]) -> Result<Name, NameFault>
+    ensures read { IfOk result (λ name. name_of text.now [] ≡ Ok name) }
+    ensures refused { IfErr result
+        (λ fault. fault ≢ NameFault.Memory → name_of text.now [] ≡ Err fault) }
+{
+    Name::from_text(alloc, text, &Name::root(alloc))
+}
+
+// The record of a text whose names are relative to the root, or its fault. An error says that an
+// allocation failed.
+fn read_absolute_record(alloc: Global, text: &[u8]) -> Result<Result<Record, ZoneFault>, AllocError>
+    ensures { IfOk result (λ read. read ≡ record_of text.now []) }
+{
+    match read_record(alloc, text, &Name::root(alloc)) {
+        Err(
+            ZoneFault {
+                cause: ZoneCause::Memory,
+                ..
+            },
+        ) => Err(AllocError),
+        read => Ok(read),
+    }
+}
