@@ -1,5 +1,8 @@
 //! The program: its arguments, and what it does on its standard streams.
-use sipl_lines::{Ended, ServeFault, Session, Tapped, check_zone, serve};
+ghost use Rattle.sipl_lines.specs.Settings.{IsWithinLimits};
+
+use sipl_book::{Book, Limits};
+use sipl_lines::{Ended, ServeFault, Settings, SettingsFault, Tapped, check_zone, serve, settings};
 use sipl_names::{Name, NameFault};
 use std::alloc::Global;
 use std::io::{ErrorKind, Input};
@@ -13,10 +16,34 @@ const WRONG_ARGUMENTS: u8 = 2;
 // What the arguments ask for.
 #[derive(Drop)]
 enum Call {
-    // `run`: serves a session.
-    Run,
+    // `run [SETTINGS]`: serves a session.
+    Run(Option<String>),
     // `check APEX`: checks a zone's text.
     Check(Name),
+}
+
+// Why a call failed.
+#[derive(Drop)]
+enum Fault {
+    // The settings can't be read.
+    Settings(SettingsFault),
+    // A stream failed, or an allocation.
+    Serve(ServeFault),
+}
+
+impl From<ServeFault> for Fault {
+    fn from(fault: ServeFault) -> Fault {
+        Fault::Serve(fault)
+    }
+}
+
+impl From<SettingsFault> for Fault {
+    fn from(fault: SettingsFault) -> Fault {
+        match fault {
+            SettingsFault::Memory => Fault::Serve(ServeFault::Memory),
+            fault => Fault::Settings(fault),
+        }
+    }
 }
 
 // Does what the arguments ask for. The status is 0, 1 after a fault or for a text that is not a
@@ -24,9 +51,10 @@ enum Call {
 // the reason.
 pub(crate) fn start<R: Env + Input + Print + Eprint + AllocGlobal>(rt: &R) -> ExitCode {
     let outcome = match read_arguments(rt) {
-        Ok(Some(Call::Run)) => serve_streams(rt).map(|_| true),
-        Ok(Some(Call::Check(apex))) => check_streams(rt, &apex),
-        Err(error) if error.kind() == ErrorKind::OutOfMemory => Err(ServeFault::Memory),
+        Ok(Some(call)) => perform(rt, call),
+        Err(error) if error.kind() == ErrorKind::OutOfMemory => {
+            Err(Fault::Serve(ServeFault::Memory))
+        }
         _ => {
             let _ = eprintln!(rt;
                 "usage: siploc run [SETTINGS] | check APEX | world [SETTINGS] | serve [SETTINGS]"
@@ -38,11 +66,23 @@ pub(crate) fn start<R: Env + Input + Print + Eprint + AllocGlobal>(rt: &R) -> Ex
         Ok(true) => ExitCode::SUCCESS,
         Ok(false) => ExitCode::FAILURE,
         Err(fault) => {
-            let code = fault.code();
-            let _ = eprintln!(rt; "fault {code}");
+            report(rt, &fault);
             ExitCode::FAILURE
         }
     }
+}
+
+// Writes a fault on standard error: its code, and the key where it is of one of the settings.
+fn report<R: Eprint>(rt: &R, fault: &Fault) {
+    let _ = match fault {
+        Fault::Serve(fault) => eprintln!(rt; "fault {}", fault.code()),
+        Fault::Settings(fault) => match fault {
+            SettingsFault::UnknownKey(key) | SettingsFault::BadValue(key) => {
+                eprintln!(rt; "fault settings {} {key}", fault.code())
+            }
+            _ => eprintln!(rt; "fault settings {}", fault.code()),
+        },
+    };
 }
 
 // What the arguments ask for, if they are right. An error says that one of them is not UTF-8, or
@@ -51,7 +91,7 @@ fn read_arguments<R: Env + AllocGlobal>(rt: &R) -> io::Result<Option<Call>> {
     let mut words = env::args(rt)?;
     let _program = words.next();
     let call = match words.next() {
-        Some(word) if word.as_str() == "run" => Some(Call::Run),
+        Some(word) if word.as_str() == "run" => Some(Call::Run(words.next())),
         Some(word) if word.as_str() == "check" => match words.next() {
             Some(apex) => read_apex(rt.alloc(), apex.as_bytes())?,
             None => None,
@@ -71,13 +111,37 @@ fn read_apex(alloc: Global, text: &[u8]) -> io::Result<Option<Call>> {
     }
 }
 
-// Serves a session on standard input and output.
-fn serve_streams<R: Input + Print + AllocGlobal>(rt: &R) -> Result<Ended, ServeFault> {
+// Does what the arguments ask for. Returns whether a zone that was checked is one.
+fn perform<R: Input + Print + AllocGlobal>(rt: &R, call: Call) -> Result<bool, Fault> {
+    match call {
+        Call::Run(text) => {
+            let text = text.as_deref().unwrap_or("");
+            serve_streams(rt, settings(rt.alloc(), text)?)?;
+            Ok(true)
+        }
+        Call::Check(apex) => Ok(check_streams(rt, &apex)?),
+    }
+}
+
+// Serves a session over a book on standard input and output.
+fn serve_streams<R: Input + Print + AllocGlobal>(
+    rt: &R,
+    settings: Settings,
+) -> Result<Ended, ServeFault>
+    requires { IsWithinLimits settings }
+{
     let alloc = rt.alloc();
-    let mut session = Session::new(alloc)?;
+    let limits = Limits {
+        records: settings.records,
+        entries: settings.entries,
+        journal: settings.journal,
+        holds: settings.holds,
+        next: 1,
+    };
+    let mut desk = Book::new(alloc, settings.abilities, &limits);
     let mut reader = Tapped::new(rt.reader());
     let mut writer = Tapped::new(io::writer(rt));
-    serve(alloc, &mut reader, &mut writer, &mut session)
+    serve(alloc, &mut reader, &mut writer, &mut desk)
 }
 
 // Checks the zone on standard input, and reports on standard output. Returns whether it is a zone.
@@ -116,6 +180,29 @@ mod tests {
         assert!(rt; ends(process, 0, b"ok quit\n", b""));
         let process = Process::new(rt.alloc(), &[b"siploc", b"run"], b"");
         assert!(rt; ends(process, 0, b"", b""));
+        Ok(())
+    }
+
+    #[test]
+    fn the_settings_are_those_of_the_session(rt: HostRuntime) -> Result<(), Fail> {
+        let words: &[&[u8]] = &[b"siploc", b"run", b"transports = [\"tcp\"]"];
+        let input = b"find sip:192.0.2.9\nfind sip:192.0.2.9;transport=tcp\n";
+        let output = b"none NoTransport\ntarget 1 tcp 192.0.2.9 5060\nok find 1\n";
+        assert!(rt; ends(Process::new(rt.alloc(), words, input), 0, output, b""));
+        Ok(())
+    }
+
+    #[test]
+    fn settings_that_cannot_be_read_are_a_fault(rt: HostRuntime) -> Result<(), Fail> {
+        for (text, errors) in [
+            (b"[".as_slice(), b"fault settings G1\n".as_slice()),
+            (b"x = 1", b"fault settings G2 x\n"),
+            (b"tries = 17", b"fault settings G3 tries\n"),
+        ] {
+            let words = [b"siploc".as_slice(), b"run", text];
+            let process = Process::new(rt.alloc(), &words, b"quit\n");
+            assert!(rt; ends(process, 1, b"", errors));
+        }
         Ok(())
     }
 
@@ -173,7 +260,7 @@ x.other.org. A 192.0.2.3";
             &[b"siploc", b"check", b"a.", b""],
             &[b"siploc", b"check", b"\xFF"],
             &[b"siploc", b"RUN"],
-            &[b"siploc", b"run", b""],
+            &[b"siploc", b"run", b"", b""],
             &[b"siploc", b"run", b"\xFF"],
         ];
         for (number, words) in calls.iter().enumerate() {
