@@ -11,10 +11,12 @@ use Rattle.std.proofs.lemmas.List.Folds.{list_any-append}
 use Rattle.std.proofs.lemmas.List.Filters.{length-filter_both}
 use Rattle.std.proofs.lemmas.Map.Keys.{IsDistinct-cons, IsDistinct-tail, IsDistinct-push}
 use Rattle.std.proofs.lemmas.Map.Views.{exact_unsigned_eq}
+use Rattle.indexmap.specs.IndexMap.{index_map_len, spare}
+use Rattle.sipl_repair.specs.StalePlaces.{stale_count, AreCounted}
 use Rattle.sipl_repair.specs.Queue.{state_of, IsValidQueue}
 use Rattle.sipl_repair.specs.QueueState.{QueueState, IsConsistent, is_queued, is_leased, has_capacity_for, after_mark, empty_queue}
 use Rattle.sipl_repair.specs.declared.queue.Queue.TheInside.{Inside}
-use Rattle.sipl_repair.proofs.Members.{NatSet, contains-from_list, contains-insert, contains-remove, len-from_list, len-insert_le, len-remove_le, len-remove_lt, head_is_new, passes_second}
+use Rattle.sipl_repair.proofs.Members.{NatSet, from_list-without, contains-from_list, contains-insert, contains-remove, len-from_list, len-insert_le, len-remove_le, len-remove_lt, head_is_new, passes_second}
 
 -- the state with these ids queued, these leased, and this capacity
 abbrev pub queue_of : List ℕ → NatSet → ℕ → QueueState
@@ -34,7 +36,7 @@ apart_from_new s k id idle leased =
     ] refl
 
 -- an id that is leased after a removal was leased before
-still_leased : (s : NatSet) (k id : ℕ) → set.contains (set.remove s k) id ≡ true → set.contains s id ≡ true
+pub still_leased : (s : NatSet) (k id : ℕ) → set.contains (set.remove s k) id ≡ true → set.contains s id ≡ true
 still_leased s k id leased = (and_parts _ _ (sym (contains-remove s k id) ∙ leased)).1
 
 -- what is not in a list is not in a filter of it
@@ -56,7 +58,7 @@ IsDistinct-filter p (x ∷ xs) h =
       | false ↦ rest
     ]
 
-length-filter_le : (p : ℕ → Bool) (xs : List ℕ) → length (filter p xs) ≤ length xs
+pub length-filter_le : (p : ℕ → Bool) (xs : List ℕ) → length (filter p xs) ≤ length xs
 length-filter_le p xs = omega (arith, length-filter_both p (λ x. not (p x)) (λ _. refl) xs)
 
 module _ (ks : List ℕ) (s : NatSet) (r k : ℕ) where
@@ -140,43 +142,63 @@ filter-absent (x ∷ ks) k absent =
 pub IsConsistent-empty : IsConsistent empty_queue
 IsConsistent-empty = record { distinct = IsDistinct-nil; apart = λ id leased. refl; within = omega (arith, set.len-empty nat_cmp) }
 
--- the fields of a queue with these ids are valid, where each part has the capacity
-pub sound : (q : Inside) (ks : List ℕ) (s : NatSet) → q.order.items ≡ ks → q.leased.members ≡ s → IsConsistent (queue_of ks s q.capacity) → q.queued.members ≡ set.from_list ks
-    → q.capacity ≤ deque_capacity q.order → q.capacity ≤ q.queued.capacity → q.capacity ≤ q.leased.capacity → IsValidQueue q
-sound q ks s in_order leased h same_ids order_capacity queued_capacity leased_capacity =
+-- the fields of a queue with these ids are valid
+pub sound : (q : Inside) (ks : List ℕ) (s : NatSet) → (state_of q).queued ≡ ks → q.leased.members ≡ s → IsConsistent (queue_of ks s q.capacity) → q.queued.members ≡ set.from_list ks
+    → AreCounted q.places.items (stale_count q.stale) → ((id : ℕ) → set.contains s id ≡ true → stale_count q.stale id ≡ 0)
+    → length q.places.items + q.capacity ≤ deque_capacity q.places + length ks → q.capacity ≤ deque_capacity q.places
+    → (0 < q.capacity → 0 < spare q.stale) → q.capacity ≤ index_map_len q.stale + spare q.stale
+    → q.capacity ≤ q.queued.capacity → q.capacity ≤ q.leased.capacity → IsValidQueue q
+sound q ks s in_order leased h same_ids counted none_stale places_fit places_capacity stale_fits stale_capacity queued_capacity leased_capacity =
     record {
       consistent = subst (λ xs. IsConsistent (queue_of xs q.leased.members q.capacity)) (sym in_order) (subst (λ t. IsConsistent (queue_of ks t q.capacity)) (sym leased) h);
       same_ids = same_ids ∙ ap set.from_list (sym in_order);
-      order_capacity = order_capacity;
+      counted = counted;
+      leased_fresh = λ id there. none_stale id (sym (ap (λ t. set.contains t id) leased) ∙ there);
+      places_fit = omega (arith, places_fit, ap length in_order);
+      places_capacity = places_capacity;
+      stale_fits = stale_fits;
+      stale_capacity = stale_capacity;
       queued_capacity = queued_capacity;
       leased_capacity = leased_capacity;
     }
 
+-- a list with an id in it is not empty
+pub length_of_queued : (ks : List ℕ) (id : ℕ) → list_any (eqb id) ks ≡ true → 0 < length ks
+length_of_queued [] id there = absurd (true≢false (sym there))
+length_of_queued (k ∷ ks) id there = omega arith
+
 -- the members of the set of queued ids, and how many
-pub contains-queued : (q : Inside) → IsValidQueue q → (id : ℕ) → set.contains q.queued.members id ≡ list_any (eqb id) q.order.items
+pub contains-queued : (q : Inside) → IsValidQueue q → (id : ℕ) → set.contains q.queued.members id ≡ is_queued (state_of q) id
 contains-queued q h id = ap (λ s. set.contains s id) h.same_ids ∙ contains-from_list _ id
 
-pub len-queued : (q : Inside) → IsValidQueue q → set.len q.queued.members ≡ length q.order.items
+pub len-queued : (q : Inside) → IsValidQueue q → set.len q.queued.members ≡ length (state_of q).queued
 len-queued q h = ap set.len h.same_ids ∙ len-from_list _ h.consistent.distinct
 
 -- where the queued ids are below the capacity, the set of queued ids has space for one more
-pub may_queue : (q : Inside) → IsValidQueue q → (id : ℕ) → length q.order.items < q.capacity → (set.contains q.queued.members id || ltb (set.len q.queued.members) q.queued.capacity) ≡ true
+pub may_queue : (q : Inside) → IsValidQueue q → (id : ℕ) → length (state_of q).queued < q.capacity → (set.contains q.queued.members id || ltb (set.len q.queued.members) q.queued.capacity) ≡ true
 may_queue q h id less =
     let below : set.len q.queued.members < q.queued.capacity = omega (arith, len-queued q h, h.queued_capacity) in
     or_right _ _ (lt-ltb _ _ below)
 
 module _ (q : Inside) (w : QueueState) (id : ℕ) (h : IsValidQueue q) (shown : state_of q ≡ w) (may : has_capacity_for w id ≡ true) (idle : set.contains q.leased.members id ≡ false) where
   -- a mark of an idle id is within the capacity
-  pub mark_fits : list_any (eqb id) q.order.items ≡ false → length q.order.items + set.len q.leased.members < q.capacity
+  pub mark_fits : is_queued (state_of q) id ≡ false → length (state_of q).queued + set.len q.leased.members < q.capacity
   mark_fits absent = ltb-true _ _ (passes_second _ _ (or_from _ _ absent idle) (ap (λ v. has_capacity_for v id) shown ∙ may))
 
   -- the set of queued ids has space for it
   pub may_mark : (set.contains q.queued.members id || ltb (set.len q.queued.members) q.queued.capacity) ≡ true
   may_mark =
-      elim (cases_Bool (list_any (eqb id) q.order.items)) [
+      elim (cases_Bool (is_queued (state_of q) id)) [
         | inl there ↦ or_left _ _ (contains-queued q h id ∙ there)
         | inr absent ↦ let fits = mark_fits absent in may_queue q h id (omega arith)
       ]
+
+-- how many ids are queued after one is forgotten
+pub len-forget : (q : Inside) → IsValidQueue q → (id : ℕ) (s : NatSet) → s ≡ set.remove q.queued.members id → set.len s ≡ length (filter (λ k. not (eqb k id)) (state_of q).queued)
+len-forget q h id s removed =
+    let ks = (state_of q).queued in
+    ap set.len (removed ∙ ap (λ m. set.remove m id) h.same_ids ∙ sym (from_list-without ks id))
+    ∙ len-from_list _ (IsDistinct-filter (λ k. not (eqb k id)) ks h.consistent.distinct)
 
 -- a mark of an idle id, and of a queued one
 pub after_mark-idle : (w : QueueState) (id : ℕ) → is_queued w id ≡ false → is_leased w id ≡ false → after_mark w id ≡ record w { queued = w.queued ++ id ∷ [] }
@@ -186,5 +208,5 @@ pub after_mark-queued : (w : QueueState) (id : ℕ) → is_queued w id ≡ true 
 after_mark-queued w id there = cond-true _ _ _ (or_left _ _ there)
 
 -- a leased id is within the capacity when it is queued again
-pub returned_fits : (q : Inside) → IsValidQueue q → (id : ℕ) → set.contains q.leased.members id ≡ true → length q.order.items < q.capacity
+pub returned_fits : (q : Inside) → IsValidQueue q → (id : ℕ) → set.contains q.leased.members id ≡ true → length (state_of q).queued < q.capacity
 returned_fits q h id leased = omega (arith, h.consistent.within, len-remove_lt q.leased.members id leased)

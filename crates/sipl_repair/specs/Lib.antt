@@ -5,3 +5,4 @@ pub mod Ids
 pub mod Queue
 pub mod QueueFault
 pub mod QueueState
+pub mod StalePlaces

@@ -11,6 +11,7 @@ mod id_set;
 pub mod laws;
 mod lease;
 mod queue;
+mod stale_places;
 #[cfg(test)]
 mod tests;
 

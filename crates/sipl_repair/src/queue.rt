@@ -3,6 +3,8 @@ ghost use Rattle.std.specs.Prelude.{◌≡◌, ◌≤◌, ◌↔◌, [], length,
 use crate::fault::QueueFault;
 use crate::id_set::IdSet;
 use crate::lease::Lease;
+use crate::stale_places::{add_one, compact_if_full, pop_live};
+use indexmap::IndexMap;
 use std::alloc::{AllocError, Global};
 use std::collections::VecDeque;
 use std::marker::Model;
@@ -10,10 +12,11 @@ use std::marker::Model;
 /// Ids of entries that are to be looked up again, first in first out, and the leased ids.
 ///
 /// An id is idle, queued once, or leased. The queued and leased ids are within the capacity that
-/// `reserve` makes, and no other call allocates.
+/// `reserve` makes. No other call allocates, and each takes constant time, amortised.
 #[derive(Drop)]
 pub struct Queue {
-    order: VecDeque<u64>,
+    places: VecDeque<u64>,
+    stale: IndexMap<u64, usize>,
     queued: IdSet,
     leased: IdSet,
     capacity: usize,
@@ -43,7 +46,8 @@ impl Queue {
         ensures { result ≡ empty_queue }
     {
         Queue {
-            order: VecDeque::new(alloc),
+            places: VecDeque::new(alloc),
+            stale: IndexMap::new(alloc),
             queued: IdSet::new(alloc),
             leased: IdSet::new(alloc),
             capacity: 0,
@@ -58,8 +62,9 @@ impl Queue {
         ensures succeeds { capacity ≤ self.old.capacity → IsOk result }
     {
         if self.capacity < capacity {
-            let additional = capacity - self.len();
-            self.order.reserve(additional)?;
+            // Twice the capacity, so that the stale places are seldom all dropped.
+            self.places.reserve(capacity.saturating_mul(2))?;
+            self.stale.reserve(capacity)?;
             self.queued.reserve(capacity)?;
             self.leased.reserve(capacity)?;
             self.capacity = capacity;
@@ -80,7 +85,7 @@ impl Queue {
         ensures len { result ≡ length self.now.queued }
         ensures consistent { IsConsistent self.now }
     {
-        self.order.len()
+        self.queued.len()
     }
 
     /// Whether no id is queued.
@@ -88,7 +93,7 @@ impl Queue {
         ensures empty { IsTrue result ↔ (self.now.queued ≡ []) }
         ensures consistent { IsConsistent self.now }
     {
-        self.order.is_empty()
+        self.len() == 0
     }
 
     /// Whether an id is queued.
@@ -124,7 +129,7 @@ impl Queue {
             return;
         }
         if self.queued.insert(id) {
-            self.order.push_back_reserved(id);
+            self.places.push_back_reserved(id);
         }
     }
 
@@ -133,7 +138,7 @@ impl Queue {
         ensures first { result ≡ first_of self.old.queued }
         ensures after { self.new ≡ after_lease self.old }
     {
-        let Some(id) = self.order.pop_front() else {
+        let Some(id) = pop_live(&mut self.places, &mut self.stale) else {
             return Err(QueueFault::Empty);
         };
         self.queued.remove(id);
@@ -157,7 +162,7 @@ impl Queue {
         let last = lease.into_id();
         if self.leased.remove(last) {
             self.queued.insert(last);
-            self.order.push_back_reserved(last);
+            self.places.push_back_reserved(last);
         }
     }
 
@@ -169,7 +174,7 @@ impl Queue {
         let next = lease.into_id();
         if self.leased.remove(next) {
             self.queued.insert(next);
-            self.order.push_front_reserved(next);
+            self.places.push_front_reserved(next);
         }
     }
 
@@ -179,7 +184,9 @@ impl Queue {
     {
         self.leased.remove(id);
         if self.queued.remove(id) {
-            self.order.retain(|queued| *queued != id);
+            add_one(&mut self.stale, id);
+            let not_queued = self.capacity - self.queued.len();
+            compact_if_full(&mut self.places, &mut self.stale, not_queued);
         }
     }
 }

@@ -133,6 +133,107 @@ fn forget_makes_queued_and_leased_ids_idle(rt: HostRuntime) -> Result<(), Fail> 
     Ok(())
 }
 
+// The ids are forgotten from the middle outwards, and then one of them is again and again.
+#[test]
+fn forgets_each_of_many_ids(rt: HostRuntime) -> Result<(), Fail> {
+    let mut queue = Queue::new(rt.alloc());
+    queue.reserve(65_536)?;
+    for id in 0..MANY {
+        mark(&rt, &mut queue, id);
+    }
+    for step in 0..MANY / 2 {
+        queue.forget(MANY / 2 + step);
+        queue.forget(MANY / 2 - 1 - step);
+    }
+    assert_eq!(rt; fault_of_lease(&mut queue), Some(QueueFault::Empty));
+    for id in 0..MANY {
+        mark(&rt, &mut queue, id);
+    }
+    for id in 0..MANY {
+        queue.forget(MANY / 2);
+        mark(&rt, &mut queue, MANY / 2);
+        assert!(rt; queue.is_queued(id));
+    }
+    assert_eq!(rt; queue.len(), 65_536);
+    for id in (0..MANY).filter(|id| *id != MANY / 2) {
+        let lease = next(&rt, &mut queue);
+        assert_eq!(rt; lease.id(), id);
+        queue.settle(lease);
+    }
+    let last = next(&rt, &mut queue);
+    assert_eq!(rt; last.id(), MANY / 2);
+    queue.settle(last);
+    assert_eq!(rt; queue.is_empty(), true);
+    Ok(())
+}
+
+#[test]
+fn appends_an_id_that_was_forgotten(rt: HostRuntime) -> Result<(), Fail> {
+    let mut queue = Queue::new(rt.alloc());
+    queue.reserve(3)?;
+    for id in [1, 2, 3] {
+        mark(&rt, &mut queue, id);
+    }
+    for _ in 0..2 {
+        queue.forget(2);
+        mark(&rt, &mut queue, 2);
+    }
+    for id in [1, 3, 2] {
+        let lease = next(&rt, &mut queue);
+        assert_eq!(rt; lease.id(), id);
+        queue.settle(lease);
+    }
+    assert_eq!(rt; fault_of_lease(&mut queue), Some(QueueFault::Empty));
+    Ok(())
+}
+
+#[test]
+fn gives_back_before_a_forgotten_id(rt: HostRuntime) -> Result<(), Fail> {
+    let mut queue = Queue::new(rt.alloc());
+    queue.reserve(3)?;
+    for id in [1, 2, 3] {
+        mark(&rt, &mut queue, id);
+    }
+    queue.forget(2);
+    let lease = next(&rt, &mut queue);
+    queue.give_back(lease);
+    mark(&rt, &mut queue, 2);
+    for id in [1, 3, 2] {
+        let lease = next(&rt, &mut queue);
+        assert_eq!(rt; lease.id(), id);
+        queue.settle(lease);
+    }
+    assert_eq!(rt; fault_of_lease(&mut queue), Some(QueueFault::Empty));
+    Ok(())
+}
+
+// Neither many stale places of one id, nor those of many ids, change the order of the others.
+#[test]
+fn drops_stale_places(rt: HostRuntime) -> Result<(), Fail> {
+    let mut queue = Queue::new(rt.alloc());
+    queue.reserve(4)?;
+    for id in [1, 2, 3] {
+        mark(&rt, &mut queue, id);
+    }
+    for _ in 0..1_000 {
+        queue.forget(2);
+        mark(&rt, &mut queue, 2);
+    }
+    for id in 100..1_100 {
+        mark(&rt, &mut queue, id);
+        assert!(rt; !queue.has_capacity_for(id + 1));
+        queue.forget(id);
+    }
+    assert_eq!(rt; queue.len(), 3);
+    for id in [1, 3, 2] {
+        let lease = next(&rt, &mut queue);
+        assert_eq!(rt; lease.id(), id);
+        queue.settle(lease);
+    }
+    assert_eq!(rt; fault_of_lease(&mut queue), Some(QueueFault::Empty));
+    Ok(())
+}
+
 #[test]
 fn leases_of_another_queue_change_nothing(rt: HostRuntime) -> Result<(), Fail> {
     let mut other = Queue::new(rt.alloc());
