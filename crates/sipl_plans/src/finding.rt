@@ -106,6 +106,13 @@ impl Finding {
         &self.evidence
     }
 
+    /// The record sets that the route looks at, in the order of reading: at most 1,156.
+    pub fn into_evidence(self) -> Evidence
+        ensures { result ≡ self.items }
+    {
+        self.evidence
+    }
+
     /// A copy. The only error is an allocation failure.
     pub fn dup(&self, alloc: Global) -> Result<Self, AllocError>
         ensures { IfOk result (λ copy. copy ≡ self.now) }

@@ -1,3 +1,6 @@
+ghost use Rattle.std.specs.Prelude.{◌≡◌};
+ghost use Rattle.sipl_records.specs.Kinds.{text_of_kind};
+
 use std::fmt;
 
 /// The kinds of record sets that a lookup reads.
@@ -15,20 +18,28 @@ pub enum Kind {
     Pointer,
 }
 
-/// Prints the kind's mnemonic in master files, such as `AAAA` (RFC 1035, 5.1).
-impl fmt::Display for Kind {
-    ghost use Rattle.std.specs.Prelude.{Some};
-    ghost use Rattle.sipl_records.specs.Kinds.{text_of_kind};
-
-    ghost output = { λ kind. Some (text_of_kind kind) };
-
-    fn fmt<W: fmt::Write>(&self, f: &mut fmt::Formatter<W>) -> fmt::Result {
-        f.write_str(match self {
+impl Kind {
+    /// The mnemonic in master files, such as `AAAA` (RFC 1035, 3.2.2).
+    pub fn name(self) -> &'static str
+        ensures { result.now ≡ text_of_kind self }
+    {
+        match self {
             Kind::Address4 => "A",
             Kind::Address6 => "AAAA",
             Kind::Alias => "CNAME",
             Kind::Service => "SRV",
             Kind::Pointer => "NAPTR",
-        })
+        }
+    }
+}
+
+/// Prints the kind's mnemonic.
+impl fmt::Display for Kind {
+    ghost use Rattle.std.specs.Prelude.{Some};
+
+    ghost output = { λ kind. Some (text_of_kind kind) };
+
+    fn fmt<W: fmt::Write>(&self, f: &mut fmt::Formatter<W>) -> fmt::Result {
+        f.write_str(self.name())
     }
 }
