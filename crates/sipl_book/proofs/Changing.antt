@@ -1,10 +1,9 @@
 -- Edits of a book: which entries stay up to date, and that the book stays consistent.
 use Rattle.std.proofs.Common.{◌≡◌, ◌≢◌, ℕ, ◌+◌, ◌<◌, ◌≤◌, ◌||◌, Bool, true, false, not, cond, leb, ltb, List, [], ◌∷◌, ◌++◌, map, length, Option, None, Some, option_map, Ok, Err, inl, inr, refl, sym, ap, subst, ◌∙◌, arith, length-append}
 use Rattle.std.specs.Option.{option_or}
-use Rattle.std.specs.List.{All, AllPairs, count_by, list_any}
+use Rattle.std.specs.List.{All, count_by, list_any}
 use Rattle.std.proofs.Math.ListN.{length-map}
 use Rattle.std.proofs.lemmas.Bool.{cases_Bool, and_parts, cond-false, lt-leb, le-ltb, leb-false, ltb-false}
-use Rattle.std.proofs.lemmas.List.{get_or-map}
 use Rattle.std.proofs.lemmas.List.Elements.{All-nil, All-cons, All-map, All-weaker}
 use Rattle.sipl_records.specs.declared.record.Key.{Key}
 use Rattle.sipl_records.specs.Sets.{same_key, same_record, conflicts, shares_set}
@@ -15,6 +14,7 @@ use Rattle.sipl_zonestore.specs.declared.fault.StoreFault.TheVariants.{Overlap, 
 use Rattle.sipl_zonestore.specs.Store.{Zones, Store, overlaps, is_covered, records_after_load}
 use Rattle.sipl_zonestore.specs.Edits.{Edit as ZoneEdit, load, unload, add, remove, refusal_of}
 use Rattle.sipl_zonestore.specs.Edited.{IsEdited, IsKept}
+use Rattle.sipl_repair.specs.QueueState.{QueueState}
 use Rattle.sipl_book.specs.Book.{BookState, IsConsistent, IsGoodEntry}
 use Rattle.sipl_book.specs.BookFault.{of_store}
 use Rattle.sipl_book.specs.Calls.{IsChanged}
@@ -24,6 +24,7 @@ use Rattle.sipl_book.specs.declared.edit.Edit.{Edit}
 use Rattle.sipl_book.specs.declared.event.Event.{Event}
 use Rattle.sipl_book.specs.declared.event.Event.TheVariants.{Change}
 use Rattle.sipl_book.specs.declared.fault.BookFault.TheVariants.{JournalFull, Store as OfStore, Memory as BookMemory}
+use Rattle.sipl_book.proofs.Committed.{AllPairs-map}
 use Rattle.sipl_book.proofs.Journal.{legal-push, replay-push}
 
 -- ---- an edit that is accepted is accepted where more records may be kept
@@ -111,33 +112,26 @@ module _ (old new : BookState) (keys : List Key) (client : new.client ≡ old.cl
   all_good-marked entries good =
       All-map (IsGoodEntry new) (marked keys) entries (All-weaker (IsGoodEntry old) (λ entry. IsGoodEntry new (marked keys entry)) good-marked entries good)
 
--- what holds of each two entries holds of them where they are marked
-pairs-map : {X : Type 0} (R : X → X → Type 0) (f : X → X) → ((a b : X) → R a b → R (f a) (f b)) → (xs : List X) → AllPairs R xs → AllPairs R (map f xs)
-pairs-map {X} R f keeps xs pairs =
-    λ i j d below inside.
-    let last : j < length xs = omega (arith, length-map xs f, inside) in
-    subst (λ (p : X × X). R p.0 p.1) (λ k. (sym (get_or-map f xs i d d (omega arith)) k, sym (get_or-map f xs j d d last) k)) (keeps _ _ (pairs i j d below last))
-
 -- ---- an edit that is made
 
-pub consistent-changed : (edit : Edit) (old : BookState) (store : Store) (keys : List Key) (journal : List Event) (entries : List EntryState)
+pub consistent-changed : (edit : Edit) (old : BookState) (store : Store) (keys : List Key) (journal : List Event) (entries : List EntryState) (queue : QueueState)
     → IsConsistent old → IsEdited (zone_edit edit) old.store store (Ok keys) → length old.journal < old.max_events
     → journal ≡ old.journal ++ Change edit ∷ [] → entries ≡ map (marked keys) old.entries
-    → IsConsistent (record old { store = store; journal = journal; entries = entries })
-consistent-changed edit old store keys journal entries good edited space journal_is entries_is =
+    → IsConsistent (record old { store = store; journal = journal; entries = entries; queue = queue })
+consistent-changed edit old store keys journal entries queue good edited space journal_is entries_is =
     let events = old.journal ++ Change edit ∷ [] in
     let longer : length events ≡ length old.journal + 1 = length-append old.journal (Change edit ∷ []) in
     let accepted = edit_with_more old.store.max_records 1048576 (zone_edit edit) old.store.zones good.records_limit (first_none (refusal_of old.store.max_records (zone_edit edit) old.store.zones) _ edited.accepted) in
-    let new : BookState = record old { store = store; journal = events; entries = map (marked keys) old.entries } in
-    subst (λ (p : List Event × List EntryState). IsConsistent (record old { store = store; journal = p.0; entries = p.1 })) (λ i. (sym journal_is i, sym entries_is i))
+    let new : BookState = record old { store = store; journal = events; entries = map (marked keys) old.entries; queue = queue } in
+    subst (λ (p : List Event × List EntryState). IsConsistent (record old { store = store; journal = p.0; entries = p.1; queue = queue })) (λ i. (sym journal_is i, sym entries_is i))
     (record {
       legal = legal-push old.client old.journal (Change edit) empty_state good.legal (subst (IsAccepted old.client (Change edit)) (sym good.replayed) accepted);
       replayed = replay-push old.journal (Change edit) empty_state ∙ ap (after (Change edit)) good.replayed ∙ (λ i. record { zones = sym edited.after i; holds = old.board.holds });
       store = edited.consistent;
       board = good.board;
       entries = all_good-marked old new keys refl edited.kept (omega (arith, longer)) old.entries good.entries;
-      questions = pairs-map (λ a b. a.found.question ≢ b.found.question) (marked keys) (λ a b other. other) old.entries good.questions;
-      ids = pairs-map (λ a b. a.id < b.id) (marked keys) (λ a b below. below) old.entries good.ids;
+      questions = AllPairs-map (marked keys) (λ a b. a.found.question ≢ b.found.question) (λ a b. a.found.question ≢ b.found.question) (λ a b other. other) old.entries good.questions;
+      ids = AllPairs-map (marked keys) (λ a b. a.id < b.id) (λ a b. a.id < b.id) (λ a b below. below) old.entries good.ids;
       few_entries = omega (arith, length-map old.entries (marked keys), good.few_entries);
       few_events = omega (arith, longer, space);
       records_limit = rw edited.limit good.records_limit;
@@ -171,6 +165,7 @@ refused-change edit old store journal fault edited space journal_is =
       next = tt;
       journal = tt;
       entries = tt;
+      queue = tt;
       refused = λ some.
           cond-false (leb old.max_events (length old.journal)) (Some JournalFull) _ (lt-leb old.max_events (length old.journal) space)
           ∙ ap (option_map OfStore) (edited.refused (λ memory. some (ap of_store memory)))

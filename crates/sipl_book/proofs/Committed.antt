@@ -1,9 +1,9 @@
 -- What the commit of a finding leaves of the entries.
-use Rattle.std.proofs.Common.{◌≡◌, ◌≢◌, ◌⊎◌, ℕ, ◌<◌, ◌≤◌, Bool, true, false, cond, ltb, List, [], ◌∷◌, ◌++◌, map, length, Option, None, Some, is_some, inl, inr, refl, sym, ap, subst, ◌∙◌, arith, length-append}
+use Rattle.std.proofs.Common.{◌≡◌, ◌≢◌, ℕ, ◌<◌, ◌≤◌, true, false, cond, ltb, List, [], ◌∷◌, ◌++◌, map, length, Option, None, Some, is_some, refl, sym, subst, ◌∙◌, arith, length-append}
 use Rattle.std.specs.Bool.{Decides}
 use Rattle.std.specs.List.{All, AllPairs}
 use Rattle.std.proofs.Math.ListN.{length-map}
-use Rattle.std.proofs.lemmas.Bool.{true≢false, cond-true, cond-false, cond_both, ltb-true, ltb-false}
+use Rattle.std.proofs.lemmas.Bool.{cond_both, ltb-true, ltb-false}
 use Rattle.std.proofs.lemmas.Bool.Decides.{not_from_Decides}
 use Rattle.std.proofs.lemmas.List.{get_or-map}
 use Rattle.std.proofs.lemmas.List.Elements.{All-nil, All-cons, All-head, All-tail, All-map, All-push, All-weaker}
@@ -11,7 +11,7 @@ use Rattle.std.proofs.lemmas.List.Quantifiers.{all_pairs_push}
 use Rattle.std.proofs.lemmas.Option.{none-some, same_Some}
 use Rattle.sipl_uri.specs.declared.question.Question.{Question}
 use Rattle.sipl_plans.specs.Findings.{Found}
-use Rattle.sipl_book.specs.Entries.{EntryState, is_of, entry_of, is_hot, renewed, committed}
+use Rattle.sipl_book.specs.Entries.{EntryState, is_of, entry_of, renewed, committed}
 use Rattle.sipl_book.proofs.Questions.{same_question_decides}
 
 -- the current entry of a finding
@@ -66,33 +66,6 @@ All-entry_of P q (x ∷ es) e all found =
       | false ↦ λ later. All-entry_of P q es e (All-tail P x es all) later
     ] found
 
--- a renewed entry is found in the place of the old one
-entry_of-renewed : (found : Found) (es : List EntryState) (e : EntryState) → entry_of es found.question ≡ Some e
-    → entry_of (map (renewed found) es) found.question ≡ Some (current e.id found)
-entry_of-renewed found [] e h = absurd (none-some e h)
-entry_of-renewed found (x ∷ es) e h =
-    let q = found.question in
-    elim (is_of q x) as (λ b. is_of q x ≡ b → cond b (Some x) (entry_of es q) ≡ Some e
-    → entry_of (cond b (current x.id found) x ∷ map (renewed found) es) q ≡ Some (current e.id found)) [
-      | true ↦ λ own first.
-          cond-true (is_of q (current x.id found)) (Some (current x.id found)) (entry_of (map (renewed found) es) q) ((same_question_decides q q).1 refl)
-          ∙ ap (λ (y : EntryState). Some (current y.id found)) (same_Some x e first)
-      | false ↦ λ other later.
-          cond-false (is_of q x) (Some x) (entry_of (map (renewed found) es) q) other ∙ entry_of-renewed found es e later
-    ] refl h
-
--- a new entry is found where there was none
-entry_of-push : (found : Found) (id : ℕ) (es : List EntryState) → entry_of es found.question ≡ None
-    → entry_of (es ++ current id found ∷ []) found.question ≡ Some (current id found)
-entry_of-push found id [] none =
-    cond-true (is_of found.question (current id found)) (Some (current id found)) None ((same_question_decides found.question found.question).1 refl)
-entry_of-push found id (x ∷ es) none =
-    let q = found.question in
-    elim (is_of q x) as (λ b. cond b (Some x) (entry_of es q) ≡ None → cond b (Some x) (entry_of (es ++ current id found ∷ []) q) ≡ Some (current id found)) [
-      | true ↦ λ some. absurd (none-some x (sym some))
-      | false ↦ λ rest. entry_of-push found id es rest
-    ] none
-
 -- ---- a commit
 
 -- the question's entry is renewed, or a new one is last, or all places are taken
@@ -112,50 +85,6 @@ committed_cases found number max es P held free full = by (entry_of es found.que
     by None is =
         cond_both (ltb (length es) max) new es P (λ below. free is (ltb-true (length es) max below)) (λ above. full is (ltb-false (length es) max above))
 
-pub committed_held : (found : Found) (number max : ℕ) (es : List EntryState) (e : EntryState) → entry_of es found.question ≡ Some e
-    → committed found number max es ≡ map (renewed found) es
-committed_held found number max es e is =
-    let P : List EntryState → Type 0 = λ new. new ≡ map (renewed found) es in
-    committed_cases found number max es P (λ _ _. refl) (λ none _. absurd (none-some e (sym none ∙ is))) (λ none _. absurd (none-some e (sym none ∙ is)))
-
-pub committed_free : (found : Found) (number max : ℕ) (es : List EntryState) → entry_of es found.question ≡ None → length es < max
-    → committed found number max es ≡ es ++ current number found ∷ []
-committed_free found number max es none below =
-    let P : List EntryState → Type 0 = λ new. new ≡ es ++ current number found ∷ [] in
-    committed_cases found number max es P (λ e is. absurd (none-some e (sym none ∙ is))) (λ _ _. refl) (λ _ above. absurd (omega arith))
-
-pub committed_full : (found : Found) (number max : ℕ) (es : List EntryState) → entry_of es found.question ≡ None → max ≤ length es
-    → committed found number max es ≡ es
-committed_full found number max es none above =
-    let P : List EntryState → Type 0 = λ new. new ≡ es in
-    committed_cases found number max es P (λ e is. absurd (none-some e (sym none ∙ is))) (λ _ below. absurd (omega arith)) (λ _ _. refl)
-
--- the question has the finding, by the number that its entry had
-pub entry_of-committed_held : (found : Found) (number max : ℕ) (es : List EntryState) (e : EntryState) → entry_of es found.question ≡ Some e
-    → entry_of (committed found number max es) found.question ≡ Some (current e.id found)
-entry_of-committed_held found number max es e is =
-    ap (λ new. entry_of new found.question) (committed_held found number max es e is) ∙ entry_of-renewed found es e is
-
--- or by the new number where there is a free place
-pub entry_of-committed_free : (found : Found) (number max : ℕ) (es : List EntryState) → entry_of es found.question ≡ None → length es < max
-    → entry_of (committed found number max es) found.question ≡ Some (current number found)
-entry_of-committed_free found number max es none below =
-    ap (λ new. entry_of new found.question) (committed_free found number max es none below) ∙ entry_of-push found number es none
-
-abbrev is_hot_entry : Option EntryState → Bool
-is_hot_entry o = elim o [ Some e ↦ e.is_current | None ↦ false ]
-
--- so its entry is current where it had one or there is a free place
-pub is_hot-committed : (found : Found) (number max : ℕ) (es : List EntryState) → (is_some (entry_of es found.question) ≡ true) ⊎ (length es < max)
-    → is_hot (committed found number max es) found.question ≡ true
-is_hot-committed found number max es some = by (entry_of es found.question) refl some
-  where
-    by : (o : Option EntryState) → entry_of es found.question ≡ o → (is_some o ≡ true) ⊎ (length es < max)
-        → is_hot (committed found number max es) found.question ≡ true
-    by (Some e) is some = ap is_hot_entry (entry_of-committed_held found number max es e is)
-    by None none (inl some) = absurd (true≢false (sym some))
-    by None none (inr below) = ap is_hot_entry (entry_of-committed_free found number max es none below)
-
 -- ---- what lasts
 
 -- what holds of each entry then holds of each now, where it holds of the finding's by either number
@@ -170,7 +99,7 @@ All-committed Good Kept found number max es kept renews adds all =
     (λ _ _. All-weaker Good Kept kept es all)
 
 -- pairs of the images
-AllPairs-map : {X Y : Type 0} (f : X → Y) (R : X → X → Type 0) (S : Y → Y → Type 0) → ((a b : X) → R a b → S (f a) (f b))
+pub AllPairs-map : {X Y : Type 0} (f : X → Y) (R : X → X → Type 0) (S : Y → Y → Type 0) → ((a b : X) → R a b → S (f a) (f b))
     → (xs : List X) → AllPairs R xs → AllPairs S (map f xs)
 AllPairs-map f R S each [] all = λ i j d below within. absurd (omega arith)
 AllPairs-map {X} {Y} f R S each (x ∷ xs) all =

@@ -9,3 +9,8 @@ pub mod Committing
 pub mod Answering
 pub mod Marking
 pub mod Changing
+pub mod Ids
+pub mod Queues
+pub mod Removing
+pub mod Caches
+pub mod Settling

@@ -1,5 +1,5 @@
 -- The table of the entries: its look-ups, and what a change of it leaves.
-use Rattle.std.proofs.Common.{◌≡◌, ◌≢◌, ℕ, suc, ◌<◌, true, false, cond, List, [], ◌∷◌, map, length, None, Some, refl, sym, ap, subst, ◌∙◌, arith}
+use Rattle.std.proofs.Common.{◌≡◌, ◌≢◌, ℕ, suc, ◌<◌, true, false, cond, List, [], ◌∷◌, ◌++◌, map, length, None, Some, refl, sym, ap, subst, ◌∙◌, arith}
 use Rattle.std.specs.List.{All, AllPairs, IsDistinct}
 use Rattle.std.specs.Map.{keys_of, values_of, lookup}
 use Rattle.std.proofs.Math.ListN.{length-map}
@@ -14,10 +14,10 @@ use Rattle.sipl_uri.specs.declared.question.Question.{Question}
 use Rattle.sipl_uri.specs.contracts.question.QuestionPartialEq.TheImpl.{eq-value}
 use Rattle.sipl_plans.specs.Findings.{Found}
 use Rattle.sipl_book.specs.Questions.{same_question}
-use Rattle.sipl_book.specs.Entries.{EntryState, is_of, entry_of, renewed, committed}
+use Rattle.sipl_book.specs.Entries.{EntryState, is_of, entry_of, renewed}
 use Rattle.sipl_book.specs.EntryTable.{IsTable}
 use Rattle.sipl_book.proofs.Questions.{same_question_decides, same_question-equivalence, derived_eq}
-use Rattle.sipl_book.proofs.Committed.{current, renewed_cases, is_of_decides, committed_held, committed_free}
+use Rattle.sipl_book.proofs.Committed.{current, renewed_cases, is_of_decides}
 
 abbrev pub Rows : Type 0
 Rows = List (Question × EntryState)
@@ -31,11 +31,11 @@ pub IsTable-nil : IsTable []
 unfolding IsDistinct
 IsTable-nil = record { keyed = All-nil IsKeyed; distinct = tt }
 
-IsTable-tail : (x : Question × EntryState) (es : Rows) → IsTable (x ∷ es) → IsTable es
+pub IsTable-tail : (x : Question × EntryState) (es : Rows) → IsTable (x ∷ es) → IsTable es
 IsTable-tail x es table =
     record { keyed = All-tail IsKeyed x es table.keyed; distinct = IsDistinct-tail same_question x.0 (keys_of es) table.distinct }
 
-is_of-row : (k : Question) (x : Question × EntryState) → IsKeyed x → is_of k x.1 ≡ same_question k x.0
+pub is_of-row : (k : Question) (x : Question × EntryState) → IsKeyed x → is_of k x.1 ≡ same_question k x.0
 is_of-row k x keyed = ap (λ q. same_question q k) keyed ∙ same_question-equivalence.symm x.0 k
 
 -- a look-up finds the entry of the question
@@ -81,7 +81,7 @@ map-renewed_other found x es own apart =
         λ i. stays i ∷ by xs (All-tail P e xs h) i
 
 -- the insertion of the new entry of a question that has one renews it
-values-insert_entry_held : (found : Found) (es : Rows) (e : EntryState) → IsTable es → entry_of (values_of es) found.question ≡ Some e
+pub values-insert_entry_held : (found : Found) (es : Rows) (e : EntryState) → IsTable es → entry_of (values_of es) found.question ≡ Some e
     → values_of (insert_entry same_question es found.question (current e.id found)) ≡ map (renewed found) (values_of es)
 values-insert_entry_held found [] e table is = absurd (none-some e is)
 values-insert_entry_held found (x ∷ es) e table is =
@@ -98,23 +98,14 @@ values-insert_entry_held found (x ∷ es) e table is =
       | false ↦ λ other later. let stays = cond-false (is_of q x.1) (current x.1.id found) x.1 other in λ i. sym stays i ∷ rest later i
     ] row (ap (λ b. cond b (Some x.1) (entry_of (values_of es) q)) (sym row) ∙ is)
 
--- so it commits the finding
-pub insert_entry-held : (found : Found) (number max : ℕ) (es : Rows) (e : EntryState) → IsTable es → entry_of (values_of es) found.question ≡ Some e
-    → values_of (insert_entry eq-value.it es found.question (current e.id found)) ≡ committed found number max (values_of es)
-insert_entry-held found number max es e table is =
-    ap (λ same. values_of (insert_entry same es found.question (current e.id found))) derived_eq
-    ∙ values-insert_entry_held found es e table is ∙ sym (committed_held found number max (values_of es) e is)
-
--- and so does that of a question that has none, where there is a free place
-pub insert_entry-free : (found : Found) (number max : ℕ) (es : Rows) → IsTable es → entry_of (values_of es) found.question ≡ None → length es < max
-    → values_of (insert_entry eq-value.it es found.question (current number found)) ≡ committed found number max (values_of es)
-insert_entry-free found number max es table none below =
+-- and that of a question that has none is last
+pub insert_entry-new : (found : Found) (id : ℕ) (es : Rows) → IsTable es → entry_of (values_of es) found.question ≡ None
+    → values_of (insert_entry eq-value.it es found.question (current id found)) ≡ values_of es ++ current id found ∷ []
+insert_entry-new found id es table none =
     let q = found.question in
-    let v = current number found in
+    let v = current id found in
     let absent = absent_from_lookup (eq-value.it q) es (get-entry_of q es table ∙ none) in
-    ap values_of (insert_entry-absent eq-value.it q v es absent)
-    ∙ map-append (λ e. e.1) es ((q, v) ∷ [])
-    ∙ sym (committed_free found number max (values_of es) none (omega (arith, length-map es (λ e. e.1))))
+    ap values_of (insert_entry-absent eq-value.it q v es absent) ∙ map-append (λ e. e.1) es ((q, v) ∷ [])
 
 keyed-insert_entry : (k : Question) (v : EntryState) (es : Rows) → v.found.question ≡ k → All IsKeyed es → All IsKeyed (insert_entry same_question es k v)
 keyed-insert_entry k v [] own all = All-cons IsKeyed (k, v) [] own (All-nil IsKeyed)

@@ -12,19 +12,23 @@ use Rattle.sipl_outages.specs.Holds.{no_holds}
 use Rattle.sipl_plans.specs.Findings.{Found, IsSound}
 use Rattle.sipl_plans.specs.Route.{route}
 use Rattle.sipl_plans.specs.declared.answer.Answer.{Answer as Targets}
+use Rattle.sipl_repair.specs.QueueState.{QueueState}
+use Rattle.sipl_book.specs.Cache.{new_queue}
 use Rattle.sipl_book.specs.Entries.{EntryState}
 use Rattle.sipl_book.specs.Machine.{State, empty_state, answer_in, IsLegal, replay}
 use Rattle.sipl_book.specs.declared.event.Event.{Event}
 use Rattle.sipl_book.specs.declared.limits.Limits.{Limits}
 
 -- what callers see of a book: the client's abilities, the zones with the numbers of their sets, the
--- holds and the clock, the events, the entries, and the maxima of entries and events
+-- holds and the clock, the events, the entries with the queue of those that are not current, and the
+-- maxima of entries and events
 pub record BookState : Type 0 where
   pub client : Client
   pub store : Store
   pub board : BoardState
   pub journal : List Event
   pub entries : List EntryState
+  pub queue : QueueState
   pub max_entries : ℕ
   pub max_events : ℕ
 
@@ -51,6 +55,7 @@ new_book client limits =
       board = record { holds = no_holds; max_holds = limits.holds };
       journal = [];
       entries = [];
+      queue = new_queue limits.entries;
       max_entries = limits.entries;
       max_events = limits.journal;
     }

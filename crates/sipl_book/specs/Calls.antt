@@ -1,5 +1,5 @@
 -- What the calls of a book do, and how they end.
-use Rattle.std.specs.Prelude.{◌≡◌, ◌≢◌, ℕ, Bool, not, ◌==◌, ◌&&◌, List, [], ◌∷◌, ◌++◌, length, map, position, nat_le, if◌then◌else◌, Option, None, Some, option_map, Result, OnOk, OnErr, IfOk, IfErr}
+use Rattle.std.specs.Prelude.{◌≡◌, ◌≢◌, ℕ, Bool, not, ◌==◌, ◌&&◌, List, [], ◌∷◌, ◌++◌, length, map, position, nat_le, if◌then◌else◌, Option, None, Some, is_some, option_map, Result, Ok, OnOk, OnErr, IfOk, IfErr, true, false}
 use lib.Pointwise.{pointwise}
 use Rattle.sipl_records.specs.Sets.{set_of, same_data}
 use Rattle.sipl_records.specs.declared.record.Key.{Key}
@@ -15,13 +15,16 @@ use Rattle.sipl_outages.specs.Holds.{BoardEvent, refusal_of as hold_refusal, aft
 use Rattle.sipl_outages.specs.Holds.BoardEvent.{Hold as HoldFor, Release as ReleaseOf, Advance as AdvanceTo}
 use Rattle.sipl_plans.specs.Findings.{Found}
 use Rattle.sipl_book.specs.Book.{BookState, answer_now}
-use Rattle.sipl_book.specs.Entries.{is_hot, marked, committed}
+use Rattle.sipl_repair.specs.QueueState.{after_lease, after_settle, first_of, is_leased}
+use Rattle.sipl_repair.specs.declared.fault.QueueFault.TheVariants.{Empty}
+use Rattle.sipl_book.specs.Entries.{entry_of, is_hot, marked, committed, renewed}
 use Rattle.sipl_book.specs.Machine.{zone_edit}
+use Rattle.sipl_book.specs.Repairs.{after_failure, after_marks, after_removal, after_renewal, after_return, dependents, entry_with, is_leased_for, without}
 use Rattle.sipl_book.specs.declared.edit.Edit.{Edit}
 use Rattle.sipl_book.specs.declared.event.Event.{Event}
 use Rattle.sipl_book.specs.declared.event.Event.TheVariants.{Change, Hold, Release, Advance, Answer}
 use Rattle.sipl_book.specs.declared.fault.BookFault.{BookFault}
-use Rattle.sipl_book.specs.declared.fault.BookFault.TheVariants.{JournalFull, Cold, Stale, Store as StoreFault, Board, Memory}
+use Rattle.sipl_book.specs.declared.fault.BookFault.TheVariants.{JournalFull, Cold, Stale, Unknown, Gone, Queue, Store as StoreFault, Board, Memory}
 use Rattle.sipl_book.specs.declared.outcome.Changed.{Changed}
 use Rattle.sipl_book.specs.declared.outcome.Handed.{Handed}
 use Rattle.sipl_book.specs.declared.outcome.Uncommitted.{Uncommitted}
@@ -41,7 +44,8 @@ change_refusal edit book =
     unless_full book (option_map StoreFault (store_refusal (zone_edit edit) book.store))
 
 -- An accepted edit changes the zones, the numbers of their sets, and which entries are current, and
--- is the next event. A refused one changes nothing.
+-- is the next event. The entries that it makes not current are queued in their order, but for those
+-- that are leased. A refused one changes nothing.
 pub record IsChanged (edit : Edit) (old new : BookState) (result : Result Changed BookFault)
     : Type 0 where
   pub accepted : OnOk result (change_refusal edit old ≡ None)
@@ -57,6 +61,8 @@ pub record IsChanged (edit : Edit) (old new : BookState) (result : Result Change
   pub journal : OnOk result (new.journal ≡ old.journal ++ Change edit ∷ [])
   pub entries : OnOk result (new.entries
       ≡ map (marked (changed_keys old.store.zones.records new.store.zones.records)) old.entries)
+  pub queue : OnOk result (new.queue ≡ after_marks old.queue
+      (dependents (changed_keys old.store.zones.records new.store.zones.records) old.entries))
   pub refused : IfErr result (λ fault. fault ≢ Memory → change_refusal edit old ≡ Some fault)
   pub unchanged : OnErr result (new ≡ old)
   pub looks : new.store.looks ≡ old.store.looks
@@ -137,10 +143,11 @@ abbrev pub after_commit : Found → List ℕ → BookState → BookState
 after_commit found words book =
     recorded (answer_event book found.question words) (record book {
       entries = committed found (length book.journal) book.max_entries book.entries;
+      queue = after_renewal book.queue (entry_of book.entries found.question);
     })
 
 -- A finding that is committed gives the answer of the records and the holds as they are, which is
--- the next event, and the question's entry is current. A refused one is handed back, and changes
+-- the next event, and the question's entry is current and not queued. A refused one is handed back, and changes
 -- nothing. Either may count looks.
 pub record IsCommitted (found : Found) (words : List ℕ) (old new : BookState)
     (result : Result Handed Uncommitted) : Type 0 where
@@ -156,3 +163,68 @@ pub record IsCommitted (found : Found) (words : List ℕ) (old new : BookState)
 -- a book after one look at a set
 abbrev pub after_look : BookState → BookState
 after_look book = record book { store = looked book.store }
+
+-- A lease is that of the first queued entry, which is not leased yet, and comes with its question.
+-- Nothing else changes.
+pub record IsLeased (old new : BookState) (result : Result (ℕ × Question) BookFault) : Type 0 where
+  pub id : IfOk result (λ leased. first_of old.queue.queued ≡ Ok leased.0)
+  pub question : IfOk result (λ leased.
+      option_map (λ e. e.found.question) (entry_with old.entries leased.0) ≡ Some leased.1)
+  pub idle : IfOk result (λ leased. is_leased old.queue leased.0 ≡ false)
+  pub after : OnOk result (new ≡ record old { queue = after_lease old.queue })
+  pub empty : IfErr result
+      (λ fault. fault ≢ Memory → (fault ≡ Queue Empty) × (old.queue.queued ≡ []))
+  pub unchanged : OnErr result (new ≡ old)
+
+-- the book after a lease was given back
+abbrev pub after_give_back : ℕ → BookState → BookState
+after_give_back id book = record book { queue = after_return book.entries book.queue id }
+
+-- the fault of a settlement: the lease is not that of the question's entry, or the place, from 0, of
+-- the first set that is no longer as it was read
+abbrev pub settle_refusal : ℕ → Found → BookState → Option BookFault
+settle_refusal id found book =
+    if is_leased_for book.entries book.queue id found.question
+    then option_map Stale (position (is_stale book.store) found.items) else Some Gone
+
+-- the book after a settlement that was refused for a set
+abbrev pub after_stale : ℕ → BookState → BookState
+after_stale id book = record book { queue = after_failure book.entries book.queue id }
+
+-- the book after a settlement
+abbrev pub after_settlement : ℕ → Found → BookState → BookState
+after_settlement id found book =
+    record book {
+      entries = map (renewed found) book.entries;
+      queue = after_settle book.queue id;
+    }
+
+-- A finding that is settled is that of the leased entry, which is current then. A refused one is
+-- handed back; its lease is spent as one that is given back, or else its entry is the last of the
+-- queue, unless it is current. No event is recorded. Looks may be counted.
+pub record IsSettled (id : ℕ) (found : Found) (old new : BookState)
+    (result : Result (Unit {0}) Uncommitted) : Type 0 where
+  pub accepted : OnOk result (settle_refusal id found old ≡ None)
+  pub after : OnOk result (new ≡ with_looks new.store.looks (after_settlement id found old))
+  pub refused : IfErr result (λ uncommitted. settle_refusal id found old ≡ Some uncommitted.fault)
+  pub finding : IfErr result (λ uncommitted. uncommitted.finding ≡ found)
+  pub gone : IfErr result (λ uncommitted. uncommitted.fault ≡ Gone → new ≡ after_give_back id old)
+  pub stale : IfErr result (λ uncommitted. uncommitted.fault ≢ Gone
+      → new ≡ with_looks new.store.looks (after_stale id old))
+
+-- the book without the entry of a question
+abbrev pub after_forget : Question → BookState → BookState
+after_forget question book =
+    record book {
+      entries = without question book.entries;
+      queue = after_removal book.queue (entry_of book.entries question);
+    }
+
+-- Only an entry that is there is forgotten. Nothing else changes.
+pub record IsForgotten (question : Question) (old new : BookState)
+    (result : Result (Unit {0}) BookFault) : Type 0 where
+  pub known : OnOk result (is_some (entry_of old.entries question) ≡ true)
+  pub after : OnOk result (new ≡ after_forget question old)
+  pub refused : IfErr result
+      (λ fault. (fault ≡ Unknown) × (entry_of old.entries question ≡ None))
+  pub unchanged : OnErr result (new ≡ old)

@@ -5,3 +5,6 @@ pub mod Calls
 pub mod BookFault
 pub mod EntryTable
 pub mod Questions
+pub mod Repairs
+pub mod Cache
+pub mod Codes

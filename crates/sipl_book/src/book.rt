@@ -9,13 +9,14 @@ ghost use Rattle.sipl_plans.specs.Plan.{draw, plan};
 ghost use Rattle.sipl_plans.specs.Runs.{IsSet};
 ghost use Rattle.sipl_plans.specs.Servers.{HasFewServers};
 ghost use Rattle.sipl_book.specs.Book.{HasRoute, IsConsistent, IsGoodEntry, new_book, state_of};
-ghost use Rattle.sipl_book.specs.Calls.{IsChanged, MovesBoard, IsHanded, IsCommitted, after_look, is_stale, store_with_looks};
+ghost use Rattle.sipl_book.specs.Calls.{IsChanged, MovesBoard, IsHanded, IsCommitted, IsLeased, IsSettled, IsForgotten, after_give_back, after_look, is_stale, store_with_looks};
 ghost use Rattle.sipl_book.specs.Entries.{entry_of};
+ghost use Rattle.sipl_book.specs.Repairs.{IsQueueOf};
 ghost use Rattle.sipl_book.specs.Machine.{IsLegal, replay, empty_state};
 
+use crate::cache::Cache;
 use crate::checks::{first_stale, reserve_event};
 use crate::edit::Edit;
-use crate::entries::Entries;
 use crate::entry::Entry;
 use crate::event::Event;
 use crate::fault::BookFault;
@@ -26,6 +27,7 @@ use sipl_evidence::dup_data;
 use sipl_outages::Board;
 use sipl_plans::{Answer, Finding, Layout, draw};
 use sipl_records::{Data, Key, Sequence};
+use sipl_repair::Lease;
 use sipl_srv::Draws;
 use sipl_uri::Question;
 use sipl_zonestore::ZoneStore;
@@ -39,7 +41,7 @@ use std::marker::Model;
 /// time), the numbers of the record sets, the journal and the entries. The journal is always legal
 /// from the empty state: each edit, hold, release and move of the clock in it was accepted there,
 /// and each answer is what RFC 3263, 4, gives from scratch on the records and holds at its place. A
-/// current entry's record sets are as they were read.
+/// current entry's record sets are as they were read; each other entry is queued or leased.
 #[derive(Drop)]
 pub struct Book {
     alloc: Global,
@@ -47,8 +49,7 @@ pub struct Book {
     store: ZoneStore,
     board: Board,
     journal: Vec<Event>,
-    entries: Entries,
-    max_entries: usize,
+    cache: Cache,
     max_events: usize,
 }
 
@@ -57,13 +58,18 @@ impl Model for Book {
 
     ghost Value = { BookState };
 
+    ghost use Rattle.sipl_book.specs.Codes.{book_code};
+
+    ghost coded = { book_code };
+
     ghost view = { λ b. record {
       client = b.abilities;
       store = b.store;
       board = b.board;
       journal = b.journal.items;
-      entries = b.entries;
-      max_entries = b.max_entries;
+      entries = b.cache.entries;
+      queue = b.cache.queue;
+      max_entries = b.cache.max_entries;
       max_events = b.max_events;
     } };
 
@@ -72,8 +78,9 @@ impl Model for Book {
       store = b.store;
       board = b.board;
       journal = b.journal.items;
-      entries = b.entries;
-      max_entries = b.max_entries;
+      entries = b.cache.entries;
+      queue = b.cache.queue;
+      max_entries = b.cache.max_entries;
       max_events = b.max_events;
     }) };
 }
@@ -95,14 +102,14 @@ impl Book {
             store: ZoneStore::with(alloc, limits.next, limits.records),
             board: Board::with(alloc, limits.holds),
             journal: Vec::new(alloc),
-            entries: Entries::new(alloc),
-            max_entries: limits.entries,
+            cache: Cache::new(alloc, limits.entries),
             max_events: limits.journal,
         }
     }
 
     /// Edits the zones. The entries whose evidence has the key of a set that changed are no longer
-    /// current. The cost is that of the edit, and a look-up for each entry and each key.
+    /// current, and are queued in their order, but for those that are leased. The cost is that of the
+    /// edit, and a look-up for each entry and each key.
     ///
     /// The fault is the first one: a full journal (B3), a fault of the zones (S1 to S8).
     pub fn change(&mut self, edit: Edit) -> Result<Changed, BookFault>
@@ -110,7 +117,7 @@ impl Book {
     {
         reserve_event(&mut self.journal, self.max_events)?;
         let keys = edit.apply(&mut self.store)?;
-        self.entries.mark(keys.as_slice());
+        self.cache.mark(keys.as_slice());
         let number = record_event(&mut self.journal, Event::Change(edit));
         Ok(Changed {
             number,
@@ -179,7 +186,7 @@ impl Book {
         ensures { IsHanded question.now draws.now self.old self.new result }
     {
         reserve_event(&mut self.journal, self.max_events)?;
-        let layout = match self.entries.get(question) {
+        let layout = match self.cache.get(question) {
             Some(entry) if entry.is_current() => entry.layout(),
             _ => return Err(BookFault::Cold),
         };
@@ -208,12 +215,80 @@ impl Book {
             Err(fault) => return Err(Uncommitted { fault, finding }),
         };
         let id = self.journal.len() as u64;
-        if let Err(finding) = self.entries.commit(finding, id, self.max_entries) {
+        if let Err(finding) = self.cache.commit(finding, id) {
             let fault = BookFault::Memory;
             return Err(Uncommitted { fault, finding });
         }
         let number = record_event(&mut self.journal, event);
         Ok(Handed { number, answer })
+    }
+
+    /// Leases the first queued entry: its question is to be looked up again, and the finding to be
+    /// settled with the lease. The question is a copy. Logarithmic in the number of entries.
+    ///
+    /// The fault is that none is queued (Q1), or a failed allocation; then nothing changes.
+    pub fn lease(&mut self) -> Result<(Lease, Question), BookFault>
+        ensures leased { IsLeased self.old self.new result }
+        ensures entry { IfOk result (λ leased.
+            option_map (λ e. e.id) (entry_of self.old.entries leased.1) ≡ Some leased.0) }
+    {
+        self.cache.lease()
+    }
+
+    /// Settles a lease with a finding: the entry of its question gets it and is current. Compares the
+    /// sets that were read with those of the zones, which counts looks. Records no event. Does not
+    /// allocate. Linear in the evidence.
+    ///
+    /// The fault is the first one: the finding's question has no entry with the lease's id, or that
+    /// is not leased (B5), and the lease is spent as by `give_back`; a set whose number or data are
+    /// no longer as they were read (B2), and the entry is the last one of the queue, unless it is
+    /// current. The finding is returned with it.
+    pub fn settle_checked(&mut self, lease: Lease, finding: Finding) -> Result<(), Uncommitted>
+        requires client { finding.client ≡ self.old.client }
+        ensures { IsSettled lease finding self.old self.new result }
+    {
+        if !self.cache.is_leased_for(lease.id(), finding.question()) {
+            self.cache.give_back(lease);
+            let fault = BookFault::Gone;
+            return Err(Uncommitted { fault, finding });
+        }
+        if let Some(place) = first_stale(&mut self.store, finding.evidence().items()) {
+            self.cache.requeue(lease);
+            let fault = BookFault::Stale(place);
+            return Err(Uncommitted { fault, finding });
+        }
+        self.cache.settle(lease, finding);
+        Ok(())
+    }
+
+    /// Spends a lease without a finding: its entry is the next one of the queue, unless it is current
+    /// or was forgotten. Does not allocate. Logarithmic in the number of entries.
+    pub fn give_back(&mut self, lease: Lease)
+        ensures { self.new ≡ after_give_back lease self.old }
+    {
+        self.cache.give_back(lease);
+    }
+
+    /// Forgets the entry of a question, whether it is current, queued or leased. Does not allocate.
+    /// Linear in the number of entries.
+    ///
+    /// The fault is that the question has none (B4).
+    pub fn forget(&mut self, question: &Question) -> Result<(), BookFault>
+        ensures { IsForgotten question.now self.old self.new result }
+    {
+        if !self.cache.forget(question) {
+            return Err(BookFault::Unknown);
+        }
+        Ok(())
+    }
+
+    /// How many entries are queued. No id is queued twice, or both queued and leased, and each entry
+    /// that is not current is queued or leased.
+    pub fn queued(&self) -> u64
+        ensures count { result ≡ length self.now.queue.queued }
+        ensures queue { IsQueueOf self.now.entries self.now.queue }
+    {
+        self.cache.queued() as u64
     }
 
     /// The entry of a question, if there is one. Constant time but for hashing. Does not allocate.
@@ -222,7 +297,7 @@ impl Book {
         ensures good { All (IsGoodEntry self.now) self.now.entries }
         ensures routes { All (HasRoute self.now) self.now.entries }
     {
-        self.entries.get(question)
+        self.cache.get(question)
     }
 
     /// The events, in their order. They are legal from the empty state and lead to the state as it is.

@@ -1,13 +1,16 @@
 //! The entries of a book, by their questions.
-ghost use Rattle.std.specs.Prelude.{◌≡◌, ◌≢◌, [], length, map, IfErr, OnOk, OnErr};
+ghost use Rattle.std.specs.Prelude.{◌≡◌, ◌≢◌, ◌≤◌, [], ◌∷◌, ◌++◌, length, map, option_map, None, true, IfErr, OnOk, OnErr};
 ghost use Rattle.std.specs.List.{AllPairs};
 ghost use Rattle.std.specs.Option.{option_copied};
-ghost use Rattle.sipl_book.specs.Entries.{committed, entry_of, marked};
+ghost use Rattle.sipl_book.specs.Cache.{InOrder};
+ghost use Rattle.sipl_book.specs.Entries.{entry_of, marked, renewed};
+ghost use Rattle.sipl_book.specs.Repairs.{IsQueueAmong, after_marks, entry_with, is_outdated, outdated, without};
 
 use crate::entry::Entry;
 use indexmap::IndexMap;
 use sipl_plans::Finding;
 use sipl_records::Key;
+use sipl_repair::Queue;
 use sipl_uri::Question;
 use std::alloc::Global;
 use std::marker::Model;
@@ -64,24 +67,16 @@ impl Entries {
         });
     }
 
-    /// Makes a finding the current one of its question: of the question's entry, or else of a new
-    /// entry with this number, unless there are `max` entries. Constant time but for hashing. The
-    /// only error is an allocation failure: the finding is returned, and the entries are unchanged.
-    pub(crate) fn commit(
-        &mut self,
-        finding: Finding,
-        number: u64,
-        max: usize,
-    ) -> Result<(), Finding>
-        ensures ok { OnOk result (self.new ≡ committed finding number max self.old) }
+    /// Adds a current entry with this id for a question that has none. Constant time but for hashing.
+    /// The only error is an allocation failure: the finding is returned, and the entries are
+    /// unchanged.
+    pub(crate) fn add(&mut self, finding: Finding, id: u64) -> Result<(), Finding>
+        requires new { entry_of self.old finding.question ≡ None }
+        ensures ok { OnOk result (self.new
+            ≡ self.old ++ record { id = id; is_current = true; found = finding } ∷ []) }
         ensures err { OnErr result (self.new ≡ self.old) }
         ensures finding { IfErr result (λ returned. returned ≡ finding) }
     {
-        let id = match self.table.get(finding.question()) {
-            Some(entry) => entry.id(),
-            None if self.table.len() >= max => return Ok(()),
-            None => number,
-        };
         let Ok(question) = finding.question().dup(self.alloc) else {
             return Err(finding);
         };
@@ -89,5 +84,70 @@ impl Entries {
             Ok(_) => Ok(()),
             Err(failed) => Err(failed.value.1.into_finding()),
         }
+    }
+
+    /// How many entries there are.
+    pub(crate) fn len(&self) -> usize
+        ensures { result ≡ length self.now }
+    {
+        self.table.len()
+    }
+
+    /// The entry with an id. Logarithmic in the number of entries.
+    pub(crate) fn get_by_id(&self, id: u64) -> Option<&Entry>
+        requires order { InOrder self.now }
+        ensures { option_copied result ≡ entry_with self.now id }
+    {
+        let entries = self.table.values().as_slice();
+        match entries.binary_search_by_key(&id, |entry| entry.id()) {
+            Ok(index) => Some(&entries[index]),
+            Err(_) => None,
+        }
+    }
+
+    /// Whether an id is that of an entry that is not current. Logarithmic in the number of entries.
+    pub(crate) fn is_outdated(&self, id: u64) -> bool
+        requires order { InOrder self.now }
+        ensures { result ≡ is_outdated self.now id }
+    {
+        match self.get_by_id(id) {
+            Some(entry) => !entry.is_current(),
+            None => false,
+        }
+    }
+
+    /// Marks the ids of the entries that are not current in their order. Linear in the number of
+    /// entries.
+    pub(crate) fn queue_outdated(&self, queue: &mut Queue)
+        requires order { InOrder self.now }
+        requires space { length self.now ≤ queue.old.capacity }
+        requires among { IsQueueAmong self.now queue.old }
+        ensures { queue.new ≡ after_marks queue.old (outdated self.now) }
+    {
+        for entry in self.table.values().as_slice() {
+            if !entry.is_current() {
+                queue.mark(entry.id());
+            }
+        }
+    }
+
+    /// Gives a finding to the entry of its question, which is current then. Without such an entry
+    /// nothing changes. Constant time but for hashing. Does not allocate.
+    pub(crate) fn renew(&mut self, finding: Finding)
+        ensures { self.new ≡ map (renewed finding) self.old }
+    {
+        if let Some(entry) = self.table.get_mut(finding.question()) {
+            entry.renew(finding);
+        }
+    }
+
+    /// Removes the entry of a question, and returns its id. Linear in the number of entries.
+    pub(crate) fn remove(&mut self, question: &Question) -> Option<u64>
+        ensures questions { AllPairs (λ a b. a.found.question ≢ b.found.question) self.old }
+        ensures id { result ≡ option_map (λ e. e.id) (entry_of self.old question.now) }
+        ensures after { self.new ≡ without question.now self.old }
+    {
+        let entry = self.table.shift_remove(question)?;
+        Some(entry.id())
     }
 }

@@ -45,6 +45,14 @@ impl Entry {
         self.finding
     }
 
+    // Replaces the finding. The entry is current.
+    pub(crate) fn renew(&mut self, finding: Finding)
+        ensures { self.new ≡ record { id = self.old.id; is_current = true; found = finding } }
+    {
+        self.is_current = true;
+        self.finding = finding;
+    }
+
     // Marks the entry as not current where one of these keys, whose sets changed, is in its
     // evidence. Linear in the number of keys.
     pub(crate) fn mark(&mut self, changed: &[Key])

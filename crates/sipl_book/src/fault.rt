@@ -2,6 +2,7 @@ ghost use Rattle.std.specs.Prelude.{◌≡◌};
 ghost use Rattle.sipl_book.specs.BookFault.{code_of, message_of};
 
 use sipl_outages::BoardFault;
+use sipl_repair::QueueFault;
 use sipl_zonestore::StoreFault;
 use std::alloc::{AllocError, AllocFailed};
 use std::error::Error;
@@ -17,6 +18,13 @@ pub enum BookFault {
     /// B2: a record set is no longer as it was read. The place of the first such item in the
     /// evidence, from 0.
     Stale(usize),
+    /// B4: the question has no entry.
+    Unknown,
+    /// B5: the lease is not one of the question's entry: that was forgotten, or the lease is another
+    /// book's.
+    Gone,
+    /// A fault of the queue: no entry is queued (Q1).
+    Queue(QueueFault),
     /// A fault of the zones.
     Store(StoreFault),
     /// A fault of the holds or the clock.
@@ -34,6 +42,9 @@ impl BookFault {
             BookFault::JournalFull => "B3",
             BookFault::Cold => "B1",
             BookFault::Stale(_) => "B2",
+            BookFault::Unknown => "B4",
+            BookFault::Gone => "B5",
+            BookFault::Queue(fault) => fault.code(),
             BookFault::Store(fault) => fault.code(),
             BookFault::Board(fault) => fault.code(),
             BookFault::Memory => "Memory",
@@ -51,6 +62,9 @@ impl fmt::Display for BookFault {
             BookFault::JournalFull => f.write_str("the journal is full"),
             BookFault::Cold => f.write_str("the question has no current entry"),
             BookFault::Stale(_) => f.write_str("a record set has changed since it was read"),
+            BookFault::Unknown => f.write_str("the question has no entry"),
+            BookFault::Gone => f.write_str("the lease is not one of the question's entry"),
+            BookFault::Queue(fault) => fault.fmt(f),
             BookFault::Store(fault) => fault.fmt(f),
             BookFault::Board(fault) => fault.fmt(f),
             BookFault::Memory => f.write_str("out of memory"),
@@ -85,6 +99,17 @@ impl From<BoardFault> for BookFault {
             BoardFault::Memory => BookFault::Memory,
             fault => BookFault::Board(fault),
         }
+    }
+}
+
+impl From<QueueFault> for BookFault {
+    ghost use Rattle.std.specs.Prelude.{◌≡◌};
+    ghost use Rattle.sipl_book.specs.declared.fault.BookFault.TheVariants.{Queue};
+
+    ghost from_gives = { λ cause fault. fault ≡ Queue cause };
+
+    fn from(fault: QueueFault) -> BookFault {
+        BookFault::Queue(fault)
     }
 }
 

@@ -6,6 +6,7 @@
 #![tactic(auto)]
 
 mod book;
+mod cache;
 mod checks;
 mod edit;
 mod entries;

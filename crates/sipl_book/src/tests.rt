@@ -1,6 +1,8 @@
 //! Tests of a book over a zone of three NAPTR records, two SRV records and two addresses.
 ghost use Rattle.std.specs.Prelude.{◌≡◌, ◌≤◌, ◌^◌, [], ◌∷◌, IfOk};
 
+mod repairs;
+
 use crate::{Book, BookFault, Changed, Edit, Limits};
 use sipl_choice::{Abilities, Endpoint, Families, Transport};
 use sipl_masterfile::{read_record, read_zone};
@@ -69,12 +71,20 @@ fn question(alloc: Global, uri: &[u8]) -> Result<Question, Fail> {
     Ok(Uri::parse(alloc, uri)?)
 }
 
-// What a run over the book's sets finds.
+// What a run over the book's sets finds for a URI.
 fn find(alloc: Global, book: &mut Book, uri: &[u8]) -> Result<Finding, Fail>
     ensures client { book.new.client ≡ book.old.client }
     ensures finding { IfOk result (λ finding. finding.client ≡ book.old.client) }
 {
-    let mut run = Run::start(alloc, question(alloc, uri)?, book.abilities())?;
+    run(alloc, book, question(alloc, uri)?)
+}
+
+// What a run over the book's sets finds.
+fn run(alloc: Global, book: &mut Book, question: Question) -> Result<Finding, Fail>
+    ensures client { book.new.client ≡ book.old.client }
+    ensures finding { IfOk result (λ finding. finding.client ≡ book.old.client) }
+{
+    let mut run = Run::start(alloc, question, book.abilities())?;
     while let Some(key) = run.wants() {
         let (number, content) = book.read(key)?;
         run.give(alloc, number, content.as_slice())?;

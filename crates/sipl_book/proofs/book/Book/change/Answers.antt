@@ -1,6 +1,10 @@
-use Rattle.std.proofs.Common.{[], ◌∷◌, ◌++◌, ap, ◌∙◌, map}
+use Rattle.std.proofs.Common.{◌≡◌, List, [], ◌∷◌, ◌++◌, map, refl, sym, ap, subst, ◌∙◌}
 use Rattle.std.proofs.lemmas.Result.{err_from_is_err_and}
+use Rattle.sipl_records.specs.declared.record.Key.{Key}
+use Rattle.sipl_book.specs.Book.{IsConsistent}
+use Rattle.sipl_book.specs.Cache.{CacheState}
 use Rattle.sipl_book.specs.Entries.{marked}
+use Rattle.sipl_book.specs.Repairs.{after_marks, dependents}
 use Rattle.sipl_book.specs.declared.event.Event.TheVariants.{Change}
 use Rattle.sipl_book.proofs.Changing.{consistent-changed, refused-change}
 use Rattle.sipl_book.proofs.book.Book.change.Goals as goal
@@ -12,6 +16,23 @@ returns-in_err-keys c =
 
 pub invariant_of-self-2 : goal.invariant_of-self-2
 invariant_of-self-2 c =
-    consistent-changed c.args.edit _ c.apply.new.store c.in_ok-keys.keys c.record_event-number.new.journal.items c.mark.new.self c.self.invariant c.in_ok-keys.ensures c.in_ok-reserve_event.ensures.few
-    (c.record_event-number.ensures.items ∙ ap (λ events. events ++ Change c.args.edit ∷ []) c.reserve_event.ensures.items)
-    (c.mark.ensures ∙ ap (λ keys. map (marked keys) c.self.inside.entries) c.as_slice.ensures)
+    let inside = c.self.inside in
+    let keys = c.in_ok-keys.keys in
+    let events = c.record_event-number.new.journal.items in
+    let changed = λ (marks : List Key). record inside.cache {
+      entries = map (marked marks) inside.cache.entries;
+      queue = after_marks inside.cache.queue (dependents marks inside.cache.entries);
+    } in
+    let cache : c.mark.new.self ≡ changed keys = c.mark.ensures ∙ ap changed c.as_slice.ensures in
+    subst (λ (k : CacheState). IsConsistent (record {
+      client = inside.abilities;
+      store = c.apply.new.store;
+      board = inside.board;
+      journal = events;
+      entries = k.entries;
+      queue = k.queue;
+      max_entries = k.max_entries;
+      max_events = inside.max_events;
+    })) (sym cache)
+    (consistent-changed c.args.edit _ c.apply.new.store keys events (changed keys).entries (changed keys).queue c.self.invariant c.in_ok-keys.ensures c.in_ok-reserve_event.ensures.few
+    (c.record_event-number.ensures.items ∙ ap (λ events. events ++ Change c.args.edit ∷ []) c.reserve_event.ensures.items) refl)

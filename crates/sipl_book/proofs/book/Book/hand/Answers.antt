@@ -16,8 +16,9 @@ module _ (c : goal.After-record_event-number) where
         store = b.store;
         board = b.board;
         journal = b.journal.items;
-        entries = b.entries;
-        max_entries = b.max_entries;
+        entries = b.cache.entries;
+        queue = b.cache.queue;
+        max_entries = b.cache.max_entries;
         max_events = b.max_events;
       }
 

@@ -1,0 +1,39 @@
+use Rattle.std.proofs.Common.{◌≡◌, true, None, is_some, option_copied, sym, ap, subst, ◌∙◌, true≢false}
+use Rattle.sipl_repair.specs.QueueState.{QueueState, after_give_back}
+use Rattle.sipl_book.specs.Cache.{CacheState, InOrder, IsCache}
+use Rattle.sipl_book.specs.Repairs.{entry_with}
+use Rattle.sipl_book.proofs.Caches.{IsCache-lease}
+use Rattle.sipl_book.proofs.Ids.{is_id, entry_with-is_id}
+use Rattle.sipl_book.proofs.Queues.{first-held, give_back-lease}
+use Rattle.sipl_book.proofs.cache.Cache.lease.Goals as goal
+
+pub unreachable-requires : goal.unreachable-requires
+unreachable-requires c =
+    let es = c.self.inside.entries in
+    let q = c.self.inside.queue in
+    let id = c.in_ok-lease.lease in
+    let held : is_id es id ≡ true = c.self.invariant.waits.among.of_entries id (first-held q id (sym c.lease.ensures.first ∙ c.in_ok-lease.was)) in
+    let none : entry_with es id ≡ None = ap (entry_with es) (sym c.id.ensures) ∙ sym c.get_by_id.ensures ∙ ap option_copied c.in-None.is in
+    true≢false (sym held ∙ sym (entry_with-is_id es id) ∙ ap is_some none)
+
+pub invariant_of-self-in-Ok : goal.invariant_of-self-in-Ok
+invariant_of-self-in-Ok c =
+    let es = c.self.inside.entries in
+    let order = subst (λ (cache : CacheState). InOrder cache.entries) (sym c.self.view_is) c.requires.order in
+    subst (λ (q : QueueState). IsCache es q) (sym c.lease.ensures.after) (IsCache-lease es c.self.inside.queue order c.self.invariant)
+
+module _ (c : goal.After-give_back) where
+  -- the queue is as before
+  as_before : c.give_back.new.self ≡ c.self.inside.queue
+  as_before =
+      c.give_back.ensures
+      ∙ ap (λ (q : QueueState). after_give_back q c.in_ok-lease.lease) c.lease.ensures.after
+      ∙ give_back-lease c.self.inside.entries c.self.inside.queue c.in_ok-lease.lease c.self.invariant.waits.among (sym c.lease.ensures.first ∙ c.in_ok-lease.was)
+
+pub invariant_of-self-in-Err : goal.invariant_of-self-in-Err
+invariant_of-self-in-Err c = subst (λ (q : QueueState). IsCache c.self.inside.entries q) (sym (as_before c)) c.self.invariant
+
+pub returns-in-Err-clause-err : goal.returns-in-Err-clause-err
+returns-in-Err-clause-err c =
+    let inside = c.self.inside in
+    (λ i. record { entries = inside.entries; queue = record (as_before c i) { capacity = inside.max_entries }; max_entries = inside.max_entries }) ∙ c.self.view_is

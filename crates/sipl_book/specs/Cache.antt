@@ -1,0 +1,30 @@
+-- The entries of a book with their queue.
+use Rattle.std.specs.Prelude.{ℕ, ◌≤◌, ◌<◌, List, [], length}
+use Rattle.std.specs.FinSet as set
+use Rattle.std.specs.List.{AllPairs}
+use Rattle.sipl_repair.specs.QueueState.{QueueState}
+use Rattle.sipl_book.specs.Entries.{EntryState}
+use Rattle.sipl_book.specs.Repairs.{IsQueueOf}
+
+-- the entries, the queue of those that are not current, and how many entries there may be
+pub record CacheState : Type 0 where
+  pub entries : List EntryState
+  pub queue : QueueState
+  pub max_entries : ℕ
+
+-- a queue without ids, of at most so many
+abbrev pub new_queue : ℕ → QueueState
+new_queue max = record { queued = []; leased = set.empty; capacity = max }
+
+-- no entries yet, of at most so many
+abbrev pub new_cache : ℕ → CacheState
+new_cache max = record { entries = []; queue = new_queue max; max_entries = max }
+
+-- entries stand in the order in which they were made
+abbrev pub InOrder : List EntryState → Type 0
+InOrder entries = AllPairs (λ a b. a.id < b.id) entries
+
+-- the queue is that of the entries, and has space for the ids of all
+pub record IsCache (entries : List EntryState) (queue : QueueState) : Type 0 where
+  pub waits : IsQueueOf entries queue
+  pub space : length entries ≤ queue.capacity

@@ -1,0 +1,246 @@
+//! The entries of a book, and the queue of those that are to be looked up again.
+ghost use Rattle.std.specs.Prelude.{◌≡◌, ◌≢◌, ◌==◌, false, [], length, map, filter, not, is_some, option_map, None, Some, Ok, IfOk, IfErr, IsTrue, OnOk, OnErr};
+ghost use Rattle.std.specs.List.{AllPairs};
+ghost use Rattle.std.specs.Option.{option_copied};
+ghost use Rattle.sipl_repair.specs.QueueState.{after_lease, after_settle, first_of, is_leased};
+ghost use Rattle.sipl_book.specs.Cache.{InOrder, new_cache};
+ghost use Rattle.sipl_book.specs.Entries.{committed, entry_of, marked, renewed};
+ghost use Rattle.sipl_book.specs.Repairs.{IsQueueOf, after_failure, after_marks, after_removal, after_renewal, after_return, dependents, entry_with, is_leased_for, without};
+
+use crate::entries::Entries;
+use crate::entry::Entry;
+use crate::fault::BookFault;
+use sipl_plans::Finding;
+use sipl_records::Key;
+use sipl_repair::{Lease, Queue, QueueFault};
+use sipl_uri::Question;
+use std::alloc::Global;
+use std::marker::Model;
+
+/// Entries, at most so many, and the queue of those that are not current. Contracts see the queue
+/// with space for the ids of as many entries as there may be.
+///
+/// The queued and the leased ids are those of entries, and each entry that is not current is queued
+/// or leased.
+#[derive(Drop)]
+pub(crate) struct Cache {
+    alloc: Global,
+    entries: Entries,
+    queue: Queue,
+    max_entries: usize,
+}
+
+impl Model for Cache {
+    ghost use Rattle.sipl_book.specs.Cache.{CacheState, IsCache};
+
+    ghost Value = { CacheState };
+
+    ghost use Rattle.sipl_book.specs.Codes.{cache_code};
+
+    ghost coded = { cache_code };
+
+    ghost view = { λ c. record {
+      entries = c.entries;
+      queue = record c.queue { capacity = c.max_entries };
+      max_entries = c.max_entries;
+    } };
+
+    ghost invariant = { λ c. IsCache c.entries c.queue };
+}
+
+impl Cache {
+    /// No entries, of at most so many. Does not allocate.
+    pub(crate) fn new(alloc: Global, max_entries: usize) -> Self
+        ensures { result ≡ new_cache max_entries }
+    {
+        Cache {
+            alloc,
+            entries: Entries::new(alloc),
+            queue: Queue::new(alloc),
+            max_entries,
+        }
+    }
+
+    /// The entry of a question. Constant time but for hashing. Does not allocate.
+    pub(crate) fn get(&self, question: &Question) -> Option<&Entry>
+        ensures entry { option_copied result ≡ entry_of self.now.entries question.now }
+        ensures questions { AllPairs (λ a b. a.found.question ≢ b.found.question) self.now.entries }
+    {
+        self.entries.get(question)
+    }
+
+    /// How many entries are queued.
+    pub(crate) fn queued(&self) -> usize
+        ensures count { result ≡ length self.now.queue.queued }
+        ensures queue { IsQueueOf self.now.entries self.now.queue }
+    {
+        self.queue.len()
+    }
+
+    /// Whether an id is that of the question's entry, and is leased.
+    pub(crate) fn is_leased_for(&self, id: u64, question: &Question) -> bool
+        ensures { result ≡ is_leased_for self.now.entries self.now.queue id question.now }
+    {
+        match self.entries.get(question) {
+            Some(entry) => entry.id() == id && self.queue.is_leased(id),
+            None => false,
+        }
+    }
+
+    /// Makes the entries whose evidence has one of these keys, whose sets changed, not current, and
+    /// queues those that are not leased in their order. Takes a look-up for each entry and each key.
+    /// Does not allocate.
+    pub(crate) fn mark(&mut self, changed: &[Key])
+        requires order { InOrder self.old.entries }
+        ensures { self.new ≡ record self.old {
+          entries = map (marked changed.now) self.old.entries;
+          queue = after_marks self.old.queue (dependents changed.now self.old.entries);
+        } }
+    {
+        self.entries.mark(changed);
+        self.entries.queue_outdated(&mut self.queue);
+    }
+
+    /// Makes a finding the current one of its question, whose entry is not queued then: of the
+    /// question's entry, or else of a new entry with this number, unless there are as many as may
+    /// be. Constant time but for hashing. The only error is an allocation failure: the finding is
+    /// returned, and nothing changes.
+    pub(crate) fn commit(&mut self, finding: Finding, number: u64) -> Result<(), Finding>
+        requires order { InOrder self.old.entries }
+        ensures ok { OnOk result (self.new ≡ record self.old {
+          entries = committed finding number self.old.max_entries self.old.entries;
+          queue = after_renewal self.old.queue (entry_of self.old.entries finding.question);
+        }) }
+        ensures err { OnErr result (self.new ≡ self.old) }
+        ensures finding { IfErr result (λ returned. returned ≡ finding) }
+    {
+        let id = match self.entries.get(finding.question()) {
+            Some(entry) => entry.id(),
+            None => return self.add(finding, number),
+        };
+        self.entries.renew(finding);
+        unqueue(&mut self.queue, id);
+        Ok(())
+    }
+
+    // Adds a current entry for a question that has none, unless there are as many as may be. The
+    // only error is an allocation failure: the finding is returned, and nothing changes.
+    fn add(&mut self, finding: Finding, number: u64) -> Result<(), Finding>
+        requires order { InOrder self.old.entries }
+        requires new { entry_of self.old.entries finding.question ≡ None }
+        ensures ok { OnOk result (self.new ≡ record self.old {
+          entries = committed finding number self.old.max_entries self.old.entries;
+        }) }
+        ensures err { OnErr result (self.new ≡ self.old) }
+        ensures finding { IfErr result (λ returned. returned ≡ finding) }
+    {
+        let len = self.entries.len();
+        if len >= self.max_entries {
+            return Ok(());
+        }
+        let Ok(()) = self.queue.reserve(len + 1) else {
+            return Err(finding);
+        };
+        self.entries.add(finding, number)
+    }
+
+    /// Leases the first queued entry, and copies its question. Logarithmic in the number of entries.
+    /// Q1 where none is queued, or else an allocation failure; then nothing changes.
+    pub(crate) fn lease(&mut self) -> Result<(Lease, Question), BookFault>
+        requires order { InOrder self.old.entries }
+        ensures id { IfOk result (λ leased. first_of self.old.queue.queued ≡ Ok leased.0) }
+        ensures question { IfOk result (λ leased.
+            option_map (λ e. e.found.question) (entry_with self.old.entries leased.0) ≡ Some leased.1) }
+        ensures idle { IfOk result (λ leased. is_leased self.old.queue leased.0 ≡ false) }
+        ensures ok { OnOk result
+            (self.new ≡ record self.old { queue = after_lease self.old.queue }) }
+        ensures empty { IfErr result (λ fault. fault ≢ BookFault.Memory
+            → (fault ≡ BookFault.Queue QueueFault.Empty) × (self.old.queue.queued ≡ [])) }
+        ensures err { OnErr result (self.new ≡ self.old) }
+    {
+        let lease = self.queue.lease()?;
+        let question = match self.entries.get_by_id(lease.id()) {
+            Some(entry) => entry.question().dup(self.alloc),
+            None => unreachable!(),
+        };
+        match question {
+            Ok(question) => Ok((lease, question)),
+            Err(_) => {
+                self.queue.give_back(lease);
+                Err(BookFault::Memory)
+            }
+        }
+    }
+
+    /// Spends a lease: its entry is the next one, unless it is current or gone.
+    pub(crate) fn give_back(&mut self, lease: Lease)
+        requires order { InOrder self.old.entries }
+        ensures { self.new ≡ record self.old {
+          queue = after_return self.old.entries self.old.queue lease;
+        } }
+    {
+        if self.entries.is_outdated(lease.id()) {
+            self.queue.give_back(lease);
+        } else {
+            self.queue.settle(lease);
+        }
+    }
+
+    /// Spends a lease: its entry is the last one, unless it is current or gone.
+    pub(crate) fn requeue(&mut self, lease: Lease)
+        requires order { InOrder self.old.entries }
+        ensures { self.new ≡ record self.old {
+          queue = after_failure self.old.entries self.old.queue lease;
+        } }
+    {
+        if self.entries.is_outdated(lease.id()) {
+            self.queue.requeue(lease);
+        } else {
+            self.queue.settle(lease);
+        }
+    }
+
+    /// Spends the lease of the question's entry, which gets the finding and is current. Constant
+    /// time but for hashing. Does not allocate.
+    pub(crate) fn settle(&mut self, lease: Lease, finding: Finding)
+        requires order { InOrder self.old.entries }
+        requires leased { IsTrue (is_leased_for self.old.entries self.old.queue lease finding.question) }
+        ensures { self.new ≡ record self.old {
+          entries = map (renewed finding) self.old.entries;
+          queue = after_settle self.old.queue lease;
+        } }
+    {
+        self.entries.renew(finding);
+        self.queue.settle(lease);
+    }
+
+    /// Removes the entry of a question, and returns whether there was one. Linear in the number of
+    /// entries. Does not allocate.
+    pub(crate) fn forget(&mut self, question: &Question) -> bool
+        requires order { InOrder self.old.entries }
+        ensures known { result ≡ is_some (entry_of self.old.entries question.now) }
+        ensures after { self.new ≡ record self.old {
+          entries = without question.now self.old.entries;
+          queue = after_removal self.old.queue (entry_of self.old.entries question.now);
+        } }
+    {
+        match self.entries.remove(question) {
+            Some(id) => {
+                self.queue.forget(id);
+                true
+            }
+            None => false,
+        }
+    }
+}
+
+// Takes an id out of the queued ones. A leased id stays so.
+fn unqueue(queue: &mut Queue, id: u64)
+    ensures { queue.new ≡ record queue.old {
+      queued = filter (λ k. not (k == id)) queue.old.queued;
+    } }
+{
+    if queue.is_queued(id) {
+        queue.forget(id);
+    }
+}
