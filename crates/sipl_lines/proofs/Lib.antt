@@ -4,10 +4,12 @@ pub mod Turning
 pub mod Exits
 pub mod Rules
 pub mod Results
+pub mod Lengths
 pub mod Steps
 pub mod Words
 pub mod Locating
 pub mod Finding
+pub mod Repairing
 pub mod InOrder
 pub mod Listening
 pub mod Rows

@@ -1,16 +1,20 @@
 -- Runs over the sets of a book.
-use Rattle.std.proofs.Common.{◌≡◌, ℕ, ◌-◌, ◌<◌, List, [], ◌∷◌, ◌++◌, length, Option, Some, refl, sym, ap, subst, ◌∙◌, length-append, arith}
+use Rattle.std.proofs.Common.{◌≡◌, ℕ, ◌-◌, ◌<◌, List, [], ◌∷◌, ◌++◌, length, false, not, position, Option, None, Some, refl, sym, ap, subst, ◌∙◌, length-append, arith}
 use Rattle.std.specs.Prelude.{option_map}
+use Rattle.std.proofs.lemmas.Bool.{and_from}
+use Rattle.std.proofs.lemmas.Bool.Decides.{Decides-eqb}
 use Rattle.std.proofs.lemmas.List.Elements.{All-nil, All-cons, All-append}
 use Rattle.sipl_records.specs.Sets.{set_of}
 use Rattle.sipl_records.specs.declared.data.Data.{Data}
 use Rattle.sipl_records.specs.declared.record.Key.{Key}
+use Rattle.sipl_records.proofs.SameData.{same_set-Decides}
 use Rattle.sipl_evidence.specs.Items.{Item}
 use Rattle.sipl_plans.specs.Findings.{Found, IsFound}
 use Rattle.sipl_plans.specs.Runs.{RunState, IsSet, IsWanted, IsGiven, wanted}
 use Rattle.sipl_zonestore.specs.Store.{Store, number_in}
 use Rattle.sipl_book.specs.Book.{BookState}
-use Rattle.sipl_book.specs.Calls.{after_look, with_looks}
+use Rattle.sipl_book.specs.Calls.{after_look, is_stale, with_looks}
+use Rattle.sipl_book.proofs.Staleness.{position-none}
 use Rattle.sipl_lines.specs.Locating.{AreRead, IsLocated}
 
 -- what the run wants is taken from the book
@@ -79,3 +83,15 @@ none_read store =
       agrees = All-nil (λ i. set_of store.zones.records i.key ≡ i.content);
       numbers = All-nil (λ i. number_in store i.key ≡ i.number);
     }
+
+-- ---- what was read is so still
+
+fresh_item : (store : Store) (item : Item) → set_of store.zones.records item.key ≡ item.content → number_in store item.key ≡ item.number → is_stale store item ≡ false
+fresh_item store item content number = ap not (and_from _ _ ((Decides-eqb _ _).1 number) ((same_set-Decides _ _).1 content))
+
+-- sets that were read from this book are not stale
+pub not_stale : (old now : BookState) (items : List Item) → now ≡ with_looks now.store.looks old → AreRead old.store items → position (is_stale now.store) items ≡ None
+not_stale old now items so read =
+    ap (λ (b : BookState). position (is_stale b.store) items) so
+    ∙ position-none (is_stale old.store) items
+    (λ k d below. fresh_item old.store _ (read.agrees k d below) (read.numbers k d below))

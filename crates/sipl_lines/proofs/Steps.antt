@@ -10,9 +10,11 @@ use Rattle.sipl_srv.specs.declared.fault.DrawsFault.{DrawsFault}
 use Rattle.sipl_uri.specs.declared.fault.UriFault.{UriFault}
 use Rattle.sipl_uri.specs.declared.question.Question.{Question}
 use Rattle.sipl_book.specs.declared.outcome.Handed.{Handed}
-use Rattle.sipl_lines.specs.Commands.{Keeps, Holds, Releases, Answers, AnswersUri, handed_text}
+use Rattle.sipl_evidence.specs.Items.{Item}
+use Rattle.sipl_book.specs.declared.fault.BookFault.{BookFault}
+use Rattle.sipl_lines.specs.Commands.{Keeps, Holds, Releases, DoesInSpace, AnswersUri, ListsUri, handed_text}
 use Rattle.sipl_lines.specs.Desk.{DeskRules}
-use Rattle.sipl_lines.specs.ReplyText.{refusal_line}
+use Rattle.sipl_lines.specs.ReplyText.{evidence_text, refusal_line}
 use Rattle.sipl_lines.specs.Requests.{hold, release}
 use Rattle.sipl_lines.specs.Gathering.{lost, keeps_lines}
 use Rattle.sipl_lines.specs.declared.gather.Gathering.{Gathering}
@@ -48,11 +50,12 @@ module _ {D : Type 0} (rules : DeskRules D) (before after : D) (old new : Octets
       → AppendsText (Obeys rules (release transport address port)) (at_desk before session) old (at_desk after session) new
   released_at_desk session transport address port done = (done.0, (done.1, refl), done.2)
 
-  pub answered : (question : Question) (words : List ℕ) (handed : Handed) → rules.Finds question words before (Ok handed) after
-      → (new ≡ old ++ handed_text handed) ⊎ (new ≡ old ++ refusal_line (codes "Memory"))
-      → AppendsText (Answers rules question words) before old after new
-  answered question words handed finds (inl whole) = (handed_text handed, inl (Ok handed, finds, refl), whole)
-  answered question words handed finds (inr none) = (refusal_line (codes "Memory"), inr (Ok handed, finds, refl), none)
+  -- the desk has done its part, and the reply stands, or `err Memory` where there was no space
+  done_in_space : {A : Type 0} (Acts : D → Result A BookFault → D → Type 0) (reply_of : A → Octets) (value : A) → Acts before (Ok value) after
+      → (new ≡ old ++ reply_of value) ⊎ (new ≡ old ++ refusal_line (codes "Memory"))
+      → AppendsText (DoesInSpace Acts reply_of) before old after new
+  done_in_space Acts reply_of value acts (inl whole) = (reply_of value, inl (Ok value, acts, refl), whole)
+  done_in_space Acts reply_of value acts (inr none) = (refusal_line (codes "Memory"), inr (Ok value, acts, refl), none)
 
   pub answered_uri : (read : Result Question UriFault) (draws : Result (List ℕ) DrawsFault) (question : Question) (words : List ℕ) (handed : Handed)
       → read ≡ Ok question → draws ≡ Ok words → rules.Finds question words before (Ok handed) after
@@ -60,4 +63,13 @@ module _ {D : Type 0} (rules : DeskRules D) (before after : D) (old new : Octets
       → AppendsText (AnswersUri rules read draws) before old after new
   answered_uri read draws question words handed is_read is_draws finds reply =
       subst (λ q. AppendsText (AnswersUri rules q draws) before old after new) (sym is_read)
-      (subst (λ d. AppendsText (AnswersUri rules (Ok question) d) before old after new) (sym is_draws) (answered question words handed finds reply))
+      (subst (λ d. AppendsText (AnswersUri rules (Ok question) d) before old after new) (sym is_draws)
+      (done_in_space (rules.Finds question words) handed_text handed finds reply))
+
+  pub listed_uri : (read : Result Question UriFault) (question : Question) (items : List Item)
+      → read ≡ Ok question → rules.Depends question before (Ok items) after
+      → (new ≡ old ++ evidence_text items) ⊎ (new ≡ old ++ refusal_line (codes "Memory"))
+      → AppendsText (ListsUri rules read) before old after new
+  listed_uri read question items is_read depends reply =
+      subst (λ q. AppendsText (ListsUri rules q) before old after new) (sym is_read)
+      (done_in_space (rules.Depends question) evidence_text items depends reply)

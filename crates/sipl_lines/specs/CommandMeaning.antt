@@ -1,7 +1,7 @@
 -- What a command that was read asks for.
 use Rattle.sipl_lines.specs.declared.command.Command.{Command}
-use Rattle.sipl_lines.specs.declared.command.Command.TheVariants.{Nothing, Unknown, TooLong, Zone, Drop, Add, Del, Find, Hold, Release, Clock, Quit}
-use Rattle.sipl_lines.specs.Requests.{Request, nothing, unknown, too_long, zone, drop, add, del, find, hold, release, clock, quit}
+use Rattle.sipl_lines.specs.declared.command.Command.TheVariants.{Nothing, Unknown, TooLong, Zone, Drop, Add, Del, Find, Deps, Repair, Hold, Release, Clock, Quit}
+use Rattle.sipl_lines.specs.Requests.{Request, nothing, unknown, too_long, zone, drop, add, del, find, deps, repair, hold, release, clock, quit}
 
 -- the request of a command
 abbrev pub meaning_of : Command → Request
@@ -13,6 +13,8 @@ meaning_of (Drop apex) = drop apex.now
 meaning_of (Add text) = add text.now
 meaning_of (Del text) = del text.now
 meaning_of (Find uri draws) = find uri.now draws
+meaning_of (Deps uri) = deps uri.now
+meaning_of Repair = repair
 meaning_of (Hold transport address port ms) = hold transport address.now port ms
 meaning_of (Release transport address port) = release transport address.now port
 meaning_of (Clock to) = clock to

@@ -23,7 +23,7 @@ use Rattle.sipl_book.specs.declared.fault.BookFault.{BookFault}
 use Rattle.sipl_book.specs.declared.outcome.Changed.{Changed}
 use Rattle.sipl_book.specs.declared.outcome.Handed.{Handed}
 use Rattle.sipl_lines.specs.Desk.{DeskRules}
-use Rattle.sipl_lines.specs.ReplyText.{counts_line, refusal_line, text_fault_line, answer_text}
+use Rattle.sipl_lines.specs.ReplyText.{counts_line, refusal_line, text_fault_line, answer_text, evidence_text}
 
 -- this is the reply, and the desk is as it was
 abbrev pub Keeps : {D : Type 0} → Octets → D → Octets → D → Type 0
@@ -48,11 +48,18 @@ abbrev pub Does : {D A : Type 0} → (D → Result A BookFault → D → Type 0)
 Does {D} {A} Acts reply_of before text after =
     (outcome : Result A BookFault) × Acts before outcome after × (text ≡ result_text reply_of outcome)
 
+-- the desk does its part; where there is no space for its reply, this is `err Memory`
+abbrev pub DoesInSpace : {D A : Type 0} → (D → Result A BookFault → D → Type 0) → (A → Octets) → D
+    → Octets → D → Type 0
+DoesInSpace Acts reply_of before text after =
+    Does Acts reply_of before text after
+    ⊎ Does Acts (λ value. refusal_line (codes "Memory")) before text after
+
 -- the reply to an accepted edit: words, counts, and how many sets changed
 abbrev pub changed_text : Octets → List ℕ → Changed → Octets
 changed_text words counts changed = counts_line words (counts ++ changed.sets ∷ [])
 
--- the reply to a question that was answered
+-- the reply to a question: its targets, or why there are none
 abbrev pub handed_text : Handed → Octets
 handed_text handed = answer_text handed.answer
 
@@ -84,23 +91,37 @@ abbrev pub Removes : {D : Type 0} → DeskRules D → Result Record ZoneFault �
 Removes rules (Err fault) before text after = Refuses (zone_code fault) before text after
 Removes rules (Ok r) before text after = Edits rules (codes "ok del") [] (Remove r) before text after
 
--- a question is answered for random words; where the answer's text can't be written for want of
--- memory, the reply is `err Memory`, and the answer has been handed out
+-- the targets of a question for random words; they are handed out also where there is no space for
+-- their text
 abbrev pub Answers : {D : Type 0} → DeskRules D → Question → List ℕ → D → Octets → D → Type 0
 Answers rules question words before text after =
-    Does (rules.Finds question words) handed_text before text after
-    ⊎ Does (rules.Finds question words) (λ handed. refusal_line (codes "Memory")) before text after
+    DoesInSpace (rules.Finds question words) handed_text before text after
 
--- a question is answered for the words that were given, if they are good
+-- the targets of a question for the words that were given, if they are good
 abbrev pub AnswersWith : {D : Type 0} → DeskRules D → Question → Result (List ℕ) DrawsFault → D → Octets → D → Type 0
 AnswersWith rules question (Err fault) before text after = Refuses (draws_code fault) before text after
 AnswersWith rules question (Ok words) before text after = Answers rules question words before text after
 
--- a URI's question is answered: the URI's fault is reported before that of the words
+-- the targets of a URI: its fault is reported before that of the words
 abbrev pub AnswersUri : {D : Type 0} → DeskRules D → Result Question UriFault → Result (List ℕ) DrawsFault → D → Octets → D
     → Type 0
 AnswersUri rules (Err fault) draws before text after = Refuses (uri_code fault) before text after
 AnswersUri rules (Ok question) draws before text after = AnswersWith rules question draws before text after
+
+-- the record sets that a question depends on
+abbrev pub Lists : {D : Type 0} → DeskRules D → Question → D → Octets → D → Type 0
+Lists rules question before text after =
+    DoesInSpace (rules.Depends question) evidence_text before text after
+
+-- the record sets that a URI's targets depend on
+abbrev pub ListsUri : {D : Type 0} → DeskRules D → Result Question UriFault → D → Octets → D → Type 0
+ListsUri rules (Err fault) before text after = Refuses (uri_code fault) before text after
+ListsUri rules (Ok question) before text after = Lists rules question before text after
+
+-- what edits have changed is looked up again
+abbrev pub Repairs : {D : Type 0} → DeskRules D → D → Octets → D → Type 0
+Repairs rules before text after =
+    Does rules.Repairs (λ done. counts_line (codes "ok repair") []) before text after
 
 -- a hold, a release or a move of the clock, and its reply
 abbrev pub MovesTo : {D : Type 0} → DeskRules D → Octets → BoardEvent → D → Octets → D → Type 0

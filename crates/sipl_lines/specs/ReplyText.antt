@@ -8,6 +8,9 @@ use Rattle.sipl_plans.specs.Reasons.{reason_text}
 use Rattle.sipl_plans.specs.declared.answer.Answer.{Answer}
 use Rattle.sipl_plans.specs.declared.answer.Answer.TheVariants.{Targets, None}
 use Rattle.sipl_names.specs.Labels.{Octets}
+use Rattle.sipl_names.specs.NamePrint.{text_of}
+use Rattle.sipl_records.specs.Kinds.{text_of_kind}
+use Rattle.sipl_evidence.specs.Items.{Item}
 
 -- a word with a space before it
 abbrev pub word_field : Octets → Octets
@@ -52,3 +55,14 @@ answer_text (None reason) = codes "none " ++ reason_text reason ++ 10 ∷ []
 abbrev pub max_answer_len : Answer → ℕ
 max_answer_len (Targets targets) = 94 * length targets + 29
 max_answer_len (None reason) = length (answer_text (None reason))
+
+-- the line of a record set: its owner, its kind, and how many records it has
+abbrev pub evidence_line : Item → Octets
+evidence_line item =
+    codes "dep" ++ word_field (text_of item.key.name) ++ word_field (text_of_kind item.key.kind)
+    ++ number_field (length item.content) ++ 10 ∷ []
+
+-- the reply with the record sets of evidence, in their order
+abbrev pub evidence_text : List Item → Octets
+evidence_text items =
+    flat_map evidence_line items ++ counts_line (codes "ok deps") (length items ∷ [])

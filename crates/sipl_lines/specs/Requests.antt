@@ -19,6 +19,8 @@ pub data Request : Type 0 where
   add : Octets → Request
   del : Octets → Request
   find : Octets → Result (List ℕ) DrawsFault → Request
+  deps : Octets → Request
+  repair : Request
   hold : Transport → Octets → ℕ → ℕ → Request
   release : Transport → Octets → ℕ → Request
   clock : ℕ → Request
@@ -55,6 +57,16 @@ abbrev pub find_request : List Octets → Request
 find_request [] = unknown
 find_request (uri ∷ others) =
     elim (draws_of others) [ Some draws ↦ find uri draws | None ↦ unknown ]
+
+-- `deps URI`
+abbrev pub deps_request : List Octets → Request
+deps_request (uri ∷ []) = deps uri
+deps_request _ = unknown
+
+-- `repair`
+abbrev pub repair_request : List Octets → Request
+repair_request [] = repair
+repair_request _ = unknown
 
 -- a hold, if its transport and numbers are ones
 abbrev pub hold_of : Option Transport → Octets → Option ℕ → Option ℕ → Request
@@ -105,8 +117,10 @@ command_request word others line =
     else (if pointwise nat_eq word (codes "add") then add_request (trim_start (after_field line))
     else (if pointwise nat_eq word (codes "del") then del_request (trim_start (after_field line))
     else (if pointwise nat_eq word (codes "find") then find_request others
+    else (if pointwise nat_eq word (codes "deps") then deps_request others
+    else (if pointwise nat_eq word (codes "repair") then repair_request others
     else (if pointwise nat_eq word (codes "quit") then quit_request others
-    else outage_request word others)))))
+    else outage_request word others)))))))
 
 -- what the fields of a line ask for
 abbrev pub fields_request : List Octets → Octets → Request

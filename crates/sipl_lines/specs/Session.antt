@@ -8,11 +8,11 @@ use Rattle.sipl_records.specs.Addresses.{address_of}
 use Rattle.sipl_masterfile.specs.Zones.{zone_of}
 use Rattle.sipl_masterfile.specs.RecordText.{record_of}
 use Rattle.sipl_uri.specs.Uris.{question_of}
-use Rattle.sipl_lines.specs.Commands.{Keeps, Refuses, Fails, Loads, Unloads, Adds, Removes, AnswersUri, Holds, Releases, SetsClock}
+use Rattle.sipl_lines.specs.Commands.{Keeps, Refuses, Fails, Loads, Unloads, Adds, Removes, AnswersUri, ListsUri, Repairs, Holds, Releases, SetsClock}
 use Rattle.sipl_lines.specs.Desk.{DeskRules}
 use Rattle.sipl_lines.specs.Items.{Item, line, end_of_input}
 use Rattle.sipl_lines.specs.Protocol.{Protocol}
-use Rattle.sipl_lines.specs.Requests.{Request, nothing, unknown, too_long, zone, drop, add, del, find, hold, release, clock, quit, request_of}
+use Rattle.sipl_lines.specs.Requests.{Request, nothing, unknown, too_long, zone, drop, add, del, find, deps, repair, hold, release, clock, quit, request_of}
 use Rattle.sipl_lines.specs.Gathering.{gathering_of, after_line, at_end, lost, keeps_lines}
 use Rattle.sipl_lines.specs.declared.gather.Gathered.{Gathered}
 use Rattle.sipl_lines.specs.declared.gather.Gathered.TheVariants.{Lines, BadApex, LongLine, Lost}
@@ -49,12 +49,13 @@ abbrev pub AtDesk : {D : Type 0} → (D → Octets → D → Type 0) → Session
 AtDesk Acts before text after =
     Acts before.desk text after.desk × (after ≡ with_desk after.desk before)
 
--- whether a request may fail for want of memory, and then changes nothing
+-- whether an allocation of a request may fail, which then changes nothing
 abbrev pub MayFail : Request → Type 0
 MayFail (drop apex) = Unit {0}
 MayFail (add r) = Unit {0}
 MayFail (del r) = Unit {0}
 MayFail (find uri draws) = Unit {0}
+MayFail (deps uri) = Unit {0}
 MayFail _ = ⊥
 
 -- `zone APEX COUNT`, once its lines are taken: the first of these that applies is reported
@@ -97,6 +98,8 @@ Obeys rules (add r) before text after = Commands (Adds rules (record_of r [])) b
 Obeys rules (del r) before text after = Commands (Removes rules (record_of r [])) before text after
 Obeys rules (find uri draws) before text after =
     Commands (AnswersUri rules (question_of uri) draws) before text after
+Obeys rules (deps uri) before text after = Commands (ListsUri rules (question_of uri)) before text after
+Obeys rules repair before text after = AtDesk (Repairs rules) before text after
 Obeys rules (hold transport address port ms) before text after =
     AtDesk (Holds rules transport (address_of address) port ms) before text after
 Obeys rules (release transport address port) before text after =

@@ -1,7 +1,7 @@
 // What a line of a session asks for.
 ghost use Rattle.std.specs.Prelude.{◌≡◌};
 ghost use Rattle.sipl_records.specs.Fields.{fields_of, trim_start};
-ghost use Rattle.sipl_lines.specs.Requests.{add_request, del_request, drop_request, find_request, hold_request, release_request, clock_request, outage_request, quit_request, request_of, zone_request, unknown};
+ghost use Rattle.sipl_lines.specs.Requests.{add_request, del_request, deps_request, drop_request, find_request, hold_request, release_request, repair_request, clock_request, outage_request, quit_request, request_of, zone_request, unknown};
 ghost use Rattle.std.specs.Option.{option_map_or};
 ghost use Rattle.sipl_lines.specs.CommandMeaning.{meaning_of};
 ghost use Rattle.sipl_lines.specs.Values.{transport_named};
@@ -36,6 +36,10 @@ pub(crate) enum Command<'a> {
     Del(&'a [u8]),
     // `find URI DRAWS`: asks for the targets of a URI, for these random words.
     Find(&'a [u8], Result<Draws, DrawsFault>),
+    // `deps URI`: asks which record sets the targets of a URI depend on.
+    Deps(&'a [u8]),
+    // `repair`: looks up again what edits have changed.
+    Repair,
     // `hold TRANSPORT ADDRESS PORT MS`: holds an endpoint for some milliseconds.
     Hold(Transport, &'a [u8], u16, u64),
     // `release TRANSPORT ADDRESS PORT`: ends an endpoint's hold.
@@ -69,6 +73,10 @@ pub(crate) fn read_command(line: &[u8]) -> Command<'_>
         del_command(trim_start(rest))
     } else if word == b"find".as_slice() {
         find_command(rest)
+    } else if word == b"deps".as_slice() {
+        deps_command(rest)
+    } else if word == b"repair".as_slice() {
+        repair_command(rest)
     } else if word == b"quit".as_slice() {
         quit_command(rest)
     } else {
@@ -137,6 +145,27 @@ fn find_command(rest: &[u8]) -> Command<'_>
     match read_draws(rest) {
         Some(draws) => Command::Find(uri, draws),
         None => Command::Unknown,
+    }
+}
+
+// `deps URI`.
+fn deps_command(rest: &[u8]) -> Command<'_>
+    ensures { meaning_of result ≡ deps_request (fields_of rest.now) }
+{
+    match next_field(rest) {
+        Some((uri, rest)) if next_field(rest).is_none() => Command::Deps(uri),
+        _ => Command::Unknown,
+    }
+}
+
+// `repair`.
+fn repair_command(rest: &[u8]) -> Command<'_>
+    ensures { meaning_of result ≡ repair_request (fields_of rest.now) }
+{
+    if next_field(rest).is_some() {
+        Command::Unknown
+    } else {
+        Command::Repair
     }
 }
 

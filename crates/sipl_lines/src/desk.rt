@@ -1,12 +1,13 @@
 //! What a session's commands act on.
-ghost use Rattle.std.specs.Prelude.{◌≡◌, ℕ, false};
+ghost use Rattle.std.specs.Prelude.{◌≡◌, ◌≢◌, ℕ, [], false, drop, IfErr, OnOk};
 ghost use Rattle.sipl_book.specs.Entries.{is_hot};
 ghost use Rattle.sipl_outages.specs.Holds.BoardEvent.{Hold, Release, Advance};
-ghost use Rattle.sipl_lines.specs.Desk.{DeskRules, IsFound};
+ghost use Rattle.sipl_lines.specs.Desk.{DeskRules, IsFound, IsRenewed};
 
 use crate::locate::locate;
 use sipl_book::{Book, BookFault, Changed, Edit, Handed};
 use sipl_choice::Endpoint;
+use sipl_evidence::Evidence;
 use sipl_srv::Draws;
 use sipl_uri::Question;
 use std::alloc::Global;
@@ -40,9 +41,17 @@ pub trait Desk {
     /// Sets the time, in milliseconds. Returns the event's number.
     fn advance(&mut self, to: u64) -> Result<u64, BookFault>
         ensures { rules.Moves (Advance to) self.old result self.new };
+
+    /// The record sets that a question's targets depend on, in the order of reading. Keeps nothing.
+    fn deps(&mut self, alloc: Global, question: Question) -> Result<Evidence, BookFault>
+        ensures { rules.Depends question self.old result self.new };
+
+    /// Looks up again what edits have changed.
+    fn repair(&mut self, alloc: Global) -> Result<(), BookFault>
+        ensures { rules.Repairs self.old result self.new };
 }
 
-/// A book as a desk: a question without a current entry is answered by a run over the book's record
+/// A book as a desk: a question without a current entry is looked up by a run over the book's record
 /// sets, which is committed.
 impl Desk for Book {
     ghost use Rattle.sipl_lines.specs.Desk.{book_rules};
@@ -76,6 +85,20 @@ impl Desk for Book {
     fn advance(&mut self, to: u64) -> Result<u64, BookFault> {
         Book::advance(self, to)
     }
+
+    fn deps(&mut self, alloc: Global, question: Question) -> Result<Evidence, BookFault> {
+        let finding = locate(alloc, self, question)?;
+        Ok(finding.into_evidence())
+    }
+
+    fn repair(&mut self, alloc: Global) -> Result<(), BookFault> {
+        let mut left = self.queued();
+        while left > 0 {
+            repair_next(alloc, self)?;
+            left -= 1;
+        }
+        Ok(())
+    }
 }
 
 // The answer to a question that has no current entry: by a run, whose finding is committed.
@@ -92,5 +115,26 @@ fn find_anew(
     match book.commit_checked(finding, draws) {
         Ok(handed) => Ok(handed),
         Err(uncommitted) => Err(uncommitted.fault),
+    }
+}
+
+// Looks up the first queued entry again. Where an allocation fails it is still the first.
+fn repair_next(alloc: Global, book: &mut Book) -> Result<(), BookFault>
+    ensures renewed { IsRenewed book.old book.new }
+    ensures next { OnOk result (book.new.queue.queued ≡ drop 1 book.old.queue.queued) }
+    ensures failed { IfErr result
+        (λ fault. fault ≢ BookFault.Memory → book.old.queue.queued ≡ []) }
+{
+    let (lease, question) = book.lease()?;
+    match locate(alloc, book, question) {
+        Ok(finding) => match book.settle_checked(lease, finding) {
+            Ok(()) => Ok(()),
+            // it stays queued
+            Err(_) => Ok(()),
+        },
+        Err(error) => {
+            book.give_back(lease);
+            Err(error.into())
+        }
     }
 }

@@ -5,20 +5,21 @@ ghost use Rattle.sipl_masterfile.specs.Zones.{zone_of};
 ghost use Rattle.sipl_names.specs.NameText.{name_of};
 ghost use Rattle.sipl_records.specs.Addresses.{address_of};
 ghost use Rattle.sipl_uri.specs.Uris.{question_of};
-ghost use Rattle.sipl_lines.specs.Commands.{AnswersUri, Adds, Edits, Holds, Loads, Releases, Removes, SetsClock, Unloads, handed_text, result_text};
-ghost use Rattle.sipl_lines.specs.ReplyText.{counts_line, refusal_line};
+ghost use Rattle.sipl_lines.specs.Commands.{AnswersUri, Adds, Edits, Holds, ListsUri, Loads, Releases, Removes, Repairs, SetsClock, Unloads, handed_text, result_text};
+ghost use Rattle.sipl_lines.specs.ReplyText.{counts_line, evidence_text, refusal_line};
 ghost use Rattle.sipl_lines.specs.Session.{AppendsText};
 
 use crate::desk::Desk;
 use crate::gather::ZoneLines;
-use crate::reply::{write_answer, write_counts, write_refusal, write_text_fault};
+use crate::reply::{write_answer, write_counts, write_evidence, write_refusal, write_text_fault};
 use sipl_book::{BookFault, Edit, Handed};
 use sipl_choice::{Endpoint, Transport};
+use sipl_evidence::Evidence;
 use sipl_masterfile::{ZoneCause, ZoneFault, read_record, read_zone};
 use sipl_names::{Name, NameFault};
 use sipl_records::{Address, Record};
 use sipl_srv::{Draws, DrawsFault};
-use sipl_uri::{Uri, UriFault};
+use sipl_uri::{Question, Uri, UriFault};
 use std::alloc::{AllocError, Global};
 
 // The maximum length of a short reply in octets. Space for one is reserved before each command.
@@ -145,7 +146,7 @@ fn edit<D: Desk>(
     }
 }
 
-// `find URI DRAWS`: answers a URI's question for these random words, and appends the reply.
+// `find URI DRAWS`: appends a URI's targets for these random words, or why there are none.
 pub(crate) fn find<D: Desk>(
     alloc: Global,
     desk: &mut D,
@@ -160,9 +161,8 @@ pub(crate) fn find<D: Desk>(
     ensures err_out { OnErr result (out.new.items ≡ out.old.items) }
     ensures capacity { vec_capacity out.old ≤ vec_capacity out.new }
 {
-    let question = match Uri::parse(alloc, uri) {
+    let question = match read_question(alloc, uri)? {
         Ok(question) => question,
-        Err(UriFault::Memory) => return Err(AllocError),
         Err(fault) => return write_refusal(out, fault.code()),
     };
     let draws = match draws {
@@ -178,7 +178,7 @@ pub(crate) fn find<D: Desk>(
     }
 }
 
-// Appends the reply to a question that was answered, or `err Memory` where there is no space for it.
+// Appends the reply to a question, or `err Memory` where there is no space for it.
 fn reply_handed(handed: &Handed, out: &mut Vec<u8>)
     requires space { vec_len out.old + MAX_SHORT_REPLY_LEN ≤ vec_capacity out.old }
     ensures text { (out.new.items ≡ out.old.items ++ handed_text handed.now)
@@ -187,6 +187,58 @@ fn reply_handed(handed: &Handed, out: &mut Vec<u8>)
 {
     if write_answer(out, &handed.answer).is_err() {
         write_refusal(out, "Memory").unwrap();
+    }
+}
+
+// `deps URI`: appends the record sets that a URI's targets depend on.
+pub(crate) fn list_evidence<D: Desk>(
+    alloc: Global,
+    desk: &mut D,
+    uri: &[u8],
+    out: &mut Vec<u8>,
+) -> Result<(), AllocError>
+    requires space { vec_len out.old + MAX_SHORT_REPLY_LEN ≤ vec_capacity out.old }
+    ensures ok { OnOk result (AppendsText (ListsUri D.rules (question_of uri.now))
+        desk.old out.old.items desk.new out.new.items) }
+    ensures err { OnErr result (desk.new ≡ desk.old) }
+    ensures err_out { OnErr result (out.new.items ≡ out.old.items) }
+    ensures capacity { vec_capacity out.old ≤ vec_capacity out.new }
+{
+    let question = match read_question(alloc, uri)? {
+        Ok(question) => question,
+        Err(fault) => return write_refusal(out, fault.code()),
+    };
+    match desk.deps(alloc, question) {
+        Ok(evidence) => {
+            reply_evidence(&evidence, out);
+            Ok(())
+        }
+        Err(fault) => write_refusal(out, fault.code()),
+    }
+}
+
+// Appends the record sets of evidence, or `err Memory` where there is no space for them.
+fn reply_evidence(evidence: &Evidence, out: &mut Vec<u8>)
+    requires space { vec_len out.old + MAX_SHORT_REPLY_LEN ≤ vec_capacity out.old }
+    ensures text { (out.new.items ≡ out.old.items ++ evidence_text evidence.now)
+        ⊎ (out.new.items ≡ out.old.items ++ refusal_line (codes "Memory")) }
+    ensures capacity { vec_capacity out.old ≤ vec_capacity out.new }
+{
+    if write_evidence(out, evidence.items()).is_err() {
+        write_refusal(out, "Memory").unwrap();
+    }
+}
+
+// `repair`: looks up again what edits have changed, and appends the reply.
+pub(crate) fn repair<D: Desk>(alloc: Global, desk: &mut D, out: &mut Vec<u8>)
+    requires space { vec_len out.old + MAX_SHORT_REPLY_LEN ≤ vec_capacity out.old }
+    ensures done { AppendsText (Repairs D.rules)
+        desk.old out.old.items desk.new out.new.items }
+    ensures capacity { vec_capacity out.old ≤ vec_capacity out.new }
+{
+    match desk.repair(alloc) {
+        Ok(()) => write_counts(out, b"ok repair", &[]),
+        Err(fault) => write_refusal(out, fault.code()).unwrap(),
     }
 }
 
@@ -287,6 +339,16 @@ fn read_absolute_record(alloc: Global, text: &[u8]) -> Result<Result<Record, Zon
                 ..
             },
         ) => Err(AllocError),
+        read => Ok(read),
+    }
+}
+
+// The question of a URI, or its fault. An error says that an allocation failed.
+fn read_question(alloc: Global, uri: &[u8]) -> Result<Result<Question, UriFault>, AllocError>
+    ensures { IfOk result (λ read. read ≡ question_of uri.now) }
+{
+    match Uri::parse(alloc, uri) {
+        Err(UriFault::Memory) => Err(AllocError),
         read => Ok(read),
     }
 }

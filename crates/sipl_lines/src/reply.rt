@@ -1,10 +1,13 @@
 // How replies are written.
-ghost use Rattle.std.specs.Prelude.{◌≡◌, ◌+◌, ◌*◌, ◌≤◌, [], ◌∷◌, ◌++◌, length, codes, IsOk, OnOk, OnErr, vec_len, vec_capacity};
-ghost use Rattle.sipl_lines.specs.ReplyText.{answer_text, max_answer_len, counts_line, refusal_line, text_fault_line, number_field, target_line, target_lines};
+ghost use Rattle.std.specs.Prelude.{◌≡◌, ◌+◌, ◌*◌, ◌≤◌, [], ◌∷◌, ◌++◌, length, take, codes, IsOk, OnOk, OnErr, vec_len, vec_capacity};
+ghost use Rattle.sipl_lines.specs.ReplyText.{answer_text, evidence_line, evidence_text, max_answer_len, counts_line, refusal_line, text_fault_line, number_field, target_line, target_lines, word_field};
+ghost use Rattle.sipl_records.specs.Kinds.{text_of_kind};
 
 use itoa::Buffer;
 use sipl_choice::Endpoint;
+use sipl_evidence::Item;
 use sipl_plans::Answer;
+use sipl_records::Kind;
 use std::alloc::AllocError;
 
 // The maximum length in octets of a number below 2^64 with a space before it.
@@ -14,8 +17,12 @@ const MAX_NUMBER_FIELD_LEN: usize = 21;
 // most four octets, the address's text of at most 39, and the port.
 const MAX_TARGET_LINE_LEN: usize = 94;
 
-// The maximum length in octets of the line that counts the targets.
+// The maximum length in octets of the line that counts the targets, or the record sets.
 const MAX_COUNT_LINE_LEN: usize = 29;
+
+// The maximum length in octets of what follows the owner in a record set's line: the mnemonic of a
+// kind, of at most five octets, and a number.
+const MAX_KIND_AND_COUNT_LEN: usize = 28;
 
 // Appends words, numbers with a space before each, and the end of the line, to space that is
 // reserved: it does not allocate.
@@ -150,5 +157,64 @@ fn write_target(out: &mut Vec<u8>, number: u64, target: &Endpoint)
     out.push_reserved(b' ');
     target.address.write(out).unwrap();
     write_number(out, u64::from(target.port));
+    out.push_reserved(b'\n');
+}
+
+// Appends a line for each record set, and the line that counts them. An error leaves `out` as it was.
+pub(crate) fn write_evidence(out: &mut Vec<u8>, items: &[Item]) -> Result<(), AllocError>
+    ensures ok { OnOk result (out.new.items ≡ out.old.items ++ evidence_text items.now) }
+    ensures err { OnErr result (out.new.items ≡ out.old.items) }
+    ensures capacity { vec_capacity out.old ≤ vec_capacity out.new }
+{
+    let len = out.len();
+    let written = append_evidence(out, items);
+    if written.is_err() {
+        out.truncate(len);
+    }
+    written
+}
+
+// Appends a line for each record set, and the line that counts them. An error leaves what was in
+// `out` before.
+fn append_evidence(out: &mut Vec<u8>, items: &[Item]) -> Result<(), AllocError>
+    ensures ok { OnOk result (out.new.items ≡ out.old.items ++ evidence_text items.now) }
+    ensures err { OnErr result (take (vec_len out.old) out.new.items ≡ out.old.items) }
+    ensures capacity { vec_capacity out.old ≤ vec_capacity out.new }
+{
+    for item in items {
+        write_set(out, item)?;
+    }
+    out.reserve(MAX_COUNT_LINE_LEN)?;
+    write_counts(out, b"ok deps", &[items.len() as u64]);
+    Ok(())
+}
+
+// Appends the line of a record set. An error leaves `out` as it was.
+#[tactic(auto, using(crate::proofs::Lengths::name_text_is_short))]
+fn write_set(out: &mut Vec<u8>, item: &Item) -> Result<(), AllocError>
+    ensures ok { OnOk result (out.new.items ≡ out.old.items ++ evidence_line item.now) }
+    ensures err { OnErr result (out.new.items ≡ out.old.items) }
+    ensures capacity { vec_capacity out.old ≤ vec_capacity out.new }
+{
+    let key = item.key();
+    // each octet of the owner's wire form is printed in at most four
+    out.reserve(4 + 4 * key.name.wire_len() + MAX_KIND_AND_COUNT_LEN)?;
+    out.extend_from_slice(b"dep ").unwrap();
+    key.name.write(out).unwrap();
+    write_kind_and_count(out, key.kind, item.content().len() as u64);
+    Ok(())
+}
+
+// Appends a kind, a number and the end of the line to space that is reserved.
+#[tactic(auto, using(crate::proofs::Lengths::kind_text_is_short))]
+fn write_kind_and_count(out: &mut Vec<u8>, kind: Kind, count: u64)
+    requires { vec_len out.old + MAX_KIND_AND_COUNT_LEN ≤ vec_capacity out.old }
+    ensures ok { out.new.items ≡ out.old.items
+        ++ (word_field (text_of_kind kind) ++ number_field count ++ 10 ∷ []) }
+    ensures capacity { vec_capacity out.old ≤ vec_capacity out.new }
+{
+    out.push_reserved(b' ');
+    out.extend_from_slice(kind.name().as_bytes()).unwrap();
+    write_number(out, count);
     out.push_reserved(b'\n');
 }

@@ -8,8 +8,8 @@ ghost use Rattle.sipl_lines.specs.Session.{AppendsText, GathersOrLoses, LoadsGat
 use crate::command::{Command, read_command};
 use crate::desk::Desk;
 use crate::desk_commands::{
-    MAX_SHORT_REPLY_LEN, add_record, find, hold, load_zone, release, remove_record, set_clock,
-    unload_zone,
+    MAX_SHORT_REPLY_LEN, add_record, find, hold, list_evidence, load_zone, release, remove_record,
+    repair, set_clock, unload_zone,
 };
 use crate::gather::{Gathered, Gathering};
 use crate::reply::write_refusal;
@@ -149,6 +149,11 @@ impl Session {
             Command::Add(record) => add_record(alloc, desk, record, out),
             Command::Del(record) => remove_record(alloc, desk, record, out),
             Command::Find(uri, draws) => find(alloc, desk, uri, draws, out),
+            Command::Deps(uri) => list_evidence(alloc, desk, uri, out),
+            Command::Repair => {
+                repair(alloc, desk, out);
+                Ok(())
+            }
             Command::Hold(transport, address, port, ms) => {
                 hold(desk, *transport, address, *port, *ms, out);
                 Ok(())

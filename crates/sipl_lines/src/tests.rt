@@ -3,6 +3,8 @@ mod comparison;
 mod findings;
 mod finds;
 mod holds;
+mod live;
+mod repairs;
 mod routes;
 mod settings;
 mod streams;
@@ -113,7 +115,7 @@ fn each_line_has_its_reply(rt: HostRuntime) -> Result<(), Fail> {
         ),
         (b"zone a. 000\n", b"ok zone 0 0 0 0\n"),
         (b"hold\nclock 1\n", b"err K1\nok clock 1\n"),
-        (b"deps sip:a\nrepair\n", b"err K1\nerr K1\n"),
+        (b"call invite 1 sip:a\nbroke\n", b"err K1\nerr K1\n"),
     ] {
         let text = replies(rt.alloc(), input)?;
         assert!(rt; text.as_slice() == want);

@@ -35,7 +35,7 @@ const POINTERS: [&str; 6] = [
     "\"s\" \"SIP+D2T\" \"x\" ",
 ];
 
-const URIS: [&str; 8] = [
+pub const URIS: [&str; 8] = [
     "sip:a.e",
     "sips:a.e",
     "sip:b.e",
@@ -67,14 +67,14 @@ const TRANSPORTS: [&[Transport]; 4] = [
 
 // Numbers from a seed.
 #[derive(Drop)]
-struct Numbers {
+pub struct Numbers {
     seed: u64,
     draws: Draws,
     next: usize,
 }
 
 impl Numbers {
-    fn new(seed: u64) -> Self {
+    pub fn new(seed: u64) -> Self {
         let seed = seed % 1_000_000 * 1_000;
         Numbers {
             seed,
@@ -84,7 +84,7 @@ impl Numbers {
     }
 
     // A number below the length of a list, of at most 10 elements.
-    fn below(&mut self, len: usize) -> usize {
+    pub fn below(&mut self, len: usize) -> usize {
         if self.next >= 32 {
             self.seed = self.seed.wrapping_add(1);
             self.draws = Draws::from_seed(self.seed);
@@ -96,7 +96,7 @@ impl Numbers {
     }
 
     // One of a list of texts.
-    fn one_of(&mut self, texts: &[&'static str]) -> &'static str {
+    pub fn one_of(&mut self, texts: &[&'static str]) -> &'static str {
         let place = self.below(texts.len());
         texts.get(place).copied().unwrap_or("")
     }
@@ -107,7 +107,7 @@ impl Numbers {
     }
 
     // The text of a record.
-    fn record(&mut self, alloc: Global) -> Result<Vec<u8>, AllocError> {
+    pub fn record(&mut self, alloc: Global) -> Result<Vec<u8>, AllocError> {
         let owner = self.one_of(&NAMES);
         let target = self.one_of(&NAMES);
         let parts = match self.below(7) {
@@ -146,7 +146,7 @@ impl Numbers {
         Ok(())
     }
 
-    fn abilities(&mut self, alloc: Global) -> Result<Abilities, Fail> {
+    pub fn abilities(&mut self, alloc: Global) -> Result<Abilities, Fail> {
         let transports = TRANSPORTS.get(self.below(4)).copied().unwrap_or(&[]);
         let families = FAMILIES.get(self.below(4)).copied().unwrap_or(Families::V4);
         Ok(Abilities::new(Vec::from_slice(alloc, transports)?, families)?)

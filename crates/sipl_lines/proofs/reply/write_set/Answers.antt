@@ -1,0 +1,11 @@
+use Rattle.std.proofs.Common.{rules, ◌≡◌, ◌++◌, length, OnOk, ap, subst, length-append}
+use Rattle.sipl_names.specs.NamePrint.{text_of}
+use Rattle.sipl_lines.proofs.Lengths.{name_text_is_short}
+use Rattle.sipl_lines.proofs.reply.write_set.Goals as goal
+
+pub write_kind_and_count-requires : goal.write_kind_and_count-requires
+write_kind_and_count-requires c =
+    let name = c.key-key.result.now.name in
+    let before = c.extend_from_slice.new.self.items in
+    let written = subst (λ r. OnOk r (c.write.new.out.items ≡ before ++ text_of name)) c.unwrap-2.ensures c.write.ensures.ok in
+    search (rules, ap length written, length-append before (text_of name), name_text_is_short name)
