@@ -5,6 +5,7 @@ use sipl_book::{Book, Edit, Limits};
 use sipl_choice::{Abilities, Families, Transport};
 use sipl_masterfile::{read_record, read_zone};
 use sipl_names::Name;
+use sipl_outages::Board;
 use sipl_plans::{Answer, draw, plan_of};
 use sipl_srv::Draws;
 use sipl_uri::{Question, Uri};
@@ -170,6 +171,18 @@ fn is_same(one: &Answer, other: &Answer) -> bool {
     }
 }
 
+// The answer of the plain program.
+pub fn plain_answer(
+    alloc: Global,
+    store: &mut ZoneStore,
+    board: &Board,
+    question: &Question,
+    abilities: &Abilities,
+    draws: &Draws,
+) -> Result<Answer, AllocError> {
+    plan_of(alloc, store.records(), board, question, abilities, draws)
+}
+
 // How many targets the answer has, where the run and the plain program agree on it.
 fn agreed(
     alloc: Global,
@@ -180,14 +193,8 @@ fn agreed(
 ) -> Result<Option<usize>, AllocError> {
     let finding = locate(alloc, book, question)?;
     let answer = draw(alloc, finding.layout(), draws, book.board())?;
-    let plain = plan_of(
-        alloc,
-        store.records(),
-        book.board(),
-        finding.question(),
-        book.abilities(),
-        draws,
-    )?;
+    let (board, abilities) = (book.board(), book.abilities());
+    let plain = plain_answer(alloc, store, board, finding.question(), abilities, draws)?;
     if !is_same(&answer, &plain) {
         return Ok(None);
     }

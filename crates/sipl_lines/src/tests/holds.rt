@@ -1,4 +1,4 @@
-// Holds, the clock, and answers that are kept, in sessions.
+// Holds, the clock, and kept results, in sessions.
 use super::streams::{blank, client_desk, replies, whole};
 use crate::server::serve;
 use crate::tapped::Tapped;

@@ -1,6 +1,6 @@
 // Sessions of some hundred lines, made from a seed, beside a plain store and a plain board: each reply
 // to a `find` is that of the plain program on the records and the holds as they stand.
-use super::comparison::{Numbers, URIS};
+use super::comparison::{Numbers, URIS, plain_answer};
 use crate::reply::write_answer;
 use crate::session::Session;
 use sipl_book::{Book, Limits};
@@ -8,7 +8,6 @@ use sipl_choice::{Endpoint, Transport};
 use sipl_masterfile::{read_record, read_zone};
 use sipl_names::Name;
 use sipl_outages::Board;
-use sipl_plans::plan_of;
 use sipl_records::Address;
 use sipl_srv::Draws;
 use sipl_uri::Uri;
@@ -116,17 +115,6 @@ impl Live {
         Ok(reply.as_slice() == b"ok repair\n".as_slice() && self.book.queued() == 0)
     }
 
-    // The reply of the plain program to a question.
-    fn plain_reply(&mut self, alloc: Global, uri: &str, draws: &Draws) -> Result<Vec<u8>, Fail> {
-        let question = Uri::parse(alloc, uri.as_bytes())?;
-        let abilities = self.book.abilities();
-        let records = self.store.records();
-        let answer = plan_of(alloc, records, &self.board, &question, abilities, draws)?;
-        let mut out = Vec::new(alloc);
-        write_answer(&mut out, &answer)?;
-        Ok(out)
-    }
-
     // Whether the reply to a question is that of the plain program.
     fn finds(&mut self, alloc: Global, uri: &str, seed: u64) -> Result<bool, Fail> {
         let line = format!(in alloc; "find {uri} seed {seed}")?;
@@ -134,7 +122,13 @@ impl Live {
         if reply.starts_with(b"target") {
             self.found = self.found.saturating_add(1);
         }
-        let want = self.plain_reply(alloc, uri, &Draws::from_seed(seed))?;
+        let question = Uri::parse(alloc, uri.as_bytes())?;
+        let draws = Draws::from_seed(seed);
+        let abilities = self.book.abilities();
+        let (store, board) = (&mut self.store, &self.board);
+        let answer = plain_answer(alloc, store, board, &question, abilities, &draws)?;
+        let mut want = Vec::new(alloc);
+        write_answer(&mut want, &answer)?;
         Ok(reply.as_slice() == want.as_slice())
     }
 
@@ -161,7 +155,7 @@ impl Live {
         if numbers.below(3) == 0 {
             return self.advance(alloc, ms);
         }
-        let number = numbers.below(10) as u8;
+        let number = (numbers.below(10) % 10) as u8;
         let port = if numbers.below(2) == 0 { 5060 } else { 5070 };
         self.hold(alloc, number, port, ms)
     }
