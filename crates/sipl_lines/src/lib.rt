@@ -17,8 +17,6 @@ mod reply;
 mod server;
 mod session;
 mod tapped;
-#[cfg(test)]
-mod tests;
 mod values;
 
 pub use check::check_zone;
@@ -27,5 +25,5 @@ pub use desk::Desk;
 pub use document::settings;
 pub use fault::SettingsFault;
 pub use keys::Settings;
-pub use server::{Ended, MAX_READS, ServeFault, serve};
+pub use server::{Ended, MAX_READS, ServeFault, serve, serve_within};
 pub use tapped::Tapped;

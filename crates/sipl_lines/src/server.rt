@@ -106,8 +106,8 @@ pub fn serve<R: Read, W: Write, D: Desk>(
     serve_within(alloc, reader, writer, desk, MAX_READS)
 }
 
-// Serves with at most so many reads.
-pub(crate) fn serve_within<R: Read, W: Write, D: Desk>(
+/// Serves as [`serve`] does, with at most `limit` reads.
+pub fn serve_within<R: Read, W: Write, D: Desk>(
     alloc: Global,
     reader: &mut Tapped<R>,
     writer: &mut Tapped<W>,

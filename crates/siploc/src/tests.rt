@@ -1,1 +1,13 @@
+mod comparison;
+mod dependencies;
+mod finds;
+mod holds;
+mod live;
 pub mod process;
+mod repairs;
+mod routes;
+mod sessions;
+mod settings;
+mod streams;
+mod zone_files;
+mod zones;

@@ -1,20 +1,8 @@
 // Sessions over streams of the tests' own.
-mod comparison;
-mod findings;
-mod finds;
-mod holds;
-mod live;
-mod repairs;
-mod routes;
-mod settings;
-mod streams;
-mod zone_files;
-mod zones;
-
-use self::streams::{Failing, Paper, Pieces, blank, new_desk, replies, whole};
-use crate::command::MAX_LINE_LEN;
-use crate::server::{Ended, MAX_READS, ServeFault, serve, serve_within};
-use crate::tapped::Tapped;
+use super::streams::{
+    Failing, Paper, Pieces, replies, replies_after_fault, served_anew, served_within,
+};
+use sipl_lines::{Ended, MAX_LINE_LEN, MAX_READS, ServeFault, Tapped};
 use std::alloc::{AllocError, Global};
 use std::io::{ErrorKind, Read, Write};
 use std::test::Fail;
@@ -241,46 +229,25 @@ fn a_million_lines_have_a_reply_each(rt: HostRuntime) -> Result<(), Fail> {
 
 #[test]
 fn replies_do_not_depend_on_the_sizes_of_reads_and_writes(rt: HostRuntime) -> Result<(), Fail> {
+    let alloc = rt.alloc();
     for most in 1..50 {
-        let mut reader = Tapped::new(Pieces {
-            rest: INPUT,
-            most,
-            fails_at: 0,
-            calls: 0,
-        });
-        let mut writer = Tapped::new(Paper {
-            text: Vec::new(rt.alloc()),
-            most,
-            fails_at: 0,
-            failing: Failing::Error,
-            calls: 0,
-            flushed: 0,
-        });
-        let mut desk = new_desk(rt.alloc())?;
-        let ended = serve(rt.alloc(), &mut reader, &mut writer, &mut desk);
-        assert!(rt; ended == Ok(Ended::EndOfInput));
-        assert!(rt; writer.into_inner().text.as_slice() == REPLIES);
+        let writer = Paper::new(alloc, most, Failing::Error, 0);
+        let served = served_anew(alloc, Pieces::new(INPUT, most, 0), writer)?;
+        assert!(rt; served.ended == Ok(Ended::EndOfInput));
+        assert!(rt; served.text.as_slice() == REPLIES);
     }
     Ok(())
 }
 
 #[test]
 fn a_failing_read_is_a_fault(rt: HostRuntime) -> Result<(), Fail> {
+    let alloc = rt.alloc();
     for fails_at in 1..46 {
-        let mut reader = Tapped::new(Pieces {
-            rest: INPUT,
-            most: 1,
-            fails_at,
-            calls: 0,
-        });
-        let mut writer = Tapped::new(blank(rt.alloc()));
-        let mut desk = new_desk(rt.alloc())?;
-        let ended = serve(rt.alloc(), &mut reader, &mut writer, &mut desk);
-        assert!(rt; ended == Err(ServeFault::Read));
-        assert!(rt; reader.failed() && reader.reads() == fails_at && !writer.failed());
+        let served = served_anew(alloc, Pieces::new(INPUT, 1, fails_at), Paper::blank(alloc))?;
+        assert!(rt; served.ended == Err(ServeFault::Read));
+        assert!(rt; served.read_failed && served.reads == fails_at && !served.write_failed);
         let want = replies_within(fails_at - 1);
-        let paper = writer.into_inner();
-        assert!(rt; paper.text.as_slice() == want && paper.flushed == want.len());
+        assert!(rt; served.text.as_slice() == want && served.flushed == want.len());
     }
     Ok(())
 }
@@ -288,52 +255,30 @@ fn a_failing_read_is_a_fault(rt: HostRuntime) -> Result<(), Fail> {
 #[test]
 fn session_keeps_accepted_commands_after_a_fault(rt: HostRuntime) -> Result<(), Fail> {
     for (fails_at, want) in [
-        (29, b"none NoAddress\n".as_slice()),
-        (30, b"target 1 udp 1.2.3.4 7\nok find 1\n"),
+        (29, b"ok zone 0 0 0 0\nnone NoAddress\n".as_slice()),
+        (
+            30,
+            b"ok zone 0 0 0 0\nok add 1\ntarget 1 udp 1.2.3.4 7\nok find 1\n",
+        ),
     ] {
-        let mut reader = Tapped::new(Pieces {
-            rest: INPUT,
-            most: 1,
-            fails_at,
-            calls: 0,
-        });
-        let mut desk = new_desk(rt.alloc())?;
-        let mut writer = Tapped::new(blank(rt.alloc()));
-        let ended = serve(rt.alloc(), &mut reader, &mut writer, &mut desk);
-        assert!(rt; ended == Err(ServeFault::Read));
-        let mut again = Tapped::new(whole(b"find sip:a.e:7"));
-        let mut later = Tapped::new(blank(rt.alloc()));
-        let ended = serve(rt.alloc(), &mut again, &mut later, &mut desk);
-        assert!(rt; ended == Ok(Ended::EndOfInput));
-        assert!(rt; later.into_inner().text.as_slice() == want);
+        let reader = Pieces::new(INPUT, 1, fails_at);
+        let text = replies_after_fault(rt.alloc(), reader, b"find sip:a.e:7")?;
+        assert!(rt; text.as_deref() == Some(want));
     }
     Ok(())
 }
 
 #[test]
 fn a_failing_write_is_a_fault(rt: HostRuntime) -> Result<(), Fail> {
+    let alloc = rt.alloc();
     for failing in [Failing::Error, Failing::TakesNothing] {
         for fails_at in 1..50 {
-            let mut reader = Tapped::new(Pieces {
-                rest: INPUT,
-                most: 4,
-                fails_at: 0,
-                calls: 0,
-            });
-            let mut writer = Tapped::new(Paper {
-                text: Vec::new(rt.alloc()),
-                most: 1,
-                fails_at,
-                failing,
-                calls: 0,
-                flushed: 0,
-            });
-            let mut desk = new_desk(rt.alloc())?;
-            let ended = serve(rt.alloc(), &mut reader, &mut writer, &mut desk);
-            assert!(rt; ended == Err(ServeFault::Write));
-            assert!(rt; writer.failed() && !reader.failed());
-            let text = writer.into_inner().text;
-            assert!(rt; REPLIES.starts_with(text.as_slice()) && text.len() as u64 + 1 == fails_at);
+            let writer = Paper::new(alloc, 1, failing, fails_at);
+            let served = served_anew(alloc, Pieces::new(INPUT, 4, 0), writer)?;
+            assert!(rt; served.ended == Err(ServeFault::Write));
+            assert!(rt; served.write_failed && !served.read_failed);
+            let text = served.text.as_slice();
+            assert!(rt; REPLIES.starts_with(text) && text.len() as u64 + 1 == fails_at);
         }
     }
     Ok(())
@@ -341,34 +286,22 @@ fn a_failing_write_is_a_fault(rt: HostRuntime) -> Result<(), Fail> {
 
 #[test]
 fn reads_are_bounded(rt: HostRuntime) -> Result<(), Fail> {
-    let mut reader = Tapped::new(Pieces {
-        rest: INPUT,
-        most: 1,
-        fails_at: 0,
-        calls: 0,
-    });
-    let mut writer = Tapped::new(blank(rt.alloc()));
-    let mut desk = new_desk(rt.alloc())?;
-    let ended = serve_within(rt.alloc(), &mut reader, &mut writer, &mut desk, 11);
-    assert!(rt; ended == Err(ServeFault::TooManyTurns));
-    assert!(rt; reader.reads() == 11 && MAX_READS == 4_294_967_296);
-    assert!(rt; writer.into_inner().text.as_slice() == b"ok zone 0 0 0 0\n".as_slice());
+    let alloc = rt.alloc();
+    let reader = Pieces::new(INPUT, 1, 0);
+    let served = served_within(alloc, reader, Paper::blank(alloc), 11)?;
+    assert!(rt; served.ended == Err(ServeFault::TooManyTurns));
+    assert!(rt; served.reads == 11 && MAX_READS == 4_294_967_296);
+    assert!(rt; served.text.as_slice() == b"ok zone 0 0 0 0\n".as_slice());
     Ok(())
 }
 
 #[test]
 fn quit_reads_no_more(rt: HostRuntime) -> Result<(), Fail> {
-    let mut reader = Tapped::new(Pieces {
-        rest: b"quit\nfind tel:1\n",
-        most: 5,
-        fails_at: 2,
-        calls: 0,
-    });
-    let mut writer = Tapped::new(blank(rt.alloc()));
-    let mut desk = new_desk(rt.alloc())?;
-    let ended = serve(rt.alloc(), &mut reader, &mut writer, &mut desk);
-    assert!(rt; ended == Ok(Ended::Quit) && reader.reads() == 1);
-    assert!(rt; writer.into_inner().text.as_slice() == b"ok quit\n".as_slice());
+    let alloc = rt.alloc();
+    let reader = Pieces::new(b"quit\nfind tel:1\n", 5, 2);
+    let served = served_anew(alloc, reader, Paper::blank(alloc))?;
+    assert!(rt; served.ended == Ok(Ended::Quit) && served.reads == 1);
+    assert!(rt; served.text.as_slice() == b"ok quit\n".as_slice());
     Ok(())
 }
 
@@ -397,13 +330,8 @@ fn faults_have_codes_and_messages(rt: HostRuntime) -> Result<(), Fail> {
 }
 
 #[test]
-fn tapped_passes_errors_through_and_invents_none(rt: HostRuntime) -> Result<(), Fail> {
-    let mut reader = Tapped::new(Pieces {
-        rest: INPUT,
-        most: 4,
-        fails_at: 20,
-        calls: 0,
-    });
+fn tapped_passes_a_failed_read_through(rt: HostRuntime) -> Result<(), Fail> {
+    let mut reader = Tapped::new(Pieces::new(INPUT, 4, 20));
     let mut chunk = [0; 16];
     for number in 1..20 {
         let outcome = reader.read(&mut chunk);
@@ -412,8 +340,12 @@ fn tapped_passes_errors_through_and_invents_none(rt: HostRuntime) -> Result<(), 
     let outcome = reader.read(&mut chunk);
     assert!(rt; outcome.map_err(|error| error.kind()) == Err(ErrorKind::BrokenPipe));
     assert!(rt; reader.failed() && reader.reads() == 20);
+    Ok(())
+}
 
-    let mut writer = Tapped::new(blank(rt.alloc()));
+#[test]
+fn tapped_invents_no_failed_write(rt: HostRuntime) -> Result<(), Fail> {
+    let mut writer = Tapped::new(Paper::blank(rt.alloc()));
     for _ in 0..20 {
         assert!(rt; writer.write(b"text").is_ok() && writer.write(b"").is_ok());
         assert!(rt; writer.flush().is_ok() && !writer.failed());

@@ -1,31 +1,13 @@
 // Holds, the clock, and kept results, in sessions.
-use super::streams::{blank, client_desk, replies, whole};
-use crate::server::serve;
-use crate::tapped::Tapped;
-use sipl_choice::Transport;
+use super::streams::{ZONE, replies, tcp_replies};
 use std::alloc::Global;
 use std::test::Fail;
-
-// The example of RFC 3263, 4.1 and 4.2.
-const ZONE: &str = "zone example.com. 7
-@ NAPTR 50 50 \"s\" \"SIPS+D2T\" \"\" _sips._tcp
-@ NAPTR 90 50 \"s\" \"SIP+D2T\" \"\" _sip._tcp
-@ NAPTR 100 50 \"s\" \"SIP+D2U\" \"\" _sip._udp
-_sip._tcp SRV 0 1 5060 server1
-_sip._tcp SRV 0 2 5060 server2
-server1 A 192.0.2.1
-server2 A 192.0.2.2
-";
 
 // Whether a session of a client of TCP and UDP that loads the zone replies so to the lines after it.
 fn has_replies(alloc: Global, input: &str, want: &str) -> Result<bool, Fail> {
     let mut text = Vec::from_slice(alloc, ZONE.as_bytes())?;
     text.extend_from_slice(input.as_bytes())?;
-    let mut reader = Tapped::new(whole(&text));
-    let mut writer = Tapped::new(blank(alloc));
-    let mut desk = client_desk(alloc, &[Transport::Tcp, Transport::Udp])?;
-    serve(alloc, &mut reader, &mut writer, &mut desk)?;
-    let written = writer.into_inner().text;
+    let written = tcp_replies(alloc, &text)?;
     Ok(written.strip_prefix(b"ok zone 7 0 0 4\n") == Some(want.as_bytes()))
 }
 

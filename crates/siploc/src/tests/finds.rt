@@ -1,20 +1,9 @@
 // The targets of URIs, from the records of zones and for random words.
-use super::streams::replies;
-use crate::command::MAX_LINE_LEN;
+use super::streams::{ZONE, replies};
+use sipl_lines::MAX_LINE_LEN;
 use sipl_srv::Draws;
 use std::alloc::{AllocError, Global};
 use std::test::Fail;
-
-// A domain with two servers over TCP, the second of twice the weight.
-const ZONE: &[u8] = b"zone example.com. 7
-@ NAPTR 50 50 \"s\" \"SIPS+D2T\" \"\" _sips._tcp
-@ NAPTR 90 50 \"s\" \"SIP+D2T\" \"\" _sip._tcp
-@ NAPTR 100 50 \"s\" \"SIP+D2U\" \"\" _sip._udp
-_sip._tcp SRV 0 1 5060 server1
-_sip._tcp SRV 0 2 5060 server2
-server1 A 192.0.2.1
-server2 A 192.0.2.2
-";
 
 const ZONE_REPLY: &[u8] = b"ok zone 7 0 0 4\n";
 
@@ -89,7 +78,7 @@ fn a_domain_is_found_by_its_service_records(rt: HostRuntime) -> Result<(), Fail>
             b"target 1 tcp 192.0.2.1 5060\ntarget 2 tcp 192.0.2.2 5060\nok find 2\n",
         ),
     ] {
-        let text = replies_to(rt.alloc(), ZONE, line)?;
+        let text = replies_to(rt.alloc(), ZONE.as_bytes(), line)?;
         assert!(rt; text.as_slice() == joined(rt.alloc(), ZONE_REPLY, want)?.as_slice());
     }
     Ok(())

@@ -1,9 +1,6 @@
 // Zones whose text is in lines of the session.
-use super::streams::{Pieces, blank, new_desk, replies};
-use crate::command::MAX_LINE_LEN;
-use crate::server::{Ended, ServeFault, serve, serve_session};
-use crate::session::Session;
-use crate::tapped::Tapped;
+use super::streams::{Paper, Pieces, replies, replies_after_fault, served_anew};
+use sipl_lines::{Ended, MAX_LINE_LEN};
 use std::test::Fail;
 
 #[test]
@@ -96,54 +93,21 @@ fn a_zone_has_at_most_2_to_the_20_lines(rt: HostRuntime) -> Result<(), Fail> {
 
 #[test]
 fn a_zone_does_not_depend_on_the_sizes_of_reads(rt: HostRuntime) -> Result<(), Fail> {
+    let alloc = rt.alloc();
+    let input = b"find x\nzone e. 3\n;a\r\n\n; quit\nfind x\nzone e. 2\nquit";
+    let want = b"err U1\nok zone 0 0 0 0\nerr U1\nerr zone 1 Z2\n";
     for most in 1..40 {
-        let mut reader = Tapped::new(Pieces {
-            rest: b"find x\nzone e. 3\n;a\r\n\n; quit\nfind x\nzone e. 2\nquit",
-            most,
-            fails_at: 0,
-            calls: 0,
-        });
-        let mut writer = Tapped::new(blank(rt.alloc()));
-        let mut desk = new_desk(rt.alloc())?;
-        let ended = serve(rt.alloc(), &mut reader, &mut writer, &mut desk);
-        assert!(rt; ended == Ok(Ended::EndOfInput));
-        let want = b"err U1\nok zone 0 0 0 0\nerr U1\nerr zone 1 Z2\n";
-        assert!(rt; writer.into_inner().text.as_slice() == want.as_slice());
+        let served = served_anew(alloc, Pieces::new(input, most, 0), Paper::blank(alloc))?;
+        assert!(rt; served.ended == Ok(Ended::EndOfInput));
+        assert!(rt; served.text.as_slice() == want.as_slice());
     }
     Ok(())
 }
 
 #[test]
-fn a_failing_read_leaves_the_lines_that_were_taken(rt: HostRuntime) -> Result<(), Fail> {
-    let mut reader = Tapped::new(Pieces {
-        rest: b"zone e. 3\n;\n",
-        most: 12,
-        fails_at: 2,
-        calls: 0,
-    });
-    let mut desk = new_desk(rt.alloc())?;
-    let mut session = Session::new();
-    let mut writer = Tapped::new(blank(rt.alloc()));
-    let ended = serve_session(
-        rt.alloc(),
-        &mut reader,
-        &mut writer,
-        &mut desk,
-        &mut session,
-        9,
-    );
-    assert!(rt; ended == Err(ServeFault::Read) && writer.into_inner().text.is_empty());
-    let mut again = Tapped::new(b"\nquit\nquit\n".as_slice());
-    let mut later = Tapped::new(blank(rt.alloc()));
-    let ended = serve_session(
-        rt.alloc(),
-        &mut again,
-        &mut later,
-        &mut desk,
-        &mut session,
-        9,
-    );
-    assert!(rt; ended == Ok(Ended::Quit));
-    assert!(rt; later.into_inner().text.as_slice() == b"err zone 3 Z2\nok quit\n".as_slice());
+fn a_failing_read_loads_no_part_of_a_zone(rt: HostRuntime) -> Result<(), Fail> {
+    let reader = Pieces::new(b"zone e. 3\n@ A 192.0.2.1\n", 24, 2);
+    let text = replies_after_fault(rt.alloc(), reader, b"find sip:e:7\n")?;
+    assert!(rt; text.as_deref() == Some(b"none NoAddress\n".as_slice()));
     Ok(())
 }

@@ -1,22 +1,11 @@
 // Zones with records, in lines of the session.
-use super::streams::replies;
+use super::streams::{ZONE, replies};
 use std::alloc::{AllocError, Global};
 use std::test::Fail;
 
-// A zone of seven lines: the servers of `example.com.`.
-const ZONE: &[u8] = br#"zone example.com. 7
-@ NAPTR 50 50 "s" "SIPS+D2T" "" _sips._tcp
-@ NAPTR 90 50 "s" "SIP+D2T" "" _sip._tcp
-@ NAPTR 100 50 "s" "SIP+D2U" "" _sip._udp
-_sip._tcp SRV 0 1 5060 server1
-_sip._tcp SRV 0 2 5060 server2
-server1 A 192.0.2.1
-server2 A 192.0.2.2
-"#;
-
 // The zone, and lines after it.
 fn with_zone(alloc: Global, lines: &[u8]) -> Result<Vec<u8>, AllocError> {
-    let mut input = Vec::from_slice(alloc, ZONE)?;
+    let mut input = Vec::from_slice(alloc, ZONE.as_bytes())?;
     input.extend_from_slice(lines)?;
     Ok(input)
 }
@@ -57,7 +46,7 @@ fn edits_of_a_zone_count_the_sets_that_change(rt: HostRuntime) -> Result<(), Fai
 
 #[test]
 fn a_zone_replaces_the_one_before_it(rt: HostRuntime) -> Result<(), Fail> {
-    let mut input = with_zone(rt.alloc(), ZONE)?;
+    let mut input = with_zone(rt.alloc(), ZONE.as_bytes())?;
     input.extend_from_slice(b"zone example.com. 1\nserver1 A 192.0.2.1\n")?;
     let text = replies(rt.alloc(), &input)?;
     let want = b"ok zone 7 0 0 4\nok zone 7 0 0 0\nok zone 1 0 0 3\n";

@@ -1,5 +1,5 @@
-use crate::{Settings, SettingsFault, settings};
 use sipl_choice::{Families, Transport};
+use sipl_lines::{Settings, SettingsFault, settings};
 use std::alloc::Global;
 use std::net::{Ipv4Addr, SocketAddrV4};
 use std::process::Abort;

@@ -1,12 +1,12 @@
-// A run over a book's sets against the plain program over its records, for zones made from seeds.
-use crate::locate::locate;
+// A book's answers against those of the plain program over its records, for zones made from seeds.
 use itoa::Buffer;
 use sipl_book::{Book, Edit, Limits};
 use sipl_choice::{Abilities, Families, Transport};
+use sipl_lines::Desk;
 use sipl_masterfile::{read_record, read_zone};
 use sipl_names::Name;
 use sipl_outages::Board;
-use sipl_plans::{Answer, draw, plan_of};
+use sipl_plans::{Answer, plan_of};
 use sipl_srv::Draws;
 use sipl_uri::{Question, Uri};
 use sipl_zonestore::ZoneStore;
@@ -183,29 +183,29 @@ pub fn plain_answer(
     plan_of(alloc, store.records(), board, question, abilities, draws)
 }
 
-// How many targets the answer has, where the run and the plain program agree on it.
+// How many targets a URI has, where the book and the plain program agree on them.
 fn agreed(
     alloc: Global,
     book: &mut Book,
     store: &mut ZoneStore,
-    question: Question,
+    uri: &[u8],
     draws: &Draws,
-) -> Result<Option<usize>, AllocError> {
-    let finding = locate(alloc, book, question)?;
-    let answer = draw(alloc, finding.layout(), draws, book.board())?;
+) -> Result<Option<usize>, Fail> {
+    let found = book.find(alloc, Uri::parse(alloc, uri)?, draws)?;
+    let question = Uri::parse(alloc, uri)?;
     let (board, abilities) = (book.board(), book.abilities());
-    let plain = plain_answer(alloc, store, board, finding.question(), abilities, draws)?;
-    if !is_same(&answer, &plain) {
+    let plain = plain_answer(alloc, store, board, &question, abilities, draws)?;
+    if !is_same(&found.answer, &plain) {
         return Ok(None);
     }
-    Ok(Some(match answer {
+    Ok(Some(match plain {
         Answer::Targets(targets) => targets.as_slice().len(),
         Answer::None(_) => 0,
     }))
 }
 
 // How many of the questions have targets and how many have none, over the zone of a seed, where the
-// run and the plain program agree on all.
+// book and the plain program agree on all.
 fn counted(
     alloc: Global,
     seed: u64,
@@ -217,8 +217,7 @@ fn counted(
     let draws = Draws::from_seed(seed);
     let (mut found, mut none) = (0_u64, 0_u64);
     for uri in URIS {
-        let question = Uri::parse(alloc, uri.as_bytes())?;
-        match agreed(alloc, book, store, question, &draws)? {
+        match agreed(alloc, book, store, uri.as_bytes(), &draws)? {
             Some(0) => none = none.saturating_add(1),
             Some(_) => found = found.saturating_add(1),
             None => return Ok(None),
@@ -237,7 +236,7 @@ fn counted_over(alloc: Global, seed: u64) -> Result<Option<(u64, u64)>, Fail> {
 }
 
 #[test]
-fn runs_agree_with_the_plain_program(rt: HostRuntime) -> Result<(), Fail> {
+fn answers_are_those_of_the_plain_program(rt: HostRuntime) -> Result<(), Fail> {
     let (mut all_found, mut all_none) = (0_u64, 0_u64);
     for seed in 0..300_u64 {
         let Some((found, none)) = counted_over(rt.alloc(), seed)? else {
@@ -278,7 +277,7 @@ fn push_addresses(text: &mut Vec<u8>, server: u8) -> Result<(), AllocError> {
     Ok(())
 }
 
-// How many targets the answer has over a zone's text, where the run and the plain program agree.
+// How many targets the apex has over a zone's text, where the book and the plain program agree.
 fn agreed_over(
     alloc: Global,
     text: &[u8],
@@ -286,8 +285,7 @@ fn agreed_over(
     store: &mut ZoneStore,
 ) -> Result<Option<usize>, Fail> {
     load(alloc, text, book, store)?;
-    let question = Uri::parse(alloc, b"sip:e.")?;
-    Ok(agreed(alloc, book, store, question, &Draws::from_seed(7))?)
+    agreed(alloc, book, store, b"sip:e.", &Draws::from_seed(7))
 }
 
 // The same for a new book and a new store.
@@ -300,7 +298,7 @@ fn agreed_anew(alloc: Global, text: &[u8]) -> Result<Option<usize>, Fail> {
 }
 
 #[test]
-fn runs_agree_over_32_servers_of_32_addresses(rt: HostRuntime) -> Result<(), Fail> {
+fn answers_agree_over_32_servers_of_32_addresses(rt: HostRuntime) -> Result<(), Fail> {
     let text = full_service(rt.alloc())?;
     assert_eq!(rt; agreed_anew(rt.alloc(), &text)?, Some(1024));
     Ok(())
