@@ -108,8 +108,8 @@ abbrev pub hand_refusal : Question → BookState → Option BookFault
 hand_refusal question book =
     unless_full book (if is_hot book.entries question then None else Some Cold)
 
--- An answer that is handed out is that of the records and the holds as they are, and is the next
--- event. It looks at no set. A refused one changes nothing.
+-- An answer that is returned is that of the records and the holds as they are, and is the next
+-- event. It looks at no set. A refused call changes nothing.
 pub record IsHanded (question : Question) (words : List ℕ) (old new : BookState)
     (result : Result Handed BookFault) : Type 0 where
   pub accepted : OnOk result (hand_refusal question old ≡ None)
@@ -147,8 +147,8 @@ after_commit found words book =
     })
 
 -- A finding that is committed gives the answer of the records and the holds as they are, which is
--- the next event, and the question's entry is current and not queued. A refused one is handed back, and changes
--- nothing. Either may count looks.
+-- the next event, and the question's entry is current and not queued. A refused one is returned, and
+-- changes nothing. Either may count looks.
 pub record IsCommitted (found : Found) (words : List ℕ) (old new : BookState)
     (result : Result Handed Uncommitted) : Type 0 where
   pub accepted : OnOk result (commit_refusal found old ≡ None)
@@ -200,7 +200,7 @@ after_settlement id found book =
     }
 
 -- A finding that is settled is that of the leased entry, which is current then. A refused one is
--- handed back; its lease is spent as one that is given back, or else its entry is the last of the
+-- returned; its lease is spent as one that is given back, or else its entry is the last of the
 -- queue, unless it is current. No event is recorded. Looks may be counted.
 pub record IsSettled (id : ℕ) (found : Found) (old new : BookState)
     (result : Result (Unit {0}) Uncommitted) : Type 0 where

@@ -45,7 +45,7 @@ impl Session {
     /// `zone` command takes has no reply, unless it is the last one.
     ///
     /// Where an allocation fails, the reply is `err Memory` and nothing changes, except that an
-    /// answer that can't be written has been handed out; the lines that a `zone` takes are taken
+    /// answer that can't be written has been recorded; the lines that a `zone` takes are taken
     /// nevertheless. An error says that the space for a short reply could not be reserved: then too
     /// nothing has changed.
     pub fn process_line<D: Desk>(
