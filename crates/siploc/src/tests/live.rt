@@ -233,9 +233,13 @@ impl Live {
         Ok(is_wanted)
     }
 
-    // How many results were repaired in 60 sessions of ten lines and a repair, where all replies are
-    // as wanted and each repair leaves no result queued.
-    fn repaired(&mut self, numbers: &mut Numbers, book: &mut Book) -> Result<Option<u64>, Fail> {
+    // How many questions had targets, and how many results were repaired, in 60 sessions of ten lines
+    // and a repair, where all replies are as wanted and each repair leaves no result queued.
+    fn counted(
+        &mut self,
+        numbers: &mut Numbers,
+        book: &mut Book,
+    ) -> Result<Option<(u64, u64)>, Fail> {
         self.load()?;
         let mut repaired = 0_u64;
         for _ in 0..60 {
@@ -249,19 +253,16 @@ impl Live {
                 return Ok(None);
             }
         }
-        Ok(Some(repaired))
+        Ok(Some((self.found, repaired)))
     }
 }
 
-// How many questions had targets, and how many results were repaired, in the sessions from a seed,
-// where the replies are as they should be.
+// The same for the sessions from a seed.
 fn counted(alloc: Global, seed: u64) -> Result<Option<(u64, u64)>, Fail> {
     let mut numbers = Numbers::new(seed);
-    let abilities = numbers.abilities(alloc)?;
-    let mut book = Book::new(alloc, abilities, &Limits::greatest());
+    let mut book = Book::new(alloc, numbers.abilities(alloc)?, &Limits::greatest());
     let mut live = Live::new(alloc);
-    let repaired = live.repaired(&mut numbers, &mut book)?;
-    Ok(repaired.map(|repaired| (live.found, repaired)))
+    live.counted(&mut numbers, &mut book)
 }
 
 #[test]
