@@ -1,0 +1,227 @@
+//! What a client chooses from: transports, families, services and its abilities.
+mod pointers;
+
+use sipl_choice::Transport::{Sctp, Tcp, Tls, Udp};
+use sipl_choice::{Abilities, AbilitiesFault, Families, Transport, default_port, service_name};
+use sipl_names::Name;
+use sipl_records::Kind;
+use std::alloc::Global;
+use std::process::Abort;
+
+fn client(alloc: Global, transports: &[Transport], families: Families) -> Option<Abilities> {
+    let preference = Vec::from_slice(alloc, transports).ok()?;
+    Abilities::new(preference, families).ok()
+}
+
+fn fault_of(alloc: Global, transports: &[Transport]) -> Option<AbilitiesFault> {
+    let preference = Vec::from_slice(alloc, transports).ok()?;
+    Abilities::new(preference, Families::V4).err()
+}
+
+fn has(client: &Abilities, transports: &[Transport], families: Families) -> bool {
+    client.preference() == transports && client.families() == families
+}
+
+fn copy_has(
+    alloc: Global,
+    client: &Abilities,
+    transports: &[Transport],
+    families: Families,
+) -> bool {
+    match client.dup(alloc) {
+        Ok(copy) => copy == *client && has(&copy, transports, families),
+        Err(_) => false,
+    }
+}
+
+// Whether a client of these abilities, and its copy, have them.
+fn keeps(alloc: Global, transports: &[Transport], families: Families) -> bool {
+    match client(alloc, transports, families) {
+        Some(client) => {
+            has(&client, transports, families) && copy_has(alloc, &client, transports, families)
+        }
+        None => false,
+    }
+}
+
+// Whether a client of these transports supports this one.
+fn supports(alloc: Global, transports: &[Transport], transport: Transport) -> Option<bool> {
+    match client(alloc, transports, Families::V4) {
+        Some(client) => Some(client.supports(transport)),
+        None => None,
+    }
+}
+
+// Whether a client of UDP and TCP over IPv4 equals one of these.
+fn equals(alloc: Global, transports: &[Transport], families: Families) -> Option<bool> {
+    match (
+        client(alloc, &[Udp, Tcp], Families::V4),
+        client(alloc, transports, families),
+    ) {
+        (Some(client), Some(other)) => Some(client == other),
+        _ => None,
+    }
+}
+
+#[test]
+fn new_refuses_an_empty_list(rt: HostRuntime) {
+    assert_eq!(rt;
+        fault_of(rt.alloc(), &[]),
+        Some(AbilitiesFault::EmptyAbilities)
+    );
+}
+
+#[test]
+fn new_refuses_a_transport_listed_twice(rt: HostRuntime) {
+    for transports in [[Udp, Udp, Tcp], [Udp, Tcp, Udp], [Sctp, Tls, Tls]] {
+        let fault = fault_of(rt.alloc(), &transports);
+        assert_eq!(rt; fault, Some(AbilitiesFault::RepeatedTransport));
+    }
+}
+
+#[test]
+fn abilities_keep_the_order_of_preference(rt: HostRuntime) {
+    let transports = [Udp, Tcp];
+    assert!(rt; keeps(rt.alloc(), &transports, Families::V4));
+    assert_eq!(rt; supports(rt.alloc(), &transports, Tcp), Some(true));
+    assert_eq!(rt; supports(rt.alloc(), &transports, Tls), Some(false));
+}
+
+#[test]
+fn equality_sees_the_order_of_preference_and_the_families(rt: HostRuntime) {
+    assert_eq!(rt; equals(rt.alloc(), &[Udp, Tcp], Families::V4), Some(true));
+    for transports in [[Udp, Tls].as_slice(), &[Tcp, Udp], &[Udp], &[Udp, Tcp, Tls]] {
+        assert_eq!(rt; equals(rt.alloc(), transports, Families::V4), Some(false));
+    }
+    for families in [Families::V6, Families::V4ThenV6, Families::V6ThenV4] {
+        assert_eq!(rt; equals(rt.alloc(), &[Udp, Tcp], families), Some(false));
+    }
+}
+
+#[test]
+fn new_accepts_each_transport_once(rt: HostRuntime) {
+    assert!(rt; keeps(rt.alloc(), &[Sctp, Tls, Tcp, Udp], Families::V4));
+}
+
+#[test]
+fn faults_have_their_codes(rt: HostRuntime) {
+    assert_eq!(rt; AbilitiesFault::EmptyAbilities.code(), "C1");
+    assert_eq!(rt; AbilitiesFault::RepeatedTransport.code(), "C2");
+}
+
+#[test]
+fn families_are_looked_up_in_their_order(rt: HostRuntime) {
+    for (families, kinds) in [
+        (Families::V4, [Kind::Address4].as_slice()),
+        (Families::V6, &[Kind::Address6]),
+        (Families::V4ThenV6, &[Kind::Address4, Kind::Address6]),
+        (Families::V6ThenV4, &[Kind::Address6, Kind::Address4]),
+    ] {
+        assert_eq!(rt; families.kinds(), kinds);
+    }
+}
+
+// Whether this is what the transport prints.
+fn prints(alloc: Global, transport: Transport, text: &str) -> bool {
+    match transport.to_string(alloc) {
+        Ok(printed) => printed.as_str() == text,
+        Err(_) => false,
+    }
+}
+
+#[test]
+fn transports_have_ports_and_names(rt: HostRuntime) {
+    for (transport, name, port) in [
+        (Udp, "udp", 5060),
+        (Tcp, "tcp", 5060),
+        (Tls, "tls", 5061),
+        (Sctp, "sctp", 5060),
+    ] {
+        assert!(rt; prints(rt.alloc(), transport, name));
+        assert_eq!(rt; transport.name(), name);
+        assert_eq!(rt; default_port(transport), port);
+    }
+}
+
+#[test]
+fn names_of_transports_are_read_with_and_without_case(rt: HostRuntime) {
+    for (name, exact, without_case) in [
+        (b"udp".as_slice(), Some(Udp), Some(Udp)),
+        (b"tcp", Some(Tcp), Some(Tcp)),
+        (b"tls", Some(Tls), Some(Tls)),
+        (b"sctp", Some(Sctp), Some(Sctp)),
+        (b"UDP", None, Some(Udp)),
+        (b"tLs", None, Some(Tls)),
+        (b"", None, None),
+        (b"ud", None, None),
+        (b"tcps", None, None),
+        (b"ws", None, None),
+    ] {
+        assert_eq!(rt; Transport::from_name(name), exact);
+        assert_eq!(rt; Transport::from_name_ignore_case(name), without_case);
+    }
+}
+
+fn name(alloc: Global, text: &[u8]) -> Option<Name> {
+    Name::from_text(alloc, text, &Name::root(alloc)).ok()
+}
+
+fn is_service_name(alloc: Global, target: &Name, transport: Transport, expected: &Name) -> bool {
+    match service_name(alloc, target, transport) {
+        Ok(Some(name)) => name == *expected,
+        _ => false,
+    }
+}
+
+// Whether `Example.com.` has this service name.
+fn has_service_name(alloc: Global, transport: Transport, text: &[u8]) -> bool {
+    match (name(alloc, b"Example.com."), name(alloc, text)) {
+        (Some(target), Some(expected)) => is_service_name(alloc, &target, transport, &expected),
+        _ => false,
+    }
+}
+
+#[test]
+fn service_names_are_below_the_target(rt: HostRuntime) {
+    for (transport, text) in [
+        (Udp, b"_sip._udp.example.com.".as_slice()),
+        (Tcp, b"_sip._tcp.example.com."),
+        (Tls, b"_sips._tcp.example.com."),
+        (Sctp, b"_sip._sctp.example.com."),
+    ] {
+        assert!(rt; has_service_name(rt.alloc(), transport, text));
+    }
+}
+
+fn is_named(alloc: Global, target: &Name, transport: Transport) -> Option<bool> {
+    match service_name(alloc, target, transport) {
+        Ok(name) => Some(name.is_some()),
+        Err(_) => None,
+    }
+}
+
+// Whether a target of three labels of 63 octets and one of this length has a service name.
+fn is_long_named(alloc: Global, last: usize, transport: Transport) -> Option<bool> {
+    let label = [b'a'; 63];
+    let labels = [label.as_slice(), &label, &label, label.get(..last)?];
+    match Name::root(alloc).prefixed(alloc, &labels) {
+        Ok(target) => is_named(alloc, &target, transport),
+        Err(_) => None,
+    }
+}
+
+#[test]
+fn long_targets_have_no_service_name(rt: HostRuntime) {
+    // The wire form has 194 octets and those of the last label; the two labels before it have
+    // 10 octets for UDP, 11 for SCTP and TLS.
+    for (last, transport, expected) in [
+        (51, Udp, true),
+        (52, Udp, false),
+        (50, Sctp, true),
+        (51, Sctp, false),
+        (50, Tls, true),
+        (51, Tls, false),
+    ] {
+        assert_eq!(rt; is_long_named(rt.alloc(), last, transport), Some(expected));
+    }
+}

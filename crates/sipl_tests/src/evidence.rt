@@ -1,0 +1,485 @@
+// Sessions with the evidence of a lookup and a walk: each step is a call with its result, or what the
+// evidence then has.
+use sipl_evidence::{Evidence, EvidenceFault, Item, Walk};
+use sipl_names::Name;
+use sipl_records::{Data, Key, Kind, Sequence};
+use std::alloc::Global;
+use std::process::Abort;
+
+const A: Kind = Kind::Address4;
+
+// A set as it is read.
+#[derive(Clone, Copy)]
+enum Set {
+    Empty(&'static str, Kind),
+    // The owner's address, and the number of its set.
+    Address(&'static str, u32, u64),
+    // The owner's alias and its target.
+    Alias(&'static str, &'static str),
+}
+
+#[derive(Clone, Copy)]
+enum Step {
+    IsEmpty,
+    Pushes(Set),
+    // The set's key is read already, and the item is returned.
+    RefusesToPush(Set),
+    Pops(Set),
+    PopsNothing,
+    // The evidence, and a copy of it, have the items of these sets in this order.
+    HasItems(&'static [Set]),
+    // The items of these owners and kinds have these places.
+    HasPlaces(&'static [(&'static str, Kind, Option<usize>)]),
+    // The IPv4 set of an owner was read, and has these addresses.
+    HasContent(&'static str, &'static [u32]),
+    LacksContent(&'static str),
+    // The walk goes from name to name, and each is an alias of the next one.
+    WalksOver(&'static [&'static str]),
+    // What is read of a name that is an alias: nothing of the kind itself, and its alias.
+    PushesLink(&'static str, &'static str),
+    GoesOn,
+    Wants(&'static str, Kind),
+    // A walk that starts now, from the name of the first one, wants this.
+    WantsAnew(&'static str, Kind),
+    WantsNothing,
+    // The walk's answer has these addresses.
+    Answers(&'static [u32]),
+    HasNoAnswer,
+    HasLen(usize),
+}
+
+// The evidence of a lookup, and the walk that it is read for.
+#[derive(Drop)]
+struct Lookup {
+    alloc: Global,
+    evidence: Evidence,
+    walk: Walk,
+}
+
+// Takes the steps with new evidence and a walk from `n0.` for this kind. It alone owns a lookup: at
+// each exit the proof owes what becomes of one.
+fn play(rt: &impl Abort, alloc: Global, kind: Kind, steps: &[Step]) {
+    let mut lookup = Lookup {
+        alloc,
+        evidence: Evidence::new(alloc),
+        walk: first_walk(rt, alloc, kind),
+    };
+    take_each(rt, &mut lookup, steps);
+}
+
+fn first_walk(rt: &impl Abort, alloc: Global, kind: Kind) -> Walk {
+    Walk::start(name(rt, alloc, "n0."), kind)
+}
+
+fn take_each(rt: &impl Abort, lookup: &mut Lookup, steps: &[Step]) {
+    for step in steps {
+        take(rt, lookup, *step);
+    }
+}
+
+fn take(rt: &impl Abort, lookup: &mut Lookup, step: Step) {
+    match step {
+        Step::IsEmpty => assert!(rt; lookup.evidence.is_empty()),
+        Step::HasLen(len) => assert_eq!(rt; lookup.evidence.len(), len),
+        Step::Pushes(set) => pushes(rt, lookup, set),
+        Step::RefusesToPush(set) => refuses_to_push(rt, lookup, set),
+        Step::Pops(set) => pops(rt, lookup, set),
+        Step::PopsNothing => pops_nothing(rt, lookup),
+        Step::HasItems(sets) => has_items(rt, lookup, sets),
+        Step::HasPlaces(places) => has_places(rt, lookup, places),
+        Step::HasContent(owner, addresses) => has_content(rt, lookup, owner, addresses),
+        Step::LacksContent(owner) => lacks_content(rt, lookup, owner),
+        _ => take_with_walk(rt, lookup, step),
+    }
+}
+
+fn take_with_walk(rt: &impl Abort, lookup: &mut Lookup, step: Step) {
+    match step {
+        Step::WalksOver(names) => walks_over(rt, lookup, names),
+        Step::PushesLink(owner, target) => pushes_link(rt, lookup, owner, target),
+        Step::GoesOn => goes_on(rt, lookup),
+        Step::Wants(owner, kind) => wants(rt, lookup, owner, kind),
+        Step::WantsAnew(owner, kind) => wants_anew(rt, lookup, owner, kind),
+        Step::WantsNothing => assert!(rt; lookup.walk.wants(&lookup.evidence).is_none()),
+        Step::Answers(addresses) => answers(rt, lookup, addresses),
+        Step::HasNoAnswer => assert!(rt; lookup.walk.result(&lookup.evidence).is_none()),
+        _ => {}
+    }
+}
+
+fn name(rt: &impl Abort, alloc: Global, text: &str) -> Name {
+    Name::from_text(alloc, text.as_bytes(), &Name::root(alloc)).expect(rt, "a name")
+}
+
+fn key(rt: &impl Abort, alloc: Global, owner: &str, kind: Kind) -> Key {
+    Key {
+        name: name(rt, alloc, owner),
+        kind,
+    }
+}
+
+fn item(rt: &impl Abort, alloc: Global, set: Set) -> Item {
+    match set {
+        Set::Empty(owner, kind) => Item::new(
+            key(rt, alloc, owner, kind),
+            0,
+            Sequence::from_vec(Vec::new(alloc)),
+        ),
+        Set::Address(owner, address, number) => single(
+            rt,
+            key(rt, alloc, owner, A),
+            number,
+            Sequence::from_vec(only(rt, alloc, Data::Address4(address))),
+        ),
+        Set::Alias(owner, target) => single(
+            rt,
+            key(rt, alloc, owner, Kind::Alias),
+            1,
+            Sequence::from_vec(only(rt, alloc, Data::Alias(name(rt, alloc, target)))),
+        ),
+    }
+}
+
+fn only(rt: &impl Abort, alloc: Global, datum: Data) -> Vec<Data> {
+    let mut data = Vec::new(alloc);
+    data.push(datum).expect(rt, "out of memory");
+    data
+}
+
+// The set of a key that is not empty.
+fn single(rt: &impl Abort, key: Key, number: u64, content: Sequence<Data>) -> Item {
+    assert!(rt; number > 0 && !content.is_empty());
+    Item::new(key, number, content)
+}
+
+// Whether the item is this set.
+fn is_set(rt: &impl Abort, alloc: Global, found: &Item, set: Set) -> bool {
+    is_item(found, &item(rt, alloc, set))
+}
+
+fn is_item(found: &Item, expected: &Item) -> bool {
+    found.key() == expected.key()
+        && found.number() == expected.number()
+        && found.content() == expected.content()
+}
+
+fn are_addresses(found: &[Data], addresses: &[u32]) -> bool {
+    for (datum, address) in found.iter().zip(addresses.iter()) {
+        if *datum != Data::Address4(*address) {
+            return false;
+        }
+    }
+    found.len() == addresses.len()
+}
+
+fn pushes(rt: &impl Abort, lookup: &mut Lookup, set: Set) {
+    let is_pushed = lookup.evidence.push(item(rt, lookup.alloc, set)).is_ok();
+    assert!(rt; is_pushed, "the set was not pushed");
+}
+
+fn refuses_to_push(rt: &impl Abort, lookup: &mut Lookup, set: Set) {
+    let is_refused = match lookup.evidence.push(item(rt, lookup.alloc, set)) {
+        Ok(()) => false,
+        Err(refused) => {
+            refused.fault == EvidenceFault::AlreadyRead
+                && is_set(rt, lookup.alloc, &refused.item, set)
+        }
+    };
+    assert!(rt;
+        is_refused,
+        "the set was pushed, or another one was returned"
+    );
+}
+
+fn pops(rt: &impl Abort, lookup: &mut Lookup, set: Set) {
+    let is_popped = match lookup.evidence.pop() {
+        Some(last) => is_set(rt, lookup.alloc, &last, set),
+        None => false,
+    };
+    assert!(rt; is_popped, "another set was popped, or none");
+}
+
+fn pops_nothing(rt: &impl Abort, lookup: &mut Lookup) {
+    let is_empty = lookup.evidence.pop().is_none();
+    assert!(rt; is_empty, "a set was popped");
+}
+
+fn has_items(rt: &impl Abort, lookup: &Lookup, sets: &[Set]) {
+    let has_items = are_sets(rt, lookup.alloc, lookup.evidence.items(), sets);
+    let copy_has_items = copy_has_items(rt, lookup, sets);
+    assert_eq!(rt; (has_items, copy_has_items), (true, true));
+}
+
+fn copy_has_items(rt: &impl Abort, lookup: &Lookup, sets: &[Set]) -> bool {
+    match lookup.evidence.dup(lookup.alloc) {
+        Ok(copy) => are_sets(rt, lookup.alloc, copy.items(), sets),
+        Err(_) => false,
+    }
+}
+
+fn are_sets(rt: &impl Abort, alloc: Global, items: &[Item], sets: &[Set]) -> bool {
+    for (found, set) in items.iter().zip(sets.iter()) {
+        if !is_set(rt, alloc, found, *set) {
+            return false;
+        }
+    }
+    items.len() == sets.len()
+}
+
+fn has_places(rt: &impl Abort, lookup: &Lookup, places: &[(&str, Kind, Option<usize>)]) {
+    for (owner, kind, place) in places {
+        let found = place_of(rt, lookup, owner, *kind);
+        assert_eq!(rt; found, *place, "at {owner}");
+    }
+}
+
+fn place_of(rt: &impl Abort, lookup: &Lookup, owner: &str, kind: Kind) -> Option<usize> {
+    lookup.evidence.find(&key(rt, lookup.alloc, owner, kind))
+}
+
+fn has_content(rt: &impl Abort, lookup: &Lookup, owner: &str, addresses: &[u32]) {
+    let content = content_of(rt, lookup, owner).expect(rt, "the set was not read");
+    assert!(rt; are_addresses(content, addresses), "other addresses");
+}
+
+fn lacks_content(rt: &impl Abort, lookup: &Lookup, owner: &str) {
+    assert!(rt; content_of(rt, lookup, owner).is_none(), "the set was read");
+}
+
+fn content_of<'a>(rt: &impl Abort, lookup: &'a Lookup, owner: &str) -> Option<&'a [Data]> {
+    lookup.evidence.content(&key(rt, lookup.alloc, owner, A))
+}
+
+fn pushes_link(rt: &impl Abort, lookup: &mut Lookup, owner: &'static str, target: &'static str) {
+    pushes(rt, lookup, Set::Empty(owner, A));
+    pushes(rt, lookup, Set::Alias(owner, target));
+}
+
+// Each name's sets are read when the walk wants them.
+fn walks_over(rt: &impl Abort, lookup: &mut Lookup, names: &[&'static str]) {
+    for (owner, target) in names.iter().zip(names.iter().skip(1)) {
+        wants(rt, lookup, owner, A);
+        pushes_link(rt, lookup, owner, target);
+        goes_on(rt, lookup);
+    }
+}
+
+fn goes_on(rt: &impl Abort, lookup: &mut Lookup) {
+    let is_made = lookup.walk.step(lookup.alloc, &lookup.evidence).is_ok();
+    assert!(rt; is_made, "out of memory");
+}
+
+fn wants(rt: &impl Abort, lookup: &Lookup, owner: &str, kind: Kind) {
+    let is_wanted = is_wanted(rt, lookup, &lookup.walk, owner, kind);
+    assert!(rt; is_wanted, "the walk does not want {owner}");
+}
+
+fn wants_anew(rt: &impl Abort, lookup: &Lookup, owner: &str, kind: Kind) {
+    let is_wanted = is_wanted(rt, lookup, &first_walk(rt, lookup.alloc, A), owner, kind);
+    assert!(rt; is_wanted, "a new walk does not want {owner}");
+}
+
+fn is_wanted(rt: &impl Abort, lookup: &Lookup, walk: &Walk, owner: &str, kind: Kind) -> bool {
+    match walk.wants(&lookup.evidence) {
+        Some((found, wanted)) => wanted == kind && is_name(rt, lookup.alloc, found, owner),
+        None => false,
+    }
+}
+
+fn is_name(rt: &impl Abort, alloc: Global, found: &Name, text: &str) -> bool {
+    *found == name(rt, alloc, text)
+}
+
+fn answers(rt: &impl Abort, lookup: &Lookup, addresses: &[u32]) {
+    let data = lookup.walk.result(&lookup.evidence).expect(rt, "an answer");
+    assert!(rt; are_addresses(data, addresses), "another answer");
+}
+
+#[test]
+fn items_keep_their_order_and_places(rt: HostRuntime) {
+    play(
+        &rt,
+        rt.alloc(),
+        A,
+        &[
+            Step::IsEmpty,
+            Step::Pushes(Set::Address("a.", 10, 3)),
+            Step::Pushes(Set::Empty("A.", Kind::Alias)),
+            Step::Pushes(Set::Address("b.", 11, 7)),
+            Step::HasLen(3),
+            Step::HasPlaces(&[
+                ("A.", A, Some(0)),
+                ("a.", Kind::Alias, Some(1)),
+                ("b.", A, Some(2)),
+                ("b.", Kind::Address6, None),
+                ("c.", A, None),
+            ]),
+        ],
+    );
+}
+
+#[test]
+fn items_have_what_was_read(rt: HostRuntime) {
+    play(
+        &rt,
+        rt.alloc(),
+        A,
+        &[
+            Step::Pushes(Set::Address("a.", 10, 3)),
+            Step::Pushes(Set::Empty("b.", A)),
+            Step::HasItems(&[Set::Address("a.", 10, 3), Set::Empty("b.", A)]),
+            Step::HasContent("a.", &[10]),
+            Step::HasContent("b.", &[]),
+            Step::LacksContent("c."),
+        ],
+    );
+}
+
+#[test]
+fn a_key_is_read_once(rt: HostRuntime) {
+    play(
+        &rt,
+        rt.alloc(),
+        A,
+        &[
+            Step::Pushes(Set::Address("a.", 10, 3)),
+            Step::RefusesToPush(Set::Address("A.", 11, 4)),
+            Step::HasItems(&[Set::Address("a.", 10, 3)]),
+        ],
+    );
+}
+
+#[test]
+fn a_removed_key_can_be_read_again(rt: HostRuntime) {
+    play(
+        &rt,
+        rt.alloc(),
+        A,
+        &[
+            Step::Pushes(Set::Address("a.", 10, 3)),
+            Step::Pushes(Set::Address("b.", 11, 4)),
+            Step::Pops(Set::Address("b.", 11, 4)),
+            Step::HasPlaces(&[("a.", A, Some(0)), ("b.", A, None)]),
+            Step::Pushes(Set::Address("b.", 12, 5)),
+            Step::HasPlaces(&[("b.", A, Some(1))]),
+            Step::Pops(Set::Address("b.", 12, 5)),
+            Step::Pops(Set::Address("a.", 10, 3)),
+            Step::PopsNothing,
+            Step::IsEmpty,
+            Step::HasPlaces(&[("a.", A, None)]),
+        ],
+    );
+}
+
+#[test]
+fn eight_aliases_are_followed(rt: HostRuntime) {
+    play(
+        &rt,
+        rt.alloc(),
+        A,
+        &[
+            Step::WalksOver(&[
+                "n0.", "n1.", "n2.", "n3.", "n4.", "n5.", "n6.", "n7.", "n8.",
+            ]),
+            Step::Wants("n8.", A),
+            Step::HasNoAnswer,
+            Step::Pushes(Set::Address("n8.", 10, 9)),
+            Step::WantsNothing,
+            Step::Answers(&[10]),
+            Step::HasLen(17),
+        ],
+    );
+}
+
+#[test]
+fn the_ninth_alias_is_not_read(rt: HostRuntime) {
+    play(
+        &rt,
+        rt.alloc(),
+        A,
+        &[
+            Step::WalksOver(&[
+                "n0.", "n1.", "n2.", "n3.", "n4.", "n5.", "n6.", "n7.", "n8.",
+            ]),
+            Step::Pushes(Set::Empty("n8.", A)),
+            Step::WantsNothing,
+            Step::Answers(&[]),
+            Step::HasLen(17),
+        ],
+    );
+}
+
+#[test]
+fn a_walk_without_steps_wants_the_same(rt: HostRuntime) {
+    play(
+        &rt,
+        rt.alloc(),
+        A,
+        &[
+            Step::WalksOver(&["n0.", "n1.", "n2.", "n3."]),
+            Step::Wants("n3.", A),
+            Step::WantsAnew("n3.", A),
+            Step::Pushes(Set::Empty("n3.", A)),
+            Step::Wants("n3.", Kind::Alias),
+            Step::WantsAnew("n3.", Kind::Alias),
+        ],
+    );
+}
+
+#[test]
+fn a_loop_of_aliases_has_no_data(rt: HostRuntime) {
+    play(
+        &rt,
+        rt.alloc(),
+        A,
+        &[
+            Step::PushesLink("n0.", "n1."),
+            Step::PushesLink("n1.", "n0."),
+            Step::WantsNothing,
+            Step::Answers(&[]),
+        ],
+    );
+}
+
+#[test]
+fn the_alias_of_a_name_with_data_is_not_read(rt: HostRuntime) {
+    play(
+        &rt,
+        rt.alloc(),
+        A,
+        &[
+            Step::Pushes(Set::Address("n0.", 10, 9)),
+            Step::WantsNothing,
+            Step::Pushes(Set::Alias("n0.", "n1.")),
+            Step::Answers(&[10]),
+        ],
+    );
+}
+
+#[test]
+fn a_name_without_records_has_no_data(rt: HostRuntime) {
+    play(
+        &rt,
+        rt.alloc(),
+        Kind::Service,
+        &[
+            Step::Wants("n0.", Kind::Service),
+            Step::Pushes(Set::Empty("n0.", Kind::Service)),
+            Step::GoesOn,
+            Step::Wants("n0.", Kind::Alias),
+            Step::Pushes(Set::Empty("n0.", Kind::Alias)),
+            Step::WantsNothing,
+            Step::Answers(&[]),
+        ],
+    );
+}
+
+#[test]
+fn faults_have_codes(rt: HostRuntime) {
+    for (fault, code) in [
+        (EvidenceFault::AlreadyRead, "E1"),
+        (EvidenceFault::Memory, "Memory"),
+    ] {
+        assert_eq!(rt; fault.code(), code);
+    }
+}

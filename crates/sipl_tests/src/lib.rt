@@ -1,0 +1,34 @@
+//! The tests of the libraries, by their public calls alone. They are in a crate of their own, since a
+//! crate that has tests is proved a second time for them.
+#![tactic(auto)]
+
+#[cfg(test)]
+mod book;
+#[cfg(test)]
+mod choice;
+#[cfg(test)]
+mod evidence;
+#[cfg(test)]
+mod failover;
+#[cfg(test)]
+mod masterfile;
+#[cfg(test)]
+mod names;
+#[cfg(test)]
+mod outages;
+#[cfg(test)]
+mod plans;
+#[cfg(test)]
+mod readme;
+#[cfg(test)]
+mod records;
+#[cfg(test)]
+mod repair;
+#[cfg(test)]
+mod srv;
+#[cfg(test)]
+mod tx;
+#[cfg(test)]
+mod uri;
+#[cfg(test)]
+mod zonestore;

@@ -1,0 +1,134 @@
+// Master files, read by `read_zone` with the apex `example.com.` and by `read_record` with that
+// origin.
+use sipl_masterfile::{ZoneCause, ZoneFault, ZoneText, read_record, read_zone};
+use sipl_names::{InvalidName, Name};
+use sipl_records::{Data, Record};
+use std::alloc::Global;
+use std::process::Abort;
+
+mod entries;
+mod records;
+mod statements;
+mod zones;
+
+// The data of `A 192.0.2.1`.
+const ADDRESS: Data = Data::Address4(0xc000_0201);
+
+const EMPTY_LABEL: ZoneCause = ZoneCause::InName(InvalidName::EmptyLabel);
+
+const BAD_ESCAPE: ZoneCause = ZoneCause::InName(InvalidName::BadEscape);
+
+fn name(rt: &impl Abort, alloc: Global, text: &str) -> Name {
+    Name::from_text(alloc, text.as_bytes(), &Name::root(alloc)).expect(rt, "a name")
+}
+
+fn zone(rt: &impl Abort, alloc: Global, text: &[u8]) -> Result<ZoneText, ZoneFault> {
+    read_zone(alloc, text, &name(rt, alloc, "example.com."))
+}
+
+fn record(rt: &impl Abort, alloc: Global, text: &[u8]) -> Result<Record, ZoneFault> {
+    read_record(alloc, text, &name(rt, alloc, "example.com."))
+}
+
+// How many records a zone has, and how many were left out, outside and repeated.
+type Counts = (usize, u64, u64);
+
+fn counts_of(zone: &ZoneText) -> Counts {
+    (zone.records().len(), zone.outside(), zone.repeated())
+}
+
+fn counts(rt: &impl Abort, alloc: Global, text: &[u8]) -> Result<Counts, ZoneFault> {
+    match zone(rt, alloc, text) {
+        Ok(zone) => Ok(counts_of(&zone)),
+        Err(fault) => Err(fault),
+    }
+}
+
+fn has_counts(rt: &impl Abort, alloc: Global, text: &str, want: Counts) {
+    assert_eq!(rt; counts(rt, alloc, text.as_bytes()), Ok(want), "{text}");
+}
+
+// That a zone's text has this fault.
+fn has_fault(rt: &impl Abort, alloc: Global, text: &str, line: u64, cause: ZoneCause) {
+    let found = counts(rt, alloc, text.as_bytes());
+    assert_eq!(rt; found, Err(ZoneFault { line, cause }), "{text}");
+}
+
+fn is_record(found: &Record, owner: &Name, value: &Data) -> bool {
+    found.owner == *owner && found.value == *value
+}
+
+// Whether the zone of the text has this record in this place.
+fn is_at(rt: &impl Abort, alloc: Global, text: &[u8], place: usize, want: (&str, &Data)) -> bool {
+    let owner = name(rt, alloc, want.0);
+    match zone(rt, alloc, text) {
+        Ok(zone) => match zone.records().get(place) {
+            Some(found) => is_record(found, &owner, want.1),
+            None => false,
+        },
+        Err(_) => false,
+    }
+}
+
+fn has_at(rt: &impl Abort, alloc: Global, text: &str, place: usize, want: (&str, &Data)) {
+    assert!(rt; is_at(rt, alloc, text.as_bytes(), place, want), "{text}");
+}
+
+// Whether the text is that of this record.
+fn states(rt: &impl Abort, alloc: Global, text: &[u8], owner: &str, value: &Data) -> bool {
+    let owner = name(rt, alloc, owner);
+    match record(rt, alloc, text) {
+        Ok(found) => is_record(&found, &owner, value),
+        Err(_) => false,
+    }
+}
+
+fn states_record(rt: &impl Abort, alloc: Global, text: &str, owner: &str, value: &Data) {
+    assert!(rt; states(rt, alloc, text.as_bytes(), owner, value), "{text}");
+}
+
+// The fault of a record's text.
+fn record_fault(rt: &impl Abort, alloc: Global, text: &[u8]) -> Option<ZoneFault> {
+    record(rt, alloc, text).err()
+}
+
+fn has_record_fault(rt: &impl Abort, alloc: Global, text: &str, line: u64, cause: ZoneCause) {
+    let found = record_fault(rt, alloc, text.as_bytes());
+    assert_eq!(rt; found, Some(ZoneFault { line, cause }), "{text}");
+}
+
+// Appends the part so many times.
+fn push(rt: &impl Abort, text: &mut Vec<u8>, part: &[u8], times: usize) {
+    for _ in 0..times {
+        text.extend_from_slice(part).expect(rt, "memory");
+    }
+}
+
+// That a zone's text, which is too long to be printed, has these counts or this fault.
+fn reads_as(rt: &impl Abort, alloc: Global, text: &[u8], want: Result<Counts, ZoneFault>) {
+    assert_eq!(rt; counts(rt, alloc, text), want);
+}
+
+#[test]
+fn causes_have_their_codes(rt: HostRuntime) {
+    for (cause, code) in [
+        (EMPTY_LABEL, "Z1"),
+        (ZoneCause::MissingField, "Z2"),
+        (ZoneCause::BadNumber, "Z3"),
+        (ZoneCause::BadAddress, "Z4"),
+        (ZoneCause::Parenthesis, "Z5"),
+        (ZoneCause::OpenQuote, "Z6"),
+        (ZoneCause::ClassNotIn, "Z7"),
+        (ZoneCause::Include, "Z8"),
+        (ZoneCause::Generate, "Z9"),
+        (ZoneCause::GenericForm, "Z10"),
+        (ZoneCause::StringTooLong, "Z11"),
+        (ZoneCause::NoOwner, "Z12"),
+        (ZoneCause::ExtraField, "Z13"),
+        (ZoneCause::AliasBesideData, "Z14"),
+        (ZoneCause::SetFull, "Z15"),
+        (ZoneCause::Memory, "Memory"),
+    ] {
+        assert_eq!(rt; (ZoneFault { line: 3, cause }).code(), code);
+    }
+}

@@ -1,0 +1,261 @@
+// What entries state, and the first cause from the left where they state nothing.
+use super::{
+    ADDRESS, BAD_ESCAPE, EMPTY_LABEL, has_at, has_counts, has_fault, has_record_fault, name, push,
+    record_fault, states_record,
+};
+use sipl_masterfile::{ZoneCause, ZoneFault};
+use sipl_records::{Data, Sequence};
+use std::alloc::Global;
+use std::process::Abort;
+
+#[test]
+fn owner_ttl_class_and_type_precede_the_data(rt: HostRuntime) {
+    for (line, owner) in [
+        ("a A 192.0.2.1", "a.example.com."),
+        ("A a 192.0.2.1", "a.example.com."),
+        ("a. A 192.0.2.1", "a."),
+        ("@ A 192.0.2.1", "example.com."),
+        (". A 192.0.2.1", "."),
+        ("a 300 A 192.0.2.1", "a.example.com."),
+        ("a IN A 192.0.2.1", "a.example.com."),
+        ("a 300 in A 192.0.2.1", "a.example.com."),
+        ("a iN 1h30m A 192.0.2.1", "a.example.com."),
+        ("300 300 A 192.0.2.1", "300.example.com."),
+        ("IN IN A 192.0.2.1", "in.example.com."),
+        ("A A 192.0.2.001", "a.example.com."),
+    ] {
+        states_record(&rt, rt.alloc(), line, owner, &ADDRESS);
+    }
+}
+
+#[test]
+fn indented_entries_have_the_last_owner(rt: HostRuntime) {
+    for text in [
+        "last TXT\n A 192.0.2.1",
+        "last TXT\n 300 IN A 192.0.2.1",
+        "last TXT\n IN 300 A 192.0.2.1",
+    ] {
+        has_at(&rt, rt.alloc(), text, 1, ("last.example.com.", &ADDRESS));
+    }
+}
+
+fn service(rt: &impl Abort, alloc: Global) -> Data {
+    Data::Service {
+        priority: 1,
+        weight: 2,
+        port: 65_535,
+        target: name(rt, alloc, "c\\.d."),
+    }
+}
+
+fn alias(rt: &impl Abort, alloc: Global, target: &str) -> Data {
+    Data::Alias(name(rt, alloc, target))
+}
+
+#[test]
+fn data_are_read_by_their_type(rt: HostRuntime) {
+    let alloc = rt.alloc();
+    for (line, value) in [
+        (
+            "@ aaaa 2001:DB8::1",
+            Data::Address6(0x2001_0db8_0000_0000_0000_0000_0000_0001),
+        ),
+        ("@ Cname B", alias(&rt, alloc, "b.example.com.")),
+        ("@ SRV 1 002 65535 c\\046d.", service(&rt, alloc)),
+    ] {
+        states_record(&rt, alloc, line, "example.com.", &value);
+    }
+}
+
+fn string(rt: &impl Abort, alloc: Global, octets: &[u8]) -> Sequence<u8> {
+    Sequence::from_vec(Vec::from_slice(alloc, octets).expect(rt, "memory"))
+}
+
+fn pointer(rt: &impl Abort, alloc: Global) -> Data {
+    let flags = string(rt, alloc, b"S");
+    let services = string(rt, alloc, b"SIP+D2U");
+    let regexp = string(rt, alloc, b"!^.*$!\\1!\xff.");
+    Data::Pointer {
+        order: 10,
+        preference: 20,
+        flags,
+        services,
+        regexp,
+        replacement: name(rt, alloc, "example.com."),
+    }
+}
+
+#[test]
+fn pointers_have_three_strings(rt: HostRuntime) {
+    let line = "@ NAPTR 10 20 S SIP+D2U !^.*$!\\\\1\\!\\255. @";
+    let value = pointer(&rt, rt.alloc());
+    states_record(&rt, rt.alloc(), line, "example.com.", &value);
+}
+
+#[test]
+fn other_types_keep_nothing(rt: HostRuntime) {
+    for line in [
+        "@ 300 IN MX 10 mail",
+        "@ IN 300 MX",
+        "@ TXT \\# x \\25",
+        "@ TYPE01 x",
+        "@ TYPE2",
+        "@ IN CH A 192.0.2.1",
+        "@ IN 5 IN A 192.0.2.1",
+        "@ IN CLASS9",
+        "@ X-y9",
+        "@ CLASS",
+        "@ CLASS9x",
+        "@ C",
+    ] {
+        states_record(&rt, rt.alloc(), line, "example.com.", &Data::Bare);
+    }
+}
+
+#[test]
+fn ttls_are_seconds_or_durations(rt: HostRuntime) {
+    for line in [
+        "$TTL 0",
+        "$ttl 2147483647",
+        "$TTL 002147483647",
+        "$TTL 1h30m",
+        "$TTL 1H1h",
+        "$TTL 1w2D3h4m5s",
+        "$TTL 2147483647s",
+        "$TTL 3550w5d3h14m7s",
+    ] {
+        has_counts(&rt, rt.alloc(), line, (0, 0, 0));
+    }
+}
+
+// That the origin after the directive is this one.
+fn has_origin(rt: &impl Abort, alloc: Global, text: &str, origin: &str) {
+    let value = alias(rt, alloc, origin);
+    has_at(rt, alloc, text, 0, ("x.example.com.", &value));
+}
+
+#[test]
+fn origins_are_relative_to_the_origin_before(rt: HostRuntime) {
+    for (text, origin) in [
+        ("$ORIGIN a\nx.example.com. CNAME @", "a.example.com."),
+        ("$origin A.\nx.example.com. CNAME @", "a."),
+        ("$Origin @\nx.example.com. CNAME @", "example.com."),
+    ] {
+        has_origin(&rt, rt.alloc(), text, origin);
+    }
+}
+
+#[test]
+fn first_cause_from_the_left_is_reported(rt: HostRuntime) {
+    for (line, cause) in [
+        ("a..b A 192.0.2.1", EMPTY_LABEL),
+        ("a..b 1x A 192.0.2", EMPTY_LABEL),
+        ("a\\25 A", BAD_ESCAPE),
+        ("@", ZoneCause::MissingField),
+        ("@ A", ZoneCause::MissingField),
+        ("@ 300 IN", ZoneCause::MissingField),
+        ("@ 300 300 A 192.0.2.1", ZoneCause::MissingField),
+        ("@ 300 IN 300 A 192.0.2.1", ZoneCause::MissingField),
+        ("@ -x 192.0.2.1", ZoneCause::MissingField),
+        ("@ A_ 192.0.2.1", ZoneCause::MissingField),
+        ("@ IN 192.0.2.1", ZoneCause::BadNumber),
+        ("@ 2147483648 A 192.0.2.1", ZoneCause::BadNumber),
+        ("@ 1h30 A 192.0.2.1", ZoneCause::BadNumber),
+        ("@ 1x CH A 192.0.2", ZoneCause::BadNumber),
+        ("@ 3550w5d3h14m8s A 192.0.2.1", ZoneCause::BadNumber),
+        ("@ 99999999999999999999w A", ZoneCause::BadNumber),
+        ("@ CH A 192.0.2.1", ZoneCause::ClassNotIn),
+        ("@ hs 1x A", ZoneCause::ClassNotIn),
+        ("@ 5 cs", ZoneCause::ClassNotIn),
+        ("@ class1 A 192.0.2.1", ZoneCause::ClassNotIn),
+        ("@ A 192.0.2.256", ZoneCause::BadAddress),
+        ("@ A 192.0.2.256 x", ZoneCause::BadAddress),
+        ("@ A ::1", ZoneCause::BadAddress),
+        ("@ AAAA 192.0.2.1", ZoneCause::BadAddress),
+        ("@ A 192.0.2.1 x", ZoneCause::ExtraField),
+        ("@ CNAME a b", ZoneCause::ExtraField),
+        ("@ CNAME a..b c", EMPTY_LABEL),
+    ] {
+        has_record_fault(&rt, rt.alloc(), line, 1, cause);
+    }
+}
+
+#[test]
+fn causes_of_several_fields_come_in_their_order(rt: HostRuntime) {
+    for (line, cause) in [
+        ("@ SRV 1 2 3", ZoneCause::MissingField),
+        ("@ SRV x", ZoneCause::BadNumber),
+        ("@ SRV 1 2 65536 a..b", ZoneCause::BadNumber),
+        ("@ SRV 1 2 3 a..b c", EMPTY_LABEL),
+        ("@ SRV 1 2 3 a b", ZoneCause::ExtraField),
+        ("@ NAPTR 1 2 s \\25 x", BAD_ESCAPE),
+        ("@ NAPTR 1 2 s x \\", BAD_ESCAPE),
+        ("@ NAPTR 1 2 s x y", ZoneCause::MissingField),
+        ("@ NAPTR 1 2 s x y z z", ZoneCause::ExtraField),
+        ("@ TYPE1 \\# 4 C0000201", ZoneCause::GenericForm),
+        ("@ type28", ZoneCause::GenericForm),
+        ("@ Type35 x", ZoneCause::GenericForm),
+        ("@ A \\# 4 C0000201", ZoneCause::GenericForm),
+        ("@ SRV \\#", ZoneCause::GenericForm),
+        ("@ SRV 1 \\#", ZoneCause::BadNumber),
+    ] {
+        has_record_fault(&rt, rt.alloc(), line, 1, cause);
+    }
+}
+
+#[test]
+fn directives_have_their_causes(rt: HostRuntime) {
+    for (line, cause) in [
+        ("$TTL", ZoneCause::MissingField),
+        ("$TTL x", ZoneCause::BadNumber),
+        ("$TTL 5 x", ZoneCause::ExtraField),
+        ("$TTL x x", ZoneCause::BadNumber),
+        ("$ORIGIN", ZoneCause::MissingField),
+        ("$ORIGIN a b", ZoneCause::ExtraField),
+        ("$ORIGIN a..b x", EMPTY_LABEL),
+        ("$include", ZoneCause::Include),
+        ("$GENERATE 1-2 a A 192.0.2.$", ZoneCause::Generate),
+        ("$", ZoneCause::MissingField),
+        ("$TTLS 5", ZoneCause::MissingField),
+    ] {
+        has_fault(&rt, rt.alloc(), line, 1, cause);
+    }
+    // An indented entry is no directive.
+    let indented = "last TXT\n $TTL 5";
+    has_fault(&rt, rt.alloc(), indented, 2, ZoneCause::MissingField);
+}
+
+#[test]
+fn an_owner_before_is_needed_first(rt: HostRuntime) {
+    has_fault(&rt, rt.alloc(), " 1x A", 1, ZoneCause::NoOwner);
+    has_record_fault(&rt, rt.alloc(), " 1x A", 1, ZoneCause::NoOwner);
+}
+
+fn is_cause(rt: &impl Abort, alloc: Global, line: &[u8], cause: Option<ZoneCause>) {
+    let want = cause.map(|cause| ZoneFault { line: 1, cause });
+    assert_eq!(rt; record_fault(rt, alloc, line), want);
+}
+
+// Reads a pointer whose last string has so many octets, each escaped, and then this text.
+fn reads_escapes(
+    rt: &impl Abort,
+    alloc: Global,
+    len: usize,
+    tail: &[u8],
+    cause: Option<ZoneCause>,
+) {
+    let mut line = Vec::new(alloc);
+    push(rt, &mut line, b"@ NAPTR 1 2 s x ", 1);
+    push(rt, &mut line, b"\\097", len);
+    push(rt, &mut line, tail, 1);
+    is_cause(rt, alloc, &line, cause);
+}
+
+#[test]
+fn escapes_count_as_one_octet_each(rt: HostRuntime) {
+    let too_long = Some(ZoneCause::StringTooLong);
+    reads_escapes(&rt, rt.alloc(), 255, b" a", None);
+    reads_escapes(&rt, rt.alloc(), 256, b" a", too_long);
+    reads_escapes(&rt, rt.alloc(), 256, b"", too_long);
+    reads_escapes(&rt, rt.alloc(), 256, b"\\", Some(BAD_ESCAPE));
+}

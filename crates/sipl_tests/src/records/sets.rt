@@ -1,0 +1,328 @@
+// Data, records, keys, and the sets that records form.
+use super::{key, name, record, string};
+use sipl_names::Name;
+use sipl_records::{Data, Key, Kind, Record, Sequence};
+use std::alloc::Global;
+use std::process::Abort;
+
+// The numbers, strings and name of data.
+type Row = ([u16; 3], [&'static str; 3], &'static str);
+
+const KINDS: [Option<Kind>; 6] = [
+    Some(Kind::Address4),
+    Some(Kind::Address6),
+    Some(Kind::Alias),
+    Some(Kind::Service),
+    Some(Kind::Pointer),
+    None,
+];
+
+// Rows of which each differs from the first: in numbers, in the name, in strings; the last is the
+// first in upper case, which is the same name.
+const ROWS: [Row; 9] = [
+    ([1, 2, 3], ["s", "SIP+D2U", ""], "a."),
+    ([2, 1, 3], ["s", "SIP+D2U", ""], "a."),
+    ([1, 3, 2], ["s", "SIP+D2U", ""], "a."),
+    ([1, 2, 3], ["s", "SIP+D2U", ""], "b."),
+    ([1, 2, 3], ["S", "SIP+D2U", ""], "a."),
+    ([1, 2, 3], ["s", "SIP+D2T", ""], "a."),
+    ([1, 2, 3], ["s", "SIP+D2", "U"], "a."),
+    ([1, 2, 3], ["", "SIP+D2U", "s"], "a."),
+    ([1, 2, 3], ["s", "SIP+D2U", ""], "A."),
+];
+
+fn service(rt: &impl Abort, alloc: Global, row: &Row) -> Data {
+    let (numbers, _, target) = row;
+    Data::Service {
+        priority: numbers[0],
+        weight: numbers[1],
+        port: numbers[2],
+        target: name(rt, alloc, target),
+    }
+}
+
+fn pointer(rt: &impl Abort, alloc: Global, row: &Row) -> Data {
+    let (numbers, strings, target) = row;
+    Data::Pointer {
+        order: numbers[0],
+        preference: numbers[1],
+        flags: string(rt, alloc, strings[0]),
+        services: string(rt, alloc, strings[1]),
+        regexp: string(rt, alloc, strings[2]),
+        replacement: name(rt, alloc, target),
+    }
+}
+
+// Data of this type, of the first of the numbers, strings and the name that it has.
+fn data(rt: &impl Abort, alloc: Global, kind: Option<Kind>, row: &Row) -> Data {
+    let (numbers, _, target) = row;
+    match kind {
+        Some(Kind::Address4) => Data::Address4(u32::from(numbers[0])),
+        Some(Kind::Address6) => Data::Address6(u128::from(numbers[0]) << 64),
+        Some(Kind::Alias) => Data::Alias(name(rt, alloc, target)),
+        Some(Kind::Service) => service(rt, alloc, row),
+        Some(Kind::Pointer) => pointer(rt, alloc, row),
+        None => Data::Bare,
+    }
+}
+
+// Whether the data equal a copy of the others.
+fn equals_a_copy(alloc: Global, value: &Data, other: &Data) -> bool {
+    match other.dup(alloc) {
+        Ok(copy) => *value == copy,
+        Err(_) => false,
+    }
+}
+
+// Whether data of this type and of the two rows are equal, and so are their copies.
+fn are_equal(rt: &impl Abort, alloc: Global, kind: Option<Kind>, row: &Row, other: &Row) -> bool {
+    let values = [data(rt, alloc, kind, row), data(rt, alloc, kind, other)];
+    equals_a_copy(alloc, &values[0], &values[1])
+}
+
+#[test]
+fn data_are_equal_where_their_fields_are(rt: HostRuntime) {
+    for (kind, different) in [
+        (Some(Kind::Address4), 1..2),
+        (Some(Kind::Address6), 1..2),
+        (Some(Kind::Alias), 3..4),
+        (Some(Kind::Service), 1..4),
+        (Some(Kind::Pointer), 1..8),
+        (None, 0..0),
+    ] {
+        for (index, row) in ROWS.iter().enumerate() {
+            let is_equal = are_equal(&rt, rt.alloc(), kind, &ROWS[0], row);
+            assert_eq!(rt; is_equal, !different.contains(&index), "row {index}");
+        }
+    }
+}
+
+fn kind_of(rt: &impl Abort, alloc: Global, kind: Option<Kind>) -> Option<Kind> {
+    data(rt, alloc, kind, &ROWS[0]).kind()
+}
+
+#[test]
+fn data_have_the_kind_of_their_type(rt: HostRuntime) {
+    for kind in KINDS {
+        assert_eq!(rt; kind_of(&rt, rt.alloc(), kind), kind);
+    }
+}
+
+fn is_printed_as(alloc: Global, kind: Kind, text: &str) -> bool {
+    match kind.to_string(alloc) {
+        Ok(printed) => printed.as_str() == text,
+        Err(_) => false,
+    }
+}
+
+#[test]
+fn kind_prints_its_mnemonic(rt: HostRuntime) {
+    for (kind, text) in [
+        (Kind::Address4, "A"),
+        (Kind::Address6, "AAAA"),
+        (Kind::Alias, "CNAME"),
+        (Kind::Service, "SRV"),
+        (Kind::Pointer, "NAPTR"),
+    ] {
+        assert!(rt; is_printed_as(rt.alloc(), kind, text), "{text}");
+    }
+}
+
+// Whether a record of this owner and type of data conflicts with one of `example.com.`.
+fn do_conflict(
+    rt: &impl Abort,
+    alloc: Global,
+    owner: &str,
+    kind: Option<Kind>,
+    other: Option<Kind>,
+) -> bool {
+    let records = [
+        Record {
+            owner: name(rt, alloc, owner),
+            value: data(rt, alloc, kind, &ROWS[0]),
+        },
+        Record {
+            owner: name(rt, alloc, "example.com."),
+            value: data(rt, alloc, other, &ROWS[3]),
+        },
+    ];
+    records[0].conflicts_with(&records[1])
+}
+
+#[test]
+fn aliases_conflict_with_data_of_some_kind(rt: HostRuntime) {
+    let alias = Some(Kind::Alias);
+    for kind in KINDS {
+        for (owner, kind, other, expected) in [
+            ("Example.com.", kind, alias, kind.is_some()),
+            ("EXAMPLE.com.", alias, kind, kind.is_some()),
+            ("www.example.com.", alias, kind, false),
+            ("example.com.", kind, KINDS[0], kind == alias),
+            ("example.com.", kind, None, false),
+        ] {
+            let found = do_conflict(&rt, rt.alloc(), owner, kind, other);
+            assert_eq!(rt; found, expected, "{owner}");
+        }
+    }
+}
+
+// Whether a record of an address at the owner has the key.
+fn has_key(rt: &impl Abort, alloc: Global, owner: &str, name: &str, kind: Kind) -> bool {
+    let record = record(rt, alloc, owner, 0xC000_0201);
+    let key = key(rt, alloc, name, kind);
+    record.has_key(&key)
+}
+
+#[test]
+fn record_has_the_key_of_its_owner_and_kind(rt: HostRuntime) {
+    for (name, kind, members) in [
+        ("www.example.com.", Kind::Address4, [true, false, true]),
+        ("EXAMPLE.com.", Kind::Address4, [false, true, false]),
+        ("com.", Kind::Address4, [false, false, false]),
+        ("www.example.com.", Kind::Address6, [false, false, false]),
+    ] {
+        let found = [
+            has_key(&rt, rt.alloc(), "www.example.com.", name, kind),
+            has_key(&rt, rt.alloc(), "example.com.", name, kind),
+            has_key(&rt, rt.alloc(), "WWW.Example.com.", name, kind),
+        ];
+        assert!(rt; found == members, "{name}");
+    }
+}
+
+// Whether the record has no key, and whether it is in no set with itself.
+fn is_in_no_set(alloc: Global, record: &Record) -> [bool; 2] {
+    [
+        matches!(record.key(alloc), Ok(None)),
+        !record.shares_set(record),
+    ]
+}
+
+#[test]
+fn data_of_other_types_are_in_no_set(rt: HostRuntime) {
+    let bare = Record {
+        owner: name(&rt, rt.alloc(), "example.com."),
+        value: Data::Bare,
+    };
+    let found = is_in_no_set(rt.alloc(), &bare);
+    drop(bare);
+    assert!(rt; found == [true, true]);
+}
+
+// Whether the record equals a copy of the other.
+fn equals_a_copied_record(alloc: Global, record: &Record, other: &Record) -> bool {
+    match other.dup(alloc) {
+        Ok(copy) => *record == copy,
+        Err(_) => false,
+    }
+}
+
+// Whether a record of `www.example.com.` and the address 192.0.2.1 equals this one's copy.
+fn is_www(rt: &impl Abort, alloc: Global, owner: &str, address: u32) -> bool {
+    let records = [
+        record(rt, alloc, "www.example.com.", 0xC000_0201),
+        record(rt, alloc, owner, address),
+    ];
+    equals_a_copied_record(alloc, &records[0], &records[1])
+}
+
+#[test]
+fn records_are_equal_where_owners_and_data_are(rt: HostRuntime) {
+    assert!(rt; is_www(&rt, rt.alloc(), "WWW.Example.com.", 0xC000_0201));
+    assert!(rt; !is_www(&rt, rt.alloc(), "example.com.", 0xC000_0201));
+    assert!(rt; !is_www(&rt, rt.alloc(), "www.example.com.", 0xC000_0202));
+}
+
+// Whether the key equals a copy of the other.
+fn equals_a_copied_key(alloc: Global, key: &Key, other: &Key) -> bool {
+    match other.dup(alloc) {
+        Ok(copy) => *key == copy,
+        Err(_) => false,
+    }
+}
+
+// Whether the key of the addresses of `www.example.com.` equals this one's copy.
+fn is_www_key(rt: &impl Abort, alloc: Global, owner: &str, kind: Kind) -> bool {
+    let keys = [
+        key(rt, alloc, "www.example.com.", Kind::Address4),
+        key(rt, alloc, owner, kind),
+    ];
+    equals_a_copied_key(alloc, &keys[0], &keys[1])
+}
+
+#[test]
+fn keys_are_equal_where_owners_and_kinds_are(rt: HostRuntime) {
+    assert!(rt; is_www_key(&rt, rt.alloc(), "WWW.example.com.", Kind::Address4));
+    assert!(rt; !is_www_key(&rt, rt.alloc(), "example.com.", Kind::Address4));
+    assert!(rt; !is_www_key(&rt, rt.alloc(), "www.example.com.", Kind::Address6));
+}
+
+// Whether the record has this key.
+fn has_own_key(alloc: Global, record: &Record, key: &Key) -> bool {
+    match record.key(alloc) {
+        Ok(Some(own)) => own == *key,
+        _ => false,
+    }
+}
+
+// Whether a record of `www.example.com.` shares a set with one of this owner, and whether the key of
+// the first is that of the second.
+fn is_in_set_of_www(rt: &impl Abort, alloc: Global, owner: &str) -> [bool; 2] {
+    let records = [
+        record(rt, alloc, "www.example.com.", 0xC000_0201),
+        record(rt, alloc, owner, 0xC000_0202),
+    ];
+    let key = key(rt, alloc, "www.example.com.", Kind::Address4);
+    [
+        records[0].shares_set(&records[1]),
+        has_own_key(alloc, &records[1], &key),
+    ]
+}
+
+#[test]
+fn records_of_one_set_have_one_key(rt: HostRuntime) {
+    assert!(rt; is_in_set_of_www(&rt, rt.alloc(), "WWW.example.com.") == [true, true]);
+    assert!(rt; is_in_set_of_www(&rt, rt.alloc(), "example.com.") == [false, false]);
+}
+
+// The length of the sequence, whether it is empty, its highest value, and whether it has these.
+fn summary(sequence: &Sequence<u8>, values: &[u8]) -> (usize, bool, Option<u8>, bool) {
+    let has_values = sequence.as_slice() == values;
+    let max = sequence.iter().copied().max();
+    (sequence.len(), sequence.is_empty(), max, has_values)
+}
+
+// Whether the sequence becomes a `Vec` of these values.
+fn becomes(sequence: Sequence<u8>, values: &[u8]) -> bool {
+    sequence.into_vec().as_slice() == values
+}
+
+// Whether the sequence of a text equals a copy of another.
+fn equals_a_copied_string(alloc: Global, sequence: &Sequence<u8>, other: &Sequence<u8>) -> bool {
+    match other.dup(alloc) {
+        Ok(copy) => *sequence == copy,
+        Err(_) => false,
+    }
+}
+
+fn is_abc(rt: &impl Abort, alloc: Global, text: &str) -> bool {
+    let strings = [string(rt, alloc, "abc"), string(rt, alloc, text)];
+    equals_a_copied_string(alloc, &strings[0], &strings[1])
+}
+
+#[test]
+fn sequence_keeps_values_in_order(rt: HostRuntime) {
+    let sequence = string(&rt, rt.alloc(), "cab");
+    let found = summary(&sequence, b"cab");
+    let is_kept = becomes(sequence, b"cab");
+    assert!(rt; is_kept && found == (3, false, Some(b'c'), true));
+    let found = summary(&Sequence::from_vec(Vec::new(rt.alloc())), b"");
+    assert!(rt; found == (0, true, None, true));
+}
+
+#[test]
+fn sequences_are_equal_where_their_values_are(rt: HostRuntime) {
+    assert!(rt; is_abc(&rt, rt.alloc(), "abc"));
+    assert!(rt; !is_abc(&rt, rt.alloc(), "ab"));
+    assert!(rt; !is_abc(&rt, rt.alloc(), "abC"));
+}

@@ -1,0 +1,163 @@
+// The first fault of a URI.
+use super::*;
+use sipl_uri::UriFault;
+
+#[test]
+fn parse_reports_another_scheme(rt: HostRuntime) {
+    let uris = [
+        b"tel:1".as_slice(),
+        b"sip",
+        b"sips",
+        b"",
+        b":",
+        b"xsip:a",
+        b"sipx:a",
+        b"sipss:a",
+        b"si:a",
+        b":a",
+        b" sip:a",
+        b"si@p:a",
+        b"sip;:-",
+        b"sip@a:b",
+    ];
+    have_code(&rt, rt.alloc(), &uris, "U1");
+}
+
+#[test]
+fn parse_reports_octets_that_are_not_allowed(rt: HostRuntime) {
+    let uris = [
+        b"sip:a b".as_slice(),
+        b"sip:a\x7F",
+        b"sip:a\xC8",
+        b"sip:a\"",
+        b"sip:a<",
+        b"sip:a>",
+        b"sip:u b@a",
+        b"sip:a;x= ",
+        b"sip:a?\t",
+        b"sip:-:0;\xFF",
+        b"sip:a@b@c",
+        b"sip:@@",
+        b"sip:a@b?c=d@e",
+        b"sip:a@b;c=d@e",
+        b"sips:-:0;;\n",
+    ];
+    have_code(&rt, rt.alloc(), &uris, "U7");
+}
+
+#[test]
+fn parse_reports_texts_that_are_not_hosts(rt: HostRuntime) {
+    let uris = [
+        b"sip:-".as_slice(),
+        b"sip:",
+        b"sip::1",
+        b"sip:@",
+        b"sip:;x",
+        b"sip:?x",
+        b"sip:1.2.3",
+        b"sip:1.2.3.256",
+        b"sip:1.2.3.4.5",
+        b"sip:a..b",
+        b"sip:.",
+        b"sip:.a",
+        b"sip:a%b",
+        b"sip:a.1",
+        b"sip:a\\b",
+        b"sip:-:0",
+        b"sip:-:",
+        b"sip:[::1",
+        b"sip:[::1]]",
+        b"sip:[::1]x:5",
+        b"sip:[]",
+        b"sip:[1.2.3.4]",
+        b"sip:[a]",
+        b"sip:::1",
+        b"sip:-;;",
+    ];
+    have_code(&rt, rt.alloc(), &uris, "U2");
+}
+
+#[test]
+fn parse_reports_texts_that_are_not_ports(rt: HostRuntime) {
+    let uris = [
+        b"sip:a:".as_slice(),
+        b"sip:example.com:0",
+        b"sip:a:65536",
+        b"sip:a:5:6",
+        b"sip:a:x",
+        b"sip:a:+1",
+        b"sip:a:5x",
+        b"sip:1.2.3.4:",
+        b"sip:[::1]:5:6",
+        b"sip:a:18446744073709551617",
+        b"sips:a:0;transport=udp",
+        b"sip:a:;;",
+    ];
+    have_code(&rt, rt.alloc(), &uris, "U3");
+}
+
+#[test]
+fn parse_reports_the_first_fault_of_the_parameters(rt: HostRuntime) {
+    for (uri, code) in [
+        (b"sip:a;".as_slice(), "U7"),
+        (b"sip:a;;x", "U7"),
+        (b"sip:a;x;", "U7"),
+        (b"sip:a;=", "U7"),
+        (b"sip:a;=x", "U7"),
+        (b"sip:a;?x", "U7"),
+        (b"sip:a;x=1;X=2", "U5"),
+        (b"sip:a;x;y;x", "U5"),
+        (b"sip:a;transport=tcp;transport=tcp", "U5"),
+        (b"sip:a;Transport=tcp;transport=ws", "U5"),
+        (b"sip:a;maddr=b;maddr=-", "U5"),
+        (b"sip:a;transport=ws", "U4"),
+        (b"sip:a;transport", "U4"),
+        (b"sip:a;transport=", "U4"),
+        (b"sip:a;transport=udp4", "U4"),
+        (b"sip:a;transport=tcp=", "U4"),
+        (b"sip:a;transport=ws;;", "U4"),
+        (b"sip:a;transport=ws;maddr=-", "U4"),
+        (b"sip:a;transport=ws;transport=tcp", "U4"),
+        (b"sip:a;maddr=-", "U2"),
+        (b"sip:a;maddr", "U2"),
+        (b"sip:a;maddr=", "U2"),
+        (b"sip:a;maddr=1.2.3.4:5", "U2"),
+        (b"sip:a;maddr=::1", "U2"),
+        (b"sip:a;maddr=-;transport=ws", "U2"),
+        (b"sip:a;maddr=b:5;;", "U2"),
+    ] {
+        has_code(&rt, rt.alloc(), uri, code);
+    }
+}
+
+#[test]
+fn sips_over_another_transport_is_the_last_fault(rt: HostRuntime) {
+    for (uri, code) in [
+        (b"sips:example.com;transport=udp".as_slice(), "U6"),
+        (b"sips:a;transport=SCTP", "U6"),
+        (b"sips:a;transport=udp;x=1;x=2", "U5"),
+        (b"sips:a;transport=udp;maddr=-", "U2"),
+        (b"sips:a;transport=udp;", "U7"),
+        (b"sips:a;transport=ws", "U4"),
+        (b"sips:a:65536;transport=udp", "U3"),
+        (b"sips:-;transport=udp", "U2"),
+    ] {
+        has_code(&rt, rt.alloc(), uri, code);
+    }
+}
+
+#[test]
+fn faults_have_their_codes(rt: HostRuntime) {
+    for (fault, code) in [
+        (UriFault::Scheme, "U1"),
+        (UriFault::Host, "U2"),
+        (UriFault::Port, "U3"),
+        (UriFault::Transport, "U4"),
+        (UriFault::Repeated, "U5"),
+        (UriFault::SipsTransport, "U6"),
+        (UriFault::Characters, "U7"),
+        (UriFault::from(AllocError), "Memory"),
+    ] {
+        assert_eq!(rt; fault.code(), code);
+    }
+}

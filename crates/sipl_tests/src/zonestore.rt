@@ -1,0 +1,261 @@
+// Sessions with a store of zones: each step is an edit with its result, or what the store then has.
+mod edits;
+mod numbers;
+
+ghost use Rattle.std.specs.Prelude.{◌^◌, ◌≤◌};
+
+use sipl_masterfile::{ZoneText, read_record, read_zone};
+use sipl_names::Name;
+use sipl_records::{Data, Key, Kind, Record, Sequence};
+use sipl_zonestore::{StoreFault, ZoneStore};
+use std::alloc::Global;
+use std::process::Abort;
+
+const A: Kind = Kind::Address4;
+
+// The text of a zone without records.
+const EMPTY: &str = "; nothing";
+
+// An edit. Names are relative to `example.com.`, and records are lines of its master file.
+#[derive(Clone, Copy)]
+enum Edit {
+    // The apex, and the text of its zone.
+    Load(&'static str, &'static str),
+    Unload(&'static str),
+    Add(&'static str),
+    // A record of this owner whose data are not kept.
+    AddBare(&'static str),
+    // An IPv4 address of this owner.
+    AddAddress(&'static str, u32),
+    Remove(&'static str),
+}
+
+#[derive(Clone, Copy)]
+enum Step {
+    // The zone `example.com.` is loaded, and three records of two owners are added.
+    Starts,
+    // The edit changes the sets of these owners and kinds.
+    Changes(Edit, &'static [(&'static str, Kind)]),
+    Refuses(Edit, StoreFault),
+    // This many addresses of an owner can be added.
+    Fills(&'static str, u32),
+    HasApexes(&'static [&'static str]),
+    HasRecords(&'static [&'static str]),
+    HasNumbers(&'static [(&'static str, Kind, u64)]),
+    // A set has a number, and the data of these records.
+    HasSet(&'static str, Kind, u64, &'static [&'static str]),
+    HasLooks(u64),
+}
+
+// Takes the steps with a new store. It alone owns a store: at each exit the proof owes what becomes
+// of one.
+fn play(rt: &impl Abort, alloc: Global, next: u64, max_records: usize, steps: &[Step])
+    requires first { 1 ≤ next }
+    requires last { next ≤ 2 ^ 52 }
+    requires limit { max_records ≤ 1048576 }
+{
+    let mut store = ZoneStore::with(alloc, next, max_records);
+    take_each(rt, alloc, &mut store, steps);
+}
+
+// Takes the steps with a new store of the greatest size.
+fn play_new(rt: &impl Abort, alloc: Global, steps: &[Step]) {
+    let mut store = ZoneStore::new(alloc);
+    take_each(rt, alloc, &mut store, steps);
+}
+
+fn take_each(rt: &impl Abort, alloc: Global, store: &mut ZoneStore, steps: &[Step]) {
+    for step in steps {
+        take(rt, alloc, store, *step);
+    }
+}
+
+fn take(rt: &impl Abort, alloc: Global, store: &mut ZoneStore, step: Step) {
+    match step {
+        Step::Starts => start(rt, alloc, store),
+        Step::Changes(edit, sets) => changes(rt, alloc, store, edit, sets),
+        Step::Refuses(edit, fault) => refuses(rt, alloc, store, edit, fault),
+        Step::Fills(owner, count) => fills(rt, alloc, store, owner, count),
+        Step::HasApexes(apexes) => has_apexes(rt, alloc, store, apexes),
+        Step::HasRecords(lines) => has_records(rt, alloc, store, lines),
+        Step::HasNumbers(numbers) => has_numbers(rt, alloc, store, numbers),
+        Step::HasSet(owner, kind, number, lines) => {
+            has_set(rt, alloc, store, owner, kind, number, lines);
+        }
+        Step::HasLooks(looks) => assert_eq!(rt; store.looks(), looks),
+    }
+}
+
+fn start(rt: &impl Abort, alloc: Global, store: &mut ZoneStore) {
+    changes(rt, alloc, store, Edit::Load("example.com.", EMPTY), &[]);
+    for (line, owner) in [
+        ("server1 A 192.0.2.1", "server1"),
+        ("server2 A 192.0.2.2", "server2"),
+        ("SERVER1 A 192.0.2.3", "server1"),
+    ] {
+        changes(rt, alloc, store, Edit::Add(line), &[(owner, A)]);
+    }
+}
+
+fn changes(
+    rt: &impl Abort,
+    alloc: Global,
+    store: &mut ZoneStore,
+    edit: Edit,
+    sets: &[(&str, Kind)],
+) {
+    let changed = match apply(rt, alloc, store, edit) {
+        Ok(keys) => are_keys(rt, alloc, keys.as_slice(), sets),
+        Err(_) => false,
+    };
+    assert!(rt; changed, "other sets changed, or the edit was refused");
+}
+
+fn refuses(rt: &impl Abort, alloc: Global, store: &mut ZoneStore, edit: Edit, fault: StoreFault) {
+    let found = apply(rt, alloc, store, edit).err();
+    assert_eq!(rt; found, Some(fault));
+}
+
+fn fills(rt: &impl Abort, alloc: Global, store: &mut ZoneStore, owner: &'static str, count: u32) {
+    for address in 0..count {
+        let is_added = apply(rt, alloc, store, Edit::AddAddress(owner, address)).is_ok();
+        assert!(rt; is_added, "at {address}");
+    }
+}
+
+fn apply(
+    rt: &impl Abort,
+    alloc: Global,
+    store: &mut ZoneStore,
+    edit: Edit,
+) -> Result<Sequence<Key>, StoreFault> {
+    match edit {
+        Edit::Load(apex, text) => store.load(&zone(rt, alloc, apex, text)),
+        Edit::Unload(apex) => store.unload(&name(rt, alloc, apex)),
+        Edit::Add(line) => store.add(&record(rt, alloc, line)),
+        Edit::AddBare(owner) => store.add(&Record {
+            owner: name(rt, alloc, owner),
+            value: Data::Bare,
+        }),
+        Edit::AddAddress(owner, address) => store.add(&Record {
+            owner: name(rt, alloc, owner),
+            value: Data::Address4(address),
+        }),
+        Edit::Remove(line) => store.remove(&record(rt, alloc, line)),
+    }
+}
+
+fn name(rt: &impl Abort, alloc: Global, text: &str) -> Name {
+    let origin = origin(rt, alloc);
+    Name::from_text(alloc, text.as_bytes(), &origin).expect(rt, "a name")
+}
+
+fn origin(rt: &impl Abort, alloc: Global) -> Name {
+    Name::from_text(alloc, b"example.com.", &Name::root(alloc)).expect(rt, "a name")
+}
+
+fn zone(rt: &impl Abort, alloc: Global, apex: &str, text: &str) -> ZoneText {
+    read_zone(alloc, text.as_bytes(), &name(rt, alloc, apex)).expect(rt, "a zone")
+}
+
+fn record(rt: &impl Abort, alloc: Global, line: &str) -> Record {
+    read_record(alloc, line.as_bytes(), &origin(rt, alloc)).expect(rt, "a record")
+}
+
+fn key(rt: &impl Abort, alloc: Global, owner: &str, kind: Kind) -> Key {
+    Key {
+        name: name(rt, alloc, owner),
+        kind,
+    }
+}
+
+// Whether the keys are those of these owners and kinds.
+fn are_keys(rt: &impl Abort, alloc: Global, keys: &[Key], sets: &[(&str, Kind)]) -> bool {
+    for (found, set) in keys.iter().zip(sets.iter()) {
+        if *found != key(rt, alloc, set.0, set.1) {
+            return false;
+        }
+    }
+    keys.len() == sets.len()
+}
+
+// Whether the records are those of the lines.
+fn are_records(rt: &impl Abort, alloc: Global, records: &[Record], lines: &[&str]) -> bool {
+    for (found, line) in records.iter().zip(lines.iter()) {
+        if *found != record(rt, alloc, line) {
+            return false;
+        }
+    }
+    records.len() == lines.len()
+}
+
+// Whether the data are those of the lines.
+fn are_data(rt: &impl Abort, alloc: Global, data: &[Data], lines: &[&str]) -> bool {
+    for (found, line) in data.iter().zip(lines.iter()) {
+        if *found != record(rt, alloc, line).value {
+            return false;
+        }
+    }
+    data.len() == lines.len()
+}
+
+// Whether the apexes are these names.
+fn are_apexes(rt: &impl Abort, alloc: Global, apexes: &[Name], names: &[&str]) -> bool {
+    for (found, text) in apexes.iter().zip(names.iter()) {
+        if *found != name(rt, alloc, text) {
+            return false;
+        }
+    }
+    apexes.len() == names.len()
+}
+
+fn has_apexes(rt: &impl Abort, alloc: Global, store: &ZoneStore, names: &[&str]) {
+    assert!(rt;
+        are_apexes(rt, alloc, store.apexes(), names),
+        "other apexes"
+    );
+}
+
+fn has_records(rt: &impl Abort, alloc: Global, store: &mut ZoneStore, lines: &[&str]) {
+    assert!(rt;
+        are_records(rt, alloc, store.records(), lines),
+        "other records"
+    );
+}
+
+fn has_numbers(rt: &impl Abort, alloc: Global, store: &ZoneStore, numbers: &[(&str, Kind, u64)]) {
+    for (owner, kind, number) in numbers {
+        let found = number_of(rt, alloc, store, owner, *kind);
+        assert_eq!(rt; found, *number, "at {owner}");
+    }
+}
+
+fn number_of(rt: &impl Abort, alloc: Global, store: &ZoneStore, owner: &str, kind: Kind) -> u64 {
+    store.number(&key(rt, alloc, owner, kind))
+}
+
+fn has_set(
+    rt: &impl Abort,
+    alloc: Global,
+    store: &mut ZoneStore,
+    owner: &str,
+    kind: Kind,
+    number: u64,
+    lines: &[&str],
+) {
+    let is_as_expected = is_set(rt, alloc, store, owner, kind, number, lines);
+    assert!(rt; is_as_expected, "another set at {owner}");
+}
+
+fn is_set(
+    rt: &impl Abort,
+    alloc: Global,
+    store: &mut ZoneStore,
+    owner: &str,
+    kind: Kind,
+    number: u64,
+    lines: &[&str],
+) -> bool {
+    let (found, data) = store.set(&key(rt, alloc, owner, kind));
+    found == number && are_data(rt, alloc, data, lines)
+}
