@@ -1,13 +1,8 @@
 mod comparison;
-mod dependencies;
-mod finds;
-mod holds;
 mod live;
 pub mod process;
 mod repairs;
-mod routes;
 mod sessions;
 mod settings;
 mod streams;
-mod zone_files;
 mod zones;

@@ -109,28 +109,29 @@ impl Numbers {
 
     // The text of a record.
     pub fn record(&mut self, alloc: Global) -> Result<Vec<u8>, AllocError> {
+        let parts = self.parts();
+        let mut text = Vec::new(alloc);
+        push_texts(&mut text, &parts)?;
+        Ok(text)
+    }
+
+    // The parts of the text of a record.
+    fn parts(&mut self) -> [&'static str; 6] {
         let owner = self.one_of(&NAMES);
         let target = self.one_of(&NAMES);
-        let parts = match self.below(7) {
-            0 => [" CNAME ", target, "", "", ""],
-            1 => [" SRV ", self.digit(), " 1 5060 ", target, ""],
-            2 => [" SRV 0 ", self.digit(), " 5061 ", target, ""],
-            3 => [" SRV 0 0 0 .", "", "", "", ""],
-            4 => [
-                " NAPTR 1 ",
-                self.digit(),
-                " ",
-                self.one_of(&POINTERS),
-                target,
-            ],
-            5 => [" A 192.0.2.", self.digit(), self.digit(), "", ""],
-            _ => [" AAAA 2001:db8::", self.digit(), "", "", ""],
-        };
-        let mut text = Vec::from_slice(alloc, owner.as_bytes())?;
-        for part in parts {
-            text.extend_from_slice(part.as_bytes())?;
+        match self.below(7) {
+            0 => [owner, " CNAME ", target, "", "", ""],
+            1 => [owner, " SRV ", self.digit(), " 1 5060 ", target, ""],
+            2 => [owner, " SRV 0 ", self.digit(), " 5061 ", target, ""],
+            3 => [owner, " SRV 0 0 0 .", "", "", "", ""],
+            4 => {
+                let preference = self.digit();
+                let pointer = self.one_of(&POINTERS);
+                [owner, " NAPTR 1 ", preference, " ", pointer, target]
+            }
+            5 => [owner, " A 192.0.2.", self.digit(), self.digit(), "", ""],
+            _ => [owner, " AAAA 2001:db8::", self.digit(), "", "", ""],
         }
-        Ok(text)
     }
 
     // Loads the empty zone into a book and a store, and adds up to 24 records to both; those that the
@@ -251,28 +252,30 @@ fn answers_are_those_of_the_plain_program(rt: HostRuntime) -> Result<(), Fail> {
     Ok(())
 }
 
+// Appends texts, one after the other.
+fn push_texts(text: &mut Vec<u8>, parts: &[&str]) -> Result<(), AllocError> {
+    for part in parts {
+        text.extend_from_slice(part.as_bytes())?;
+    }
+    Ok(())
+}
+
 // A zone's text of 32 servers with 32 addresses each.
 fn full_service(alloc: Global) -> Result<Vec<u8>, AllocError> {
     let mut text = Vec::new(alloc);
     for server in 0..32_u8 {
-        text.extend_from_slice(b"_sip._tcp SRV 0 1 5060 s")?;
-        text.extend_from_slice(Buffer::new().format(server).as_bytes())?;
-        text.push(b'\n')?;
-        push_addresses(&mut text, server)?;
+        push_server(&mut text, Buffer::new().format(server))?;
     }
     Ok(text)
 }
 
-// Appends the addresses of a server.
-fn push_addresses(text: &mut Vec<u8>, server: u8) -> Result<(), AllocError> {
-    for address in 0..32_u8 {
-        text.push(b's')?;
-        text.extend_from_slice(Buffer::new().format(server).as_bytes())?;
-        text.extend_from_slice(b" A 192.0.")?;
-        text.extend_from_slice(Buffer::new().format(server).as_bytes())?;
-        text.push(b'.')?;
-        text.extend_from_slice(Buffer::new().format(address).as_bytes())?;
-        text.push(b'\n')?;
+// Appends a server's record and its addresses.
+fn push_server(text: &mut Vec<u8>, server: &str) -> Result<(), AllocError> {
+    push_texts(text, &["_sip._tcp SRV 0 1 5060 s", server, "\n"])?;
+    for number in 0..32_u8 {
+        let mut buffer = Buffer::new();
+        let number = buffer.format(number);
+        push_texts(text, &["s", server, " A 192.0.", server, ".", number, "\n"])?;
     }
     Ok(())
 }

@@ -3,6 +3,7 @@
 // holds as they stand.
 use super::comparison::{Numbers, URIS, plain_answer};
 use super::streams::replies_at;
+use itoa::Buffer;
 use sipl_book::{Book, Limits};
 use sipl_choice::{Abilities, Endpoint, Transport};
 use sipl_masterfile::{read_record, read_zone};
@@ -14,7 +15,113 @@ use sipl_srv::Draws;
 use sipl_uri::Uri;
 use sipl_zonestore::ZoneStore;
 use std::alloc::{AllocError, Global};
+use std::mem;
 use std::test::Fail;
+
+// Appends a line of several parts.
+fn push_line(text: &mut Vec<u8>, parts: &[&[u8]]) -> Result<(), AllocError> {
+    for part in parts {
+        text.extend_from_slice(part)?;
+    }
+    Ok(text.push(b'\n')?)
+}
+
+// Appends a word and an endpoint, without the end of the line.
+fn push_endpoint(text: &mut Vec<u8>, word: &[u8], endpoint: &Endpoint) -> Result<(), AllocError> {
+    text.extend_from_slice(word)?;
+    text.push(b' ')?;
+    text.extend_from_slice(endpoint.transport.name().as_bytes())?;
+    text.push(b' ')?;
+    endpoint.address.write(text)?;
+    text.push(b' ')?;
+    text.extend_from_slice(Buffer::new().format(endpoint.port).as_bytes())
+}
+
+// Appends the reply to an edit: the one given, or the code of a refusal.
+fn push_outcome(text: &mut Vec<u8>, outcome: Result<&str, &str>) -> Result<(), AllocError> {
+    match outcome {
+        Ok(reply) => push_line(text, &[reply.as_bytes()]),
+        Err(code) => push_line(text, &[b"err ", code.as_bytes()]),
+    }
+}
+
+// Appends the lines of targets, and the one that counts them.
+fn push_targets(text: &mut Vec<u8>, targets: &[Endpoint]) -> Result<(), AllocError> {
+    for (index, target) in targets.iter().enumerate() {
+        text.extend_from_slice(b"target ")?;
+        text.extend_from_slice(Buffer::new().format(index.saturating_add(1)).as_bytes())?;
+        push_endpoint(text, b"", target)?;
+        text.push(b'\n')?;
+    }
+    push_line(
+        text,
+        &[b"ok find ", Buffer::new().format(targets.len()).as_bytes()],
+    )
+}
+
+// Appends the reply to a question, and returns whether it has targets.
+fn push_answer(text: &mut Vec<u8>, answer: &Answer) -> Result<bool, AllocError> {
+    match answer {
+        Answer::Targets(targets) => {
+            push_targets(text, targets.as_slice())?;
+            Ok(true)
+        }
+        Answer::None(reason) => {
+            push_line(text, &[b"none ", reason.name().as_bytes()])?;
+            Ok(false)
+        }
+    }
+}
+
+// Loads the empty zone `e.`.
+fn load_empty(alloc: Global, store: &mut ZoneStore) -> Result<(), Fail> {
+    let apex = Name::from_text(alloc, b"e.", &Name::root(alloc))?;
+    let text = read_zone(alloc, b"", &apex)?;
+    store.load(&text)?;
+    Ok(())
+}
+
+// Adds a record to a store. Returns the reply, or the code of the refusal.
+fn add(
+    alloc: Global,
+    store: &mut ZoneStore,
+    text: &[u8],
+) -> Result<Result<&'static str, &'static str>, Fail> {
+    let record = read_record(alloc, text, &Name::root(alloc))?;
+    Ok(match store.add(&record) {
+        Ok(_) => Ok("ok add 1"),
+        Err(fault) => Err(fault.code()),
+    })
+}
+
+// The same for a record that is removed.
+fn remove(
+    alloc: Global,
+    store: &mut ZoneStore,
+    text: &[u8],
+) -> Result<Result<&'static str, &'static str>, Fail> {
+    let record = read_record(alloc, text, &Name::root(alloc))?;
+    Ok(match store.remove(&record) {
+        Ok(_) => Ok("ok del 1"),
+        Err(fault) => Err(fault.code()),
+    })
+}
+
+// Appends the reply of the plain program to a question, and returns whether it has targets.
+fn push_plain_answer(
+    alloc: Global,
+    want: &mut Vec<u8>,
+    store: &mut ZoneStore,
+    board: &Board,
+    abilities: &Abilities,
+    uri: &str,
+    seed: u64,
+) -> Result<bool, Fail> {
+    let question = Uri::parse(alloc, uri.as_bytes())?;
+    let draws = Draws::from_seed(seed);
+    let answer = plain_answer(alloc, store, board, &question, abilities, &draws)?;
+    Ok(push_answer(want, &answer)?)
+}
 
 // The records and the holds that lines lead to, the lines of the next session and their replies, the
 // record that was added last, and how many of the questions had targets.
@@ -42,51 +149,31 @@ impl Live {
         }
     }
 
-    // Appends a line, and its reply: the one given, or the code of a refusal.
-    fn push(&mut self, line: &[u8], outcome: Result<&str, &str>) -> Result<(), AllocError> {
-        self.input.extend_from_slice(line)?;
-        self.input.push(b'\n')?;
-        let text = match outcome {
-            Ok(reply) => reply,
-            Err(code) => {
-                self.want.extend_from_slice(b"err ")?;
-                code
-            }
-        };
-        self.want.extend_from_slice(text.as_bytes())?;
-        self.want.push(b'\n')?;
-        Ok(())
-    }
-
     // Loads the empty zone `e.`.
     fn load(&mut self) -> Result<(), Fail> {
-        let apex = Name::from_text(self.alloc, b"e.", &Name::root(self.alloc))?;
-        self.store.load(&read_zone(self.alloc, b"", &apex)?)?;
-        Ok(self.push(b"zone e. 0", Ok("ok zone 0 0 0 0"))?)
+        load_empty(self.alloc, &mut self.store)?;
+        self.push("zone e. 0", "ok zone 0 0 0 0")
+    }
+
+    // Appends a line and its reply.
+    fn push(&mut self, line: &str, reply: &str) -> Result<(), Fail> {
+        push_line(&mut self.input, &[line.as_bytes()])?;
+        push_line(&mut self.want, &[reply.as_bytes()])?;
+        Ok(())
     }
 
     fn add(&mut self, text: &[u8]) -> Result<(), Fail> {
-        let mut line = Vec::from_slice(self.alloc, b"add ")?;
-        line.extend_from_slice(text)?;
-        let record = read_record(self.alloc, text, &Name::root(self.alloc))?;
-        let outcome = match self.store.add(&record) {
-            Ok(_) => Ok("ok add 1"),
-            Err(fault) => Err(fault.code()),
-        };
-        self.push(&line, outcome)?;
-        self.added = Vec::from_slice(self.alloc, text)?;
-        Ok(())
+        push_line(&mut self.input, &[b"add ", text])?;
+        self.added.clear();
+        self.added.extend_from_slice(text)?;
+        let outcome = add(self.alloc, &mut self.store, text)?;
+        Ok(push_outcome(&mut self.want, outcome)?)
     }
 
     fn remove(&mut self, text: &[u8]) -> Result<(), Fail> {
-        let mut line = Vec::from_slice(self.alloc, b"del ")?;
-        line.extend_from_slice(text)?;
-        let record = read_record(self.alloc, text, &Name::root(self.alloc))?;
-        let outcome = match self.store.remove(&record) {
-            Ok(_) => Ok("ok del 1"),
-            Err(fault) => Err(fault.code()),
-        };
-        Ok(self.push(&line, outcome)?)
+        push_line(&mut self.input, &[b"del ", text])?;
+        let outcome = remove(self.alloc, &mut self.store, text)?;
+        Ok(push_outcome(&mut self.want, outcome)?)
     }
 
     // Removes the record that was added last.
@@ -94,86 +181,64 @@ impl Live {
         if self.added.is_empty() {
             return Ok(());
         }
-        let text = Vec::from_slice(self.alloc, &self.added)?;
+        let text = mem::replace(&mut self.added, Vec::new(self.alloc));
         self.remove(&text)
     }
 
     fn hold(&mut self, endpoint: &Endpoint, ms: u64) -> Result<(), AllocError> {
-        let mut line = Vec::from_slice(self.alloc, b"hold udp ")?;
-        endpoint.address.write(&mut line)?;
-        let port = endpoint.port;
-        let rest = format!(in self.alloc; " {port} {ms}")?;
-        line.extend_from_slice(rest.as_bytes())?;
+        push_endpoint(&mut self.input, b"hold", endpoint)?;
+        push_line(
+            &mut self.input,
+            &[b" ", Buffer::new().format(ms).as_bytes()],
+        )?;
         let outcome = match self.board.hold(endpoint, ms) {
             Ok(()) => Ok("ok hold"),
             Err(fault) => Err(fault.code()),
         };
-        self.push(&line, outcome)
+        push_outcome(&mut self.want, outcome)
     }
 
     fn release(&mut self, endpoint: &Endpoint) -> Result<(), AllocError> {
-        let mut line = Vec::from_slice(self.alloc, b"release udp ")?;
-        endpoint.address.write(&mut line)?;
-        let port = endpoint.port;
-        let rest = format!(in self.alloc; " {port}")?;
-        line.extend_from_slice(rest.as_bytes())?;
+        push_endpoint(&mut self.input, b"release", endpoint)?;
+        push_line(&mut self.input, &[])?;
         let outcome = match self.board.release(endpoint) {
             Ok(()) => Ok("ok release"),
             Err(fault) => Err(fault.code()),
         };
-        self.push(&line, outcome)
+        push_outcome(&mut self.want, outcome)
     }
 
+    // Moves the clock. No time is too great.
     fn advance(&mut self, ms: u64) -> Result<(), AllocError> {
         let to = self.board.now().saturating_add(ms);
-        let line = format!(in self.alloc; "clock {to}")?;
-        let reply = format!(in self.alloc; "ok clock {to}")?;
-        let outcome = match self.board.advance(to) {
-            Ok(()) => Ok(reply.as_str()),
-            Err(fault) => Err(fault.code()),
-        };
-        self.push(line.as_bytes(), outcome)
+        let mut buffer = Buffer::new();
+        let to_text = buffer.format(to).as_bytes();
+        push_line(&mut self.input, &[b"clock ", to_text])?;
+        match self.board.advance(to) {
+            Ok(()) => push_line(&mut self.want, &[b"ok clock ", to_text]),
+            Err(fault) => push_outcome(&mut self.want, Err(fault.code())),
+        }
     }
 
     // A question, with the answer of the plain program.
     fn find(&mut self, abilities: &Abilities, uri: &str, seed: u64) -> Result<(), Fail> {
-        let alloc = self.alloc;
-        let question = Uri::parse(alloc, uri.as_bytes())?;
-        let draws = Draws::from_seed(seed);
+        let mut buffer = Buffer::new();
+        let seed_text = buffer.format(seed).as_bytes();
+        push_line(
+            &mut self.input,
+            &[b"find ", uri.as_bytes(), b" seed ", seed_text],
+        )?;
         let (store, board) = (&mut self.store, &self.board);
-        let answer = plain_answer(alloc, store, board, &question, abilities, &draws)?;
-        let line = format!(in alloc; "find {uri} seed {seed}")?;
-        Ok(self.push_find(line.as_bytes(), &answer)?)
-    }
-
-    fn push_find(&mut self, line: &[u8], answer: &Answer) -> Result<(), AllocError> {
-        match answer {
-            Answer::Targets(targets) => {
-                self.found = self.found.saturating_add(1);
-                let targets = targets.as_slice();
-                let count = targets.len() as u64;
-                self.want_targets(targets)?;
-                let reply = format!(in self.alloc; "ok find {count}")?;
-                self.push(line, Ok(&reply))
-            }
-            Answer::None(reason) => {
-                let reply = format!(in self.alloc; "none {reason}")?;
-                self.push(line, Ok(&reply))
-            }
-        }
-    }
-
-    // Appends a line for each target to the replies.
-    fn want_targets(&mut self, targets: &[Endpoint]) -> Result<(), AllocError> {
-        let mut number = 1_u64;
-        for target in targets {
-            let (transport, port) = (target.transport, target.port);
-            let words = format!(in self.alloc; "target {number} {transport} ")?;
-            self.want.extend_from_slice(words.as_bytes())?;
-            target.address.write(&mut self.want)?;
-            let end = format!(in self.alloc; " {port}\n")?;
-            self.want.extend_from_slice(end.as_bytes())?;
-            number = number.saturating_add(1);
+        if push_plain_answer(
+            self.alloc,
+            &mut self.want,
+            store,
+            board,
+            abilities,
+            uri,
+            seed,
+        )? {
+            self.found = self.found.saturating_add(1);
         }
         Ok(())
     }
@@ -248,7 +313,7 @@ impl Live {
                 return Ok(None);
             }
             repaired = repaired.saturating_add(book.queued());
-            self.push(b"repair", Ok("ok repair"))?;
+            self.push("repair", "ok repair")?;
             if !self.is_replied(book)? || book.queued() > 0 {
                 return Ok(None);
             }

@@ -1,4 +1,4 @@
-// Results that an edit made stale, and their repair.
+// Results that an edit made outdated, and their repair.
 use super::streams::{ZONE, client_desk, replies_at};
 use sipl_book::Book;
 use sipl_choice::Transport;
@@ -7,7 +7,7 @@ use std::test::Fail;
 
 const FIND: &[u8] = b"find sip:bob@example.com words 2,0\n";
 
-// An edit makes the result stale, a repair looks it up again, and the next find looks at no set.
+// An edit makes the result outdated, a repair looks it up again, and the next find looks at no set.
 fn repairs_a_result(alloc: Global, desk: &mut Book) -> Result<bool, Fail> {
     let mut input = Vec::from_slice(alloc, ZONE.as_bytes())?;
     input.extend_from_slice(FIND)?;

@@ -1,5 +1,5 @@
 use sipl_choice::{Families, Transport};
-use sipl_lines::{Settings, SettingsFault, settings};
+use sipl_lines::{Settings, SettingsFault};
 use std::alloc::Global;
 use std::net::{Ipv4Addr, SocketAddrV4};
 use std::process::Abort;
@@ -7,12 +7,12 @@ use std::test::Fail;
 
 // The settings of a text, which has no fault.
 fn read(rt: &impl Abort, alloc: Global, text: &str) -> Settings {
-    settings(alloc, text).expect(rt, "the settings are refused")
+    Settings::from_toml(alloc, text).expect(rt, "the settings are refused")
 }
 
 // Whether the fault of a text has this code, and this key where it has one.
 fn has_fault(alloc: Global, text: &str, code: &str, key: &str) -> bool {
-    let Err(fault) = settings(alloc, text) else {
+    let Err(fault) = Settings::from_toml(alloc, text) else {
         return false;
     };
     let at = match &fault {
@@ -268,31 +268,4 @@ fn the_first_fault_is_that_of_the_first_key_by_octets(rt: HostRuntime) {
     ] {
         assert!(rt; has_fault(alloc, text, code, key), "at {text}");
     }
-}
-
-#[test]
-fn faults_have_codes_and_messages(rt: HostRuntime) -> Result<(), Fail> {
-    let alloc = rt.alloc();
-    for (fault, code, message) in [
-        (
-            SettingsFault::NotToml,
-            "G1",
-            "the settings are not a TOML document",
-        ),
-        (
-            SettingsFault::UnknownKey(String::from_str(alloc, "x")?),
-            "G2",
-            "the settings have no key `x`",
-        ),
-        (
-            SettingsFault::BadValue(String::from_str(alloc, "tries")?),
-            "G3",
-            "the value of `tries` is not allowed",
-        ),
-        (SettingsFault::Memory, "Memory", "out of memory"),
-    ] {
-        assert_eq!(rt; fault.code(), code);
-        assert_eq!(rt; fault.to_string(alloc)?.as_str(), message);
-    }
-    Ok(())
 }

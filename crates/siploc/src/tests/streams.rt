@@ -2,7 +2,7 @@
 use sipl_book::{Book, Limits};
 use sipl_choice::{Abilities, Families, Transport};
 use sipl_lines::{Ended, MAX_READS, ServeFault, Tapped, serve, serve_within};
-use std::alloc::Global;
+use std::alloc::{AllocError, Global};
 use std::io;
 use std::io::{ErrorKind, Read, Write};
 use std::test::Fail;
@@ -126,10 +126,17 @@ pub fn replies(alloc: Global, input: &[u8]) -> Result<Vec<u8>, Fail> {
     replies_at(alloc, &mut desk, input)
 }
 
-// The same for a client of TCP and UDP, in this order.
-pub fn tcp_replies(alloc: Global, input: &[u8]) -> Result<Vec<u8>, Fail> {
-    let mut desk = client_desk(alloc, &[Transport::Tcp, Transport::Udp])?;
-    replies_at(alloc, &mut desk, input)
+// Appends so many times the same octet.
+pub fn push_octets(text: &mut Vec<u8>, octet: u8, count: usize) -> Result<(), AllocError> {
+    for _ in 0..count {
+        text.push(octet)?;
+    }
+    Ok(())
+}
+
+// Whether a new session at a new book writes this for an input.
+pub fn has_replies(alloc: Global, input: &[u8], want: &[u8]) -> Result<bool, Fail> {
+    Ok(replies(alloc, input)?.as_slice() == want)
 }
 
 // What a new session at a book writes for an input.

@@ -1,6 +1,6 @@
 use Rattle.std.proofs.Common.{◌≡◌, ◌≤◌, length, subst, sym}
 use Rattle.sipl_records.specs.Sets.{set_of}
-use Rattle.sipl_book.proofs.StoreSets.{set_is_set}
+use Rattle.sipl_book.proofs.Public.{set_is_set}
 use Rattle.siploc.proofs.tests.comparison.plain_answer.Goals as goal
 
 pub plan_of-requires : goal.plan_of-requires
