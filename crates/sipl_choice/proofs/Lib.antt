@@ -1,2 +1,3 @@
-pub mod SameEndpoint
-pub mod Choosing
+pub mod Public
+mod SameEndpoint
+mod Choosing

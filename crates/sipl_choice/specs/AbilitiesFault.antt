@@ -1,4 +1,4 @@
--- The codes and the messages of `AbilitiesFault`.
+-- The codes of `AbilitiesFault`.
 use Rattle.std.specs.Prelude.{ℕ, List, codes}
 use Rattle.sipl_choice.specs.declared.fault.AbilitiesFault.{AbilitiesFault}
 use Rattle.sipl_choice.specs.declared.fault.AbilitiesFault.TheVariants.{EmptyAbilities, RepeatedTransport}
@@ -7,8 +7,3 @@ use Rattle.sipl_choice.specs.declared.fault.AbilitiesFault.TheVariants.{EmptyAbi
 abbrev pub code_of : AbilitiesFault → List ℕ
 code_of EmptyAbilities = codes "C1"
 code_of RepeatedTransport = codes "C2"
-
--- the message of an error
-abbrev pub message_of : AbilitiesFault → List ℕ
-message_of EmptyAbilities = codes "the client has no transport"
-message_of RepeatedTransport = codes "a transport is listed twice"

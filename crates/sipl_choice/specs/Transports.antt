@@ -1,5 +1,7 @@
 -- Transports and their ports (RFC 3261, 18 and 19.1.2).
-use Rattle.std.specs.Prelude.{ℕ, Bool, true, false, List, codes}
+use Rattle.std.specs.Prelude.{ℕ, Bool, true, false, [], ◌∷◌, Option, codes, nat_eq, find}
+use lib.Pointwise.{pointwise}
+use Rattle.sipl_names.specs.Labels.{Octets}
 use Rattle.sipl_choice.specs.declared.transport.Transport.{Transport}
 use Rattle.sipl_choice.specs.declared.transport.Transport.TheVariants.{Udp, Tcp, Tls, Sctp}
 
@@ -10,12 +12,17 @@ default_port Tcp = 5060
 default_port Tls = 5061
 default_port Sctp = 5060
 
--- RFC 3261, 19.1.1: the transport's name in URIs, and in replies
-abbrev pub transport_text : Transport → List ℕ
+-- RFC 3261, 19.1.1: the transport's name in URIs, lines, replies and settings
+abbrev pub transport_text : Transport → Octets
 transport_text Udp = codes "udp"
 transport_text Tcp = codes "tcp"
 transport_text Tls = codes "tls"
 transport_text Sctp = codes "sctp"
+
+-- the transport of a name in lower case
+abbrev pub transport_named : Octets → Option Transport
+transport_named name =
+    find (λ transport. pointwise nat_eq name (transport_text transport)) (Udp ∷ Tcp ∷ Tls ∷ Sctp ∷ [])
 
 -- whether two transports are the same
 abbrev pub same_transport : Transport → Transport → Bool

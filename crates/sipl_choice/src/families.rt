@@ -30,20 +30,3 @@ impl Families {
         }
     }
 }
-
-#[cfg(test)]
-mod tests {
-    use super::*;
-
-    #[test]
-    fn families_are_looked_up_in_their_order(rt: HostRuntime) {
-        for (families, kinds) in [
-            (Families::V4, [Kind::Address4].as_slice()),
-            (Families::V6, &[Kind::Address6]),
-            (Families::V4ThenV6, &[Kind::Address4, Kind::Address6]),
-            (Families::V6ThenV4, &[Kind::Address6, Kind::Address4]),
-        ] {
-            assert_eq!(rt; families.kinds(), kinds);
-        }
-    }
-}

@@ -153,6 +153,3 @@ fn transport_of_services(services: &[u8]) -> Option<Transport>
         None
     }
 }
-
-#[cfg(test)]
-mod tests;

@@ -23,53 +23,7 @@ pub fn service_name(
     };
     match target.prefixed(alloc, &[service, protocol]) {
         Ok(name) => Ok(Some(name)),
+        Err(NameFault::Invalid(_)) => Ok(None),
         Err(NameFault::Memory) => Err(AllocError),
-        Err(_) => Ok(None),
-    }
-}
-
-#[cfg(test)]
-mod tests {
-    use super::*;
-    use std::test::Fail;
-
-    #[test]
-    fn service_names_are_below_the_target(rt: HostRuntime) -> Result<(), Fail> {
-        let alloc = rt.alloc();
-        let root = Name::root(alloc);
-        let target = Name::from_text(alloc, b"Example.com.", &root)?;
-        for (transport, text) in [
-            (Transport::Udp, "_sip._udp.example.com."),
-            (Transport::Tcp, "_sip._tcp.example.com."),
-            (Transport::Tls, "_sips._tcp.example.com."),
-            (Transport::Sctp, "_sip._sctp.example.com."),
-        ] {
-            let name = service_name(alloc, &target, transport)?;
-            let want = Name::from_text(alloc, text.as_bytes(), &root)?;
-            assert!(rt; name == Some(want));
-        }
-        Ok(())
-    }
-
-    #[test]
-    fn long_targets_have_no_service_name(rt: HostRuntime) -> Result<(), Fail> {
-        let alloc = rt.alloc();
-        let label = [b'a'; 63];
-        let root = Name::root(alloc);
-        // The wire form has 194 octets and those of the last label; the two labels before it have
-        // 10 octets for UDP, 11 for SCTP and TLS.
-        for (last, transport, is_named) in [
-            (51, Transport::Udp, true),
-            (52, Transport::Udp, false),
-            (50, Transport::Sctp, true),
-            (51, Transport::Sctp, false),
-            (50, Transport::Tls, true),
-            (51, Transport::Tls, false),
-        ] {
-            let target = root.prefixed(alloc, &[&label, &label, &label, &label[..last]])?;
-            let name = service_name(alloc, &target, transport)?;
-            assert_eq!(rt; name.is_some(), is_named);
-        }
-        Ok(())
     }
 }

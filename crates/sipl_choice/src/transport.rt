@@ -1,5 +1,6 @@
 ghost use Rattle.std.specs.Prelude.{◌≡◌, Some};
-ghost use Rattle.sipl_choice.specs.Transports.{default_port, transport_text};
+ghost use Rattle.std.specs.Str.{str_to_ascii_lowercase};
+ghost use Rattle.sipl_choice.specs.Transports.{default_port, transport_named, transport_text};
 
 use std::fmt;
 
@@ -41,6 +42,36 @@ impl Transport {
             Transport::Sctp => "sctp",
         }
     }
+
+    /// The transport of a name in lower case: `udp`, `tcp`, `tls` or `sctp`.
+    pub fn from_name(name: &[u8]) -> Option<Self>
+        ensures { result ≡ transport_named name.now }
+    {
+        match name {
+            b"udp" => Some(Transport::Udp),
+            b"tcp" => Some(Transport::Tcp),
+            b"tls" => Some(Transport::Tls),
+            b"sctp" => Some(Transport::Sctp),
+            _ => None,
+        }
+    }
+
+    /// The transport of a name in either case, as URIs have it (RFC 3261, 19.1.4).
+    pub fn from_name_ignore_case(name: &[u8]) -> Option<Self>
+        ensures { result ≡ transport_named (str_to_ascii_lowercase name.now) }
+    {
+        if name.eq_ignore_ascii_case(b"udp") {
+            Some(Transport::Udp)
+        } else if name.eq_ignore_ascii_case(b"tcp") {
+            Some(Transport::Tcp)
+        } else if name.eq_ignore_ascii_case(b"tls") {
+            Some(Transport::Tls)
+        } else if name.eq_ignore_ascii_case(b"sctp") {
+            Some(Transport::Sctp)
+        } else {
+            None
+        }
+    }
 }
 
 impl fmt::Display for Transport {
@@ -48,25 +79,5 @@ impl fmt::Display for Transport {
 
     fn fmt<W: fmt::Write>(&self, f: &mut fmt::Formatter<W>) -> fmt::Result {
         f.write_str(self.name())
-    }
-}
-
-#[cfg(test)]
-mod tests {
-    use super::*;
-    use std::test::Fail;
-
-    #[test]
-    fn transports_have_ports_and_names(rt: HostRuntime) -> Result<(), Fail> {
-        for (transport, name, port) in [
-            (Transport::Udp, "udp", 5060),
-            (Transport::Tcp, "tcp", 5060),
-            (Transport::Tls, "tls", 5061),
-            (Transport::Sctp, "sctp", 5060),
-        ] {
-            assert_eq!(rt; transport.to_string(rt.alloc())?.as_str(), name);
-            assert_eq!(rt; default_port(transport), port);
-        }
-        Ok(())
     }
 }

@@ -6,7 +6,7 @@ use Rattle.std.proofs.lemmas.List.Elements.{All-head, All-tail, All-nil, All-con
 use Rattle.sipl_records.specs.declared.data.Data.{Data}
 use Rattle.sipl_records.specs.declared.record.Key.{Key}
 use Rattle.sipl_records.specs.Sets.{same_key}
-use Rattle.sipl_records.proofs.Keys.{same_key-Decides}
+use Rattle.sipl_records.proofs.Public.{same_key-Decides}
 use Rattle.sipl_evidence.specs.Items.{Item}
 use Rattle.sipl_evidence.specs.Looks.{Look, Asking, done, ask, result_of, asked}
 use Rattle.sipl_evidence.specs.Known.{known, is_unknown, Agrees, first_unknown, advance, known_result}

@@ -1,6 +1,7 @@
-pub mod Alike
-pub mod Knowing
-pub mod Placing
-pub mod Traces
-pub mod Walking
-pub mod Composing
+pub mod Public
+mod Alike
+mod Knowing
+mod Placing
+mod Traces
+mod Walking
+mod Composing

@@ -6,11 +6,11 @@ use Rattle.std.proofs.lemmas.List.Quantifiers.{all_pairs_push, position-Some}
 use Rattle.std.proofs.Math.ListN.{get_or-append}
 use Rattle.std.proofs.Math.Seq.{get_or-append_seam}
 use Rattle.sipl_names.specs.Labels.{Labels, same_name}
-use Rattle.sipl_names.proofs.SameName.{same_name_decides}
+use Rattle.sipl_names.proofs.Public.{same_name_decides}
 use Rattle.sipl_records.specs.declared.kind.Kind.{Kind}
 use Rattle.sipl_records.specs.declared.record.Key.{Key}
 use Rattle.sipl_records.specs.Sets.{same_key, same_kind}
-use Rattle.sipl_records.proofs.Keys.{same_key-Decides, same_key-sym}
+use Rattle.sipl_records.proofs.Public.{same_key-Decides, same_key-sym}
 use Rattle.sipl_evidence.specs.declared.places.Places.{Places}
 use Rattle.sipl_evidence.specs.Items.{Item, HasDistinctKeys}
 use Rattle.sipl_evidence.specs.Known.{known, is_unknown}

@@ -7,9 +7,7 @@ use Rattle.std.proofs.lemmas.List.Elements.{filter_agree}
 use Rattle.sipl_records.specs.declared.record.Key.{Key}
 use Rattle.sipl_records.specs.Sets.{same_key}
 use Rattle.sipl_records.specs.Unique.{unique}
-use Rattle.sipl_records.proofs.Filters.{filter-filter}
-use Rattle.sipl_records.proofs.Keys.{same_key-Decides, same_key-refl}
-use Rattle.sipl_records.proofs.Unique.{unique-filter}
+use Rattle.sipl_records.proofs.Public.{filter-filter, same_key-Decides, same_key-refl, unique-filter}
 use Rattle.sipl_evidence.specs.Items.{Item}
 use Rattle.sipl_evidence.specs.Looks.{Look, Asking, asked}
 use Rattle.sipl_evidence.specs.Known.{is_unknown, Agrees, first_unknown, IsTraceAfter, IsTrace}

@@ -2,15 +2,16 @@ ghost use Rattle.std.specs.Prelude.{◌≡◌};
 ghost use Rattle.sipl_evidence.specs.EvidenceFault.{code_of};
 
 use std::alloc::AllocError;
-use std::error::Error;
-use std::fmt;
+use thiserror::Error;
 
 /// Why an item is not appended to evidence. The evidence is then unchanged.
-#[derive(Clone, Copy, Debug, PartialEq, Eq, Hash)]
+#[derive(Clone, Copy, Debug, PartialEq, Eq, Hash, Error)]
 pub enum EvidenceFault {
     /// E1: the evidence has an item of the key already.
+    #[error("the set is read already")]
     AlreadyRead,
     /// An allocation failed.
+    #[error("out of memory")]
     Memory,
 }
 
@@ -25,22 +26,6 @@ impl EvidenceFault {
         }
     }
 }
-
-impl fmt::Display for EvidenceFault {
-    ghost use Rattle.std.specs.Prelude.{Some};
-    ghost use Rattle.sipl_evidence.specs.EvidenceFault.{message_of};
-
-    ghost output = { λ fault. Some (message_of fault) };
-
-    fn fmt<W: fmt::Write>(&self, f: &mut fmt::Formatter<W>) -> fmt::Result {
-        f.write_str(match self {
-            EvidenceFault::AlreadyRead => "the set is read already",
-            EvidenceFault::Memory => "out of memory",
-        })
-    }
-}
-
-impl Error for EvidenceFault {}
 
 impl From<AllocError> for EvidenceFault {
     ghost use Rattle.std.specs.Prelude.{◌≡◌};

@@ -15,14 +15,13 @@ pub struct Item {
 }
 
 impl Model for Item {
-    ghost use Rattle.sipl_evidence.specs.Items.{Item, IsItem};
+    ghost use Rattle.sipl_evidence.specs.Items.{Item, IsItem, item_of};
 
     ghost Value = { Item };
 
-    ghost view = { λ i. record { key = i.key; number = i.number; content = i.content } };
+    ghost view = { item_of };
 
-    ghost invariant = { λ i.
-        IsItem (record { key = i.key; number = i.number; content = i.content }) };
+    ghost invariant = { λ i. IsItem (item_of i) };
 }
 
 impl Item {

@@ -7,8 +7,6 @@ mod fault;
 mod item;
 pub mod laws;
 mod places;
-#[cfg(test)]
-mod tests;
 mod walk;
 
 pub use evidence::{Evidence, Refused};

@@ -13,15 +13,6 @@ code_of ClockBack = codes "X1"
 code_of BadCode = codes "X2"
 code_of Memory = codes "Memory"
 
--- the error's message
-abbrev pub message_of : FailoverFault → List ℕ
-message_of NoTargets = codes "the list of targets is empty"
-message_of Ended = codes "the failover has ended"
-message_of NoAttempt = codes "no such attempt was sent"
-message_of ClockBack = codes "the time is before that of the last tick"
-message_of BadCode = codes "the status code is not within 100 to 699"
-message_of Memory = codes "out of memory"
-
 -- the error of a transaction as that of its failover
 abbrev pub of_tx_fault : TxFault → FailoverFault
 of_tx_fault tx.ClockBack = ClockBack

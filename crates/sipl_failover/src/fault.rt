@@ -3,23 +3,28 @@ ghost use Rattle.sipl_failover.specs.FailoverFault.{code_of};
 
 use sipl_tx::TxFault;
 use std::alloc::AllocError;
-use std::error::Error;
-use std::fmt;
+use thiserror::Error;
 
 /// Why a call was refused. A refused call leaves the failover as it was.
-#[derive(Clone, Copy, Debug, PartialEq, Eq, Hash)]
+#[derive(Clone, Copy, Debug, PartialEq, Eq, Hash, Error)]
 pub enum FailoverFault {
     /// F1: the list of targets is empty.
+    #[error("the list of targets is empty")]
     NoTargets,
     /// F2: the failover has ended.
+    #[error("the failover has ended")]
     Ended,
     /// F3: no attempt of this number was sent.
+    #[error("no such attempt was sent")]
     NoAttempt,
     /// X1: the time is before that of the last tick.
+    #[error("the time is before that of the last tick")]
     ClockBack,
     /// X2: the status code is not within 100 to 699.
+    #[error("the status code is not within 100 to 699")]
     BadCode,
     /// An allocation failed.
+    #[error("out of memory")]
     Memory,
 }
 
@@ -38,26 +43,6 @@ impl FailoverFault {
         }
     }
 }
-
-impl fmt::Display for FailoverFault {
-    ghost use Rattle.std.specs.Prelude.{Some};
-    ghost use Rattle.sipl_failover.specs.FailoverFault.{message_of};
-
-    ghost output = { λ fault. Some (message_of fault) };
-
-    fn fmt<W: fmt::Write>(&self, f: &mut fmt::Formatter<W>) -> fmt::Result {
-        f.write_str(match self {
-            FailoverFault::NoTargets => "the list of targets is empty",
-            FailoverFault::Ended => "the failover has ended",
-            FailoverFault::NoAttempt => "no such attempt was sent",
-            FailoverFault::ClockBack => "the time is before that of the last tick",
-            FailoverFault::BadCode => "the status code is not within 100 to 699",
-            FailoverFault::Memory => "out of memory",
-        })
-    }
-}
-
-impl Error for FailoverFault {}
 
 impl From<AllocError> for FailoverFault {
     ghost use Rattle.sipl_failover.specs.declared.fault.FailoverFault.TheVariants.{Memory};

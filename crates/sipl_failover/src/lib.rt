@@ -14,6 +14,3 @@ mod step;
 pub use failover::Failover;
 pub use fault::FailoverFault;
 pub use step::{Step, Steps};
-
-#[cfg(test)]
-mod tests;

@@ -4,8 +4,8 @@ use Rattle.std.proofs.lemmas.List.Concat.{flat_map-append}
 use Rattle.std.proofs.lemmas.Bool.Decides.{nat_tests}
 use Rattle.std.specs.List.{AllByRecursion}
 use lib.Pointwise.{pointwise}
-use Rattle.sipl_names.specs.declared.fault.NameFault.{NameFault}
-use Rattle.sipl_names.specs.declared.fault.NameFault.TheVariants.{NameTooLong}
+use Rattle.sipl_names.specs.declared.fault.InvalidName.{InvalidName}
+use Rattle.sipl_names.specs.declared.fault.InvalidName.TheVariants.{NameTooLong}
 use Rattle.sipl_names.specs.Labels.{Octets, Labels, length_prefixed, wire_of, wire_length, IsLabel, name_within_limit}
 use Rattle.sipl_names.specs.Wire.{IsNameWire, labels_of_wire}
 use Rattle.sipl_names.specs.NameText.{symbols, labels_from, relative_to, name_of}
@@ -36,7 +36,7 @@ pub record IsSpelled (text : Octets) (origin : Labels) (wire : Octets) : Type 0 
 pub other_text : (text : Octets) (origin : Labels) → pointwise nat_eq text (64 ∷ []) ≡ false → pointwise nat_eq text (46 ∷ []) ≡ false → name_of text origin ≡ relative_to origin (labels_from [] (symbols 0 text))
 other_text text origin at point = rw (at, point, name_of) refl
 
-pub refused_text : (text : Octets) (origin : Labels) (fault : NameFault) → pointwise nat_eq text (64 ∷ []) ≡ false → pointwise nat_eq text (46 ∷ []) ≡ false → labels_from [] (symbols 0 text) ≡ Err fault → name_of text origin ≡ Err fault
+pub refused_text : (text : Octets) (origin : Labels) (fault : InvalidName) → pointwise nat_eq text (64 ∷ []) ≡ false → pointwise nat_eq text (46 ∷ []) ≡ false → labels_from [] (symbols 0 text) ≡ Err fault → name_of text origin ≡ Err fault
 refused_text text origin fault at point is = other_text text origin at point ∙ ap (relative_to origin) is
 
 pub absolute_spelled : (text : Octets) (origin : Labels) (wire full : Octets) → pointwise nat_eq text (64 ∷ []) ≡ false → pointwise nat_eq text (46 ∷ []) ≡ false → Spells text wire true → full ≡ wire → IsSpelled text origin full

@@ -1,10 +1,11 @@
-pub mod SameName
-pub mod Lowercase
-pub mod Wires
-pub mod Within
-pub mod ReadText
-pub mod Denotes
-pub mod Prefixes
-pub mod RoundTrip
-pub mod TextLength
-pub mod Printing
+pub mod Public
+mod SameName
+mod Lowercase
+mod Wires
+mod Within
+mod ReadText
+mod Denotes
+mod Prefixes
+mod RoundTrip
+mod TextLength
+mod Printing

@@ -3,7 +3,7 @@ use Rattle.std.proofs.Common.{◌≡◌, ℕ, ◌+◌, ◌-◌, ◌^◌, ◌<◌
 use Rattle.std.proofs.lemmas.List.Concat.{flat_map-append}
 use Rattle.std.specs.List.{AllByRecursion}
 use Rattle.std.specs.Str.{str_to_ascii_lowercase}
-use Rattle.sipl_names.specs.declared.fault.NameFault.TheVariants.{NameTooLong}
+use Rattle.sipl_names.specs.declared.fault.InvalidName.TheVariants.{NameTooLong}
 use Rattle.sipl_names.specs.Labels.{Octets, Labels, length_prefixed, wire_of, wire_length, IsLabel, name_within_limit, first_label_fault, prefixed_of}
 use Rattle.sipl_names.specs.Wire.{IsNameWire, labels_of_wire}
 use Rattle.sipl_names.proofs.Wires.{labels_at, name_at}

@@ -5,8 +5,8 @@ use Rattle.std.proofs.lemmas.List.Concat.{flat_map-append}
 use Rattle.std.specs.Char.{to_ascii_lowercase}
 use Rattle.std.specs.Str.{str_to_ascii_lowercase}
 use Rattle.std.specs.List.{AllByRecursion}
-use Rattle.sipl_names.specs.declared.fault.NameFault.{NameFault}
-use Rattle.sipl_names.specs.declared.fault.NameFault.TheVariants.{BadEscape}
+use Rattle.sipl_names.specs.declared.fault.InvalidName.{InvalidName}
+use Rattle.sipl_names.specs.declared.fault.InvalidName.TheVariants.{BadEscape}
 use Rattle.sipl_names.specs.Escapes.{escape_of}
 use Rattle.sipl_names.specs.Labels.{Octets, Labels, length_prefixed, wire_of, IsLabel, label_fault}
 use Rattle.sipl_names.specs.NameText.{Symbol, octet, dot, bad_escape, symbols, Read, prepend_label, prepend_checked_label, labels_from}
@@ -32,7 +32,7 @@ prepend_labels-push : (done : Labels) (label : Octets) (read : Read) → prepend
 prepend_labels-push [] label read = refl
 prepend_labels-push (first ∷ done) label read = ap (prepend first) (prepend_labels-push done label read)
 
-prepend_labels-err : (done : Labels) (fault : NameFault) → prepend_labels done (Err fault) ≡ Err fault
+prepend_labels-err : (done : Labels) (fault : InvalidName) → prepend_labels done (Err fault) ≡ Err fault
 prepend_labels-err [] fault = refl
 prepend_labels-err (label ∷ done) fault = ap (prepend label) (prepend_labels-err done fault)
 
@@ -72,7 +72,7 @@ pub labels_from-dot : (label tail : Octets) → labels_from label (dot ∷ symbo
 labels_from-dot label [] = refl
 labels_from-dot label (c ∷ tail) = labels_from-dot_more label (symbols 0 (c ∷ tail)) (more_symbols c tail)
 
-prepend_checked_label-fault : (label : Octets) (read : Read) (fault : NameFault) → label_fault label ≡ Some fault → prepend_checked_label label read ≡ Err fault
+prepend_checked_label-fault : (label : Octets) (read : Read) (fault : InvalidName) → label_fault label ≡ Some fault → prepend_checked_label label read ≡ Err fault
 prepend_checked_label-fault label read fault is = rw (is, prepend_checked_label) refl
 
 pub prepend_checked_label-none : (label : Octets) (read : Read) → label_fault label ≡ None → prepend_checked_label label read ≡ prepend (str_to_ascii_lowercase label) read
@@ -104,7 +104,7 @@ read_octet text rest wire start tail c r next small =
       reads = r.reads ∙ ap (λ ss. prepend_labels r.done (labels_from r.label ss)) next;
     }
 
-pub read_fault : (text rest wire : Octets) (start : ℕ) (fault : NameFault) → IsReadTo text rest wire start → IsBadEscape rest fault → labels_from [] (symbols 0 text) ≡ Err fault
+pub read_fault : (text rest wire : Octets) (start : ℕ) (fault : InvalidName) → IsReadTo text rest wire start → IsBadEscape rest fault → labels_from [] (symbols 0 text) ≡ Err fault
 read_fault text rest wire start fault r none =
     r.reads ∙ ap (λ ss. prepend_labels r.done (labels_from r.label ss)) none.spells ∙ prepend_labels-err r.done BadEscape ∙ ap (λ f. Err f) (sym none.fault_is)
 
@@ -118,11 +118,11 @@ fault_so_far : (text rest wire : Octets) (start : ℕ) (r : IsReadTo text rest w
 fault_so_far text rest wire start r = ap label_fault (label_so_far text rest wire start r) ∙ label_fault-lowered r.label
 
 -- the label that ends here has a fault
-pub read_bad_label : (text rest wire : Octets) (start : ℕ) (tail : Octets) (fault : NameFault) → IsReadTo text rest wire start → symbols 0 rest ≡ dot ∷ symbols 0 tail → label_fault (drop (start + 1) wire) ≡ Some fault → labels_from [] (symbols 0 text) ≡ Err fault
+pub read_bad_label : (text rest wire : Octets) (start : ℕ) (tail : Octets) (fault : InvalidName) → IsReadTo text rest wire start → symbols 0 rest ≡ dot ∷ symbols 0 tail → label_fault (drop (start + 1) wire) ≡ Some fault → labels_from [] (symbols 0 text) ≡ Err fault
 read_bad_label text rest wire start tail fault r next is =
     r.reads ∙ ap (λ ss. prepend_labels r.done (labels_from r.label ss)) next ∙ ap (prepend_labels r.done) (labels_from-dot r.label tail ∙ prepend_checked_label-fault r.label (read_after_dot tail) fault (sym (fault_so_far text rest wire start r) ∙ is)) ∙ prepend_labels-err r.done fault
 
-pub read_bad_end : (text rest wire : Octets) (start : ℕ) (fault : NameFault) → IsReadTo text rest wire start → rest ≡ [] → label_fault (drop (start + 1) wire) ≡ Some fault → labels_from [] (symbols 0 text) ≡ Err fault
+pub read_bad_end : (text rest wire : Octets) (start : ℕ) (fault : InvalidName) → IsReadTo text rest wire start → rest ≡ [] → label_fault (drop (start + 1) wire) ≡ Some fault → labels_from [] (symbols 0 text) ≡ Err fault
 read_bad_end text rest wire start fault r none is =
     r.reads ∙ ap (λ t. prepend_labels r.done (labels_from r.label (symbols 0 t))) none ∙ ap (prepend_labels r.done) (prepend_checked_label-fault r.label (Ok ([], false)) fault (sym (fault_so_far text rest wire start r) ∙ is)) ∙ prepend_labels-err r.done fault
 

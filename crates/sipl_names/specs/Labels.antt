@@ -3,8 +3,8 @@ use Rattle.std.specs.Prelude.{◌≡◌, ℕ, ◌+◌, ◌<◌, ◌≤◌, Bool,
 use Rattle.std.specs.List.{AllByRecursion, flat_map}
 use Rattle.std.specs.Str.{str_to_ascii_lowercase}
 use lib.Pointwise.{pointwise}
-use Rattle.sipl_names.specs.declared.fault.NameFault.{NameFault}
-use Rattle.sipl_names.specs.declared.fault.NameFault.TheVariants.{EmptyLabel, LabelTooLong, NameTooLong}
+use Rattle.sipl_names.specs.declared.fault.InvalidName.{InvalidName}
+use Rattle.sipl_names.specs.declared.fault.InvalidName.TheVariants.{EmptyLabel, LabelTooLong, NameTooLong}
 
 -- octets of a label, a text or a wire form
 abbrev pub Octets : Type 0
@@ -53,22 +53,22 @@ parent_of [] = None
 parent_of (label ∷ labels) = Some labels
 
 -- the fault of octets that are not a label: none, or more than 63
-abbrev pub label_fault : Octets → Option NameFault
+abbrev pub label_fault : Octets → Option InvalidName
 label_fault label =
     if length label == 0 then Some EmptyLabel
     else (if nat_lt 63 (length label) then Some LabelTooLong else None)
 
 -- the fault of the first of the lists that is not a label
-abbrev pub first_label_fault : Labels → Option NameFault
+abbrev pub first_label_fault : Labels → Option InvalidName
 first_label_fault [] = None
 first_label_fault (label ∷ labels) = elim (label_fault label) [ Some fault ↦ Some fault | None ↦ first_label_fault labels ]
 
 -- these labels, where their wire form has at most 255 octets
-abbrev pub name_within_limit : Labels → Result Labels NameFault
+abbrev pub name_within_limit : Labels → Result Labels InvalidName
 name_within_limit labels = if nat_lt 255 (wire_length labels) then Err NameTooLong else Ok labels
 
 -- the name with these labels prepended, in lower case; faults of labels come before that of the length
-abbrev pub prefixed_of : Labels → Labels → Result Labels NameFault
+abbrev pub prefixed_of : Labels → Labels → Result Labels InvalidName
 prefixed_of labels name =
     elim (first_label_fault labels) [
       | Some fault ↦ Err fault

@@ -1,3 +1,4 @@
+pub mod InvalidName
 pub mod NameFault
 pub mod Labels
 pub mod Wire

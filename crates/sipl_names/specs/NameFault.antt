@@ -1,20 +1,16 @@
--- The codes and the messages of faults.
-use Rattle.std.specs.Prelude.{ℕ, List, codes}
+-- The faults of calls that make a name.
+use Rattle.std.specs.Prelude.{ℕ, List, ⊤, codes}
+use Rattle.sipl_names.specs.declared.fault.InvalidName.{InvalidName}
 use Rattle.sipl_names.specs.declared.fault.NameFault.{NameFault}
-use Rattle.sipl_names.specs.declared.fault.NameFault.TheVariants.{EmptyLabel, LabelTooLong, NameTooLong, BadEscape, Memory}
+use Rattle.sipl_names.specs.declared.fault.NameFault.TheVariants.{Invalid, Memory}
+use Rattle.sipl_names.specs.InvalidName.{code_of as invalid_code_of}
 
 -- the fault's code in replies
 abbrev pub code_of : NameFault → List ℕ
-code_of EmptyLabel = codes "N1"
-code_of LabelTooLong = codes "N2"
-code_of NameTooLong = codes "N3"
-code_of BadEscape = codes "N4"
+code_of (Invalid invalid) = invalid_code_of invalid
 code_of Memory = codes "Memory"
 
--- the fault's message to a person
-abbrev pub message_of : NameFault → List ℕ
-message_of EmptyLabel = codes "a label is empty"
-message_of LabelTooLong = codes "a label has more than 63 octets"
-message_of NameTooLong = codes "the name has more than 255 octets"
-message_of BadEscape = codes "a backslash begins no escape"
-message_of Memory = codes "out of memory"
+-- a fact about the reason, where the fault is that something is not a name
+abbrev pub IfInvalid : NameFault → (InvalidName → Type 0) → Type 0
+IfInvalid (Invalid invalid) P = P invalid
+IfInvalid Memory P = ⊤

@@ -2,8 +2,8 @@
 use Rattle.std.specs.Prelude.{ℕ, suc, zero, Bool, true, false, List, [], ◌∷◌, ◌++◌, None, Some, Result, Ok, Err, nat_eq, if◌then◌else◌, ◌==◌, codes}
 use Rattle.std.specs.Str.{str_to_ascii_lowercase}
 use lib.Pointwise.{pointwise}
-use Rattle.sipl_names.specs.declared.fault.NameFault.{NameFault}
-use Rattle.sipl_names.specs.declared.fault.NameFault.TheVariants.{BadEscape}
+use Rattle.sipl_names.specs.declared.fault.InvalidName.{InvalidName}
+use Rattle.sipl_names.specs.declared.fault.InvalidName.TheVariants.{BadEscape}
 use Rattle.sipl_names.specs.Labels.{Octets, Labels, label_fault, name_within_limit}
 use Rattle.sipl_names.specs.Escapes.{backslash, full_stop, escape_of}
 
@@ -25,7 +25,7 @@ symbols zero (c ∷ text) =
 
 -- the labels of a text, and whether the name is absolute: a dot ends it
 abbrev pub Read : Type 0
-Read = Result (Labels × Bool) NameFault
+Read = Result (Labels × Bool) InvalidName
 
 -- a label prepended to those that follow, in lower case
 abbrev pub prepend_label : Octets → Read → Read
@@ -45,12 +45,12 @@ labels_from label (dot ∷ []) = prepend_checked_label label (Ok ([], true))
 labels_from label (dot ∷ next ∷ rest) = prepend_checked_label label (labels_from [] (next ∷ rest))
 
 -- an absolute name is complete, any other is relative to the origin
-abbrev pub relative_to : Labels → Read → Result Labels NameFault
+abbrev pub relative_to : Labels → Read → Result Labels InvalidName
 relative_to origin (Ok read) = name_within_limit (if read.1 then read.0 else read.0 ++ origin)
 relative_to origin (Err fault) = Err fault
 
 -- the name that a text denotes, or the first fault: `@` is the origin, `.` the root
-abbrev pub name_of : Octets → Labels → Result Labels NameFault
+abbrev pub name_of : Octets → Labels → Result Labels InvalidName
 name_of text origin =
     if pointwise nat_eq text (codes "@") then Ok origin
     else (if pointwise nat_eq text (codes ".") then Ok [] else relative_to origin (labels_from [] (symbols 0 text)))

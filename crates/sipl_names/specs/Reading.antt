@@ -1,8 +1,8 @@
 -- A name's text, token by token.
 use Rattle.std.specs.Prelude.{◌≡◌, ◌<◌, Bool, [], ◌∷◌, Ok, length}
 use Rattle.std.specs.List.{AllByRecursion}
-use Rattle.sipl_names.specs.declared.fault.NameFault.{NameFault}
-use Rattle.sipl_names.specs.declared.fault.NameFault.TheVariants.{BadEscape}
+use Rattle.sipl_names.specs.declared.fault.InvalidName.{InvalidName}
+use Rattle.sipl_names.specs.declared.fault.InvalidName.TheVariants.{BadEscape}
 use Rattle.sipl_names.specs.declared.text.Token.{Token}
 use Rattle.sipl_names.specs.declared.text.Token.TheVariants.{Octet, Dot}
 use Rattle.sipl_names.specs.Labels.{Octets, IsLabel}
@@ -20,7 +20,7 @@ pub record BeginsWith (text : Octets) (token : Token) (rest : Octets) : Type 0 w
   pub shorter : length rest < length text
 
 -- the text begins with a backslash that begins no escape
-pub record IsBadEscape (text : Octets) (fault : NameFault) : Type 0 where
+pub record IsBadEscape (text : Octets) (fault : InvalidName) : Type 0 where
   pub spells : symbols 0 text ≡ bad_escape ∷ []
   pub fault_is : fault ≡ BadEscape
 

@@ -11,7 +11,7 @@ mod text;
 mod wire;
 
 pub use escape::read_escape;
-pub use fault::NameFault;
+pub use fault::{InvalidName, NameFault};
 pub use name::Name;
 
 /// The maximum number of octets of a label (RFC 1035, 2.3.4).
@@ -22,6 +22,3 @@ pub const MAX_NAME_LEN: usize = 255;
 
 /// The maximum number of octets of a name's text, as `Name::write` appends it.
 pub const MAX_NAME_TEXT_LEN: usize = 1004;
-
-#[cfg(test)]
-mod tests;

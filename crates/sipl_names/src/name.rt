@@ -1,9 +1,10 @@
-ghost use Rattle.std.specs.Prelude.{◌≡◌, ◌≢◌, ◌↔◌, ◌+◌, ◌≤◌, [], ◌++◌, length, IsTrue, IsOk, IfOk, IfErr, IfSome, OnOk, OnErr, vec_len, vec_capacity};
+ghost use Rattle.std.specs.Prelude.{◌≡◌, ◌↔◌, ◌+◌, ◌≤◌, [], ◌++◌, length, IsTrue, IsOk, IfOk, IfErr, IfSome, OnOk, OnErr, vec_len, vec_capacity};
 ghost use Rattle.std.specs.Option.{option_copied};
 ghost use Rattle.std.specs.Cmp.{partial_equiv_from_equiv};
 ghost use Rattle.std.specs.Cmp.Lexicographic.{lists_equiv, nat_list_eq_equiv};
 ghost use Rattle.sipl_names.specs.Labels.{Labels, IsName, wire_length, same_name, is_within, parent_of, prefixed_of, top_label_of};
 ghost use Rattle.sipl_names.specs.LabelSlices.{octets_of};
+ghost use Rattle.sipl_names.specs.NameFault.{IfInvalid};
 ghost use Rattle.sipl_names.specs.NamePrint.{text_of};
 ghost use Rattle.sipl_names.specs.NameText.{name_of};
 ghost use Rattle.sipl_names.specs.Wire.{hash_writes};
@@ -11,7 +12,7 @@ ghost use Rattle.std.proofs.Common.{ap};
 ghost use lib.Pointwise.{pointwise_decides, bytes_decides};
 
 use crate::MAX_NAME_LEN;
-use crate::fault::NameFault;
+use crate::fault::{InvalidName, NameFault};
 use crate::print::{reserve_text, write_text};
 use crate::text::read_labels;
 use crate::wire::{checked_wire_len, push_labels, split_label};
@@ -60,7 +61,7 @@ impl Name {
     pub fn from_text(alloc: Global, text: &[u8], origin: &Name) -> Result<Self, NameFault>
         ensures read { IfOk result (λ name. name_of text.now origin.now ≡ Ok name) }
         ensures refused { IfErr result
-            (λ fault. fault ≢ NameFault.Memory → name_of text.now origin.now ≡ Err fault) }
+            (λ fault. IfInvalid fault (λ invalid. name_of text.now origin.now ≡ Err invalid)) }
         ensures limits { IfOk result IsName }
     {
         if text == b"@".as_slice() {
@@ -80,7 +81,7 @@ impl Name {
             wire.extend_from_slice(&origin.wire)?;
         }
         if wire.len() >= MAX_NAME_LEN {
-            return Err(NameFault::NameTooLong);
+            return Err(NameFault::Invalid(InvalidName::NameTooLong));
         }
         Ok(Name { wire })
     }
@@ -91,13 +92,13 @@ impl Name {
         ensures made { IfOk result
             (λ name. prefixed_of (octets_of labels.now) self.now ≡ Ok name) }
         ensures refused { IfErr result
-            (λ fault. fault ≢ NameFault.Memory
-            → prefixed_of (octets_of labels.now) self.now ≡ Err fault) }
+            (λ fault. IfInvalid fault
+            (λ invalid. prefixed_of (octets_of labels.now) self.now ≡ Err invalid)) }
         ensures limits { IfOk result IsName }
     {
         let len = checked_wire_len(labels)?.saturating_add(self.wire.len());
         if len >= MAX_NAME_LEN {
-            return Err(NameFault::NameTooLong);
+            return Err(NameFault::Invalid(InvalidName::NameTooLong));
         }
         let mut wire = Vec::with_capacity(alloc, len)?;
         push_labels(&mut wire, labels);

@@ -5,7 +5,7 @@ ghost use Rattle.sipl_names.specs.NameText.{symbols, labels_from};
 ghost use Rattle.sipl_names.specs.Reading.{Spells, BeginsWith, IsBadEscape};
 
 use crate::escape::read_escape;
-use crate::fault::NameFault;
+use crate::fault::InvalidName;
 use crate::wire::check_label;
 
 // An octet of a label, or the dot that ends a label.
@@ -17,7 +17,7 @@ pub(crate) enum Token {
 
 // Appends the wire form of the labels of a text, in lower case, to an empty `wire` that has the
 // capacity for it, and returns whether the name is absolute: a dot ends the text.
-pub(crate) fn read_labels(wire: &mut Vec<u8>, text: &[u8]) -> Result<bool, NameFault>
+pub(crate) fn read_labels(wire: &mut Vec<u8>, text: &[u8]) -> Result<bool, InvalidName>
     requires empty { wire.old.items ≡ [] }
     requires reserved { length text.now + 1 ≤ vec_capacity wire.old }
     ensures read { IfOk result (λ is_absolute. Spells text.now wire.new.items is_absolute) }
@@ -46,7 +46,7 @@ pub(crate) fn read_labels(wire: &mut Vec<u8>, text: &[u8]) -> Result<bool, NameF
 }
 
 // The first octet or dot, and the text after it; None at the text's end.
-fn next_token(text: &[u8]) -> Result<Option<(Token, &[u8])>, NameFault>
+fn next_token(text: &[u8]) -> Result<Option<(Token, &[u8])>, InvalidName>
     ensures next { IfOk result
         (λ next. MatchOption next (text.now ≡ [])
         (λ parts. BeginsWith text.now parts.0 parts.1.now)) }
@@ -58,7 +58,7 @@ fn next_token(text: &[u8]) -> Result<Option<(Token, &[u8])>, NameFault>
     match first {
         b'.' => Ok(Some((Token::Dot, tail))),
         b'\\' => {
-            let (octet, len) = read_escape(tail).ok_or(NameFault::BadEscape)?;
+            let (octet, len) = read_escape(tail).ok_or(InvalidName::BadEscape)?;
             Ok(Some((Token::Octet(octet), &tail[len..])))
         }
         octet => Ok(Some((Token::Octet(*octet), tail))),
@@ -66,7 +66,7 @@ fn next_token(text: &[u8]) -> Result<Option<(Token, &[u8])>, NameFault>
 }
 
 // Ends the label whose length belongs at `start`.
-fn end_label(wire: &mut Vec<u8>, start: usize) -> Result<(), NameFault>
+fn end_label(wire: &mut Vec<u8>, start: usize) -> Result<(), InvalidName>
     requires { start < vec_len wire.old }
     ensures fault { MatchResult result
         (λ _. label_fault (drop (start + 1) wire.old.items) ≡ None)

@@ -7,7 +7,7 @@ ghost use Rattle.sipl_names.specs.LabelSlices.{octets_of};
 ghost use Rattle.sipl_names.specs.Wire.{IsWire, labels_of_wire};
 
 use crate::MAX_LABEL_LEN;
-use crate::fault::NameFault;
+use crate::fault::InvalidName;
 
 // The first label, and the wire form of the others; None where there is no label.
 pub(crate) fn split_label(wire: &[u8]) -> Option<(&[u8], &[u8])>
@@ -23,23 +23,23 @@ pub(crate) fn split_label(wire: &[u8]) -> Option<(&[u8], &[u8])>
 }
 
 // Whether the octets can be a label.
-pub(crate) fn check_label(label: &[u8]) -> Result<(), NameFault>
+pub(crate) fn check_label(label: &[u8]) -> Result<(), InvalidName>
     ensures { MatchResult result
         (λ _. label_fault label.now ≡ None)
         (λ fault. label_fault label.now ≡ Some fault) }
 {
     if label.is_empty() {
-        return Err(NameFault::EmptyLabel);
+        return Err(InvalidName::EmptyLabel);
     }
     if label.len() > MAX_LABEL_LEN {
-        return Err(NameFault::LabelTooLong);
+        return Err(InvalidName::LabelTooLong);
     }
     Ok(())
 }
 
 // How many octets the wire form of these labels has, or 2^64 - 1 where it has more; else the fault
 // of the first that is not a label.
-pub(crate) fn checked_wire_len(labels: &[&[u8]]) -> Result<usize, NameFault>
+pub(crate) fn checked_wire_len(labels: &[&[u8]]) -> Result<usize, InvalidName>
     ensures faultless { IfOk result (λ _. first_label_fault (octets_of labels.now) ≡ None) }
     ensures len { IfOk result
         (λ len. len ≡ min (length (wire_of (octets_of labels.now))) (2 ^ 64 - 1)) }

@@ -14,7 +14,7 @@ use Rattle.indexmap.proofs.MapLemmas.{absent_before, absent_from_lookup, insert_
 use Rattle.sipl_choice.specs.declared.endpoint.Endpoint.{Endpoint}
 use Rattle.sipl_choice.specs.contracts.endpoint.EndpointPartialEq.TheImpl.{eq-value}
 use Rattle.sipl_choice.specs.Endpoints.{same_endpoint}
-use Rattle.sipl_choice.proofs.SameEndpoint.{same_endpoint-equivalence}
+use Rattle.sipl_choice.proofs.Public.{same_endpoint-equivalence}
 use Rattle.sipl_outages.specs.Holds.{extended}
 use Rattle.sipl_outages.specs.Board.{is_lasting}
 

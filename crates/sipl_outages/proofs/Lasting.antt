@@ -7,7 +7,7 @@ use Rattle.std.proofs.lemmas.Map.Keys.{IsDistinct-head, IsDistinct-tail, IsDisti
 use Rattle.std.proofs.lemmas.Map.Made.{is_some-lookup}
 use Rattle.sipl_choice.specs.declared.endpoint.Endpoint.{Endpoint}
 use Rattle.sipl_choice.specs.Endpoints.{same_endpoint}
-use Rattle.sipl_choice.proofs.SameEndpoint.{same_endpoint_decides, same_endpoint-equivalence}
+use Rattle.sipl_choice.proofs.Public.{same_endpoint_decides, same_endpoint-equivalence}
 use Rattle.sipl_outages.specs.Holds.{Holds, no_holds, is_held, end_of, extended, after, after_hold, after_release, refusal_of, BoardEvent}
 use Rattle.sipl_outages.specs.Holds.BoardEvent.{Hold, Release, Advance}
 use Rattle.sipl_outages.specs.Board.{is_lasting}

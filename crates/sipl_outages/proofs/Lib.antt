@@ -1,4 +1,4 @@
-pub mod Ends
-pub mod Lasting
-pub mod Runs
-pub mod Steps
+mod Ends
+mod Lasting
+mod Runs
+mod Steps

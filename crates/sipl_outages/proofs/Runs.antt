@@ -6,7 +6,7 @@ use Rattle.std.proofs.lemmas.Bool.{cond-true, cond-false, cond_both, cases_Bool,
 use Rattle.std.proofs.lemmas.Map.Keys.{IsDistinct-head, IsDistinct-tail}
 use Rattle.sipl_choice.specs.declared.endpoint.Endpoint.{Endpoint}
 use Rattle.sipl_choice.specs.Endpoints.{same_endpoint}
-use Rattle.sipl_choice.proofs.SameEndpoint.{same_endpoint_decides}
+use Rattle.sipl_choice.proofs.Public.{same_endpoint_decides}
 use Rattle.sipl_outages.specs.Holds.{Holds, is_held, end_of, extended, after, after_hold, after_release, refusal_of, BoardEvent}
 use Rattle.sipl_outages.specs.Holds.BoardEvent.{Hold, Release, Advance}
 use Rattle.sipl_outages.specs.Events.{after_all, AreAccepted}

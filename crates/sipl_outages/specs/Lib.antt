@@ -1,4 +1,5 @@
 pub mod Board
 pub mod BoardFault
+pub mod BoardView
 pub mod Events
 pub mod Holds

@@ -30,19 +30,15 @@ pub struct Board {
 }
 
 impl Model for Board {
-    ghost use Rattle.sipl_outages.specs.Board.{BoardState, IsConsistent};
+    ghost use Rattle.sipl_outages.specs.Board.{BoardState};
 
     ghost Value = { BoardState };
 
-    ghost view = { λ b. record {
-      holds = record { now = b.time; ends = b.ends.entries };
-      max_holds = b.max_holds;
-    } };
+    ghost use Rattle.sipl_outages.specs.BoardView.{state_of, IsValidBoard};
 
-    ghost invariant = { λ b. IsConsistent (record {
-      holds = record { now = b.time; ends = b.ends.entries };
-      max_holds = b.max_holds;
-    }) };
+    ghost view = { state_of };
+
+    ghost invariant = { IsValidBoard };
 }
 
 impl Board {

@@ -2,21 +2,25 @@ ghost use Rattle.std.specs.Prelude.{◌≡◌};
 ghost use Rattle.sipl_outages.specs.BoardFault.{code_of};
 
 use std::alloc::{AllocError, AllocFailed};
-use std::error::Error;
-use std::fmt;
+use thiserror::Error;
 
 /// Why a change of the holds or of the clock fails. The board is then unchanged.
-#[derive(Clone, Copy, Debug, PartialEq, Eq, Hash)]
+#[derive(Clone, Copy, Debug, PartialEq, Eq, Hash, Error)]
 pub enum BoardFault {
     /// O1: the time is before the present one.
+    #[error("the time is before the present time")]
     ClockBack,
     /// O2: the time, or the end of the hold, is after 2^52.
+    #[error("the time is after 2^52")]
     TooFar,
     /// O3: the endpoint is not held.
+    #[error("the endpoint is not held")]
     NotHeld,
     /// O4: the held endpoints would exceed the board's maximum.
+    #[error("the board is full")]
     BoardFull,
     /// An allocation failed.
+    #[error("out of memory")]
     Memory,
 }
 
@@ -34,25 +38,6 @@ impl BoardFault {
         }
     }
 }
-
-impl fmt::Display for BoardFault {
-    ghost use Rattle.std.specs.Prelude.{Some};
-    ghost use Rattle.sipl_outages.specs.BoardFault.{message_of};
-
-    ghost output = { λ fault. Some (message_of fault) };
-
-    fn fmt<W: fmt::Write>(&self, f: &mut fmt::Formatter<W>) -> fmt::Result {
-        f.write_str(match self {
-            BoardFault::ClockBack => "the time is before the present time",
-            BoardFault::TooFar => "the time is after 2^52",
-            BoardFault::NotHeld => "the endpoint is not held",
-            BoardFault::BoardFull => "the board is full",
-            BoardFault::Memory => "out of memory",
-        })
-    }
-}
-
-impl Error for BoardFault {}
 
 impl From<AllocError> for BoardFault {
     ghost use Rattle.std.specs.Prelude.{◌≡◌};

@@ -8,8 +8,6 @@
 mod board;
 mod fault;
 pub mod laws;
-#[cfg(test)]
-mod tests;
 
 pub use board::{Board, MAX_HOLDS, MAX_TIME};
 pub use fault::BoardFault;

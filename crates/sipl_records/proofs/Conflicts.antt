@@ -1,7 +1,7 @@
 -- Records that conflict.
 use Rattle.std.proofs.Common.{◌≡◌, Bool, true, false, ◌&&◌, ◌||◌, refl}
 use Rattle.sipl_names.specs.Labels.{same_name}
-use Rattle.sipl_names.proofs.SameName.{same_name_decides}
+use Rattle.sipl_names.proofs.Public.{same_name_decides}
 use Rattle.sipl_records.specs.declared.kind.Kind.TheVariants.{Alias}
 use Rattle.sipl_records.specs.declared.record.Record.{Record}
 use Rattle.sipl_records.specs.Sets.{conflicts, has_kind, has_some_kind}

@@ -1,21 +1,22 @@
-pub mod Filters
-pub mod Unique
-pub mod Sets
-pub mod Same
-pub mod SameData
-pub mod Keys
-pub mod Conflicts
-pub mod Parts
-pub mod Groups
-pub mod Dotted
-pub mod RoundTrip
-pub mod Splitting
-pub mod Numbers
-pub mod Fields
-pub mod Ipv6Groups
-pub mod Ipv6Numbers
-pub mod Ipv6Texts
-pub mod Ipv6Reads
-pub mod Ipv6Sound
-pub mod Ipv6Prints
-pub mod AddressLemmas
+pub mod Public
+mod Filters
+mod Unique
+mod Sets
+mod Same
+mod SameData
+mod Keys
+mod Conflicts
+mod Parts
+mod Groups
+mod Dotted
+mod RoundTrip
+mod Splitting
+mod Numbers
+mod Fields
+mod Ipv6Groups
+mod Ipv6Numbers
+mod Ipv6Texts
+mod Ipv6Reads
+mod Ipv6Sound
+mod Ipv6Prints
+mod AddressLemmas

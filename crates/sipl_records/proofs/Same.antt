@@ -1,13 +1,15 @@
--- `==` is true exactly where the values are equal: for data, records and keys.
+-- `==` is true exactly where the values are equal: for data, records, keys and addresses.
 use Rattle.std.specs.Prelude.{◌≡◌}
 use Rattle.std.specs.Bool.{Decides, ◌==◌}
 use Rattle.std.proofs.Common.{Bool, true, false, ◌&&◌, refl, ap, sym, rules}
 use Rattle.sipl_names.specs.Labels.{same_name}
-use Rattle.sipl_names.proofs.SameName.{same_name_decides}
+use Rattle.sipl_names.proofs.Public.{same_name_decides}
+use Rattle.sipl_records.specs.declared.address.Address.{Address}
 use Rattle.sipl_records.specs.declared.data.Data.{Data}
 use Rattle.sipl_records.specs.declared.data.Data.TheVariants.{Address4, Address6, Alias, Service, Pointer, Bare}
 use Rattle.sipl_records.specs.declared.record.Record.{Record}
 use Rattle.sipl_records.specs.declared.record.Key.{Key}
+use Rattle.sipl_records.specs.contracts.address.AddressPartialEq.TheImpl.{eq-value as address_eq}
 use Rattle.sipl_records.specs.contracts.data.DataPartialEq.TheImpl.{eq-value as data_eq}
 use Rattle.sipl_records.specs.contracts.record.RecordPartialEq.TheImpl.{eq-value as record_eq}
 use Rattle.sipl_records.specs.contracts.record.KeyPartialEq.TheImpl.{eq-value as key_eq}
@@ -51,3 +53,7 @@ same_record_decides a b = rw (same_record_is a b) (same_record-Decides a b)
 -- `==` of two keys
 pub same_key_decides : (a b : Key) → Decides (key_eq.it a b) (a ≡ b)
 same_key_decides a b = search (rules, same_name_decides)
+
+-- `==` of two addresses
+pub same_address_decides : (a b : Address) → Decides (address_eq.it a b) (a ≡ b)
+same_address_decides a b = search rules

@@ -4,7 +4,7 @@ use Rattle.std.specs.Bool.{Decides}
 use Rattle.std.specs.Cmp.{IsEquivalence}
 use Rattle.std.proofs.lemmas.Bool.Decides.{Decides-and, Decides-eqb, Decides-like}
 use lib.Pointwise.{pointwise, pointwise_decides, bytes_decides}
-use Rattle.sipl_names.proofs.SameName.{same_name_decides}
+use Rattle.sipl_names.proofs.Public.{same_name_decides}
 use Rattle.sipl_records.specs.declared.data.Data.{Data}
 use Rattle.sipl_records.specs.declared.data.Data.TheVariants.{Address4, Address6, Alias, Service, Pointer, Bare}
 use Rattle.sipl_records.specs.declared.record.Record.{Record}

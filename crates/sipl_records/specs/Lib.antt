@@ -1,6 +1,7 @@
 pub mod Unique
 pub mod Parts
 pub mod Numbers
+pub mod Octets
 pub mod Fields
 pub mod Ipv4
 pub mod Ipv6

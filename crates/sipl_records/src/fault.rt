@@ -1,13 +1,13 @@
 ghost use Rattle.std.specs.Prelude.{◌≡◌};
 ghost use Rattle.sipl_records.specs.AddressFault.{code_of};
 
-use std::error::Error;
-use std::fmt;
+use thiserror::Error;
 
 /// Why a text is not an IP address.
-#[derive(Clone, Copy, Debug, PartialEq, Eq, Hash)]
+#[derive(Clone, Copy, Debug, PartialEq, Eq, Hash, Error)]
 pub enum AddressFault {
     /// A1: the text is not an IP address.
+    #[error("not an IP address")]
     BadAddress,
 }
 
@@ -21,18 +21,3 @@ impl AddressFault {
         }
     }
 }
-
-impl fmt::Display for AddressFault {
-    ghost use Rattle.std.specs.Prelude.{Some};
-    ghost use Rattle.sipl_records.specs.AddressFault.{message_of};
-
-    ghost output = { λ fault. Some (message_of fault) };
-
-    fn fmt<W: fmt::Write>(&self, f: &mut fmt::Formatter<W>) -> fmt::Result {
-        f.write_str(match self {
-            AddressFault::BadAddress => "not an IP address",
-        })
-    }
-}
-
-impl Error for AddressFault {}

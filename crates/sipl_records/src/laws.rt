@@ -18,8 +18,9 @@ ghost use Rattle.sipl_records.specs.Unique.{unique};
 ghost use Rattle.sipl_records.specs.Parts.{parts};
 ghost use Rattle.sipl_records.specs.Fields.{fields_of, is_wsp};
 
+use crate::address::Address;
 use crate::data::Data;
-use crate::record::Record;
+use crate::record::{Key, Record};
 
 /// `unique` keeps each value of a list once: every value is the same as one that is kept, no two
 /// that are kept are the same, each is the first in the list of those that are the same, and they
@@ -48,12 +49,15 @@ pub fn unique_appends_new_values<T>()
         then unique same xs else unique same xs ++ x ∷ []) }
 {}
 
-/// `==` of data and of records is as defined: true exactly where the two are equal.
+/// `==` of data, records, keys and addresses is true exactly where the two are equal; of data and
+/// records it is as defined.
 pub fn equality_is_exact()
     ensures data_eq { (a b : Data) → ⟦<Data as PartialEq>⟧.eq a b ≡ same_data a b }
     ensures record_eq { (a b : Record) → ⟦<Record as PartialEq>⟧.eq a b ≡ same_record a b }
     ensures same_data { (a b : Data) → IsTrue (same_data a b) ↔ (a ≡ b) }
     ensures same_record { (a b : Record) → IsTrue (same_record a b) ↔ (a ≡ b) }
+    ensures key_eq { (a b : Key) → IsTrue (⟦<Key as PartialEq>⟧.eq a b) ↔ (a ≡ b) }
+    ensures address_eq { (a b : Address) → IsTrue (⟦<Address as PartialEq>⟧.eq a b) ↔ (a ≡ b) }
 {}
 
 /// Whether two records conflict does not depend on their order.

@@ -11,11 +11,10 @@ mod field;
 mod kind;
 pub mod laws;
 mod number;
+mod octets;
 mod record;
 mod sequence;
 mod split;
-#[cfg(test)]
-mod tests;
 
 pub use address::{Address, MAX_ADDRESS_TEXT_LEN, read_ipv4, read_ipv6};
 pub use data::Data;
@@ -23,6 +22,7 @@ pub use fault::AddressFault;
 pub use field::{is_wsp, next_field, trim_start};
 pub use kind::Kind;
 pub use number::read_number;
+pub use octets::{are_digits, begins_with_letter};
 pub use record::{Key, MAX_SET_LEN, Record};
 pub use sequence::Sequence;
 pub use split::split_once;

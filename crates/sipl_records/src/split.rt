@@ -20,30 +20,3 @@ pub fn split_once(text: &[u8], separator: u8) -> (&[u8], Option<&[u8]>)
         None => (text, None),
     }
 }
-
-#[cfg(test)]
-mod tests {
-    use super::*;
-
-    #[test]
-    fn split_once_splits_at_the_first_separator(rt: HostRuntime) {
-        for (text, before, after) in [
-            ("a:b", "a", Some("b")),
-            ("a:b:c", "a", Some("b:c")),
-            (":a", "", Some("a")),
-            ("a:", "a", Some("")),
-            (":", "", Some("")),
-            ("", "", None),
-            ("a;b", "a;b", None),
-            (
-                "an octet far from the start: here",
-                "an octet far from the start",
-                Some(" here"),
-            ),
-        ] {
-            let parts = split_once(text.as_bytes(), b':');
-            assert_eq!(rt; parts.0, before.as_bytes(), "at {text}");
-            assert_eq!(rt; parts.1, after.map(|rest| rest.as_bytes()), "at {text}");
-        }
-    }
-}

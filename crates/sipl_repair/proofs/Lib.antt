@@ -1,6 +1,7 @@
-pub mod Consistency
-pub mod Holding
-pub mod Live
-pub mod Members
-pub mod Places
-pub mod Runs
+pub mod Public
+mod Consistency
+mod Holding
+mod Live
+mod Members
+mod Places
+mod Runs

@@ -1,4 +1,4 @@
--- The code and the message of each fault of the queue.
+-- The code of each fault of the queue.
 use Rattle.std.specs.Prelude.{ℕ, List, codes}
 use Rattle.sipl_repair.specs.declared.fault.QueueFault.{QueueFault}
 use Rattle.sipl_repair.specs.declared.fault.QueueFault.TheVariants.{Empty}
@@ -6,7 +6,3 @@ use Rattle.sipl_repair.specs.declared.fault.QueueFault.TheVariants.{Empty}
 -- the error's code in replies
 abbrev pub code_of : QueueFault → List ℕ
 code_of Empty = codes "Q1"
-
--- the error's message
-abbrev pub message_of : QueueFault → List ℕ
-message_of Empty = codes "no id is queued"

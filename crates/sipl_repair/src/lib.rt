@@ -12,8 +12,6 @@ pub mod laws;
 mod lease;
 mod queue;
 mod stale_places;
-#[cfg(test)]
-mod tests;
 
 pub use fault::QueueFault;
 pub use lease::Lease;

@@ -10,7 +10,7 @@ use Rattle.std.proofs.lemmas.List.Edits.{length-remove}
 use Rattle.std.proofs.lemmas.List.Elements.{All-head, All-tail, All-weaker, All-contains, filter_passes}
 use Rattle.std.proofs.lemmas.List.FromFn.{length-range_with_len, get_or-range_with_len}
 use Rattle.std.proofs.lemmas.List.Sums.{sum_by-cons, sum_by-remove, count_by-le-length, list_all-from_AllPass}
-use Rattle.sipl_records.proofs.Filters.{filter-weaker, filter-all, list_any-filter}
+use Rattle.sipl_records.proofs.Public.{filter-weaker, filter-all, list_any-filter}
 use Rattle.sipl_srv.specs.Order.{Rank, all_places, priority_at, weight_at, of_priority, of_least_priority, weightless_first, total_weight, chosen, without, AreDistinct, order_of}
 use Rattle.sipl_srv.specs.Shares.{is_place, group_of, first_of_priority, words_before}
 use Rattle.sipl_srv.proofs.Ranks.{filter_least}

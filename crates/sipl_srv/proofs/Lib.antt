@@ -1,8 +1,9 @@
-pub mod Ranks
-pub mod Seeds
-pub mod Chosen
-pub mod Places
-pub mod Offered
-pub mod Orders
-pub mod Shares
-pub mod Groups
+pub mod Public
+mod Ranks
+mod Seeds
+mod Chosen
+mod Places
+mod Offered
+mod Orders
+mod Shares
+mod Groups

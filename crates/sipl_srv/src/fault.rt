@@ -1,18 +1,18 @@
 ghost use Rattle.std.specs.Prelude.{◌≡◌};
 ghost use Rattle.sipl_srv.specs.DrawsFault.{code_of};
 
-use std::error::Error;
-use std::fmt;
+use thiserror::Error;
 
 /// Why a list of words is invalid as draws.
-#[derive(Clone, Copy, Debug, PartialEq, Eq, Hash)]
+#[derive(Clone, Copy, Debug, PartialEq, Eq, Hash, Error)]
 pub enum DrawsFault {
     /// V1: there are more than 32 words.
+    #[error("more than 32 words")]
     TooManyWords,
 }
 
 impl DrawsFault {
-    /// The error's code in replies, `V1`.
+    /// The error's code in replies, such as `V1`.
     pub fn code(self) -> &'static str
         ensures { result.now ≡ code_of self }
     {
@@ -21,18 +21,3 @@ impl DrawsFault {
         }
     }
 }
-
-impl fmt::Display for DrawsFault {
-    ghost use Rattle.std.specs.Prelude.{Some};
-    ghost use Rattle.sipl_srv.specs.DrawsFault.{message_of};
-
-    ghost output = { λ fault. Some (message_of fault) };
-
-    fn fmt<W: fmt::Write>(&self, f: &mut fmt::Formatter<W>) -> fmt::Result {
-        f.write_str(match self {
-            DrawsFault::TooManyWords => "more than 32 words",
-        })
-    }
-}
-
-impl Error for DrawsFault {}

@@ -9,8 +9,6 @@ mod offers;
 mod order;
 mod pick;
 mod rank;
-#[cfg(test)]
-mod tests;
 
 pub use draws::Draws;
 pub use fault::DrawsFault;

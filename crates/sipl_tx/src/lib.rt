@@ -15,6 +15,3 @@ pub use client::ClientTx;
 pub use fault::TxFault;
 pub use parts::{Acts, Kind, Report, State};
 pub use timers::{T1, T2, T4, TIMEOUT, TIMER_D};
-
-#[cfg(test)]
-mod tests;

@@ -13,7 +13,7 @@ use Rattle.sipl_records.specs.Ipv4.{group_of, number_of_four, four_groups, numbe
 use Rattle.sipl_records.specs.Ipv6.{address6_of_text, number_of_groups}
 use Rattle.sipl_records.specs.Ipv6Grammar.{IsHexGroup, IsIpv4Groups, IsGroupsAfter, IsAddress6Groups}
 use Rattle.sipl_records.specs.Parts.{parts}
-use Rattle.sipl_records.proofs.Ipv6Sound.{address6_of_text-sound}
+use Rattle.sipl_records.proofs.Public.{address6_of_text-sound}
 
 -- what holds of each element of two lists holds of the lists joined
 pub all_append : {X : Type 0} (P : X → Type 0) (xs ys : List X) → AllByRecursion P xs → AllByRecursion P ys → AllByRecursion P (xs ++ ys)

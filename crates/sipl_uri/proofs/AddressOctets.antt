@@ -13,7 +13,7 @@ use Rattle.sipl_records.specs.Ipv4.{group_of, four_groups, number_of_text}
 use Rattle.sipl_records.specs.Ipv6.{address6_of_text}
 use Rattle.sipl_records.specs.Ipv6Grammar.{IsIpv4Groups, IsGroupsAfter, IsAddress6Groups}
 use Rattle.sipl_records.specs.Parts.{prepend_to_first, parts}
-use Rattle.sipl_records.proofs.Ipv6Sound.{address6_of_text-sound}
+use Rattle.sipl_records.proofs.Public.{address6_of_text-sound}
 use Rattle.sipl_uri.specs.UriOctets.{is_param_octet}
 use Rattle.sipl_uri.proofs.Octets.{list_all-weaker, implied}
 

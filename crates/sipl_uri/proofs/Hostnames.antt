@@ -9,12 +9,13 @@ use Rattle.std.proofs.lemmas.Bool.Decides.{nat_tests}
 use Rattle.std.proofs.lemmas.List.{map-append}
 use Rattle.std.proofs.lemmas.List.Folds.{list_all-append}
 use Rattle.std.proofs.lemmas.Option.{cond_some}
-use Rattle.sipl_names.specs.declared.fault.NameFault.{NameFault}
-use Rattle.sipl_names.specs.declared.fault.NameFault.TheVariants.{NameTooLong}
+use Rattle.sipl_names.specs.declared.fault.InvalidName.{InvalidName}
+use Rattle.sipl_names.specs.declared.fault.InvalidName.TheVariants.{NameTooLong}
 use Rattle.sipl_names.specs.Labels.{Octets, Labels, label_fault, wire_length, top_label_of, name_within_limit}
 use Rattle.sipl_names.specs.NameText.{Symbol, octet, dot, symbols, labels_from, Read, prepend_label, prepend_checked_label, relative_to, name_of}
 use Rattle.sipl_uri.specs.UriOctets.{is_label_octet, is_hostname_octet}
-use Rattle.sipl_uri.specs.Hosts.{begins_with_letter, has_alphabetic_top, hostname_of}
+use Rattle.sipl_records.specs.Octets.{begins_with_letter}
+use Rattle.sipl_uri.specs.Hosts.{has_alphabetic_top, hostname_of}
 use Rattle.sipl_uri.specs.Grammar.{IsOptional, IsDomainLabel, IsTopLabel, dotted, IsHostname}
 use Rattle.sipl_uri.proofs.Octets.{list_all-weaker, no_backslash, no_dot, no_at, of_hostname, of_label, begins_with_letter-lower}
 
@@ -42,7 +43,7 @@ record Prepended (label : Octets) (rest : Read) (read : Labels × Bool) : Type 0
   is_rest : rest ≡ Ok others
   is_read : (str_to_ascii_lowercase label ∷ others.0, others.1) ≡ read
 
-prepended_by : (o : Option NameFault) (label : Octets) (rest : Read) (read : Labels × Bool) → elim o as (λ _. Read) [ Some fault ↦ Err fault | None ↦ prepend_label label rest ] ≡ Ok read → (o ≡ None) × ((others : Labels × Bool) × (rest ≡ Ok others) × ((str_to_ascii_lowercase label ∷ others.0, others.1) ≡ read))
+prepended_by : (o : Option InvalidName) (label : Octets) (rest : Read) (read : Labels × Bool) → elim o as (λ _. Read) [ Some fault ↦ Err fault | None ↦ prepend_label label rest ] ≡ Ok read → (o ≡ None) × ((others : Labels × Bool) × (rest ≡ Ok others) × ((str_to_ascii_lowercase label ∷ others.0, others.1) ≡ read))
 prepended_by None label (Ok others) read e = (refl, (others, refl, cc))
 prepended_by None label (Err fault) read e = cc
 prepended_by (Some fault) label rest read e = cc
@@ -178,7 +179,7 @@ hostname_from text labels whole s letter short = record {
   short = short;
 }
 
-no_letter : (labels : Labels) → ◌≡◌ {A = Result Labels NameFault} (Ok []) (Ok labels) → has_alphabetic_top labels ≡ true → false ≡ true
+no_letter : (labels : Labels) → ◌≡◌ {A = Result Labels InvalidName} (Ok []) (Ok labels) → has_alphabetic_top labels ≡ true → false ≡ true
 no_letter labels e letter = let none : [] ≡ labels = cc in subst (λ (ls : Labels). has_alphabetic_top ls ≡ true) (sym none) letter
 
 name_is : (text : Octets) (labels : Labels) (at root : Bool) → list_all is_hostname_octet text ≡ true → has_alphabetic_top labels ≡ true → (if at then Ok [] else (if root then Ok [] else relative_to [] (labels_from [] (symbols 0 text)))) ≡ Ok labels → IsHostname text labels
@@ -189,7 +190,7 @@ name_is text labels false false all letter e =
     subst (λ (ls : Labels). IsHostname text ls) r.2
     (hostname_from text r.0.0 r.0.1 (spelled text [] r.0 all refl r.1) (subst (λ (ls : Labels). has_alphabetic_top ls ≡ true) (sym r.2) letter) (subst (λ (ls : Labels). wire_length ls ≤ 255) (sym r.2) r.3))
 
-hostname_by : (b : Bool) (name : Result Labels NameFault) (labels : Labels) → (if b then elim name [ Ok ls ↦ (if has_alphabetic_top ls then Some ls else None) | Err fault ↦ None ] else None) ≡ Some labels → (b ≡ true) × (name ≡ Ok labels) × (has_alphabetic_top labels ≡ true)
+hostname_by : (b : Bool) (name : Result Labels InvalidName) (labels : Labels) → (if b then elim name [ Ok ls ↦ (if has_alphabetic_top ls then Some ls else None) | Err fault ↦ None ] else None) ≡ Some labels → (b ≡ true) × (name ≡ Ok labels) × (has_alphabetic_top labels ≡ true)
 hostname_by true (Ok ls) labels e =
     let parts : (has_alphabetic_top ls ≡ true) × (ls ≡ labels) = cond_some (has_alphabetic_top ls) ls labels e in
     (refl, ap (λ x. Ok x) parts.1, subst (λ (x : Labels). has_alphabetic_top x ≡ true) parts.1 parts.0)
@@ -282,7 +283,7 @@ relative_to-within : (labels : Labels) (whole : Bool) → wire_length labels ≤
 relative_to-within labels whole short =
     ap (λ (ls : Labels). name_within_limit ls) (absolute whole labels) ∙ cond-false (nat_lt 255 (wire_length labels)) (Err NameTooLong) (Ok labels) (le-ltb 255 (wire_length labels) short)
 
-name_from : (at root : Bool) (name : Result Labels NameFault) → at ≡ false → root ≡ false → (if at then Ok [] else (if root then Ok [] else name)) ≡ name
+name_from : (at root : Bool) (name : Result Labels InvalidName) → at ≡ false → root ≡ false → (if at then Ok [] else (if root then Ok [] else name)) ≡ name
 name_from at root name e f = rw (e, f) refl
 
 name_of-hostname : (text : Octets) (labels : Labels) (whole : Bool) (c : ℕ) (rest : Octets) → text ≡ c ∷ rest → is_label_octet c ≡ true → labels_from [] (symbols 0 text) ≡ Ok (labels, whole) → wire_length labels ≤ 255 → name_of text [] ≡ Ok labels

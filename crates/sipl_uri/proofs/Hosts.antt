@@ -15,7 +15,8 @@ use Rattle.sipl_records.specs.Parts.{split_once}
 use Rattle.sipl_uri.specs.declared.question.Target.{Target}
 use Rattle.sipl_uri.specs.declared.question.Target.TheVariants.{Numeric, Domain}
 use Rattle.sipl_uri.specs.UriOctets.{is_param_octet, is_hostname_octet}
-use Rattle.sipl_uri.specs.Hosts.{begins_with_letter, hostname_of, bracketed_text, reference_of, host_of}
+use Rattle.sipl_records.specs.Octets.{begins_with_letter}
+use Rattle.sipl_uri.specs.Hosts.{hostname_of, bracketed_text, reference_of, host_of}
 use Rattle.sipl_uri.specs.Grammar.{dotted, IsHostname, IsReference, IsHost}
 use Rattle.sipl_uri.proofs.Octets.{list_all-weaker, of_hostname, digit_of_label, hostname_param, no_bracket}
 use Rattle.sipl_uri.proofs.Splits.{lacks, split_once-append, split_once-joins}

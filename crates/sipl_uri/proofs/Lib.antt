@@ -1,20 +1,20 @@
-pub mod Same
-pub mod Octets
-pub mod Splits
-pub mod Hostnames
-pub mod Ports
-pub mod AddressOctets
-pub mod Hosts
-pub mod Hostports
-pub mod ParamTexts
-pub mod TakenParams
-pub mod Delimiters
-pub mod Meanings
-pub mod Grammar
-pub mod SeenNames
-pub mod ReadParams
-pub mod WrittenParts
-pub mod PlainParts
-pub mod AddressBounds
-pub mod Askable
-pub mod Printing
+mod Same
+mod Octets
+mod Splits
+mod Hostnames
+mod Ports
+mod AddressOctets
+mod Hosts
+mod Hostports
+mod ParamTexts
+mod TakenParams
+mod Delimiters
+mod Meanings
+mod Grammar
+mod SeenNames
+mod ReadParams
+mod WrittenParts
+mod PlainParts
+mod AddressBounds
+mod Askable
+mod Printing

@@ -5,24 +5,24 @@ use Rattle.std.specs.Option.{unwrap_or}
 use Rattle.std.specs.Str.{str_to_ascii_lowercase}
 use lib.Pointwise.{bytes_decides}
 use Rattle.sipl_names.specs.Labels.{Octets}
-use Rattle.sipl_choice.specs.Transports.{transport_text}
+use Rattle.sipl_choice.specs.Transports.{transport_named, transport_text}
 use Rattle.sipl_choice.specs.declared.transport.Transport.{Transport}
 use Rattle.sipl_choice.specs.declared.transport.Transport.TheVariants.{Udp, Tcp, Tls, Sctp}
 use Rattle.sipl_uri.specs.declared.fault.UriFault.{UriFault}
 use Rattle.sipl_uri.specs.declared.fault.UriFault.TheVariants.{SipsTransport}
 use Rattle.sipl_uri.specs.declared.question.Question.{Question}
 use Rattle.sipl_uri.specs.declared.question.Target.{Target}
-use Rattle.sipl_uri.specs.Params.{Param, same_text, transport_named, transport_of_value, target_of_value}
+use Rattle.sipl_uri.specs.Params.{Param, same_text, transport_of_value, target_of_value}
 use Rattle.sipl_uri.specs.Uris.{transport_with, question_over}
 use Rattle.sipl_uri.specs.Grammar.{IsHost, IsTargetOf, IsTransport, IsTransportOf}
 use Rattle.sipl_uri.proofs.Hosts.{host_of-is, host_of-Some}
 use Rattle.sipl_uri.proofs.TakenParams.{IsGiven, IsReadable}
 
-named_by : (text : Octets) (transport : Transport) (udp tcp sctp tls : Bool) → same_text text (codes "udp") ≡ udp → same_text text (codes "tcp") ≡ tcp → same_text text (codes "sctp") ≡ sctp → same_text text (codes "tls") ≡ tls → (if udp then Some Udp else (if tcp then Some Tcp else (if sctp then Some Sctp else (if tls then Some Tls else None)))) ≡ Some transport → text ≡ transport_text transport
-named_by text transport true tcp sctp tls e f g h same = let is : Udp ≡ transport = cc in (bytes_decides text (codes "udp")).0 e ∙ ap transport_text is
-named_by text transport false true sctp tls e f g h same = let is : Tcp ≡ transport = cc in (bytes_decides text (codes "tcp")).0 f ∙ ap transport_text is
-named_by text transport false false true tls e f g h same = let is : Sctp ≡ transport = cc in (bytes_decides text (codes "sctp")).0 g ∙ ap transport_text is
-named_by text transport false false false true e f g h same = let is : Tls ≡ transport = cc in (bytes_decides text (codes "tls")).0 h ∙ ap transport_text is
+named_by : (text : Octets) (transport : Transport) (udp tcp tls sctp : Bool) → same_text text (codes "udp") ≡ udp → same_text text (codes "tcp") ≡ tcp → same_text text (codes "tls") ≡ tls → same_text text (codes "sctp") ≡ sctp → (if udp then Some Udp else (if tcp then Some Tcp else (if tls then Some Tls else (if sctp then Some Sctp else None)))) ≡ Some transport → text ≡ transport_text transport
+named_by text transport true tcp tls sctp e f g h same = let is : Udp ≡ transport = cc in (bytes_decides text (codes "udp")).0 e ∙ ap transport_text is
+named_by text transport false true tls sctp e f g h same = let is : Tcp ≡ transport = cc in (bytes_decides text (codes "tcp")).0 f ∙ ap transport_text is
+named_by text transport false false true sctp e f g h same = let is : Tls ≡ transport = cc in (bytes_decides text (codes "tls")).0 g ∙ ap transport_text is
+named_by text transport false false false true e f g h same = let is : Sctp ≡ transport = cc in (bytes_decides text (codes "sctp")).0 h ∙ ap transport_text is
 named_by text transport false false false false e f g h same = cc
 
 -- the transport of a text is written so

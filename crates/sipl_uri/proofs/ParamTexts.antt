@@ -4,7 +4,7 @@ use Rattle.std.specs.List.{AllByRecursion, list_all, list_any}
 use Rattle.std.specs.Str.{str_to_ascii_lowercase}
 use Rattle.std.proofs.lemmas.Bool.{and_parts, and_from, or_from, or_parts, not-true, not_from_false}
 use Rattle.sipl_names.specs.Labels.{Octets}
-use Rattle.sipl_names.proofs.Lowercase.{length-lowered}
+use Rattle.sipl_names.proofs.Public.{length-lowered}
 use Rattle.sipl_records.specs.Parts.{split_once}
 use Rattle.sipl_uri.specs.UriOctets.{is_param_octet}
 use Rattle.sipl_uri.specs.Params.{Param, param_of}

@@ -11,12 +11,10 @@ use Rattle.std.proofs.lemmas.List.Concat.{flat_map-append}
 use Rattle.std.proofs.lemmas.Str.Parse.{IsNumeralModel, numerals_by_value, tells_all_ascii_digits}
 use Rattle.sipl_names.specs.Labels.{Octets, Labels, IsLabel}
 use Rattle.sipl_names.specs.NamePrint.{is_special, printed_octet, printed_label, text_of}
-use Rattle.sipl_names.proofs.TextLength.{length-text_of}
+use Rattle.sipl_names.proofs.Public.{length-text_of}
 use Rattle.sipl_records.specs.declared.address.Address.TheVariants.{V4, V6}
 use Rattle.sipl_records.specs.Ipv6.{text_of_address6}
-use Rattle.sipl_records.proofs.AddressLemmas.{length-text_of_address}
-use Rattle.sipl_records.proofs.Ipv6Prints.{address6_of_text-text_of}
-use Rattle.sipl_records.proofs.RoundTrip.{number_of_text-text_of}
+use Rattle.sipl_records.proofs.Public.{length-text_of_address, address6_of_text-text_of, number_of_text-text_of}
 use Rattle.sipl_choice.specs.Transports.{transport_text}
 use Rattle.sipl_choice.specs.declared.transport.Transport.{Transport}
 use Rattle.sipl_choice.specs.declared.transport.Transport.TheVariants.{Udp, Tcp, Tls, Sctp}
@@ -24,7 +22,8 @@ use Rattle.sipl_uri.specs.declared.question.Question.{Question}
 use Rattle.sipl_uri.specs.declared.question.Target.{Target}
 use Rattle.sipl_uri.specs.declared.question.Target.TheVariants.{Numeric, Domain}
 use Rattle.sipl_uri.specs.UriOctets.{is_param_octet, is_label_octet}
-use Rattle.sipl_uri.specs.Hosts.{begins_with_letter, has_alphabetic_top}
+use Rattle.sipl_records.specs.Octets.{begins_with_letter}
+use Rattle.sipl_uri.specs.Hosts.{has_alphabetic_top}
 use Rattle.sipl_uri.specs.Params.{Param}
 use Rattle.sipl_uri.specs.Uris.{transport_with, question_of}
 use Rattle.sipl_uri.specs.Grammar.{IsDomainLabel, dotted, IsHostname, IsHost, IsPortPart, IsScheme, IsParam, AreParams, IsTargetOf, IsTransportOf, IsUri, param_named}

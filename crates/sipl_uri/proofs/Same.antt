@@ -5,7 +5,7 @@ use Rattle.std.specs.Option.{option_eq}
 use Rattle.std.proofs.Common.{rules, refl, ap}
 use Rattle.std.proofs.lemmas.Bool.Decides.{Decides-eqb, Decides-like, Decides-and}
 use mathlib.Core.Bool.{beq}
-use Rattle.sipl_names.proofs.SameName.{same_name_decides}
+use Rattle.sipl_names.proofs.Public.{same_name_decides}
 use Rattle.sipl_records.specs.declared.address.Address.TheVariants.{V4, V6}
 use Rattle.sipl_choice.specs.declared.transport.Transport.{Transport}
 use Rattle.sipl_choice.specs.contracts.transport.TransportPartialEq.TheImpl.{eq-value as transport_eq}

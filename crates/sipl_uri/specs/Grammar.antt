@@ -20,7 +20,7 @@ use Rattle.sipl_uri.specs.declared.question.Question.{Question}
 use Rattle.sipl_uri.specs.declared.question.Target.{Target}
 use Rattle.sipl_uri.specs.declared.question.Target.TheVariants.{Numeric, Domain}
 use Rattle.sipl_uri.specs.UriOctets.{is_label_octet, is_free_octet, is_param_octet}
-use Rattle.sipl_uri.specs.Hosts.{begins_with_letter}
+use Rattle.sipl_records.specs.Octets.{begins_with_letter}
 use Rattle.sipl_uri.specs.Params.{Param, same_text}
 use Rattle.sipl_uri.specs.Uris.{transport_with}
 

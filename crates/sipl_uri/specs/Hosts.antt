@@ -2,21 +2,16 @@
 use Rattle.std.specs.Prelude.{Bool, false, [], ◌∷◌, Option, None, Some, Ok, Err, option_map, if◌then◌else◌, ◌==◌}
 use Rattle.std.specs.Option.{option_or}
 use Rattle.std.specs.List.{list_all}
-use Rattle.std.specs.Char.{is_ascii_alphabetic}
 use Rattle.sipl_names.specs.Labels.{Octets, Labels, top_label_of}
 use Rattle.sipl_names.specs.NameText.{name_of}
 use Rattle.sipl_records.specs.declared.address.Address.TheVariants.{V4, V6}
 use Rattle.sipl_records.specs.Ipv4.{number_of_text}
 use Rattle.sipl_records.specs.Ipv6.{address6_of_text}
+use Rattle.sipl_records.specs.Octets.{begins_with_letter}
 use Rattle.sipl_records.specs.Parts.{split_once}
 use Rattle.sipl_uri.specs.declared.question.Target.{Target}
 use Rattle.sipl_uri.specs.declared.question.Target.TheVariants.{Numeric, Domain}
 use Rattle.sipl_uri.specs.UriOctets.{is_hostname_octet}
-
--- whether a label begins with a letter
-abbrev pub begins_with_letter : Octets → Bool
-begins_with_letter [] = false
-begins_with_letter (c ∷ label) = is_ascii_alphabetic c
 
 -- whether the label next to the root begins with a letter, as a hostname's does
 abbrev pub has_alphabetic_top : Labels → Bool

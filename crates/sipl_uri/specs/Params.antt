@@ -6,7 +6,7 @@ use lib.Pointwise.{pointwise}
 use Rattle.sipl_names.specs.Labels.{Octets}
 use Rattle.sipl_records.specs.Parts.{split_once}
 use Rattle.sipl_choice.specs.declared.transport.Transport.{Transport}
-use Rattle.sipl_choice.specs.declared.transport.Transport.TheVariants.{Udp, Tcp, Tls, Sctp}
+use Rattle.sipl_choice.specs.Transports.{transport_named}
 use Rattle.sipl_uri.specs.declared.question.Target.{Target}
 use Rattle.sipl_uri.specs.declared.fault.UriFault.{UriFault}
 use Rattle.sipl_uri.specs.declared.fault.UriFault.TheVariants.{Characters, Host, Repeated, Transport as BadTransport}
@@ -38,14 +38,6 @@ no_settings = record { names = []; transport = None; target = None }
 -- whether two texts are the same
 abbrev pub same_text : Octets → Octets → Bool
 same_text = pointwise nat_eq
-
--- RFC 3261, 25.1: the transport of a text in lower case
-abbrev pub transport_named : Octets → Option Transport
-transport_named text =
-    if same_text text (codes "udp") then Some Udp
-    else (if same_text text (codes "tcp") then Some Tcp
-    else (if same_text text (codes "sctp") then Some Sctp
-    else (if same_text text (codes "tls") then Some Tls else None)))
 
 -- the transport of a value, in either case
 abbrev pub transport_of_value : Option Octets → Option Transport

@@ -2,27 +2,34 @@ ghost use Rattle.std.specs.Prelude.{◌≡◌};
 ghost use Rattle.sipl_uri.specs.UriFault.{code_of};
 
 use std::alloc::AllocError;
-use std::error::Error;
-use std::fmt;
+use thiserror::Error;
 
 /// Why a text is not a URI that asks a question.
-#[derive(Clone, Copy, Debug, PartialEq, Eq, Hash)]
+#[derive(Clone, Copy, Debug, PartialEq, Eq, Hash, Error)]
 pub enum UriFault {
     /// U1: the scheme is neither `sip` nor `sips`.
+    #[error("the scheme is neither sip nor sips")]
     Scheme,
     /// U2: a host, or the value of `maddr`, is neither an address nor a hostname.
+    #[error("a host is neither an address nor a hostname")]
     Host,
     /// U3: the port is not a number from 1 to 65,535.
+    #[error("the port is not a number from 1 to 65535")]
     Port,
     /// U4: the value of `transport` is not `udp`, `tcp`, `sctp` or `tls`.
+    #[error("the transport is not udp, tcp, sctp or tls")]
     Transport,
     /// U5: a parameter is given twice.
+    #[error("a parameter is given twice")]
     Repeated,
     /// U6: `sips` over UDP or SCTP.
+    #[error("sips is not possible over this transport")]
     SipsTransport,
     /// U7: an octet that is not allowed in a URI, a second `@`, or a parameter without a name.
+    #[error("an octet is not allowed, or a parameter has no name")]
     Characters,
     /// An allocation failed.
+    #[error("out of memory")]
     Memory,
 }
 
@@ -43,28 +50,6 @@ impl UriFault {
         }
     }
 }
-
-impl fmt::Display for UriFault {
-    ghost use Rattle.std.specs.Prelude.{Some};
-    ghost use Rattle.sipl_uri.specs.UriFault.{message_of};
-
-    ghost output = { λ fault. Some (message_of fault) };
-
-    fn fmt<W: fmt::Write>(&self, f: &mut fmt::Formatter<W>) -> fmt::Result {
-        f.write_str(match self {
-            UriFault::Scheme => "the scheme is neither sip nor sips",
-            UriFault::Host => "a host is neither an address nor a hostname",
-            UriFault::Port => "the port is not a number from 1 to 65535",
-            UriFault::Transport => "the transport is not udp, tcp, sctp or tls",
-            UriFault::Repeated => "a parameter is given twice",
-            UriFault::SipsTransport => "sips is not possible over this transport",
-            UriFault::Characters => "an octet is not allowed, or a parameter has no name",
-            UriFault::Memory => "out of memory",
-        })
-    }
-}
-
-impl Error for UriFault {}
 
 impl From<AllocError> for UriFault {
     ghost use Rattle.std.specs.Prelude.{◌≡◌};

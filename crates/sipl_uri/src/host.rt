@@ -5,14 +5,14 @@ ghost use Rattle.std.specs.Option.{option_copied};
 ghost use Rattle.sipl_records.specs.Ipv4.{number_of_text};
 ghost use Rattle.sipl_records.specs.declared.address.Address.TheVariants.{V6};
 ghost use Rattle.sipl_uri.specs.declared.question.Target.TheVariants.{Numeric};
-ghost use Rattle.sipl_uri.specs.Hosts.{host_of, reference_of, hostname_of, bracketed_text, has_alphabetic_top, begins_with_letter};
+ghost use Rattle.sipl_uri.specs.Hosts.{host_of, reference_of, hostname_of, bracketed_text, has_alphabetic_top};
 ghost use Rattle.sipl_uri.specs.UriOctets.{is_hostname_octet};
 
 use crate::fault::UriFault;
 use crate::octet::is_hostname_octet;
 use crate::question::Target;
 use sipl_names::{Name, NameFault};
-use sipl_records::{Address, read_ipv4, read_ipv6, split_once};
+use sipl_records::{Address, begins_with_letter, read_ipv4, read_ipv6, split_once};
 use std::alloc::Global;
 
 // Reads an IPv4 address, an IPv6 address in brackets, or a hostname.
@@ -72,8 +72,8 @@ fn read_hostname(alloc: Global, text: &[u8]) -> Result<Name, UriFault>
     }
     let root = Name::root(alloc);
     let name = Name::from_text(alloc, text, &root).map_err(|fault| match fault {
+        NameFault::Invalid(_) => UriFault::Host,
         NameFault::Memory => UriFault::Memory,
-        _ => UriFault::Host,
     })?;
     if !has_alphabetic_top(&name) {
         return Err(UriFault::Host);
@@ -95,15 +95,5 @@ fn has_alphabetic_top(name: &Name) -> bool
     match name.top_label() {
         Some(label) => begins_with_letter(label),
         None => false,
-    }
-}
-
-// Whether a label begins with a letter.
-fn begins_with_letter(label: &[u8]) -> bool
-    ensures { result ≡ begins_with_letter label.now }
-{
-    match label {
-        [first, ..] => first.is_ascii_alphabetic(),
-        [] => false,
     }
 }

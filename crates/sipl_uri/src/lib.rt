@@ -8,8 +8,6 @@ mod octet;
 mod params;
 mod parts;
 mod question;
-#[cfg(test)]
-mod tests;
 mod uri;
 
 pub use fault::UriFault;

@@ -114,16 +114,5 @@ impl Settings {
 fn read_transport(value: Option<&[u8]>) -> Option<Transport>
     ensures { result ≡ transport_of_value (option_copied value.entry) }
 {
-    let name = value?;
-    if name.eq_ignore_ascii_case(b"udp") {
-        Some(Transport::Udp)
-    } else if name.eq_ignore_ascii_case(b"tcp") {
-        Some(Transport::Tcp)
-    } else if name.eq_ignore_ascii_case(b"sctp") {
-        Some(Transport::Sctp)
-    } else if name.eq_ignore_ascii_case(b"tls") {
-        Some(Transport::Tls)
-    } else {
-        None
-    }
+    Transport::from_name_ignore_case(value?)
 }

@@ -2,13 +2,12 @@
 ghost use Rattle.std.specs.Prelude.{◌≡◌, ◌==◌, ◌∷◌, ◌++◌, true, count_by, IsTrue, IfSome};
 ghost use Rattle.std.specs.List.{list_all};
 ghost use Rattle.std.specs.Option.{option_copied, is_some, OnSome};
-ghost use Rattle.std.specs.Char.{is_ascii_digit};
 ghost use Rattle.sipl_uri.specs.UriOctets.{is_uri_octet, is_hostname_octet};
 ghost use Rattle.sipl_uri.specs.Uris.{has_allowed_octets};
 ghost use Rattle.sipl_uri.specs.UriParts.{parts_of, params_in, after_userinfo, split_port};
 
 use crate::octet::{is_hostname_octet, is_uri_octet};
-use sipl_records::split_once;
+use sipl_records::{are_digits, split_once};
 
 // The parts that say where a request is sent.
 #[derive(Clone, Copy)]
@@ -55,7 +54,7 @@ fn split_plain(text: &[u8]) -> Option<Parts<'_>>
         });
     }
     let digits = strip_colon(rest)?;
-    if !has_digits(digits) {
+    if !are_digits(digits) {
         return None;
     }
     Some(Parts {
@@ -86,13 +85,6 @@ fn split_hostname(text: &[u8]) -> (&[u8], &[u8])
         }
     }
     (text, &[])
-}
-
-// Whether each octet is a digit.
-fn has_digits(text: &[u8]) -> bool
-    ensures { result ≡ list_all is_ascii_digit text.now }
-{
-    text.iter().all(|octet| octet.is_ascii_digit())
 }
 
 // Whether a URI can have each of the octets after its scheme, and at most one is `@`.

@@ -19,8 +19,8 @@ returns-then-is_empty-clause-port c = sym (ap (λ (p : Parts). p.port) (alone c)
 pub returns-then-is_empty-clause-params : goal.returns-then-is_empty-clause-params
 returns-then-is_empty-clause-params c = sym (ap (λ (p : Parts). p.params) (alone c).1)
 
-with_port : (c : goal.Else-not-has_digits) → (has_allowed_octets c.args.text.now ≡ true) × (parts_of c.args.text.now ≡ record { host = c.split_hostname.result.0.now; port = Some c.in_ok-digits.digits.now; params = [] })
-with_port c = parts_of-hostport c.args.text.now c.split_hostname.result.0.now c.split_hostname.result.1.now c.in_ok-digits.digits.now c.split_hostname.ensures.whole c.in_ok-digits.ensures c.split_hostname.ensures.host (sym c.has_digits.ensures ∙ c.if-not-has_digits.false)
+with_port : (c : goal.Else-not-are_digits) → (has_allowed_octets c.args.text.now ≡ true) × (parts_of c.args.text.now ≡ record { host = c.split_hostname.result.0.now; port = Some c.in_ok-digits.digits.now; params = [] })
+with_port c = parts_of-hostport c.args.text.now c.split_hostname.result.0.now c.split_hostname.result.1.now c.in_ok-digits.digits.now c.split_hostname.ensures.whole c.in_ok-digits.ensures c.split_hostname.ensures.host (sym c.are_digits.ensures ∙ c.if-not-are_digits.false)
 
 pub returns-clause-allowed : goal.returns-clause-allowed
 returns-clause-allowed c = (with_port c).0

@@ -1,5 +1,5 @@
 use Rattle.std.proofs.Common.{◌≡◌, Bool, not, false, true, IsSome, refl, ap, sym, subst, ◌∙◌}
-use Rattle.sipl_names.proofs.SameName.{same_name_decides}
+use Rattle.sipl_names.proofs.Public.{same_name_decides}
 use Rattle.sipl_evidence.specs.Known.{advance}
 use Rattle.sipl_evidence.specs.declared.walk.Walk.TheInside.{Inside}
 use Rattle.sipl_evidence.specs.Walks.{WalkState}

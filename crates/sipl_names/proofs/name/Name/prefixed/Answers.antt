@@ -10,7 +10,7 @@ use Rattle.sipl_names.proofs.name.Name.prefixed.Goals.{In_ok-extend_from_slice}
 pub returns-then-len-ge-MAX_NAME_LEN-clause-refused :
     goal.returns-then-len-ge-MAX_NAME_LEN-clause-refused
 returns-then-len-ge-MAX_NAME_LEN-clause-refused c =
-    λ _. prefix_long (octets_of c.args.labels.now) c.args.self.now c.self.inside.wire.items c.saturating_add-len.result c.in_ok-checked_wire_len.ensures.faultless c.self.invariant c.self.view_is (omega (arith, c.self.inside.wire.ok.0, c.in_ok-checked_wire_len.ensures.len)) c.if-len-ge-MAX_NAME_LEN.true
+    prefix_long (octets_of c.args.labels.now) c.args.self.now c.self.inside.wire.items c.saturating_add-len.result c.in_ok-checked_wire_len.ensures.faultless c.self.invariant c.self.view_is (omega (arith, c.self.inside.wire.ok.0, c.in_ok-checked_wire_len.ensures.len)) c.if-len-ge-MAX_NAME_LEN.true
 
 made : (c : In_ok-extend_from_slice) → IsNameWire c.extend_from_slice.new.self.items × (prefixed_of (octets_of c.args.labels.now) c.args.self.now ≡ Ok (labels_of_wire c.extend_from_slice.new.self.items))
 made c =

@@ -1,0 +1,2 @@
+-- What proofs of the crates above cite.
+pub use Rattle.sipl_srv.proofs.Orders.{ordered-IsPermutation}
