@@ -8,8 +8,8 @@ use Rattle.std.proofs.Math.Seq.{take-append_seam, take-suc}
 use Rattle.std.proofs.lemmas.List.Folds.{list_any-append}
 use Rattle.std.proofs.lemmas.List.Sums.{length-filter, sum_by-append}
 use Rattle.sipl_names.specs.Labels.{Labels, same_name}
-use Rattle.sipl_names.proofs.SameName.{same_name_decides}
-use Rattle.sipl_records.proofs.Keys.{same_name-sym}
+use Rattle.sipl_names.proofs.Public.{same_name_decides}
+use Rattle.sipl_records.proofs.Public.{same_name-sym}
 use Rattle.sipl_records.specs.declared.record.Record.{Record}
 use Rattle.sipl_masterfile.specs.ByOwner.{end_of, IsIndexed}
 

@@ -16,8 +16,7 @@ use Rattle.sipl_records.specs.Numbers.{number_of}
 use Rattle.sipl_records.specs.declared.data.Data.{Data}
 use Rattle.sipl_records.specs.declared.data.Data.TheVariants.{Address4, Address6, Alias, Service, Pointer, Bare}
 use Rattle.sipl_records.specs.declared.record.Record.{Record}
-use Rattle.sipl_records.proofs.RoundTrip.{number_of_text-text_of}
-use Rattle.sipl_records.proofs.Ipv6Prints.{address6_of_text-text_of}
+use Rattle.sipl_records.proofs.Public.{number_of_text-text_of, address6_of_text-text_of}
 use Rattle.sipl_masterfile.specs.Tokens.{blank, field, ends_field, field_len, quoted_len, tokens}
 use Rattle.sipl_masterfile.specs.Entries.{Begun, begins_blank, prepend_entry, with_field, entries_from, entries_of}
 use Rattle.sipl_masterfile.specs.RecordPrint.{IsString, IsData, IsRecord, Written, plain, quoted, unquoted, spelled, printed_string, written_data, spaced, record_text, entry_of_record}

@@ -10,16 +10,15 @@ use lib.Pointwise.{pointwise, bytes_decides}
 use Rattle.sipl_names.specs.Labels.{Octets, Labels, IsName}
 use Rattle.sipl_names.specs.NamePrint.{is_special, text_of}
 use Rattle.sipl_names.specs.NameText.{octet, symbols, name_of}
-use Rattle.sipl_names.specs.declared.fault.NameFault.{NameFault}
-use Rattle.sipl_names.proofs.RoundTrip.{name_of-text_of, printed_octets_read}
+use Rattle.sipl_names.specs.declared.fault.InvalidName.{InvalidName}
+use Rattle.sipl_names.proofs.Public.{name_of-text_of, printed_octets_read}
 use Rattle.sipl_records.specs.Numbers.{number_of}
 use Rattle.sipl_records.specs.Ipv4.{number_of_text, text_of_number}
 use Rattle.sipl_records.specs.Ipv6.{address6_of_text, text_of_address6}
 use Rattle.sipl_records.specs.declared.data.Data.{Data}
 use Rattle.sipl_records.specs.declared.data.Data.TheVariants.{Address4, Address6, Alias, Service, Pointer, Bare}
 use Rattle.sipl_records.specs.declared.record.Record.{Record}
-use Rattle.sipl_records.proofs.RoundTrip.{number_of_text-text_of}
-use Rattle.sipl_records.proofs.Ipv6Prints.{address6_of_text-text_of}
+use Rattle.sipl_records.proofs.Public.{number_of_text-text_of, address6_of_text-text_of}
 use Rattle.sipl_masterfile.specs.Readers.{◌>>=◌, prepend, octets_of_symbols, string_within_limit, string_of, name_in, number_in, address4_in, address6_in}
 use Rattle.sipl_masterfile.specs.RecordPrint.{IsString, IsService, IsPointer, IsData, IsRecord, printed_string, written_data, unquoted, record_fields}
 use Rattle.sipl_masterfile.specs.Rdata.{data_of}
@@ -44,7 +43,7 @@ number_in-decimal n small = ap (λ number. ok_or number BadNumber) (number_of-de
 
 -- names
 
-abbrev as_name : Result Labels NameFault → Result Labels ZoneCause
+abbrev as_name : Result Labels InvalidName → Result Labels ZoneCause
 as_name (Ok name) = Ok name
 as_name (Err fault) = Err (InName fault)
 

@@ -12,8 +12,8 @@ use Rattle.sipl_records.specs.declared.kind.Kind.TheVariants.{Alias}
 use Rattle.sipl_records.specs.declared.record.Record.{Record}
 use Rattle.sipl_records.specs.declared.record.Key.{Key}
 use Rattle.sipl_records.specs.Sets.{same_record, conflicts, has_kind, has_some_kind, key_of, shares_set}
-use Rattle.sipl_records.proofs.Keys.{same_name-sym, shares_set-Decides, shares_set-Some}
-use Rattle.sipl_records.proofs.SameData.{same_record-sym}
+use Rattle.sipl_records.proofs.Public.{same_name-sym, shares_set-Decides, shares_set-Some, same_record-sym}
+use Rattle.sipl_masterfile.specs.Intake.{Fits}
 use Rattle.sipl_masterfile.specs.Zones.{Zone, IsZone, has_repeats, sets_fit}
 
 first_false : (a b : Bool) → (a || b) ≡ false → a ≡ false
@@ -109,4 +109,12 @@ zone-push zone r before inside new apart below = record {
   distinct = repeats-push zone.records r before.distinct new;
   aliases = aliases-push zone.records r before.aliases apart;
   fits = sets_fit-push zone.records r before.fits below;
+}
+
+-- a record that passes the tests is to be appended
+pub fits-new : (zone : Zone) (r : Record) → IsZone zone → is_within r.owner zone.apex ≡ true → list_any (same_record r) zone.records ≡ false → list_any (conflicts r) zone.records ≡ false → nat_le 32 (count_by (shares_set r) zone.records) ≡ false → Fits r zone zone
+fits-new zone r before inside new apart below = record {
+  taken = rw (inside, new, apart, below) refl;
+  zone = zone-push zone r before inside new apart below;
+  unchanged = refl;
 }

@@ -10,6 +10,8 @@ pub mod Statements
 pub mod JoinedTexts
 pub mod RecordPrint
 pub mod Zones
+pub mod ZoneText
+pub mod Intake
 pub mod RecordText
 pub mod ByOwner
 pub use Rattle.sipl_records.specs.Sets

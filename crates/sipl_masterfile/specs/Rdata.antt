@@ -1,39 +1,37 @@
 -- The type of a record and its data (RFC 1035, 5.1).
 use Rattle.std.specs.Prelude.{ℕ, Bool, false, ◌||◌, ◌&&◌, List, [], ◌∷◌, None, Some, Option, Result, Ok, Err, find, codes, nat_eq, if◌then◌else◌, ◌==◌}
-use Rattle.std.specs.Char.{is_ascii_alphabetic, is_ascii_alphanumeric}
+use Rattle.std.specs.Char.{is_ascii_alphanumeric}
 use Rattle.std.specs.List.{list_all, list_any}
 use Rattle.std.specs.Str.{str_eq_ignore_ascii_case}
 use lib.Pointwise.{pointwise}
 use Rattle.sipl_names.specs.Labels.{Octets, Labels}
 use Rattle.sipl_records.specs.Kinds.{text_of_kind}
+use Rattle.sipl_records.specs.Octets.{begins_with_letter}
 use Rattle.sipl_records.specs.declared.data.Data.{Data}
 use Rattle.sipl_records.specs.declared.data.Data.TheVariants as values
 use Rattle.sipl_records.specs.declared.kind.Kind.{Kind}
 use Rattle.sipl_records.specs.declared.kind.Kind.TheVariants.{Address4, Address6, Alias, Service, Pointer}
-use Rattle.sipl_masterfile.specs.Readers.{◌>>=◌, first, at_end, name_in, number_in, address4_in, address6_in, string_of}
+use Rattle.sipl_masterfile.specs.Readers.{◌>>=◌, first, last, name_in, number_in, address4_in, address6_in, string_of}
 use Rattle.sipl_masterfile.specs.declared.fault.ZoneCause.{ZoneCause}
 use Rattle.sipl_masterfile.specs.declared.fault.ZoneCause.TheVariants.{MissingField, GenericForm}
 
 -- RFC 1035, 3.4.1: the data of `A`
 abbrev pub address4_data : List Octets → Result Data ZoneCause
 address4_data fields = do
-  address ← first address4_in fields
-  end ← at_end address.1
-  Ok (values.Address4 address.0)
+  address ← last address4_in fields
+  Ok (values.Address4 address)
 
 -- RFC 3596, 2.2: the data of `AAAA`
 abbrev pub address6_data : List Octets → Result Data ZoneCause
 address6_data fields = do
-  address ← first address6_in fields
-  end ← at_end address.1
-  Ok (values.Address6 address.0)
+  address ← last address6_in fields
+  Ok (values.Address6 address)
 
 -- RFC 1035, 3.3.1: the data of `CNAME`
 abbrev pub alias_data : Labels → List Octets → Result Data ZoneCause
 alias_data origin fields = do
-  name ← first (name_in origin) fields
-  end ← at_end name.1
-  Ok (values.Alias name.0)
+  name ← last (name_in origin) fields
+  Ok (values.Alias name)
 
 -- RFC 2782: the data of `SRV`
 abbrev pub service_data : Labels → List Octets → Result Data ZoneCause
@@ -41,9 +39,8 @@ service_data origin fields = do
   priority ← first number_in fields
   weight ← first number_in priority.1
   port ← first number_in weight.1
-  target ← first (name_in origin) port.1
-  end ← at_end target.1
-  Ok (values.Service priority.0 weight.0 port.0 target.0)
+  target ← last (name_in origin) port.1
+  Ok (values.Service priority.0 weight.0 port.0 target)
 
 -- RFC 3403, 4.1: the data of `NAPTR`
 abbrev pub pointer_data : Labels → List Octets → Result Data ZoneCause
@@ -53,9 +50,8 @@ pointer_data origin fields = do
   flags ← first string_of preference.1
   services ← first string_of flags.1
   regexp ← first string_of services.1
-  replacement ← first (name_in origin) regexp.1
-  end ← at_end replacement.1
-  Ok (values.Pointer order.0 preference.0 flags.0 services.0 regexp.0 replacement.0)
+  replacement ← last (name_in origin) regexp.1
+  Ok (values.Pointer order.0 preference.0 flags.0 services.0 regexp.0 replacement)
 
 -- the data of a kind
 abbrev pub data_of_kind : Kind → Labels → List Octets → Result Data ZoneCause
@@ -85,10 +81,6 @@ are_generic (field ∷ fields) = pointwise nat_eq field (codes "\\#")
 -- RFC 1035, 5.1: a type is a letter, and then letters, digits and hyphens
 abbrev pub is_type_octet : ℕ → Bool
 is_type_octet c = is_ascii_alphanumeric c || c == 45
-
-abbrev pub begins_with_letter : Octets → Bool
-begins_with_letter [] = false
-begins_with_letter (c ∷ field) = is_ascii_alphabetic c
 
 abbrev pub is_type : Octets → Bool
 is_type field = begins_with_letter field && list_all is_type_octet field

@@ -3,7 +3,7 @@ use Rattle.std.specs.Prelude.{◌≡◌, ℕ, ◌<◌, List, [], ◌∷◌, leng
 use Rattle.std.specs.Option.{ok_or}
 use Rattle.sipl_names.specs.Labels.{Octets, Labels}
 use Rattle.sipl_names.specs.NameText.{Symbol, octet, dot, bad_escape, symbols, name_of}
-use Rattle.sipl_names.specs.declared.fault.NameFault.TheVariants.{BadEscape}
+use Rattle.sipl_names.specs.declared.fault.InvalidName.TheVariants.{BadEscape}
 use Rattle.sipl_records.specs.Ipv4.{number_of_text}
 use Rattle.sipl_records.specs.Ipv6.{address6_of_text}
 use Rattle.sipl_records.specs.Numbers.{number_of}
@@ -73,3 +73,7 @@ first read (field ∷ fields) = read field >>= (λ value. Ok (value, fields))
 abbrev pub at_end : List Octets → Result (Unit {0}) ZoneCause
 at_end [] = Ok tt
 at_end (field ∷ fields) = Err ExtraField
+
+-- the last field as it is read, after which none follows
+abbrev pub last : {A : Type 0} → (Octets → Result A ZoneCause) → List Octets → Result A ZoneCause
+last read fields = first read fields >>= (λ value. at_end value.1 >>= (λ end. Ok value.0))

@@ -4,7 +4,7 @@ use Rattle.std.specs.Char.{is_ascii_digit}
 use Rattle.std.specs.List.{list_all, list_any}
 use Rattle.std.specs.Str.{str_eq_ignore_ascii_case}
 use Rattle.sipl_names.specs.Labels.{Octets, Labels}
-use Rattle.sipl_masterfile.specs.Readers.{◌>>=◌, first, at_end, name_in, ttl_in}
+use Rattle.sipl_masterfile.specs.Readers.{◌>>=◌, last, name_in, ttl_in}
 use Rattle.sipl_masterfile.specs.Rdata.{data_of}
 use Rattle.sipl_masterfile.specs.declared.fault.ZoneCause.{ZoneCause}
 use Rattle.sipl_masterfile.specs.declared.fault.ZoneCause.TheVariants.{MissingField, ClassNotIn, Include, Generate, NoOwner}
@@ -62,15 +62,13 @@ record_of_owner owner origin fields = do
 -- RFC 1035, 5.1: $ORIGIN name
 abbrev pub origin_directive : Labels → List Octets → Result Statement ZoneCause
 origin_directive origin fields = do
-  name ← first (name_in origin) fields
-  end ← at_end name.1
-  Ok (Origin name.0)
+  name ← last (name_in origin) fields
+  Ok (Origin name)
 
 -- RFC 2308, 4: $TTL ttl
 abbrev pub ttl_directive : List Octets → Result Statement ZoneCause
 ttl_directive fields = do
-  ttl ← first ttl_in fields
-  end ← at_end ttl.1
+  ttl ← last ttl_in fields
   Ok Ttl
 
 -- a directive, whose word is read without case

@@ -1,9 +1,7 @@
--- The causes of faults in master files: their codes and messages, and the cause that a fault in a
--- name is.
-use Rattle.std.specs.Prelude.{ℕ, List, ◌++◌, codes}
-use Rattle.sipl_names.specs.NameFault.{message_of as name_message}
+-- The causes of faults in master files: their codes, and the cause that a fault in a name is.
+use Rattle.std.specs.Prelude.{ℕ, List, codes}
 use Rattle.sipl_names.specs.declared.fault.NameFault.{NameFault}
-use Rattle.sipl_names.specs.declared.fault.NameFault.TheVariants.{EmptyLabel, LabelTooLong, NameTooLong, BadEscape, Memory as name_memory}
+use Rattle.sipl_names.specs.declared.fault.NameFault.TheVariants.{Invalid, Memory as name_memory}
 use Rattle.sipl_masterfile.specs.declared.fault.ZoneCause.{ZoneCause}
 use Rattle.sipl_masterfile.specs.declared.fault.ZoneCause.TheVariants.{InName, MissingField, BadNumber, BadAddress, Parenthesis, OpenQuote, ClassNotIn, Include, Generate, GenericForm, StringTooLong, NoOwner, ExtraField, AliasBesideData, SetFull, Memory}
 
@@ -28,27 +26,5 @@ code_of Memory = codes "Memory"
 
 -- the cause that a fault of a name is: an allocation failure is no fault of the text
 abbrev pub cause_of : NameFault → ZoneCause
-cause_of EmptyLabel = InName EmptyLabel
-cause_of LabelTooLong = InName LabelTooLong
-cause_of NameTooLong = InName NameTooLong
-cause_of BadEscape = InName BadEscape
+cause_of (Invalid invalid) = InName invalid
 cause_of name_memory = Memory
-
--- the cause's message to a person
-abbrev pub message_of : ZoneCause → List ℕ
-message_of (InName fault) = codes "bad name: " ++ name_message fault
-message_of MissingField = codes "a field is missing"
-message_of BadNumber = codes "a number is invalid or too large"
-message_of BadAddress = codes "not an IP address"
-message_of Parenthesis = codes "a parenthesis does not match"
-message_of OpenQuote = codes "a quote is not closed"
-message_of ClassNotIn = codes "the class is not IN"
-message_of Include = codes "$INCLUDE is not supported"
-message_of Generate = codes "$GENERATE is not supported"
-message_of GenericForm = codes "a known type is in the generic form"
-message_of StringTooLong = codes "a string has more than 255 octets"
-message_of NoOwner = codes "the record has no owner"
-message_of ExtraField = codes "the entry has a field too many"
-message_of AliasBesideData = codes "an alias is beside other data"
-message_of SetFull = codes "the record set has 32 records already"
-message_of Memory = codes "out of memory"

@@ -1,4 +1,4 @@
-ghost use Rattle.std.specs.Prelude.{◌≡◌, [], ◌∷◌, ◌++◌, ◌<◌, ◌+◌, ◌^◌, ◌||◌, if◌then◌else◌, Some, count_by, IfOk, OnOk, OnErr};
+ghost use Rattle.std.specs.Prelude.{◌≡◌, [], ◌∷◌, ◌++◌, ◌<◌, ◌+◌, ◌^◌, ◌||◌, if◌then◌else◌, Some, length, vec_len, vec_capacity, count_by, IfOk, OnOk, OnErr};
 ghost use Rattle.std.specs.Option.{unwrap_or};
 ghost use Rattle.indexmap.specs.IndexMap.{get, IsUnchanged};
 ghost use Rattle.sipl_names.specs.Labels.{Labels, same_name};
@@ -65,11 +65,13 @@ impl RecordsByOwner {
         ensures ok { OnOk result (self.new ≡ self.old ++ new ∷ []) }
         ensures err { OnErr result (self.new ≡ self.old) }
     {
-        self.records.reserve(1)?;
-        self.earlier.reserve(1)?;
-        let end = self.records.len() + 1;
-        let earlier = replace_end(&mut self.ends, alloc, &new.owner, end)?;
-        self.earlier.push_reserved(earlier);
+        link(
+            &mut self.records,
+            &mut self.earlier,
+            &mut self.ends,
+            alloc,
+            &new.owner,
+        )?;
         self.records.push_reserved(new);
         Ok(())
     }
@@ -101,6 +103,32 @@ impl RecordsByOwner {
         }
         found
     }
+}
+
+// Reserves space for one more record, and adds what the table and the ends beside the records have
+// of it, whose owner is this one.
+fn link(
+    records: &mut Vec<Record>,
+    earlier: &mut Vec<usize>,
+    ends: &mut IndexMap<Name, usize>,
+    alloc: Global,
+    owner: &Name,
+) -> Result<(), AllocError>
+    ensures space { OnOk result (vec_len records.new < vec_capacity records.new) }
+    ensures records { records.new.items ≡ records.old.items }
+    ensures earlier { OnOk result (earlier.new.items
+        ≡ earlier.old.items ++ unwrap_or (get same_name ends.old owner.now) 0 ∷ []) }
+    ensures ends { OnOk result ((name : Labels) → get same_name ends.new name
+        ≡ (if same_name owner.now name then Some (length records.old.items + 1)
+        else get same_name ends.old name)) }
+    ensures earlier_left { OnErr result (earlier.new.items ≡ earlier.old.items) }
+    ensures ends_left { OnErr result (IsUnchanged ends.old ends.new) }
+{
+    records.reserve(1)?;
+    earlier.reserve(1)?;
+    let end = replace_end(ends, alloc, owner, records.len() + 1)?;
+    earlier.push_reserved(end);
+    Ok(())
 }
 
 // Sets the end of an owner's records, and returns the one that it had, 0 if it had none.

@@ -6,7 +6,6 @@ ghost use Rattle.sipl_masterfile.specs.Scanning.{begun_at, IsFaulty};
 
 use crate::fault::{ZoneCause, ZoneFault};
 use crate::tokens::{Token, is_blank, next_token};
-use sipl_names::NameFault;
 use std::marker::Model;
 
 // A text's entries that have not been read.
@@ -63,7 +62,6 @@ impl<'a> Entries<'a> {
         ensures refused { IfErr result
             (λ fault. fault.cause ≢ ZoneCause.Memory → IsFaulty self.old fault) }
         ensures memory { IfErr result (λ fault. fault.cause ≡ ZoneCause.Memory → fault.line ≡ 1) }
-        ensures name { IfErr result (λ fault. fault.cause ≢ ZoneCause.InName NameFault.Memory) }
     {
         while let Some(first) = self.rest.first() {
             let head = EntryHead {
@@ -97,7 +95,6 @@ fn read_fields<'a>(
     ensures refused { IfErr result
         (λ fault. fault.cause ≢ ZoneCause.Memory → IsFaulty (entries_at line text.now) fault) }
     ensures memory { IfErr result (λ fault. fault.cause ≡ ZoneCause.Memory → fault.line ≡ 1) }
-    ensures name { IfErr result (λ fault. fault.cause ≢ ZoneCause.InName NameFault.Memory) }
 {
     fields.clear();
     let unbalanced = ZoneFault {
@@ -132,6 +129,3 @@ fn read_fields<'a>(
     }
     Ok((rest, line_ends))
 }
-
-#[cfg(test)]
-mod tests;

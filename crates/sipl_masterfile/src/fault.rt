@@ -1,51 +1,67 @@
 ghost use Rattle.std.specs.Prelude.{◌≡◌};
 
-use sipl_names::NameFault;
+use sipl_names::{InvalidName, NameFault};
 use sipl_records::AddressFault;
 use std::alloc::{AllocError, AllocFailed};
-use std::error::Error;
-use std::fmt;
+use thiserror::Error;
 
 /// What is wrong with an entry of a master file.
-#[derive(Clone, Copy, Debug, PartialEq, Eq, Hash)]
+#[derive(Clone, Copy, Debug, PartialEq, Eq, Hash, Error)]
 pub enum ZoneCause {
     /// Z1: an invalid name, and its fault.
-    InName(NameFault),
+    #[error("bad name: {0}")]
+    InName(InvalidName),
     /// Z2: a missing field, or one that is none of its place.
+    #[error("a field is missing")]
     MissingField,
     /// Z3: a number or a TTL that is invalid or too large.
+    #[error("a number is invalid or too large")]
     BadNumber,
     /// Z4: an invalid address.
+    #[error("not an IP address")]
     BadAddress,
     /// Z5: a parenthesis that closes none, or that is not closed.
+    #[error("a parenthesis does not match")]
     Parenthesis,
     /// Z6: a quote that is not closed before the line's end.
+    #[error("a quote is not closed")]
     OpenQuote,
     /// Z7: a class other than `IN`.
+    #[error("the class is not IN")]
     ClassNotIn,
     /// Z8: `$INCLUDE`, which is not supported.
+    #[error("$INCLUDE is not supported")]
     Include,
     /// Z9: `$GENERATE`, which is not supported.
+    #[error("$GENERATE is not supported")]
     Generate,
     /// Z10: a known type or its data in the generic form (RFC 3597, 5).
+    #[error("a known type is in the generic form")]
     GenericForm,
     /// Z11: a string of more than 255 octets.
+    #[error("a string has more than 255 octets")]
     StringTooLong,
     /// Z12: a record without an owner, before which no owner is stated.
+    #[error("the record has no owner")]
     NoOwner,
     /// Z13: a further field after the last one of its entry.
+    #[error("the entry has a field too many")]
     ExtraField,
     /// Z14: an alias beside other data of its owner (RFC 1034, 3.6.2).
+    #[error("an alias is beside other data")]
     AliasBesideData,
     /// Z15: a 33rd record of a set.
+    #[error("the record set has 32 records already")]
     SetFull,
     /// An allocation failed.
+    #[error("out of memory")]
     Memory,
 }
 
 /// The first fault of a text, and the line on which its entry begins, counted from 1. An allocation
 /// failure is at line 1.
-#[derive(Clone, Copy, Debug, PartialEq, Eq, Hash)]
+#[derive(Clone, Copy, Debug, PartialEq, Eq, Hash, Error)]
+#[error("line {line}: {cause}")]
 pub struct ZoneFault {
     pub line: u64,
     pub cause: ZoneCause,
@@ -80,7 +96,7 @@ impl ZoneCause {
 }
 
 impl ZoneFault {
-    ghost use Rattle.std.specs.Prelude.{◌≢◌};
+    ghost use Rattle.std.specs.Prelude.{◌≢◌, ◌↔◌, true};
     ghost use Rattle.sipl_masterfile.specs.ZoneFault.{code_of};
 
     // The fault of an entry that begins in this line; an allocation failure is at line 1.
@@ -99,50 +115,14 @@ impl ZoneFault {
     {
         self.cause.code()
     }
-}
 
-impl fmt::Display for ZoneCause {
-    ghost use Rattle.std.specs.Prelude.{Some};
-    ghost use Rattle.sipl_masterfile.specs.ZoneCause.{message_of};
-
-    ghost output = { λ fault. Some (message_of fault) };
-
-    fn fmt<W: fmt::Write>(&self, f: &mut fmt::Formatter<W>) -> fmt::Result {
-        match self {
-            ZoneCause::InName(fault) => write!(f, "bad name: {fault}"),
-            ZoneCause::MissingField => f.write_str("a field is missing"),
-            ZoneCause::BadNumber => f.write_str("a number is invalid or too large"),
-            ZoneCause::BadAddress => f.write_str("not an IP address"),
-            ZoneCause::Parenthesis => f.write_str("a parenthesis does not match"),
-            ZoneCause::OpenQuote => f.write_str("a quote is not closed"),
-            ZoneCause::ClassNotIn => f.write_str("the class is not IN"),
-            ZoneCause::Include => f.write_str("$INCLUDE is not supported"),
-            ZoneCause::Generate => f.write_str("$GENERATE is not supported"),
-            ZoneCause::GenericForm => f.write_str("a known type is in the generic form"),
-            ZoneCause::StringTooLong => f.write_str("a string has more than 255 octets"),
-            ZoneCause::NoOwner => f.write_str("the record has no owner"),
-            ZoneCause::ExtraField => f.write_str("the entry has a field too many"),
-            ZoneCause::AliasBesideData => f.write_str("an alias is beside other data"),
-            ZoneCause::SetFull => f.write_str("the record set has 32 records already"),
-            ZoneCause::Memory => f.write_str("out of memory"),
-        }
+    /// Whether it is an allocation failure.
+    pub fn is_memory(self) -> bool
+        ensures { (result ≡ true) ↔ (self.cause ≡ ZoneCause.Memory) }
+    {
+        matches!(self.cause, ZoneCause::Memory)
     }
 }
-
-impl fmt::Display for ZoneFault {
-    ghost use Rattle.std.specs.Prelude.{Some};
-    ghost use Rattle.sipl_masterfile.specs.ZoneFault.{message_of};
-
-    ghost output = { λ fault. Some (message_of fault) };
-
-    fn fmt<W: fmt::Write>(&self, f: &mut fmt::Formatter<W>) -> fmt::Result {
-        write!(f, "line {}: {}", self.line, self.cause)
-    }
-}
-
-impl Error for ZoneCause {}
-
-impl Error for ZoneFault {}
 
 impl From<AllocError> for ZoneCause {
     ghost use Rattle.std.specs.Prelude.{◌≡◌};
@@ -188,8 +168,8 @@ impl From<NameFault> for ZoneCause {
 
     fn from(fault: NameFault) -> ZoneCause {
         match fault {
+            NameFault::Invalid(invalid) => ZoneCause::InName(invalid),
             NameFault::Memory => ZoneCause::Memory,
-            other => ZoneCause::InName(other),
         }
     }
 }

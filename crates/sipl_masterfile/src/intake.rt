@@ -1,4 +1,5 @@
-ghost use Rattle.std.specs.Prelude.{◌≡◌, ◌≢◌, ◌+◌, ◌-◌, ◌^◌, ◌<◌, ◌≤◌, IfOk, IfErr, OnOk, OnErr, Ok, Err};
+ghost use Rattle.std.specs.Prelude.{◌≡◌, ◌≢◌, ◌+◌, ◌-◌, ◌^◌, ◌<◌, ◌≤◌, true, false, IfOk, IfErr, OnOk, OnErr, Ok, Err};
+ghost use Rattle.sipl_masterfile.specs.Intake.{Fits, IsLeftOut};
 ghost use Rattle.sipl_masterfile.specs.Zones.{IsZone, empty_zone, take_in};
 
 use crate::by_owner::RecordsByOwner;
@@ -19,23 +20,14 @@ pub(crate) struct Intake {
 }
 
 impl Model for Intake {
-    ghost use Rattle.sipl_masterfile.specs.Zones.{Zone, IsZone};
+    ghost use Rattle.sipl_masterfile.specs.Zones.{Zone};
+    ghost use Rattle.sipl_masterfile.specs.Intake.{state_of, IsIntake};
 
     ghost Value = { Zone };
 
-    ghost view = { λ z. record {
-      apex = z.apex;
-      records = z.records;
-      outside = z.outside;
-      repeated = z.repeated;
-    } };
+    ghost view = { state_of };
 
-    ghost invariant = { λ z. let zone : Zone = record {
-      apex = z.apex;
-      records = z.records;
-      outside = z.outside;
-      repeated = z.repeated;
-    } in IsZone zone };
+    ghost invariant = { IsIntake };
 }
 
 impl Intake {
@@ -60,14 +52,29 @@ impl Intake {
             (λ cause. cause ≢ ZoneCause.Memory → take_in new self.old ≡ Err cause) }
         ensures unchanged { OnErr result (self.new ≡ self.old) }
     {
-        if !new.owner.is_within(&self.apex) {
-            self.outside += 1;
+        if !self.is_new(&new)? {
             return Ok(());
         }
-        let found = self.records.compare(&new);
+        Ok(self.records.push(alloc, new)?)
+    }
+
+    // Whether a record is to be appended. One that is left out is counted.
+    fn is_new(&mut self, new: &Record) -> Result<bool, ZoneCause>
+        requires { self.old.outside + self.old.repeated < 2 ^ 64 - 1 }
+        ensures fits { IfOk result (λ is_new. is_new ≡ true → Fits new.now self.old self.new) }
+        ensures left_out { IfOk result
+            (λ is_new. is_new ≡ false → IsLeftOut new.now self.old self.new) }
+        ensures refused { IfErr result (λ cause. take_in new.now self.old ≡ Err cause) }
+        ensures unchanged { OnErr result (self.new ≡ self.old) }
+    {
+        if !new.owner.is_within(&self.apex) {
+            self.outside += 1;
+            return Ok(false);
+        }
+        let found = self.records.compare(new);
         if found.is_repeated {
             self.repeated += 1;
-            return Ok(());
+            return Ok(false);
         }
         if found.conflicts {
             return Err(ZoneCause::AliasBesideData);
@@ -75,9 +82,9 @@ impl Intake {
         if found.set_len >= MAX_SET_LEN {
             return Err(ZoneCause::SetFull);
         }
-        self.records.push(alloc, new)?;
-        Ok(())
+        Ok(true)
     }
+
     // The zone of the records that were taken in.
     pub(crate) fn into_zone(self) -> ZoneText
         ensures { result ≡ self }

@@ -11,8 +11,6 @@ mod reader;
 mod reading;
 mod record;
 mod statement;
-#[cfg(test)]
-mod tests;
 mod tokens;
 mod ttl;
 mod zone;

@@ -2,12 +2,12 @@
 ghost use Rattle.std.specs.Prelude.{◌≡◌, ◌≢◌, Ok, Err, IfOk, IfErr};
 ghost use Rattle.std.specs.List.{list_all};
 ghost use Rattle.sipl_names.specs.LabelSlices.{octets_of};
-ghost use Rattle.sipl_masterfile.specs.Rdata.{data_of, data_of_kind, address4_data, address6_data, alias_data, service_data, pointer_data, kind_of_type, is_numbered_kind, are_generic, is_type, begins_with_letter, is_type_octet};
+ghost use Rattle.sipl_masterfile.specs.Rdata.{data_of, data_of_kind, address4_data, address6_data, alias_data, service_data, pointer_data, kind_of_type, is_numbered_kind, are_generic, is_type, is_type_octet};
 
 use crate::fault::ZoneCause;
-use crate::reader::{check_end, first_field, first_name, first_number, first_string};
-use sipl_names::{Name, NameFault};
-use sipl_records::{Data, Kind, read_ipv4, read_ipv6};
+use crate::reader::{check_end, first_field, first_number, first_string, last_name};
+use sipl_names::Name;
+use sipl_records::{Data, Kind, begins_with_letter, read_ipv4, read_ipv6};
 use std::alloc::Global;
 
 // The data of the fields from the type on.
@@ -16,7 +16,6 @@ pub(crate) fn read_data(alloc: Global, fields: &[&[u8]], origin: &Name) -> Resul
         data_of origin.now (octets_of fields.now) ≡ Ok value) }
     ensures refused { IfErr result (λ cause. cause ≢ ZoneCause.Memory
         → data_of origin.now (octets_of fields.now) ≡ Err cause) }
-    ensures name { IfErr result (λ cause. cause ≢ ZoneCause.InName NameFault.Memory) }
 {
     let (word, fields) = first_field(fields)?;
     if !is_type(word) {
@@ -36,7 +35,6 @@ fn read_kind(alloc: Global, kind: Kind, fields: &[&[u8]], origin: &Name) -> Resu
         data_of_kind kind origin.now (octets_of fields.now) ≡ Ok value) }
     ensures refused { IfErr result (λ cause. cause ≢ ZoneCause.Memory
         → data_of_kind kind origin.now (octets_of fields.now) ≡ Err cause) }
-    ensures name { IfErr result (λ cause. cause ≢ ZoneCause.InName NameFault.Memory) }
 {
     match kind {
         Kind::Address4 => read_address4(fields),
@@ -73,11 +71,8 @@ fn read_alias(alloc: Global, fields: &[&[u8]], origin: &Name) -> Result<Data, Zo
         alias_data origin.now (octets_of fields.now) ≡ Ok value) }
     ensures refused { IfErr result (λ cause. cause ≢ ZoneCause.Memory
         → alias_data origin.now (octets_of fields.now) ≡ Err cause) }
-    ensures name { IfErr result (λ cause. cause ≢ ZoneCause.InName NameFault.Memory) }
 {
-    let (name, rest) = first_name(alloc, fields, origin)?;
-    check_end(rest)?;
-    Ok(Data::Alias(name))
+    Ok(Data::Alias(last_name(alloc, fields, origin)?))
 }
 
 // A server of a service (RFC 2782).
@@ -86,13 +81,11 @@ fn read_service(alloc: Global, fields: &[&[u8]], origin: &Name) -> Result<Data, 
         service_data origin.now (octets_of fields.now) ≡ Ok value) }
     ensures refused { IfErr result (λ cause. cause ≢ ZoneCause.Memory
         → service_data origin.now (octets_of fields.now) ≡ Err cause) }
-    ensures name { IfErr result (λ cause. cause ≢ ZoneCause.InName NameFault.Memory) }
 {
     let (priority, rest) = first_number(fields)?;
     let (weight, rest) = first_number(rest)?;
     let (port, rest) = first_number(rest)?;
-    let (target, rest) = first_name(alloc, rest, origin)?;
-    check_end(rest)?;
+    let target = last_name(alloc, rest, origin)?;
     Ok(Data::Service {
         priority,
         weight,
@@ -107,15 +100,13 @@ fn read_pointer(alloc: Global, fields: &[&[u8]], origin: &Name) -> Result<Data, 
         pointer_data origin.now (octets_of fields.now) ≡ Ok value) }
     ensures refused { IfErr result (λ cause. cause ≢ ZoneCause.Memory
         → pointer_data origin.now (octets_of fields.now) ≡ Err cause) }
-    ensures name { IfErr result (λ cause. cause ≢ ZoneCause.InName NameFault.Memory) }
 {
     let (order, rest) = first_number(fields)?;
     let (preference, rest) = first_number(rest)?;
     let (flags, rest) = first_string(alloc, rest)?;
     let (services, rest) = first_string(alloc, rest)?;
     let (regexp, rest) = first_string(alloc, rest)?;
-    let (replacement, rest) = first_name(alloc, rest, origin)?;
-    check_end(rest)?;
+    let replacement = last_name(alloc, rest, origin)?;
     Ok(Data::Pointer {
         order,
         preference,
@@ -171,16 +162,6 @@ fn is_type(field: &[u8]) -> bool
     ensures { result ≡ is_type field.now }
 {
     begins_with_letter(field) && has_type_octets(field)
-}
-
-// Whether the field begins with a letter.
-fn begins_with_letter(field: &[u8]) -> bool
-    ensures { result ≡ begins_with_letter field.now }
-{
-    match field {
-        [first, ..] => first.is_ascii_alphabetic(),
-        [] => false,
-    }
 }
 
 // Whether a type can have each of the octets.

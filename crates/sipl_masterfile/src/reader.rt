@@ -2,10 +2,10 @@
 ghost use Rattle.std.specs.Prelude.{◌≡◌, ◌≢◌, [], ◌∷◌, Ok, Err, IfOk, IfErr, MatchOption};
 ghost use Rattle.sipl_names.specs.LabelSlices.{octets_of};
 ghost use Rattle.sipl_names.specs.NameText.{symbols};
-ghost use Rattle.sipl_masterfile.specs.Readers.{first, at_end, name_in, number_in, string_of, octets_of_symbols, BeginsWithOctet};
+ghost use Rattle.sipl_masterfile.specs.Readers.{first, last, at_end, name_in, number_in, string_of, octets_of_symbols, BeginsWithOctet};
 
 use crate::fault::ZoneCause;
-use sipl_names::{Name, NameFault, read_escape};
+use sipl_names::{InvalidName, Name, read_escape};
 use sipl_records::{Sequence, read_number};
 use std::alloc::Global;
 
@@ -48,21 +48,17 @@ pub(crate) fn first_number<'a>(fields: &'a [&'a [u8]]) -> Result<(u16, &'a [&'a 
     Ok((number as u16, rest))
 }
 
-// A name relative to the origin, and the fields after it.
-pub(crate) fn first_name<'a>(
-    alloc: Global,
-    fields: &'a [&'a [u8]],
-    origin: &Name,
-) -> Result<(Name, &'a [&'a [u8]]), ZoneCause>
-    ensures read { IfOk result (λ next.
-        first (name_in origin.now) (octets_of fields.now) ≡ Ok (next.0, octets_of next.1.now)) }
+// A name relative to the origin, after which no field follows.
+pub(crate) fn last_name(alloc: Global, fields: &[&[u8]], origin: &Name) -> Result<Name, ZoneCause>
+    ensures read { IfOk result (λ name.
+        last (name_in origin.now) (octets_of fields.now) ≡ Ok name) }
     ensures refused { IfErr result (λ cause. cause ≢ ZoneCause.Memory
-        → first (name_in origin.now) (octets_of fields.now) ≡ Err cause) }
-    ensures name { IfErr result (λ cause. cause ≢ ZoneCause.InName NameFault.Memory) }
+        → last (name_in origin.now) (octets_of fields.now) ≡ Err cause) }
 {
     let (field, rest) = first_field(fields)?;
     let name = Name::from_text(alloc, field, origin)?;
-    Ok((name, rest))
+    check_end(rest)?;
+    Ok(name)
 }
 
 // A character string, and the fields after it.
@@ -74,7 +70,6 @@ pub(crate) fn first_string<'a>(
         first string_of (octets_of fields.now) ≡ Ok (next.0, octets_of next.1.now)) }
     ensures refused { IfErr result (λ cause. cause ≢ ZoneCause.Memory
         → first string_of (octets_of fields.now) ≡ Err cause) }
-    ensures name { IfErr result (λ cause. cause ≢ ZoneCause.InName NameFault.Memory) }
 {
     let (field, rest) = first_field(fields)?;
     let string = read_string(alloc, field)?;
@@ -86,7 +81,6 @@ fn read_string(alloc: Global, text: &[u8]) -> Result<Vec<u8>, ZoneCause>
     ensures read { IfOk result (λ string. string_of text.now ≡ Ok string.items) }
     ensures refused { IfErr result (λ cause. cause ≢ ZoneCause.Memory
         → string_of text.now ≡ Err cause) }
-    ensures name { IfErr result (λ cause. cause ≢ ZoneCause.InName NameFault.Memory) }
 {
     let mut string = Vec::with_capacity(alloc, text.len().min(MAX_STRING_LEN))?;
     let mut is_too_long = false;
@@ -111,7 +105,7 @@ fn next_octet(text: &[u8]) -> Result<Option<(u8, &[u8])>, ZoneCause>
         (λ next. MatchOption next (text.now ≡ [])
         (λ parts. BeginsWithOctet text.now parts.0 parts.1.now)) }
     ensures refused { IfErr result
-        (λ cause. (cause ≡ ZoneCause.InName NameFault.BadEscape)
+        (λ cause. (cause ≡ ZoneCause.InName InvalidName.BadEscape)
         × (octets_of_symbols (symbols 0 text.now) ≡ Err cause)) }
 {
     let Some((first, tail)) = text.split_first() else {
@@ -120,6 +114,6 @@ fn next_octet(text: &[u8]) -> Result<Option<(u8, &[u8])>, ZoneCause>
     if *first != b'\\' {
         return Ok(Some((*first, tail)));
     }
-    let (octet, len) = read_escape(tail).ok_or(ZoneCause::InName(NameFault::BadEscape))?;
+    let (octet, len) = read_escape(tail).ok_or(ZoneCause::InName(InvalidName::BadEscape))?;
     Ok(Some((octet, &tail[len..])))
 }

@@ -1,11 +1,12 @@
-ghost use Rattle.std.specs.Prelude.{◌≡◌, ◌≢◌, IfOk, IfErr, Ok, Err};
+ghost use Rattle.std.specs.Prelude.{◌≡◌, ◌≢◌, [], IfOk, IfErr, OnOk, Ok, Err};
+ghost use Rattle.sipl_records.specs.declared.record.Record.{Record};
 ghost use Rattle.sipl_names.specs.LabelSlices.{octets_of};
-ghost use Rattle.sipl_masterfile.specs.RecordText.{record_of, stated_record, state_directive};
+ghost use Rattle.sipl_masterfile.specs.RecordText.{record_of, only_record, record_at_end, stated_record, state_directive};
 
 use crate::entries::Entries;
 use crate::fault::{ZoneCause, ZoneFault};
 use crate::statement::{Statement, is_directive, read_statement};
-use sipl_names::{Name, NameFault};
+use sipl_names::Name;
 use sipl_records::Record;
 use std::alloc::Global;
 
@@ -20,24 +21,67 @@ pub fn read_record(alloc: Global, line: &[u8], origin: &Name) -> Result<Record, 
     ensures refused { IfErr result
         (λ fault. fault.cause ≢ ZoneCause.Memory → record_of line.now origin.now ≡ Err fault) }
     ensures memory { IfErr result (λ fault. fault.cause ≡ ZoneCause.Memory → fault.line ≡ 1) }
-    ensures name { IfErr result (λ fault. fault.cause ≢ ZoneCause.InName NameFault.Memory) }
 {
-    let mut entries = Entries::new(line);
     let mut fields = Vec::new(alloc);
-    let head = entries.next_entry(&mut fields)?.ok_or(ZoneFault {
+    read_only_record(alloc, &mut Entries::new(line), &mut fields, origin)
+}
+
+// The record of the only one of the entries.
+fn read_only_record<'a>(
+    alloc: Global,
+    entries: &mut Entries<'a>,
+    fields: &mut Vec<&'a [u8]>,
+    origin: &Name,
+) -> Result<Record, ZoneFault>
+    ensures read { IfOk result (λ r. only_record entries.old origin.now ≡ Ok r) }
+    ensures refused { IfErr result
+        (λ fault. fault.cause ≢ ZoneCause.Memory → only_record entries.old origin.now ≡ Err fault) }
+    ensures memory { IfErr result (λ fault. fault.cause ≡ ZoneCause.Memory → fault.line ≡ 1) }
+{
+    let record = read_first_record(alloc, entries, fields, origin)?;
+    check_no_entry(entries, fields)?;
+    Ok(record)
+}
+
+// The record of the first of the entries.
+fn read_first_record<'a>(
+    alloc: Global,
+    entries: &mut Entries<'a>,
+    fields: &mut Vec<&'a [u8]>,
+    origin: &Name,
+) -> Result<Record, ZoneFault>
+    ensures read { IfOk result
+        (λ r. only_record entries.old origin.now ≡ record_at_end r entries.new) }
+    ensures refused { IfErr result
+        (λ fault. fault.cause ≢ ZoneCause.Memory → only_record entries.old origin.now ≡ Err fault) }
+    ensures memory { IfErr result (λ fault. fault.cause ≡ ZoneCause.Memory → fault.line ≡ 1) }
+{
+    let head = entries.next_entry(fields)?.ok_or(ZoneFault {
         line: 1,
         cause: ZoneCause::MissingField,
     })?;
-    let record = read_stated_record(alloc, head.is_indented, &fields, origin).map_err(
-        |cause| ZoneFault::at(head.line, cause),
-    )?;
-    if let Some(further) = entries.next_entry(&mut fields)? {
-        return Err(ZoneFault {
+    read_stated_record(alloc, head.is_indented, fields, origin).map_err(|cause| ZoneFault::at(
+        head.line, cause,
+    ))
+}
+
+// That there is no further entry.
+fn check_no_entry<'a>(
+    entries: &mut Entries<'a>,
+    fields: &mut Vec<&'a [u8]>,
+) -> Result<(), ZoneFault>
+    ensures none { OnOk result (entries.old ≡ []) }
+    ensures refused { IfErr result (λ fault. fault.cause ≢ ZoneCause.Memory
+        → (r : Record) → record_at_end r entries.old ≡ Err fault) }
+    ensures memory { IfErr result (λ fault. fault.cause ≡ ZoneCause.Memory → fault.line ≡ 1) }
+{
+    match entries.next_entry(fields)? {
+        Some(further) => Err(ZoneFault {
             line: further.line,
             cause: ZoneCause::ExtraField,
-        });
+        }),
+        None => Ok(()),
     }
-    Ok(record)
 }
 
 // The record that an entry states by itself, with no owner before it.
@@ -51,7 +95,6 @@ fn read_stated_record(
         (λ r. stated_record is_indented (octets_of fields.now) origin.now ≡ Ok r) }
     ensures refused { IfErr result (λ cause. cause ≢ ZoneCause.Memory
         → stated_record is_indented (octets_of fields.now) origin.now ≡ Err cause) }
-    ensures name { IfErr result (λ cause. cause ≢ ZoneCause.InName NameFault.Memory) }
 {
     match read_statement(alloc, is_indented, fields, origin, None) {
         Ok(Statement::Record(record)) => Ok(record),
@@ -71,6 +114,3 @@ fn states_directive(is_indented: bool, fields: &[&[u8]]) -> bool
         None => false,
     }
 }
-
-#[cfg(test)]
-mod tests;

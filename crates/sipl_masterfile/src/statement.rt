@@ -1,17 +1,15 @@
 //! What an entry of a master file states (RFC 1035, 5.1).
 ghost use Rattle.std.specs.Prelude.{◌≡◌, ◌≢◌, Ok, Err, IfOk, IfErr};
-ghost use Rattle.std.specs.Char.{is_ascii_digit};
-ghost use Rattle.std.specs.List.{list_all};
 ghost use Rattle.std.specs.Option.{option_copied};
 ghost use Rattle.sipl_names.specs.LabelSlices.{octets_of};
 ghost use Rattle.sipl_masterfile.specs.Statements.{statement_of, directive_or_record, directive_of, origin_directive, ttl_directive, record_of_owner, from_type, after_ttl, after_class, is_other_class, is_numbered_class, is_directive, begins_with_digit, ttl_is_first};
 
 use crate::fault::ZoneCause;
 use crate::rdata::read_data;
-use crate::reader::{check_end, first_field, first_name};
+use crate::reader::{check_end, first_field, last_name};
 use crate::ttl::read_ttl;
-use sipl_names::{Name, NameFault};
-use sipl_records::Record;
+use sipl_names::Name;
+use sipl_records::{Record, are_digits};
 use std::alloc::Global;
 
 // What an entry states: a record, a new origin, or a ttl, which is checked and not kept.
@@ -36,7 +34,6 @@ pub(crate) fn read_statement(
     ensures refused { IfErr result (λ cause. cause ≢ ZoneCause.Memory
         → statement_of is_indented (octets_of fields.now) origin.now (option_copied owner.entry)
         ≡ Err cause) }
-    ensures name { IfErr result (λ cause. cause ≢ ZoneCause.InName NameFault.Memory) }
 {
     if !is_indented {
         return read_from_margin(alloc, fields, origin);
@@ -52,7 +49,6 @@ fn read_from_margin(alloc: Global, fields: &[&[u8]], origin: &Name) -> Result<St
         directive_or_record origin.now (octets_of fields.now) ≡ Ok statement) }
     ensures refused { IfErr result (λ cause. cause ≢ ZoneCause.Memory
         → directive_or_record origin.now (octets_of fields.now) ≡ Err cause) }
-    ensures name { IfErr result (λ cause. cause ≢ ZoneCause.InName NameFault.Memory) }
 {
     let (field, rest) = first_field(fields)?;
     if is_directive(field) {
@@ -73,7 +69,6 @@ fn read_record_of(
         record_of_owner owner origin.now (octets_of fields.now) ≡ Ok statement) }
     ensures refused { IfErr result (λ cause. cause ≢ ZoneCause.Memory
         → record_of_owner owner origin.now (octets_of fields.now) ≡ Err cause) }
-    ensures name { IfErr result (λ cause. cause ≢ ZoneCause.InName NameFault.Memory) }
 {
     let value = read_data(alloc, from_type(fields)?, origin)?;
     Ok(Statement::Record(Record { owner, value }))
@@ -90,7 +85,6 @@ fn read_directive(
         directive_of word.now origin.now (octets_of fields.now) ≡ Ok statement) }
     ensures refused { IfErr result (λ cause. cause ≢ ZoneCause.Memory
         → directive_of word.now origin.now (octets_of fields.now) ≡ Err cause) }
-    ensures name { IfErr result (λ cause. cause ≢ ZoneCause.InName NameFault.Memory) }
 {
     if word.eq_ignore_ascii_case(b"$ORIGIN") {
         read_origin(alloc, fields, origin)
@@ -111,11 +105,8 @@ fn read_origin(alloc: Global, fields: &[&[u8]], origin: &Name) -> Result<Stateme
         origin_directive origin.now (octets_of fields.now) ≡ Ok statement) }
     ensures refused { IfErr result (λ cause. cause ≢ ZoneCause.Memory
         → origin_directive origin.now (octets_of fields.now) ≡ Err cause) }
-    ensures name { IfErr result (λ cause. cause ≢ ZoneCause.InName NameFault.Memory) }
 {
-    let (name, rest) = first_name(alloc, fields, origin)?;
-    check_end(rest)?;
-    Ok(Statement::Origin(name))
+    Ok(Statement::Origin(last_name(alloc, fields, origin)?))
 }
 
 // The ttl of `$TTL` (RFC 2308, 4), which is checked and not kept.
@@ -134,7 +125,6 @@ fn from_type<'a>(fields: &'a [&'a [u8]]) -> Result<&'a [&'a [u8]], ZoneCause>
     ensures read { IfOk result (λ rest.
         from_type (octets_of fields.now) ≡ Ok (octets_of rest.now)) }
     ensures refused { IfErr result (λ cause. from_type (octets_of fields.now) ≡ Err cause) }
-    ensures name { IfErr result (λ cause. cause ≢ ZoneCause.InName NameFault.Memory) }
 {
     if ttl_is_first(fields) {
         after_class(after_ttl(fields)?)
@@ -158,7 +148,6 @@ fn after_ttl<'a>(fields: &'a [&'a [u8]]) -> Result<&'a [&'a [u8]], ZoneCause>
     ensures read { IfOk result (λ rest.
         after_ttl (octets_of fields.now) ≡ Ok (octets_of rest.now)) }
     ensures refused { IfErr result (λ cause. after_ttl (octets_of fields.now) ≡ Err cause) }
-    ensures name { IfErr result (λ cause. cause ≢ ZoneCause.InName NameFault.Memory) }
 {
     if !ttl_is_first(fields) {
         return Ok(fields);
@@ -173,7 +162,6 @@ fn after_class<'a>(fields: &'a [&'a [u8]]) -> Result<&'a [&'a [u8]], ZoneCause>
     ensures read { IfOk result (λ rest.
         after_class (octets_of fields.now) ≡ Ok (octets_of rest.now)) }
     ensures refused { IfErr result (λ cause. after_class (octets_of fields.now) ≡ Err cause) }
-    ensures name { IfErr result (λ cause. cause ≢ ZoneCause.InName NameFault.Memory) }
 {
     let Some((field, rest)) = fields.split_first() else {
         return Ok(fields);
@@ -208,19 +196,9 @@ fn is_numbered_class(field: &[u8]) -> bool
     word.eq_ignore_ascii_case(b"CLASS") && are_digits(digits)
 }
 
-// Whether each of the octets is a digit.
-fn are_digits(octets: &[u8]) -> bool
-    ensures { result ≡ list_all is_ascii_digit octets.now }
-{
-    octets.iter().all(|octet| octet.is_ascii_digit())
-}
-
 // Whether the field begins with the `$` of a directive.
 pub(crate) fn is_directive(field: &[u8]) -> bool
     ensures { result ≡ is_directive field.now }
 {
     matches!(field, [b'$', ..])
 }
-
-#[cfg(test)]
-mod tests;

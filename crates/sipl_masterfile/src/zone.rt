@@ -1,7 +1,7 @@
 ghost use Rattle.std.specs.Prelude.{◌≡◌, ◌≢◌, IfOk, IfErr, Ok, Err};
 ghost use Rattle.sipl_masterfile.specs.Zones.{IsZone, zone_of};
+ghost use Rattle.sipl_masterfile.specs.ZoneText.{zone_with};
 
-use crate::entries::Entries;
 use crate::fault::{ZoneCause, ZoneFault};
 use crate::reading::Reading;
 use sipl_names::Name;
@@ -20,40 +20,21 @@ pub struct ZoneText {
 }
 
 impl Model for ZoneText {
-    ghost use Rattle.sipl_masterfile.specs.Zones.{Zone, IsZone};
+    ghost use Rattle.sipl_masterfile.specs.Zones.{Zone};
+    ghost use Rattle.sipl_masterfile.specs.ZoneText.{state_of, IsZoneText};
 
     ghost Value = { Zone };
 
-    ghost view = { λ z. record {
-      apex = z.apex;
-      records = z.records.items;
-      outside = z.outside;
-      repeated = z.repeated;
-    } };
+    ghost view = { state_of };
 
-    ghost invariant = { λ z. let zone : Zone = record {
-      apex = z.apex;
-      records = z.records.items;
-      outside = z.outside;
-      repeated = z.repeated;
-    } in IsZone zone };
+    ghost invariant = { IsZoneText };
 }
 
 impl ZoneText {
     // The zone of these records.
     pub(crate) fn new(apex: Name, records: Vec<Record>, outside: u64, repeated: u64) -> Self
-        requires { IsZone (record {
-          apex = apex;
-          records = records.items;
-          outside = outside;
-          repeated = repeated;
-        }) }
-        ensures { result ≡ record {
-          apex = apex;
-          records = records.items;
-          outside = outside;
-          repeated = repeated;
-        } }
+        requires { IsZone (zone_with apex records.items outside repeated) }
+        ensures { result ≡ zone_with apex records.items outside repeated }
     {
         ZoneText {
             apex,
@@ -105,16 +86,7 @@ pub fn read_zone(alloc: Global, text: &[u8], apex: &Name) -> Result<ZoneText, Zo
         (λ fault. fault.cause ≢ ZoneCause.Memory → zone_of text.now apex.now ≡ Err fault) }
     ensures memory { IfErr result (λ fault. fault.cause ≡ ZoneCause.Memory → fault.line ≡ 1) }
 {
-    let mut entries = Entries::new(text);
-    let mut fields = Vec::new(alloc);
     let mut reading = Reading::new(alloc, apex)?;
-    while let Some(head) = entries.next_entry(&mut fields)? {
-        if let Err(cause) = reading.read_entry(alloc, head.is_indented, &fields) {
-            return Err(ZoneFault::at(head.line, cause));
-        }
-    }
+    reading.read_text(alloc, text)?;
     Ok(reading.into_zone())
 }
-
-#[cfg(test)]
-mod tests;

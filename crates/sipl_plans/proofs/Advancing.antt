@@ -9,7 +9,7 @@ use Rattle.sipl_evidence.specs.Items.{Item}
 use Rattle.sipl_evidence.specs.Known.{known, first_unknown, advance, known_result}
 use Rattle.sipl_evidence.specs.Looks.{Asking, done, ask, and_then, key}
 use Rattle.sipl_evidence.specs.Walks.{WalkState, asking_at, walk_asking}
-use Rattle.sipl_evidence.proofs.Walking.{first_unknown-next_key, next_key, next_key-alias, next_key-set}
+use Rattle.sipl_evidence.proofs.Public.{first_unknown-next_key, next_key, next_key-alias, next_key-set}
 
 -- equal continuations make equal computations
 pub and_then-alike : {A B : Type 0} (first : Asking A) (f g : A → Asking B) → ((x : A) → f x ≡ g x) → and_then first f ≡ and_then first g

@@ -9,8 +9,7 @@ use Rattle.sipl_choice.specs.Abilities.{Client}
 use Rattle.sipl_evidence.specs.Items.{Item}
 use Rattle.sipl_evidence.specs.Known.{advance, first_unknown}
 use Rattle.sipl_evidence.specs.Looks.{done, asked, result_of}
-use Rattle.sipl_evidence.proofs.Knowing.{result_of-advance}
-use Rattle.sipl_evidence.proofs.Traces.{unique-whole_trace}
+use Rattle.sipl_evidence.proofs.Public.{result_of-advance, unique-whole_trace}
 use Rattle.sipl_uri.specs.declared.question.Question.{Question}
 use Rattle.sipl_plans.specs.Findings.{IsSound}
 use Rattle.sipl_plans.specs.Route.{asking_route, reads}

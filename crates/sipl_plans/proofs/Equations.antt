@@ -9,7 +9,7 @@ use Rattle.sipl_srv.specs.Offers.{offer_of}
 use Rattle.sipl_srv.specs.declared.pick.Pick.{Pick}
 use Rattle.sipl_evidence.specs.Looks.{Look, done, and_then, result_of}
 use Rattle.sipl_evidence.specs.Answers.{answer, asking}
-use Rattle.sipl_evidence.proofs.Composing.{result_of-and_then}
+use Rattle.sipl_evidence.proofs.Public.{result_of-and_then}
 use Rattle.sipl_choice.specs.Abilities.{Client}
 use Rattle.sipl_choice.specs.FamilyKinds.{address_kinds}
 use Rattle.sipl_choice.specs.declared.transport.Transport.{Transport}

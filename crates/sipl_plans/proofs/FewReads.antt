@@ -22,8 +22,7 @@ use Rattle.sipl_srv.specs.declared.pick.Offer.{Offer}
 use Rattle.sipl_srv.specs.declared.pick.Offer.TheVariants.{Nothing, Closed, Picks}
 use Rattle.sipl_evidence.specs.Looks.{Look, Asking, done, and_then, result_of, asked}
 use Rattle.sipl_evidence.specs.Answers.{asking}
-use Rattle.sipl_evidence.proofs.Alike.{length-asked_within}
-use Rattle.sipl_evidence.proofs.Composing.{asked-and_then}
+use Rattle.sipl_evidence.proofs.Public.{length-asked_within, asked-and_then}
 use Rattle.sipl_uri.specs.declared.question.Question.{Question}
 use Rattle.sipl_uri.specs.declared.question.Target.{Target}
 use Rattle.sipl_uri.specs.declared.question.Target.TheVariants.{Numeric, Domain}

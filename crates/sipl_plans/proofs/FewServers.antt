@@ -24,7 +24,7 @@ use Rattle.sipl_srv.specs.declared.pick.Offer.{Offer}
 use Rattle.sipl_srv.specs.declared.pick.Offer.TheVariants.{Nothing, Closed, Picks}
 use Rattle.sipl_evidence.specs.Looks.{Look, key, Asking, done, ask, and_then, result_of}
 use Rattle.sipl_evidence.specs.Answers.{answer, asking, asking_within, first_target}
-use Rattle.sipl_evidence.proofs.Composing.{result_of-and_then}
+use Rattle.sipl_evidence.proofs.Public.{result_of-and_then}
 use Rattle.sipl_uri.specs.declared.question.Question.{Question}
 use Rattle.sipl_uri.specs.declared.question.Target.{Target}
 use Rattle.sipl_uri.specs.declared.question.Target.TheVariants.{Numeric, Domain}

@@ -11,7 +11,7 @@ use Rattle.sipl_choice.specs.Endpoints.{same_endpoint}
 use Rattle.sipl_choice.specs.declared.endpoint.Endpoint.{Endpoint}
 use Rattle.sipl_choice.specs.declared.transport.Transport.{Transport}
 use Rattle.sipl_srv.specs.Order.{Rank, ordered}
-use Rattle.sipl_srv.proofs.Orders.{ordered-IsPermutation}
+use Rattle.sipl_srv.proofs.Public.{ordered-IsPermutation}
 use Rattle.sipl_outages.specs.Holds.{Holds, is_held}
 use Rattle.sipl_plans.specs.Plan.{endpoints_of, source_rank}
 use Rattle.sipl_plans.specs.Servers.{AreFew, HasFewServers}

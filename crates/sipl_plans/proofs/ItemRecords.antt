@@ -10,8 +10,7 @@ use Rattle.sipl_records.specs.declared.data.Data.{Data}
 use Rattle.sipl_records.specs.declared.kind.Kind.{Kind}
 use Rattle.sipl_records.specs.declared.record.Key.{Key}
 use Rattle.sipl_records.specs.declared.record.Record.{Record}
-use Rattle.sipl_records.proofs.Keys.{has_key-key_of, same_key-Decides, same_key-refl, same_kind-Decides}
-use Rattle.sipl_records.proofs.Sets.{set_of-append}
+use Rattle.sipl_records.proofs.Public.{has_key-key_of, same_key-Decides, same_key-refl, same_kind-Decides, set_of-append}
 use Rattle.sipl_evidence.specs.Items.{Item, HasDistinctKeys}
 use Rattle.sipl_evidence.specs.Known.{Agrees}
 use Rattle.sipl_plans.proofs.KnownLook.{first-apart, rest-distinct}

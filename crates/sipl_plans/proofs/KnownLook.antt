@@ -10,11 +10,11 @@ use Rattle.sipl_records.specs.Sets.{same_key}
 use Rattle.sipl_records.specs.Unique.{unique}
 use Rattle.sipl_records.specs.declared.data.Data.{Data}
 use Rattle.sipl_records.specs.declared.record.Key.{Key}
-use Rattle.sipl_records.proofs.Keys.{same_key-Decides, same_key-refl}
+use Rattle.sipl_records.proofs.Public.{same_key-Decides, same_key-refl}
 use Rattle.sipl_evidence.specs.Items.{Item, HasDistinctKeys}
 use Rattle.sipl_evidence.specs.Known.{known, is_unknown, Agrees, first_unknown, IsTraceAfter, IsTrace}
 use Rattle.sipl_evidence.specs.Looks.{Look, Asking, done, ask, asked}
-use Rattle.sipl_evidence.proofs.Traces.{unique-trace}
+use Rattle.sipl_evidence.proofs.Public.{unique-trace}
 
 -- the first key that is unknown is not known
 unknown-first : {A : Type 0} (items : List Item) (asking : Asking A) (k : Key) → first_unknown items asking ≡ Some k → known items k ≡ None

@@ -3,7 +3,6 @@ pub mod Answering
 pub mod Deciding
 pub mod Equations
 pub mod FewReads
-pub mod FewRecords
 pub mod FewServers
 pub mod FewTargets
 pub mod FreeTargets

@@ -9,9 +9,7 @@ use Rattle.sipl_choice.specs.Abilities.{Client}
 use Rattle.sipl_evidence.specs.Items.{Item}
 use Rattle.sipl_evidence.specs.Known.{advance, first_unknown}
 use Rattle.sipl_evidence.specs.Looks.{Asking, done}
-use Rattle.sipl_evidence.proofs.Knowing.{advance-advance, first_unknown-advance}
-use Rattle.sipl_evidence.proofs.Traces.{trace-push}
-use Rattle.sipl_evidence.proofs.Walking.{next_key, first_unknown-next_key}
+use Rattle.sipl_evidence.proofs.Public.{advance-advance, first_unknown-advance, trace-push, next_key, first_unknown-next_key}
 use Rattle.sipl_uri.specs.declared.question.Question.{Question}
 use Rattle.sipl_plans.specs.Route.{asking_route}
 use Rattle.sipl_plans.specs.Runs.{RunState, IsRun, IsSet, IsWanted}

@@ -11,7 +11,7 @@ use Rattle.sipl_choice.specs.declared.transport.Transport.{Transport}
 use Rattle.sipl_srv.specs.declared.pick.Offer.{Offer}
 use Rattle.sipl_evidence.specs.Looks.{Look, Asking, and_then, result_of}
 use Rattle.sipl_evidence.specs.Answers.{answer, asking}
-use Rattle.sipl_evidence.proofs.Composing.{result_of-and_then}
+use Rattle.sipl_evidence.proofs.Public.{result_of-and_then}
 use Rattle.sipl_plans.specs.declared.layout.Layout.{Layout}
 use Rattle.sipl_plans.specs.Route.{addresses, asking_chosen, asking_offer, asking_offered, asking_over, asking_own, asking_services, asking_tried, is_tried, offer_at, sole_server}
 use Rattle.sipl_plans.proofs.Equations.{own_is}

@@ -8,11 +8,11 @@ use Rattle.std.proofs.lemmas.Grind.{flat_map-append}
 use Rattle.sipl_records.specs.declared.address.Address.{Address}
 use Rattle.sipl_records.specs.declared.address.Address.TheVariants.{V4}
 use Rattle.sipl_records.specs.Unique.{unique}
-use Rattle.sipl_records.proofs.Unique.{transitive_from_equivalence, unique-append}
+use Rattle.sipl_records.proofs.Public.{transitive_from_equivalence, unique-append}
 use Rattle.sipl_choice.specs.declared.endpoint.Endpoint.{Endpoint}
 use Rattle.sipl_choice.specs.declared.transport.Transport.{Transport}
 use Rattle.sipl_choice.specs.Endpoints.{same_endpoint}
-use Rattle.sipl_choice.proofs.SameEndpoint.{same_endpoint-equivalence}
+use Rattle.sipl_choice.proofs.Public.{same_endpoint-equivalence}
 use Rattle.sipl_plans.specs.declared.layout.Source.{Source}
 use Rattle.sipl_plans.specs.Plan.{endpoints_at, endpoints_of}
 

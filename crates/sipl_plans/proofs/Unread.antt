@@ -6,13 +6,11 @@ use Rattle.std.proofs.lemmas.List.Elements.{All-contains, Contains-get_or}
 use Rattle.sipl_records.specs.Sets.{same_key}
 use Rattle.sipl_records.specs.Unique.{unique}
 use Rattle.sipl_records.specs.declared.record.Key.{Key}
-use Rattle.sipl_records.proofs.Keys.{same_key-Decides}
-use Rattle.sipl_records.proofs.Unique.{Contains-unique, unique-filter}
+use Rattle.sipl_records.proofs.Public.{same_key-Decides, Contains-unique, unique-filter}
 use Rattle.sipl_evidence.specs.Items.{Item}
 use Rattle.sipl_evidence.specs.Known.{Agrees, IsTrace, is_unknown, first_unknown}
 use Rattle.sipl_evidence.specs.Looks.{Look, Asking, asked}
-use Rattle.sipl_evidence.proofs.Knowing.{first_unknown-find}
-use Rattle.sipl_evidence.proofs.Traces.{unique-trace}
+use Rattle.sipl_evidence.proofs.Public.{first_unknown-find, unique-trace}
 use Rattle.sipl_plans.specs.Runs.{first_unread}
 
 -- the first value that passes is not among those that a filter leaves out

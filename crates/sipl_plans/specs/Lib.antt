@@ -5,4 +5,6 @@ pub mod Plan
 pub mod Runs
 pub mod Findings
 pub mod Stages
+pub mod Run
+pub mod Finding
 pub mod Unfinished

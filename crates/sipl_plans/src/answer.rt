@@ -63,23 +63,3 @@ impl fmt::Display for Reason {
         f.write_str(self.name())
     }
 }
-
-#[cfg(test)]
-mod tests {
-    use super::*;
-    use std::test::Fail;
-
-    #[test]
-    fn reasons_have_names(rt: HostRuntime) -> Result<(), Fail> {
-        for (reason, want) in [
-            (Reason::NoAddress, "NoAddress"),
-            (Reason::NotAvailable, "NotAvailable"),
-            (Reason::NoTransport, "NoTransport"),
-            (Reason::AllHeld, "AllHeld"),
-        ] {
-            assert_eq!(rt; reason.name(), want);
-            assert_eq!(rt; reason.to_string(rt.alloc())?.as_str(), want);
-        }
-        Ok(())
-    }
-}

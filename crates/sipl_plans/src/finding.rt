@@ -25,23 +25,15 @@ pub struct Finding {
 }
 
 impl Model for Finding {
-    ghost use Rattle.sipl_plans.specs.Findings.{Found, IsSound};
+    ghost use Rattle.sipl_plans.specs.Findings.{Found};
 
     ghost Value = { Found };
 
-    ghost view = { λ f. record {
-      question = f.question;
-      client = f.abilities;
-      layout = f.layout;
-      items = f.evidence;
-    } };
+    ghost use Rattle.sipl_plans.specs.Finding.{found_of, IsValidFinding};
 
-    ghost invariant = { λ f. IsSound (record {
-      question = f.question;
-      client = f.abilities;
-      layout = f.layout;
-      items = f.evidence;
-    }) };
+    ghost view = { found_of };
+
+    ghost invariant = { IsValidFinding };
 }
 
 impl Finding {

@@ -11,8 +11,6 @@ mod route;
 mod run;
 mod serving;
 mod stage;
-#[cfg(test)]
-mod tests;
 
 pub use answer::{Answer, Reason};
 pub use finding::Finding;

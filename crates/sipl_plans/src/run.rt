@@ -15,9 +15,9 @@ use sipl_evidence::{Evidence, Item, dup_data};
 use sipl_records::{Data, Key, Sequence};
 use sipl_uri::Question;
 use std::alloc::{AllocError, Global};
-use std::error::Error;
 use std::marker::Model;
 use std::{fmt, mem};
+use thiserror::Error;
 
 /// The maximum number of record sets that a run wants: those of 68 walks over 8 aliases each.
 pub const MAX_SETS: usize = 1156;
@@ -37,20 +37,11 @@ impl Model for Run {
 
     ghost Value = { RunState };
 
-    ghost use Rattle.sipl_plans.specs.Runs.{IsRun};
-    ghost use Rattle.sipl_plans.specs.Route.{asking_route};
-    ghost use Rattle.sipl_plans.specs.Stages.{HasReached};
+    ghost use Rattle.sipl_plans.specs.Run.{state_of, IsValidRun};
 
-    ghost view = { λ r. record {
-      question = r.question;
-      client = r.abilities;
-      items = r.evidence;
-    } };
+    ghost view = { state_of };
 
-    ghost invariant = { λ r.
-        IsRun (record { question = r.question; client = r.abilities; items = r.evidence })
-        × HasReached r.question r.abilities r.evidence
-        (asking_route r.question r.abilities) r.progress };
+    ghost invariant = { IsValidRun };
 }
 
 impl Run {
@@ -100,8 +91,7 @@ impl Run {
         let Progress::Wanting(key, stage) = &mut self.progress else {
             unreachable!()
         };
-        let content = Sequence::from_vec(dup_data(alloc, content)?);
-        let item = Item::new(key.dup(alloc)?, number, content);
+        let item = item_of(alloc, key, number, content)?;
         if self.evidence.push(item).is_err() {
             return Err(AllocError);
         }
@@ -152,29 +142,30 @@ impl Run {
     }
 }
 
+// The set of a key: a copy of its data, and its number.
+fn item_of(alloc: Global, key: &Key, number: u64, content: &[Data]) -> Result<Item, AllocError>
+    requires { (number ≡ 0) ↔ (content.now ≡ []) }
+    ensures { IfOk result (λ item. item
+        ≡ record { key = key.now; number = number; content = content.now }) }
+{
+    let key = key.dup(alloc)?;
+    let content = dup_data(alloc, content)?;
+    Ok(Item::new(key, number, Sequence::from_vec(content)))
+}
+
 /// A run that still wants a set (P1).
-#[derive(Drop)]
+#[derive(Drop, Error)]
+#[error("the run still wants a set")]
 pub struct Unfinished {
     pub run: Run,
 }
 
 impl Unfinished {
-    /// The error's code in replies, `P1`.
+    /// The error's code in replies, such as `P1`.
     pub fn code(&self) -> &'static str
         ensures { result.now ≡ code_of self.now }
     {
         "P1"
-    }
-}
-
-impl fmt::Display for Unfinished {
-    ghost use Rattle.std.specs.Prelude.{Some};
-    ghost use Rattle.sipl_plans.specs.Unfinished.{message_of};
-
-    ghost output = { λ fault. Some (message_of fault) };
-
-    fn fmt<W: fmt::Write>(&self, f: &mut fmt::Formatter<W>) -> fmt::Result {
-        f.write_str("the run still wants a set")
     }
 }
 
@@ -184,8 +175,3 @@ impl fmt::Debug for Unfinished {
         f.write_str("Unfinished")
     }
 }
-
-impl Error for Unfinished {}
-
-#[cfg(test)]
-mod tests;

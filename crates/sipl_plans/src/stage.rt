@@ -315,6 +315,3 @@ fn read_addresses(
         }
     }
 }
-
-#[cfg(test)]
-mod tests;

@@ -8,18 +8,14 @@ use Rattle.std.proofs.lemmas.List.Elements.{filter_agree, filter-append, filter_
 use Rattle.std.proofs.lemmas.List.Folds.{list_any-append}
 use Rattle.std.proofs.lemmas.Map.Views.{Contains-from_any}
 use Rattle.sipl_names.specs.Labels.{same_name, is_within}
-use Rattle.sipl_names.proofs.SameName.{same_name_decides}
+use Rattle.sipl_names.proofs.Public.{same_name_decides}
 use Rattle.sipl_records.specs.declared.data.Data.{Data}
-use Rattle.sipl_records.proofs.SameData.{same_data-Decides, same_record-Decides}
+use Rattle.sipl_records.proofs.Public.{same_data-Decides, same_record-Decides, filter-none, filter-other, filter-all, list_any-filter, same_key-Decides, same_key-refl, same_key-sym, is_key, has_key-key_of, key_of-name, unique-append, unique-filter, list_any-unique, IsDistinct-unique, set_of-append, set_of-filter_kept, set_of-filter_dropped, has_key-name}
 use Rattle.sipl_zonestore.specs.Edits.{records_without}
 use Rattle.sipl_records.specs.declared.record.Record.{Record}
 use Rattle.sipl_records.specs.declared.record.Key.{Key}
 use Rattle.sipl_records.specs.Sets.{has_key, set_of, same_data, same_key, same_record, key_of}
 use Rattle.sipl_records.specs.Unique.{unique}
-use Rattle.sipl_records.proofs.Filters.{filter-none, filter-other, filter-all, list_any-filter}
-use Rattle.sipl_records.proofs.Keys.{same_key-Decides, same_key-refl, same_key-sym, is_key, has_key-key_of, key_of-name}
-use Rattle.sipl_records.proofs.Unique.{unique-append, unique-filter, list_any-unique, IsDistinct-unique}
-use Rattle.sipl_records.proofs.Sets.{set_of-append, set_of-filter_kept, set_of-filter_dropped, has_key-name}
 use Rattle.sipl_zonestore.specs.Store.{records_outside, records_within}
 use Rattle.sipl_zonestore.specs.Changes.{is_changed, changed_among, changed_keys}
 use Rattle.sipl_zonestore.proofs.Elements.{or_first, or_second, or_left, or_right}

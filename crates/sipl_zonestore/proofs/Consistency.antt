@@ -9,13 +9,12 @@ use Rattle.std.proofs.lemmas.List.Kept.{AllPairs-cons, AllPairs-filter}
 use Rattle.std.proofs.lemmas.List.Quantifiers.{all_pairs_push}
 use Rattle.std.proofs.lemmas.List.Sums.{sum_by-append, length-filter, count_by-le-length}
 use Rattle.sipl_names.specs.Labels.{same_name, is_within}
-use Rattle.sipl_names.proofs.SameName.{same_name_decides}
+use Rattle.sipl_names.proofs.Public.{same_name_decides}
 use Rattle.sipl_records.specs.declared.kind.Kind.TheVariants.{Alias}
 use Rattle.sipl_records.specs.declared.record.Record.{Record}
 use Rattle.sipl_records.specs.declared.record.Key.{Key}
 use Rattle.sipl_records.specs.Sets.{conflicts, has_kind, has_some_kind, same_record, key_of, shares_set}
-use Rattle.sipl_records.proofs.Keys.{same_name-sym, shares_set-Decides, shares_set-Some}
-use Rattle.sipl_records.proofs.SameData.{same_record-sym}
+use Rattle.sipl_records.proofs.Public.{same_name-sym, shares_set-Decides, shares_set-Some, same_record-sym}
 use Rattle.sipl_masterfile.specs.Zones.{Zone, IsZone, has_repeats, sets_fit}
 use Rattle.sipl_zonestore.specs.declared.fault.StoreFault.{StoreFault}
 use Rattle.sipl_zonestore.specs.Numbers.{IsNumbered, number_after, next_after, number_refusal}

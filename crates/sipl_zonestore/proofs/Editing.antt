@@ -13,14 +13,14 @@ use Rattle.sipl_zonestore.specs.Store.{Zones, Store, number_in, is_covered}
 use Rattle.sipl_zonestore.specs.Edits.{Edit, unload, remove, after, refusal_of}
 use Rattle.sipl_zonestore.specs.Changes.{changed_keys}
 use Rattle.sipl_zonestore.specs.Numbers.{number_after, next_after, number_refusal}
-use Rattle.sipl_zonestore.specs.NumberedRecords.{Numbered, IsReplaced}
+use Rattle.sipl_zonestore.specs.IndexedRecords.{IndexedState, IsReplaced}
 use Rattle.sipl_zonestore.specs.Edited.{IsEdited}
 use Rattle.sipl_zonestore.specs.Consistent.{IsConsistent}
 use Rattle.sipl_zonestore.proofs.Numbering.{kept-after}
 use Rattle.sipl_zonestore.proofs.Consistency.{IsGood, consistent-edited}
 
 -- the records of a store, with their numbers
-abbrev pub part : Store → Numbered
+abbrev pub part : Store → IndexedState
 part store = record { records = store.zones.records; numbers = store.numbers; next = store.next }
 
 second : (first second : Option StoreFault) (fault : StoreFault) → first ≡ None → second ≡ Some fault → option_or first second ≡ Some fault
@@ -94,11 +94,11 @@ always-err (Ok keys) p = tt
 always-err (Err fault) p = p
 
 -- a store by its parts
-abbrev pub store_of : List (List (List ℕ)) → Numbered → ℕ → ℕ → Store
+abbrev pub store_of : List (List (List ℕ)) → IndexedState → ℕ → ℕ → Store
 store_of apexes records max_records looks =
     record { zones = record { apexes = apexes; records = records.records }; max_records = max_records; numbers = records.numbers; next = records.next; looks = looks }
 
-pub edited-with : (edit : Edit) (apexes apexes' : List (List (List ℕ))) (records records' : Numbered) (max_records looks : ℕ) (result : Result (List Key) StoreFault) → IsGood edit → IsConsistent (store_of apexes records max_records looks) → refusal_of max_records edit (record { apexes = apexes; records = records.records }) ≡ None → IsReplaced (after edit (record { apexes = apexes; records = records.records })).records records records' result → OnOk result (apexes' ≡ (after edit (record { apexes = apexes; records = records.records })).apexes) → OnErr result (apexes' ≡ apexes) → IsEdited edit (store_of apexes records max_records looks) (store_of apexes' records' max_records looks) result
+pub edited-with : (edit : Edit) (apexes apexes' : List (List (List ℕ))) (records records' : IndexedState) (max_records looks : ℕ) (result : Result (List Key) StoreFault) → IsGood edit → IsConsistent (store_of apexes records max_records looks) → refusal_of max_records edit (record { apexes = apexes; records = records.records }) ≡ None → IsReplaced (after edit (record { apexes = apexes; records = records.records })).records records records' result → OnOk result (apexes' ≡ (after edit (record { apexes = apexes; records = records.records })).apexes) → OnErr result (apexes' ≡ apexes) → IsEdited edit (store_of apexes records max_records looks) (store_of apexes' records' max_records looks) result
 edited-with edit apexes apexes' records records' max_records looks result good held accepted is done kept =
     edited edit (store_of apexes records max_records looks) (store_of apexes' records' max_records looks) result good held accepted is done kept refl refl
 

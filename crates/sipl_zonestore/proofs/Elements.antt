@@ -4,7 +4,7 @@ use Rattle.std.specs.List.{filter, list_any, list_all, count_by}
 use Rattle.std.proofs.lemmas.Bool.{cases_Bool}
 use Rattle.std.proofs.lemmas.List.Elements.{filter_agree}
 use Rattle.std.proofs.lemmas.List.Sums.{length-filter, count_by-le-length}
-use Rattle.sipl_records.proofs.Filters.{filter-swap}
+use Rattle.sipl_records.proofs.Public.{filter-swap}
 
 pub or_left : (a b : Bool) → (a || b) ≡ false → a ≡ false
 or_left true b h = h

@@ -6,8 +6,7 @@ use Rattle.sipl_records.specs.declared.record.Record.{Record}
 use Rattle.sipl_records.specs.declared.record.Key.{Key}
 use Rattle.sipl_records.specs.contracts.record.KeyPartialEq.TheImpl.{eq-value}
 use Rattle.sipl_records.specs.Sets.{has_key, same_key, key_of}
-use Rattle.sipl_records.proofs.Keys.{same_key-Decides, is_key, has_key-key_of}
-use Rattle.sipl_records.proofs.Same.{same_key_decides}
+use Rattle.sipl_records.proofs.Public.{same_key-Decides, is_key, has_key-key_of, same_key_decides}
 
 pub same_key-trans : (a b c : Key) → same_key a b ≡ true → same_key b c ≡ true → same_key a c ≡ true
 same_key-trans a b c ab bc = (same_key-Decides a c).1 ((same_key-Decides a b).0 ab ∙ (same_key-Decides b c).0 bc)

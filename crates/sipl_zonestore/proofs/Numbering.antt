@@ -12,7 +12,7 @@ use Rattle.sipl_zonestore.specs.Changes.{is_changed, changed_keys}
 use Rattle.sipl_zonestore.specs.Numbers.{is_empty, numbered_keys, number_after, next_after, number_refusal, IsNumbered}
 use Rattle.sipl_zonestore.proofs.SameSets.{same_set-true}
 use Rattle.sipl_zonestore.proofs.ChangedKeys.{kept-any, failed-none, changed-any}
-use Rattle.sipl_records.proofs.Keys.{same_key-sym}
+use Rattle.sipl_records.proofs.Public.{same_key-sym}
 use Rattle.sipl_zonestore.specs.declared.fault.StoreFault.TheVariants.{NumberSpent}
 use Rattle.sipl_zonestore.proofs.Positions.{from-le, from-lt, from-none, from-some, from-same}
 

@@ -5,7 +5,7 @@ use Rattle.std.specs.Option.{option_or}
 use Rattle.std.proofs.lemmas.Bool.{cases_Bool}
 use Rattle.sipl_records.specs.declared.record.Key.{Key}
 use Rattle.sipl_records.specs.Sets.{same_key}
-use Rattle.sipl_records.proofs.Keys.{same_key-Decides}
+use Rattle.sipl_records.proofs.Public.{same_key-Decides}
 use Rattle.sipl_zonestore.proofs.Elements.{or_left, or_right}
 
 pub from-le : {X : Type 0} (p : X → Bool) (i n : ℕ) (xs : List X) → position_from p i xs ≡ Some n → i ≤ n

@@ -6,8 +6,7 @@ use Rattle.sipl_names.specs.Labels.{is_within}
 use Rattle.sipl_records.specs.declared.record.Record.{Record}
 use Rattle.sipl_records.specs.declared.record.Key.{Key}
 use Rattle.sipl_records.specs.Sets.{has_key, set_of, same_data, same_key, same_record, key_of}
-use Rattle.sipl_records.proofs.Keys.{same_key-Decides, same_key-refl, has_key-key_of, is_key}
-use Rattle.sipl_records.proofs.Sets.{set_of-append}
+use Rattle.sipl_records.proofs.Public.{same_key-Decides, same_key-refl, has_key-key_of, is_key, set_of-append}
 use Rattle.sipl_zonestore.specs.declared.fault.StoreFault.{StoreFault}
 use Rattle.sipl_zonestore.specs.declared.fault.StoreFault.TheVariants.{Memory, NumberSpent}
 use Rattle.sipl_zonestore.specs.Store.{records_outside}
@@ -15,7 +14,7 @@ use Rattle.sipl_zonestore.specs.Edits.{records_without}
 use Rattle.sipl_zonestore.specs.Changes.{changed_keys}
 use Rattle.sipl_zonestore.specs.Numbers.{is_empty, number_of, numbered_keys, number_after, next_after, number_refusal}
 use Rattle.sipl_zonestore.specs.SetTable.{NumberedSet, Content, carried, content_of, numbers_of, pushed, without, renumbered, keys_left, has_set, HasSets}
-use Rattle.sipl_zonestore.specs.NumberedRecords.{Numbered, IsReplaced}
+use Rattle.sipl_zonestore.specs.IndexedRecords.{IndexedState, IsReplaced}
 use Rattle.sipl_zonestore.proofs.ChangedKeys.{changed-add, changed-remove, set_of-without, set_of-others}
 use Rattle.sipl_zonestore.proofs.Elements.{chosen-first, chosen-second}
 use Rattle.sipl_zonestore.proofs.SetTables.{number_of-numbers_of, is_empty-push}
@@ -29,12 +28,12 @@ kept-number old new sets key has same = empty_case (is_empty (set_of new key)) r
   empty_case false left = sym (number_of-numbers_of sets key)
 
 -- of a change that was made
-pub done : (records : List Record) (old new : Numbered) (keys : List Key) → number_refusal old.records records old.next ≡ None → new.records ≡ records → keys ≡ changed_keys old.records records → ((key : Key) → number_of new.numbers key ≡ number_after old.records records old.next (number_of old.numbers) key) → new.next ≡ next_after old.records records old.next → IsReplaced records old new (Ok keys)
+pub done : (records : List Record) (old new : IndexedState) (keys : List Key) → number_refusal old.records records old.next ≡ None → new.records ≡ records → keys ≡ changed_keys old.records records → ((key : Key) → number_of new.numbers key ≡ number_after old.records records old.next (number_of old.numbers) key) → new.next ≡ next_after old.records records old.next → IsReplaced records old new (Ok keys)
 done records old new keys accepted after changed numbers next =
     record { accepted = accepted; after = after; changed = changed; numbers = numbers; next = next; refused = tt; unchanged = tt }
 
 -- and of one that was refused
-pub refused : (records : List Record) (old new : Numbered) (fault : StoreFault) → (fault ≢ Memory → number_refusal old.records records old.next ≡ Some fault) → new ≡ old → IsReplaced records old new (Err fault)
+pub refused : (records : List Record) (old new : IndexedState) (fault : StoreFault) → (fault ≢ Memory → number_refusal old.records records old.next ≡ Some fault) → new ≡ old → IsReplaced records old new (Err fault)
 refused records old new fault why same =
     record { accepted = tt; after = tt; changed = tt; numbers = tt; next = tt; refused = why; unchanged = same }
 

@@ -10,7 +10,7 @@ use Rattle.sipl_records.specs.declared.record.Record.{Record}
 use Rattle.sipl_records.specs.declared.record.Key.{Key}
 use Rattle.sipl_records.specs.Sets.{set_of, same_key, key_of}
 use Rattle.sipl_records.specs.Unique.{unique}
-use Rattle.sipl_records.proofs.Filters.{filter-filter}
+use Rattle.sipl_records.proofs.Public.{filter-filter}
 use Rattle.sipl_zonestore.specs.declared.fault.StoreFault.TheVariants.{NumberSpent}
 use Rattle.sipl_zonestore.specs.Store.{records_outside}
 use Rattle.sipl_zonestore.specs.Changes.{is_changed, changed_keys}

@@ -9,8 +9,7 @@ use Rattle.std.proofs.lemmas.Map.Views.{list_any-from_Contains}
 use Rattle.sipl_records.specs.declared.record.Record.{Record}
 use Rattle.sipl_records.specs.declared.record.Key.{Key}
 use Rattle.sipl_records.specs.Sets.{set_of, same_key}
-use Rattle.sipl_records.proofs.Keys.{same_key-Decides}
-use Rattle.sipl_records.proofs.Unique.{equivalence_from_decides}
+use Rattle.sipl_records.proofs.Public.{same_key-Decides, equivalence_from_decides}
 use Rattle.sipl_zonestore.specs.declared.fault.StoreFault.{StoreFault}
 use Rattle.sipl_zonestore.specs.Edits.{Edit, after, refusal_of}
 use Rattle.sipl_zonestore.specs.Numbers.{is_empty, numbered_keys, number_refusal, IsNumbered}

@@ -3,7 +3,7 @@ use Rattle.std.proofs.Common.{◌≡◌, true, false, List, [], ◌∷◌, ◌++
 use lib.Pointwise.{pointwise}
 use Rattle.sipl_records.specs.declared.data.Data.{Data}
 use Rattle.sipl_records.specs.Sets.{same_data}
-use Rattle.sipl_records.proofs.SameData.{same_data-refl, same_set-Decides}
+use Rattle.sipl_records.proofs.Public.{same_data-refl, same_set-Decides}
 
 pub same_set-refl : (set : List Data) → pointwise same_data set set ≡ true
 same_set-refl set = (same_set-Decides set set).1 refl

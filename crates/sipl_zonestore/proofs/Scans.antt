@@ -11,11 +11,7 @@ use Rattle.sipl_records.specs.declared.record.Record.{Record}
 use Rattle.sipl_records.specs.declared.record.Key.{Key}
 use Rattle.sipl_records.specs.Sets.{has_key, set_of, same_data, same_key, same_record, key_of}
 use Rattle.sipl_records.specs.Unique.{unique}
-use Rattle.sipl_records.proofs.Filters.{list_any-filter}
-use Rattle.sipl_records.proofs.Keys.{same_key-refl, has_key-key_of, key_of-name}
-use Rattle.sipl_records.proofs.SameData.{same_data-refl, same_data-Decides, same_record-Decides}
-use Rattle.sipl_records.proofs.Sets.{has_key-name}
-use Rattle.sipl_records.proofs.Unique.{list_any-unique}
+use Rattle.sipl_records.proofs.Public.{list_any-filter, same_key-refl, has_key-key_of, key_of-name, same_data-refl, same_data-Decides, same_record-Decides, has_key-name, list_any-unique}
 use Rattle.sipl_masterfile.specs.Zones.{has_repeats}
 use Rattle.sipl_zonestore.specs.Numbers.{is_empty}
 use Rattle.sipl_zonestore.specs.Store.{records_within}

@@ -7,7 +7,7 @@ use Rattle.sipl_names.specs.Labels.{is_within}
 use Rattle.sipl_records.specs.declared.data.Data.{Data}
 use Rattle.sipl_records.specs.declared.record.Key.{Key}
 use Rattle.sipl_records.specs.Sets.{same_key, same_data}
-use Rattle.sipl_records.proofs.Keys.{same_key-Decides}
+use Rattle.sipl_records.proofs.Public.{same_key-Decides}
 use Rattle.sipl_zonestore.specs.Numbers.{is_empty}
 use Rattle.sipl_zonestore.specs.SetTable.{NumberedSet, Content, no_content, carried, content_of, are_filled, pushed, without, renumbered, has_set}
 use Rattle.sipl_zonestore.proofs.Elements.{and_first, and_second}

@@ -5,7 +5,7 @@ use Rattle.std.proofs.lemmas.Bool.{cases_Bool}
 use Rattle.sipl_records.specs.declared.data.Data.{Data}
 use Rattle.sipl_records.specs.declared.record.Key.{Key}
 use Rattle.sipl_records.specs.Sets.{same_key}
-use Rattle.sipl_records.proofs.Keys.{same_key-Decides}
+use Rattle.sipl_records.proofs.Public.{same_key-Decides}
 use Rattle.sipl_zonestore.specs.Numbers.{number_of, is_empty}
 use Rattle.sipl_zonestore.specs.SetTable.{NumberedSet, Content, no_content, carried, content_of, numbers_of, are_filled}
 use Rattle.sipl_zonestore.proofs.Positions.{from-le, none-from}

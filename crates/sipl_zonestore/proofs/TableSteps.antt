@@ -11,8 +11,7 @@ use Rattle.sipl_records.specs.declared.data.Data.{Data}
 use Rattle.sipl_records.specs.declared.record.Record.{Record}
 use Rattle.sipl_records.specs.declared.record.Key.{Key}
 use Rattle.sipl_records.specs.Sets.{set_of, same_data, same_key, key_of}
-use Rattle.sipl_records.proofs.Keys.{same_key-Decides, has_key-key_of, is_key}
-use Rattle.sipl_records.proofs.Sets.{set_of-append}
+use Rattle.sipl_records.proofs.Public.{same_key-Decides, has_key-key_of, is_key, set_of-append}
 use Rattle.sipl_zonestore.specs.Numbers.{is_empty}
 use Rattle.sipl_zonestore.specs.SetTable.{NumberedSet, Content, carried, content_of, pushed, renumbered, has_set, keys_left, numbered_content}
 use Rattle.sipl_zonestore.proofs.Elements.{any-filter}

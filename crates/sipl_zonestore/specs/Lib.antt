@@ -6,7 +6,8 @@ pub mod Looks
 pub mod Edits
 pub mod Consistent
 pub mod Edited
+pub mod ZoneStore
 pub mod Machine
 pub mod SetTable
-pub mod NumberedRecords
+pub mod IndexedRecords
 pub use Rattle.sipl_masterfile.specs.Zones

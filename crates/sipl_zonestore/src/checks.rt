@@ -6,7 +6,7 @@ ghost use Rattle.sipl_names.specs.Labels.{same_name};
 ghost use Rattle.sipl_zonestore.specs.Edits.{refusal_of, load, unload, add, remove};
 ghost use Rattle.sipl_zonestore.specs.Store.{overlaps, is_covered, records_outside};
 
-use crate::edits::has_apex;
+use crate::apexes::has_apex;
 use crate::fault::StoreFault;
 use sipl_masterfile::ZoneText;
 use sipl_names::Name;

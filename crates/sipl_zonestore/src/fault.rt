@@ -2,29 +2,37 @@ ghost use Rattle.std.specs.Prelude.{◌≡◌};
 ghost use Rattle.sipl_zonestore.specs.StoreFault.{code_of};
 
 use std::alloc::{AllocError, AllocFailed};
-use std::error::Error;
-use std::fmt;
+use thiserror::Error;
 
 /// Why an edit of the store fails. The store is then unchanged.
-#[derive(Clone, Copy, Debug, PartialEq, Eq, Hash)]
+#[derive(Clone, Copy, Debug, PartialEq, Eq, Hash, Error)]
 pub enum StoreFault {
     /// S1: a loaded zone is strictly above the apex or strictly below it.
+    #[error("a loaded zone is above or below the apex")]
     Overlap,
     /// S2: no zone of this apex is loaded, or the owner is in no loaded zone.
+    #[error("no such zone is loaded")]
     NoZone,
     /// S3: the record is in the store already.
+    #[error("the record is in the store already")]
     Duplicate,
     /// S4: no such record is in the store.
+    #[error("the record is not in the store")]
     Absent,
     /// S5: an alias would have other data beside it (RFC 1034, 3.6.2; RFC 2181, 10.1).
+    #[error("an alias has no other data beside it")]
     AliasBesideData,
     /// S6: the record's set has 32 records.
+    #[error("the record's set is full")]
     SetFull,
     /// S7: the records would exceed the store's maximum.
+    #[error("the store is full")]
     StoreFull,
     /// S8: fewer set numbers up to 2^52 are left than the edit needs.
+    #[error("no numbers are left")]
     NumberSpent,
     /// An allocation failed.
+    #[error("out of memory")]
     Memory,
 }
 
@@ -46,29 +54,6 @@ impl StoreFault {
         }
     }
 }
-
-impl fmt::Display for StoreFault {
-    ghost use Rattle.std.specs.Prelude.{Some};
-    ghost use Rattle.sipl_zonestore.specs.StoreFault.{message_of};
-
-    ghost output = { λ fault. Some (message_of fault) };
-
-    fn fmt<W: fmt::Write>(&self, f: &mut fmt::Formatter<W>) -> fmt::Result {
-        f.write_str(match self {
-            StoreFault::Overlap => "a loaded zone is above or below the apex",
-            StoreFault::NoZone => "no such zone is loaded",
-            StoreFault::Duplicate => "the record is in the store already",
-            StoreFault::Absent => "the record is not in the store",
-            StoreFault::AliasBesideData => "an alias has no other data beside it",
-            StoreFault::SetFull => "the record's set is full",
-            StoreFault::StoreFull => "the store is full",
-            StoreFault::NumberSpent => "no numbers are left",
-            StoreFault::Memory => "out of memory",
-        })
-    }
-}
-
-impl Error for StoreFault {}
 
 impl From<AllocError> for StoreFault {
     ghost use Rattle.std.specs.Prelude.{◌≡◌};

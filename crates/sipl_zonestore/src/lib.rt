@@ -1,19 +1,15 @@
 //! The store of zones: which are loaded, and their records.
 #![tactic(auto)]
 
+mod apexes;
 mod checks;
 mod compare;
-mod edits;
 mod fault;
+mod indexed_records;
 pub mod laws;
-mod numbered;
-mod numbers;
+mod set_numbers;
 mod sets;
 mod store;
-#[cfg(test)]
-mod tests;
-#[cfg(test)]
-mod zone_tests;
 
 pub use fault::StoreFault;
 pub use store::ZoneStore;

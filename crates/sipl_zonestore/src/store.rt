@@ -9,10 +9,10 @@ ghost use Rattle.sipl_zonestore.specs.Looks.{looked};
 ghost use Rattle.sipl_zonestore.specs.Consistent.{IsConsistent};
 
 use crate::MAX_RECORDS;
+use crate::apexes::{new_apex, push_apex};
 use crate::checks::{check_add, check_load, check_remove, check_unload};
-use crate::edits::{new_apex, push_apex};
 use crate::fault::StoreFault;
-use crate::numbered::NumberedRecords;
+use crate::indexed_records::IndexedRecords;
 use sipl_masterfile::ZoneText;
 use sipl_names::Name;
 use sipl_records::{Data, Key, Record, Sequence};
@@ -31,31 +31,20 @@ pub struct ZoneStore {
     alloc: Global,
     max_records: usize,
     apexes: Vec<Name>,
-    records: NumberedRecords,
+    records: IndexedRecords,
     looks: u64,
 }
 
 impl Model for ZoneStore {
     ghost use Rattle.sipl_zonestore.specs.Store.{Store};
     ghost use Rattle.sipl_zonestore.specs.Consistent.{IsConsistent};
+    ghost use Rattle.sipl_zonestore.specs.ZoneStore.{state_of};
 
     ghost Value = { Store };
 
-    ghost view = { λ s. record {
-      zones = record { apexes = s.apexes.items; records = s.records.records };
-      max_records = s.max_records;
-      numbers = s.records.numbers;
-      next = s.records.next;
-      looks = s.looks;
-    } };
+    ghost view = { state_of };
 
-    ghost invariant = { λ s. IsConsistent (record {
-      zones = record { apexes = s.apexes.items; records = s.records.records };
-      max_records = s.max_records;
-      numbers = s.records.numbers;
-      next = s.records.next;
-      looks = s.looks;
-    }) };
+    ghost invariant = { λ s. IsConsistent (state_of s) };
 }
 
 impl ZoneStore {
@@ -93,7 +82,7 @@ impl ZoneStore {
             alloc,
             max_records,
             apexes: Vec::new(alloc),
-            records: NumberedRecords::new(alloc, next),
+            records: IndexedRecords::new(alloc, next),
             looks: 0,
         }
     }

@@ -1,5 +1,5 @@
 use Rattle.std.proofs.Common.{◌≡◌, ◌∷◌, ◌∙◌, ap, false, rules}
-use Rattle.sipl_records.proofs.Groups.{rest_whole}
+use Rattle.sipl_records.proofs.Public.{rest_whole}
 use Rattle.sipl_masterfile.specs.Tokens.{ends_field}
 use Rattle.sipl_masterfile.proofs.Scanning.{begins-comment, begins-field}
 use Rattle.sipl_masterfile.proofs.tokens.next_token.Goals as goal

@@ -1,5 +1,5 @@
 use Rattle.std.proofs.Common.{sym, ◌+◌}
-use Rattle.sipl_records.proofs.Groups.{rest_whole}
+use Rattle.sipl_records.proofs.Public.{rest_whole}
 use Rattle.sipl_masterfile.proofs.Scanning.{begins-quoted, begins-open}
 use Rattle.sipl_masterfile.proofs.tokens.quoted_field.Goals as goal
 

@@ -2,7 +2,7 @@ use Rattle.std.proofs.Common.{◌≡◌, ap}
 use Rattle.sipl_records.specs.Sets.{same_key}
 use Rattle.sipl_records.specs.Unique.{unique}
 use Rattle.sipl_evidence.specs.Looks.{asked}
-use Rattle.sipl_evidence.proofs.Alike.{result_of-alike, asked-alike}
+use Rattle.sipl_evidence.proofs.Public.{result_of-alike, asked-alike}
 use Rattle.sipl_plans.specs.Route.{asking_route}
 use Rattle.sipl_plans.proofs.Unread.{All-from_unique}
 use Rattle.sipl_plans.proofs.laws.equal_sets_give_equal_routes.Goals as goal

@@ -1,6 +1,6 @@
 use Rattle.std.proofs.Common.{◌++◌, ap, sym, ◌∙◌}
 use Rattle.sipl_names.specs.Labels.{is_within}
-use Rattle.sipl_records.proofs.Filters.{filter-all}
+use Rattle.sipl_records.proofs.Public.{filter-all}
 use Rattle.sipl_zonestore.specs.Store.{records_within}
 use Rattle.sipl_zonestore.specs.Changes.{changed_among}
 use Rattle.sipl_zonestore.proofs.ChangedKeys.{changed-load}

@@ -1,6 +1,6 @@
 use Rattle.std.proofs.Common.{not, ◌∙◌}
 use lib.Pointwise.{pointwise}
-use Rattle.sipl_records.proofs.Same.{same_data_is}
+use Rattle.sipl_records.proofs.Public.{same_data_is}
 use Rattle.sipl_zonestore.proofs.compare.is_other_set.Goals as goal
 
 pub returns : goal.returns

@@ -19,10 +19,8 @@ invariant_of-self-in-Ok c =
     let reached = key-wanted run.question run.abilities run.evidence run.progress wanting.key wanting.stage c.self.invariant.1 wanting.is in
     let required = subst (λ run. IsWanted (wanted run) number content) (sym c.self.view_is) c.requires.set in
     let set = set-wanted run.question run.abilities run.evidence run.progress wanting.key wanting.stage number content c.self.invariant.1 wanting.is required in
-    let item : c.new-item.result ≡ record { key = wanting.key; number = number; content = content } =
-    c.new-item.ensures ∙ (λ i. record { key = c.in_ok-dup.ensures i; number = number; content = (c.from_vec-content.ensures ∙ c.in_ok-dup_data.ensures) i }) in
-    let pushed : c.push.new.self ≡ run.evidence ++ c.new-item.result ∷ [] = where-ok c.push.result c.if-is_err.ensures.negation c.push.ensures.ok in
-    given run.question run.abilities run.evidence c.push.new.self wanting.key number content wanting.stage c.in-Ok.progress c.self.invariant.0 reached set (pushed ∙ ap (λ item. run.evidence ++ item ∷ []) item)
+    let pushed : c.push.new.self ≡ run.evidence ++ c.in_ok-item.item ∷ [] = where-ok c.push.result c.if-is_err.ensures.negation c.push.ensures.ok in
+    given run.question run.abilities run.evidence c.push.new.self wanting.key number content wanting.stage c.in-Ok.progress c.self.invariant.0 reached set (pushed ∙ ap (λ item. run.evidence ++ item ∷ []) c.in_ok-item.ensures)
     (subst (λ stage. HasReached run.question run.abilities c.push.new.self (rest run.question run.abilities stage) c.in-Ok.progress) c.replace-stage.ensures.value c.in-Ok.ensures)
 
 pub invariant_of-self-in-Err : goal.invariant_of-self-in-Err
@@ -30,13 +28,13 @@ invariant_of-self-in-Err c =
     let run = c.self.inside in
     let wanting = c.in-Wanting in
     let reached = key-wanted run.question run.abilities run.evidence run.progress wanting.key wanting.stage c.self.invariant.1 wanting.is in
-    let pushed : c.push.new.self ≡ run.evidence ++ c.new-item.result ∷ [] = where-ok c.push.result c.if-is_err.ensures.negation c.push.ensures.ok in
-    let left = popped run.evidence c.pop.new.self c.new-item.result c.push.new.self c.pop.result pushed c.pop.ensures.item c.pop.ensures.empty in
+    let pushed : c.push.new.self ≡ run.evidence ++ c.in_ok-item.item ∷ [] = where-ok c.push.result c.if-is_err.ensures.negation c.push.ensures.ok in
+    let left = popped run.evidence c.pop.new.self c.in_ok-item.item c.push.new.self c.pop.result pushed c.pop.ensures.item c.pop.ensures.empty in
     restarted run.question run.abilities run.evidence c.pop.new.self wanting.key wanting.stage c.replace-stage.new.dest c.self.invariant.0 reached left c.replace-stage.ensures.after
 
 pub returns-in-Err-clause-err : goal.returns-in-Err-clause-err
 returns-in-Err-clause-err c =
     let run = c.self.inside in
-    let pushed : c.push.new.self ≡ run.evidence ++ c.new-item.result ∷ [] = where-ok c.push.result c.if-is_err.ensures.negation c.push.ensures.ok in
-    let left = popped run.evidence c.pop.new.self c.new-item.result c.push.new.self c.pop.result pushed c.pop.ensures.item c.pop.ensures.empty in
+    let pushed : c.push.new.self ≡ run.evidence ++ c.in_ok-item.item ∷ [] = where-ok c.push.result c.if-is_err.ensures.negation c.push.ensures.ok in
+    let left = popped run.evidence c.pop.new.self c.in_ok-item.item c.push.new.self c.pop.result pushed c.pop.ensures.item c.pop.ensures.empty in
     (λ i. record { question = run.question; client = run.abilities; items = left i }) ∙ c.self.view_is

@@ -3,7 +3,7 @@ use Rattle.std.specs.List.{filter}
 use Rattle.std.proofs.lemmas.Fn.{filter_same}
 use Rattle.sipl_records.specs.declared.data.Data.{Data}
 use Rattle.sipl_records.specs.Sets.{same_data, same_key}
-use Rattle.sipl_records.proofs.Same.{same_data_is}
+use Rattle.sipl_records.proofs.Public.{same_data_is}
 use Rattle.sipl_zonestore.specs.Numbers.{is_empty}
 use Rattle.sipl_zonestore.specs.SetTable.{NumberedSet, without}
 use Rattle.sipl_zonestore.proofs.Keys.{derived}

@@ -1,6 +1,6 @@
 use Rattle.std.proofs.Common.{refl}
 use Rattle.sipl_zonestore.specs.Edits.{add}
-use Rattle.sipl_zonestore.proofs.Editing.{always-ok, always-err, store_of, edited-with}
+use Rattle.sipl_zonestore.proofs.Editing.{always-ok, always-err, edited-with}
 use Rattle.sipl_zonestore.proofs.store.ZoneStore.add.Goals as goal
 
 pub invariant_of-self : goal.invariant_of-self

@@ -2,8 +2,8 @@ use Rattle.std.proofs.Common.{◌≡◌, ◌++◌, Ok, subst, ◌∙◌}
 use Rattle.std.specs.Option.{option_to_list}
 use Rattle.sipl_zonestore.specs.Store.{records_outside, apexes_after_load}
 use Rattle.sipl_zonestore.specs.Edits.{load}
-use Rattle.sipl_zonestore.specs.NumberedRecords.{IsReplaced}
-use Rattle.sipl_zonestore.proofs.Editing.{store_of, edited-with}
+use Rattle.sipl_zonestore.specs.IndexedRecords.{IsReplaced}
+use Rattle.sipl_zonestore.proofs.Editing.{edited-with}
 use Rattle.sipl_zonestore.proofs.store.ZoneStore.load.Goals as goal
 
 pub invariant_of-self-2 : goal.invariant_of-self-2

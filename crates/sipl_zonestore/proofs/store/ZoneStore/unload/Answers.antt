@@ -3,8 +3,8 @@ use Rattle.std.proofs.lemmas.Fn.{filter_same}
 use Rattle.sipl_names.specs.Labels.{same_name}
 use Rattle.sipl_zonestore.specs.Store.{records_outside}
 use Rattle.sipl_zonestore.specs.Edits.{unload}
-use Rattle.sipl_zonestore.specs.NumberedRecords.{IsReplaced}
-use Rattle.sipl_zonestore.proofs.Editing.{store_of, edited-with, loaded}
+use Rattle.sipl_zonestore.specs.IndexedRecords.{IsReplaced}
+use Rattle.sipl_zonestore.proofs.Editing.{edited-with, loaded}
 use Rattle.sipl_zonestore.proofs.store.ZoneStore.unload.Goals as goal
 
 pub invariant_of-self-2 : goal.invariant_of-self-2

@@ -1,0 +1,21 @@
+use Rattle.std.proofs.Common.{◌++◌, ◌∷◌, [], ap, sym, ◌∙◌}
+use Rattle.std.proofs.lemmas.Result.{err_from_is_err_and}
+use Rattle.sipl_records.specs.Sets.{set_of}
+use Rattle.sipl_zonestore.specs.SetTable.{numbers_of}
+use Rattle.sipl_zonestore.proofs.Recorded.{added, pushed-sets, refused, refused-add}
+use Rattle.sipl_zonestore.proofs.indexed_records.IndexedRecords.push.Goals as goal
+
+pub invariant_of-self-2 : goal.invariant_of-self-2
+invariant_of-self-2 c = record {
+  has_sets = λ key. pushed-sets c.self.inside.records.items c.args.new.now c.self.inside.next c.self.inside.sets c.push_to_set.new.sets c.self.invariant.has_sets c.in_ok-next.ensures.content key ∙ ap (λ rs. set_of rs key) (sym (c.push_reserved.ensures.items ∙ (λ i. c.in_ok-reserve.ensures.items i ++ c.in_ok-copy.ensures i ∷ [])));
+  last = c.in_ok-next.ensures.last;
+}
+
+pub returns : goal.returns
+returns c =
+    rw (← c.self.view_is) (added c.self.inside.records.items c.push_reserved.new.self.items c.args.new.now c.self.inside.next c.in_ok-next.next c.self.inside.sets c.push_to_set.new.sets c.from_vec.result c.self.invariant.has_sets c.in_ok-next.ensures.content (c.push_reserved.ensures.items ∙ (λ i. c.in_ok-reserve.ensures.items i ++ c.in_ok-copy.ensures i ∷ [])) (c.from_vec.ensures ∙ c.in_ok-keys.ensures) c.in_ok-next.ensures.next c.in_ok-next.ensures.last)
+
+pub returns-in_err-next : goal.returns-in_err-next
+returns-in_err-next c =
+    let p = err_from_is_err_and c.from_residual-in_err-next.result c.from_residual-in_err-next.ensures.1 in
+    rw (p.1, p.2, ← c.self.view_is) (refused (c.self.inside.records.items ++ c.args.new.now ∷ []) _ _ c.in_err-next.field-0.0 (λ some. refused-add c.self.inside.records.items c.args.new.now c.self.inside.next c.in_err-next.field-0.0 (c.in_err-next.ensures.refused some)) (λ i. record { records = c.in_ok-reserve.ensures.items i; numbers = numbers_of (c.in_err-next.ensures.unchanged i); next = c.self.inside.next }))

@@ -1,0 +1,28 @@
+use Rattle.std.proofs.Common.{◌≡◌, not, ap, sym, ◌∙◌, rules}
+use Rattle.std.proofs.lemmas.Fn.{filter_same}
+use Rattle.std.proofs.lemmas.Result.{err_from_is_err_and}
+use Rattle.sipl_records.specs.declared.record.Record.{Record}
+use Rattle.sipl_records.specs.Sets.{set_of, same_record}
+use Rattle.sipl_records.proofs.Public.{same_record_is}
+use Rattle.sipl_zonestore.specs.Edits.{records_without}
+use Rattle.sipl_zonestore.specs.SetTable.{numbers_of}
+use Rattle.sipl_zonestore.proofs.Recorded.{taken_out, removed-sets, refused, refused-remove}
+use Rattle.sipl_zonestore.proofs.indexed_records.IndexedRecords.remove.Goals as goal
+
+pub invariant_of-self-2 : goal.invariant_of-self-2
+invariant_of-self-2 c =
+    let kept : c.retain.new.self.items ≡ records_without c.args.old.now c.self.inside.records.items = filter_same _ (λ (r : Record). not (same_record c.args.old.now r)) _ (λ x b f k. search (rules, same_record_is)) _ _ c.retain.ensures.filtered in
+    record {
+      has_sets = λ key. removed-sets c.self.inside.records.items c.args.old.now c.self.inside.next c.self.inside.sets c.remove_from_set.new.sets c.self.invariant.has_sets c.in_ok-next.ensures.content key ∙ ap (λ rs. set_of rs key) (sym kept);
+      last = c.in_ok-next.ensures.last;
+    }
+
+pub returns : goal.returns
+returns c =
+    let kept : c.retain.new.self.items ≡ records_without c.args.old.now c.self.inside.records.items = filter_same _ (λ (r : Record). not (same_record c.args.old.now r)) _ (λ x b f k. search (rules, same_record_is)) _ _ c.retain.ensures.filtered in
+    rw (← c.self.view_is) (taken_out c.self.inside.records.items c.retain.new.self.items c.args.old.now c.self.inside.next c.in_ok-next.next c.self.inside.sets c.remove_from_set.new.sets c.from_vec.result c.self.invariant.has_sets (rw (← c.self.view_is) at c.requires) c.in_ok-next.ensures.content kept (c.from_vec.ensures ∙ c.in_ok-keys.ensures) c.in_ok-next.ensures.next c.in_ok-next.ensures.last)
+
+pub returns-in_err-next : goal.returns-in_err-next
+returns-in_err-next c =
+    let p = err_from_is_err_and c.from_residual-in_err-next.result c.from_residual-in_err-next.ensures.1 in
+    rw (p.1, p.2, ← c.self.view_is) (refused (records_without c.args.old.now c.self.inside.records.items) _ _ c.in_err-next.field-0.0 (λ some. refused-remove c.self.inside.records.items c.args.old.now c.self.inside.next c.self.inside.sets c.in_err-next.field-0.0 c.self.invariant.has_sets (rw (← c.self.view_is) at c.requires) (c.in_err-next.ensures.refused some)) (λ i. record { records = c.self.inside.records.items; numbers = numbers_of (c.in_err-next.ensures.unchanged i); next = c.self.inside.next }))

@@ -1,6 +1,0 @@
-use Rattle.std.proofs.Common.{sym, ◌∙◌}
-use Rattle.sipl_zonestore.proofs.SetTables.{number_of-numbers_of}
-use Rattle.sipl_zonestore.proofs.numbered.NumberedRecords.number.Goals as goal
-
-pub returns : goal.returns
-returns c = rw (← c.self.view_is) (c.number.ensures ∙ sym (number_of-numbers_of c.self.inside.sets c.args.key.now))

@@ -1,9 +1,0 @@
-use Rattle.std.proofs.Common.{◌≡◌, take}
-use Rattle.sipl_records.specs.declared.record.Key.{Key}
-use Rattle.sipl_records.specs.Sets.{set_of}
-use Rattle.sipl_zonestore.specs.SetTable.{content_of, carried}
-use Rattle.sipl_zonestore.proofs.numbers.sets_of.Given as goal
-
-abbrev pub invariant-loop-record : goal.invariant-loop-record
-invariant-loop-record l =
-    (key : Key) → content_of l.sets key ≡ carried (content_of l.old key).number (set_of (take l.record-index l.records) key)

@@ -1,0 +1,33 @@
+-- Records with an index of their sets, each of which has a number.
+use Rattle.std.specs.Prelude.{◌≡◌, ◌≢◌, ℕ, ◌+◌, ◌^◌, ◌≤◌, List, None, Some, Result, OnOk, OnErr, IfOk, IfErr}
+use Rattle.sipl_records.specs.declared.record.Record.{Record}
+use Rattle.sipl_records.specs.declared.record.Key.{Key}
+use Rattle.sipl_zonestore.specs.Changes.{changed_keys}
+use Rattle.sipl_zonestore.specs.Numbers.{SetNumber, number_of, number_after, next_after, number_refusal}
+use Rattle.sipl_zonestore.specs.SetTable.{NumberedSet, HasSets}
+use Rattle.sipl_zonestore.specs.declared.fault.StoreFault.{StoreFault}
+use Rattle.sipl_zonestore.specs.declared.fault.StoreFault.TheVariants.{Memory}
+
+-- what callers see: the records, the numbers of their sets, and the next number
+pub record IndexedState : Type 0 where
+  pub records : List Record
+  pub numbers : List SetNumber
+  pub next : ℕ
+
+-- what always holds: the table has the sets of the records, and no number is above 2^52
+pub record IsIndexed (records : List Record) (sets : List NumberedSet) (next : ℕ) : Type 0 where
+  pub has_sets : HasSets sets records
+  pub last : next ≤ 2 ^ 52 + 1
+
+-- the records become these, unless too few numbers are left
+pub record IsReplaced (records : List Record) (old new : IndexedState)
+    (result : Result (List Key) StoreFault) : Type 0 where
+  pub accepted : OnOk result (number_refusal old.records records old.next ≡ None)
+  pub after : OnOk result (new.records ≡ records)
+  pub changed : IfOk result (λ keys. keys ≡ changed_keys old.records records)
+  pub numbers : OnOk result ((key : Key) → number_of new.numbers key
+      ≡ number_after old.records records old.next (number_of old.numbers) key)
+  pub next : OnOk result (new.next ≡ next_after old.records records old.next)
+  pub refused : IfErr result (λ fault. fault ≢ Memory
+      → number_refusal old.records records old.next ≡ Some fault)
+  pub unchanged : OnErr result (new ≡ old)

@@ -1,0 +1,155 @@
+//! Records with an index of their sets.
+ghost use Rattle.std.specs.Prelude.{◌≡◌, ◌≤◌, ◌^◌, ◌+◌, [], ◌∷◌, ◌++◌, length, true, false, IfOk, vec_len, vec_capacity};
+ghost use Rattle.std.specs.List.{list_all, list_any};
+ghost use Rattle.sipl_names.specs.Labels.{is_within};
+ghost use Rattle.sipl_records.specs.Sets.{same_record, set_of};
+ghost use Rattle.sipl_masterfile.specs.Zones.{has_repeats};
+ghost use Rattle.sipl_zonestore.specs.Numbers.{number_of};
+ghost use Rattle.sipl_zonestore.specs.Store.{records_outside};
+ghost use Rattle.sipl_zonestore.specs.Edits.{records_without};
+ghost use Rattle.sipl_zonestore.specs.IndexedRecords.{IsReplaced};
+
+use crate::compare::{changed_within, own_key};
+use crate::fault::StoreFault;
+use crate::set_numbers::{
+    check_numbers, count_numbered, number_sets, push_to_set, remove_from_set, sets_of,
+};
+use crate::sets::SetTable;
+use sipl_names::Name;
+use sipl_records::{Data, Key, Record, Sequence};
+use std::alloc::{AllocError, Global};
+use std::marker::Model;
+
+// Records in the order of addition, and an index of their sets by their keys, each set with its
+// number. A set takes the next number whenever it changes.
+#[derive(Drop)]
+pub(crate) struct IndexedRecords {
+    alloc: Global,
+    records: Vec<Record>,
+    sets: SetTable,
+    next: u64,
+}
+
+impl Model for IndexedRecords {
+    ghost use Rattle.sipl_zonestore.specs.SetTable.{numbers_of};
+    ghost use Rattle.sipl_zonestore.specs.IndexedRecords.{IndexedState, IsIndexed};
+
+    ghost Value = { IndexedState };
+
+    ghost view = { λ r. record {
+      records = r.records.items;
+      numbers = numbers_of r.sets;
+      next = r.next;
+    } };
+
+    ghost invariant = { λ r. IsIndexed r.records.items r.sets r.next };
+}
+
+impl IndexedRecords {
+    // No records, where this is the next number.
+    pub(crate) fn new(alloc: Global, next: u64) -> Self
+        requires { next ≤ 2 ^ 52 + 1 }
+        ensures { result ≡ record { records = []; numbers = []; next = next } }
+    {
+        IndexedRecords {
+            alloc,
+            records: Vec::new(alloc),
+            sets: SetTable::new(alloc),
+            next,
+        }
+    }
+
+    // All records.
+    pub(crate) fn as_slice(&self) -> &[Record]
+        ensures { result.now ≡ self.now.records }
+    {
+        &self.records
+    }
+
+    // The number of the key's set, and its data.
+    pub(crate) fn set(&self, key: &Key) -> (u64, &[Data])
+        ensures number { result.0 ≡ number_of self.now.numbers key.now }
+        ensures values { result.1.now ≡ set_of self.now.records key.now }
+    {
+        self.sets.get(key)
+    }
+
+    // The number of the key's set.
+    pub(crate) fn number(&self, key: &Key) -> u64
+        ensures { result ≡ number_of self.now.numbers key.now }
+    {
+        self.sets.number(key)
+    }
+
+    // Replaces the records within the apex by those of a text, which are last. Returns the keys of
+    // the sets that changed.
+    pub(crate) fn replace_within(
+        &mut self,
+        apex: &Name,
+        text: &[Record],
+    ) -> Result<Sequence<Key>, StoreFault>
+        requires distinct { has_repeats self.old.records ≡ false }
+        requires text_distinct { has_repeats text.now ≡ false }
+        requires within { list_all (λ r. is_within r.owner apex.now) text.now ≡ true }
+        ensures { IsReplaced (records_outside apex.now self.old.records ++ text.now)
+            self.old self.new result }
+    {
+        let mut sets = sets_of(self.alloc, text, &self.sets)?;
+        let keys = changed_within(self.alloc, apex, &self.records, text, &self.sets, &sets)?;
+        let count = count_numbered(&keys, &sets);
+        check_numbers(self.next, count)?;
+        number_sets(&mut sets, &keys, self.next);
+        let copies = copy_records(self.alloc, text)?;
+        self.records.reserve(copies.len())?;
+        self.sets.replace_within(apex, sets)?;
+        replace_records(&mut self.records, apex, copies);
+        self.next += count as u64;
+        Ok(Sequence::from_vec(keys))
+    }
+
+    // Appends a record. Returns the key of its set, which changed.
+    pub(crate) fn push(&mut self, new: &Record) -> Result<Sequence<Key>, StoreFault>
+        requires { list_any (same_record new.now) self.old.records ≡ false }
+        ensures { IsReplaced (self.old.records ++ new.now ∷ []) self.old self.new result }
+    {
+        let keys = own_key(self.alloc, new)?;
+        let copy = new.dup(self.alloc)?;
+        self.records.reserve(1)?;
+        let next = push_to_set(self.alloc, &mut self.sets, self.next, new)?;
+        self.records.push_reserved(copy);
+        self.next = next;
+        Ok(Sequence::from_vec(keys))
+    }
+
+    // Removes a record. Returns the key of its set, which changed.
+    pub(crate) fn remove(&mut self, old: &Record) -> Result<Sequence<Key>, StoreFault>
+        requires { list_any (same_record old.now) self.old.records ≡ true }
+        ensures { IsReplaced (records_without old.now self.old.records) self.old self.new result }
+    {
+        let keys = own_key(self.alloc, old)?;
+        let next = remove_from_set(self.alloc, &mut self.sets, self.next, old)?;
+        self.records.retain(|record| *old != *record);
+        self.next = next;
+        Ok(Sequence::from_vec(keys))
+    }
+}
+
+// Copies of the records.
+fn copy_records(alloc: Global, records: &[Record]) -> Result<Vec<Record>, AllocError>
+    ensures { IfOk result (λ copies. copies.items ≡ records.now) }
+{
+    let mut copies = Vec::with_capacity(alloc, records.len())?;
+    for record in records {
+        copies.push(record.dup(alloc)?)?;
+    }
+    Ok(copies)
+}
+
+// Replaces the records within the apex by those of the text, which are last. Does not allocate.
+fn replace_records(records: &mut Vec<Record>, apex: &Name, mut text: Vec<Record>)
+    requires { vec_len records.old + vec_len text ≤ vec_capacity records.old }
+    ensures { records.new.items ≡ records_outside apex.now records.old.items ++ text.items }
+{
+    records.retain(|record| !record.owner.is_within(apex));
+    records.append(&mut text).unwrap();
+}
