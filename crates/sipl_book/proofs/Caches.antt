@@ -11,16 +11,14 @@ use Rattle.std.proofs.lemmas.List.Folds.{list_any-append}
 use Rattle.std.proofs.lemmas.Bool.Decides.{not_from_Decides}
 use Rattle.std.proofs.lemmas.Map.Views.{any-filter_same, exact_unsigned_eq}
 use Rattle.std.proofs.lemmas.Option.{same_Some}
-use Rattle.sipl_records.proofs.Filters.{All-filter_weaker}
+use Rattle.sipl_records.proofs.Public.{All-filter_weaker}
 use Rattle.sipl_records.specs.declared.record.Key.{Key}
 use Rattle.sipl_uri.specs.declared.question.Question.{Question}
 use Rattle.sipl_plans.specs.Findings.{Found}
 use Rattle.sipl_repair.specs.QueueState.{QueueState, IsConsistent, is_queued, is_leased, is_held, empty_queue, after_reserve, after_lease, with_first_leased, after_settle, after_requeue, after_give_back, after_forget}
-use Rattle.sipl_repair.proofs.Consistency.{IsConsistent-empty}
-use Rattle.sipl_repair.proofs.Holding.{is_held-after_lease, is_held-after_settle, is_held-after_requeue, is_held-after_give_back, is_held-after_forget}
-use Rattle.sipl_repair.proofs.Runs.{IsConsistent-after_lease, IsConsistent-after_settle, IsConsistent-after_requeue, IsConsistent-after_give_back, IsConsistent-after_forget}
+use Rattle.sipl_repair.proofs.Public.{IsConsistent-empty, is_held-after_lease, is_held-after_settle, is_held-after_requeue, is_held-after_give_back, is_held-after_forget, IsConsistent-after_lease, IsConsistent-after_settle, IsConsistent-after_requeue, IsConsistent-after_give_back, IsConsistent-after_forget}
 use Rattle.sipl_book.specs.Cache.{InOrder, IsCache}
-use Rattle.sipl_book.specs.Entries.{EntryState, is_of, entry_of, marked, renewed}
+use Rattle.sipl_book.specs.Entries.{EntryState, is_of, entry_of, after_change, renewed}
 use Rattle.sipl_book.specs.Repairs.{IsQueueAmong, after_marks, is_outdated, outdated, without}
 use Rattle.sipl_book.proofs.Committed.{AllPairs-map, current, is_of_decides, absent_from_entry_of, renewed_cases, id-renewed}
 use Rattle.sipl_book.proofs.Ids.{is_id, eqb-swap, not_outdated, other_ids}
@@ -38,8 +36,8 @@ is_id-map f same [] id = refl
 is_id-map f same (e ∷ es) id = λ i. eqb (same e i) id || is_id-map f same es id i
 
 -- entries with the same ids in order stay in order
-pub InOrder-marked : (keys : List Key) (es : List EntryState) → InOrder es → InOrder (map (marked keys) es)
-InOrder-marked keys es order = AllPairs-map (marked keys) (λ a b. a.id < b.id) (λ a b. a.id < b.id) (λ a b below. below) es order
+pub InOrder-after_change : (keys : List Key) (es : List EntryState) → InOrder es → InOrder (map (after_change keys) es)
+InOrder-after_change keys es order = AllPairs-map (after_change keys) (λ a b. a.id < b.id) (λ a b. a.id < b.id) (λ a b below. below) es order
 
 -- the queue is among entries with the same ids
 among_same : (f : EntryState → EntryState) → ((e : EntryState) → (f e).id ≡ e.id) → (es : List EntryState) (q : QueueState) → IsQueueAmong es q → IsQueueAmong (map f es) q
@@ -59,18 +57,18 @@ IsCache-new =
     }
 
 module _ (keys : List Key) (es : List EntryState) (q : QueueState) (order : InOrder es) (so : IsCache es q) where
-  -- the queue is among the marked entries
-  pub among-marked : IsQueueAmong (map (marked keys) es) q
-  among-marked = among_same (marked keys) (λ e. refl) es q so.waits.among
+  -- the queue is among the entries after a change
+  pub among-after_change : IsQueueAmong (map (after_change keys) es) q
+  among-after_change = among_same (after_change keys) (λ e. refl) es q so.waits.among
 
-  pub space-marked : length (map (marked keys) es) ≤ q.capacity
-  space-marked = omega (arith, length-map es (marked keys), so.space)
+  pub space-after_change : length (map (after_change keys) es) ≤ q.capacity
+  space-after_change = omega (arith, length-map es (after_change keys), so.space)
 
-  pub IsCache-marked : IsCache (map (marked keys) es) (after_marks q (outdated (map (marked keys) es)))
-  IsCache-marked =
+  pub IsCache-after_change : IsCache (map (after_change keys) es) (after_marks q (outdated (map (after_change keys) es)))
+  IsCache-after_change =
       record {
-        waits = IsQueueOf-marks (map (marked keys) es) q (InOrder-marked keys es order) among-marked space-marked;
-        space = omega (arith, space-marked, capacity-marks q (outdated (map (marked keys) es)));
+        waits = IsQueueOf-marks (map (after_change keys) es) q (InOrder-after_change keys es order) among-after_change space-after_change;
+        space = omega (arith, space-after_change, capacity-marks q (outdated (map (after_change keys) es)));
       }
 
 -- ---- leases
@@ -81,7 +79,7 @@ same_held es q new so good same capacity =
     record {
       waits = record {
         among = record { distinct = good.distinct; apart = good.apart; of_entries = λ k held. so.waits.among.of_entries k (sym (same k) ∙ held) };
-        waiting = All-weaker (Waits q) (Waits new) (λ e waits stale. same e.id ∙ waits stale) es so.waits.waiting;
+        waiting = All-weaker (Waits q) (Waits new) (λ e waits out_of_date. same e.id ∙ waits out_of_date) es so.waits.waiting;
       };
       space = omega (arith, so.space, capacity);
     }
@@ -133,7 +131,7 @@ IsCache-settle es q id order so none =
     record {
       waits = record {
         among = record { distinct = good.distinct; apart = good.apart; of_entries = λ k held. so.waits.among.of_entries k (settled-before q id k held) };
-        waiting = λ i d within stale. settled-after q id _ (others i d within stale) (so.waits.waiting i d within stale);
+        waiting = λ i d within out_of_date. settled-after q id _ (others i d within out_of_date) (so.waits.waiting i d within out_of_date);
       };
       space = so.space;
     }
@@ -149,8 +147,8 @@ IsCache-settled found es q own order so is =
       waits = record {
         among = record { distinct = good.distinct; apart = good.apart; of_entries = λ k held. among.of_entries k (settled-before q own.id k held) };
         waiting = All-map (Waits (after_settle q own.id)) (renewed found) es (λ i d within.
-            renewed_cases found _ (Waits (after_settle q own.id)) (λ _ stale. absurd (true≢false stale))
-            (λ other stale. settled-after q own.id _ (others i d within other) (so.waits.waiting i d within stale)));
+            renewed_cases found _ (Waits (after_settle q own.id)) (λ _ out_of_date. absurd (true≢false out_of_date))
+            (λ other out_of_date. settled-after q own.id _ (others i d within other) (so.waits.waiting i d within out_of_date)));
       };
       space = omega (arith, length-map es (renewed found), so.space);
     }
@@ -210,8 +208,8 @@ IsCache-renewed found es q own order so is =
       waits = record {
         among = among_same (renewed found) (id-renewed found) es (unqueued q own.id) (among-unqueued es q own.id order so);
         waiting = All-map (Waits (unqueued q own.id)) (renewed found) es (λ i d within.
-            renewed_cases found _ (Waits (unqueued q own.id)) (λ _ stale. absurd (true≢false stale))
-            (λ other stale. held-unqueued es q own.id order so _ (others i d within other) (so.waits.waiting i d within stale)));
+            renewed_cases found _ (Waits (unqueued q own.id)) (λ _ out_of_date. absurd (true≢false out_of_date))
+            (λ other out_of_date. held-unqueued es q own.id order so _ (others i d within other) (so.waits.waiting i d within out_of_date)));
       };
       space = omega (arith, length-map es (renewed found), so.space);
     }
@@ -227,7 +225,7 @@ IsCache-added found number es q so space =
           apart = so.waits.among.apart;
           of_entries = λ k held. list_any-append (λ (e : EntryState). eqb e.id k) es (current number found ∷ []) ∙ or_left (is_id es k) _ (so.waits.among.of_entries k held);
         };
-        waiting = All-push (Waits q) es (current number found) so.waits.waiting (λ stale. absurd (true≢false stale));
+        waiting = All-push (Waits q) es (current number found) so.waits.waiting (λ out_of_date. absurd (true≢false out_of_date));
       };
       space = omega (arith, space, length-append es (current number found ∷ []));
     }
@@ -284,9 +282,9 @@ IsCache-removed question es q own order apart so is =
               ∙ so.waits.among.of_entries k parts.1;
         };
         waiting = All-filter_weaker (λ e. (e.found.question ≢ question → eqb e.id own.id ≡ false) × Waits q e) (Waits (after_forget q own.id)) (λ e. not (is_of question e))
-            (λ e passes facts stale.
+            (λ e passes facts out_of_date.
             let other = facts.0 (not_from_Decides (is_of question e) (is_of_decides question e) (was_false (is_of question e) passes)) in
-            is_held-after_forget q own.id e.id ∙ (λ i. not (other i) && facts.1 stale i))
+            is_held-after_forget q own.id e.id ∙ (λ i. not (other i) && facts.1 out_of_date i))
             es (λ i d within. (others i d within, so.waits.waiting i d within));
       };
       space = omega (arith, so.space, length-filter_both (λ e. not (is_of question e)) (is_of question) (λ e. not_not (is_of question e)) es);

@@ -18,7 +18,7 @@ use Rattle.sipl_repair.specs.QueueState.{QueueState}
 use Rattle.sipl_book.specs.Book.{BookState, IsConsistent, IsGoodEntry}
 use Rattle.sipl_book.specs.BookFault.{of_store}
 use Rattle.sipl_book.specs.Calls.{IsChanged}
-use Rattle.sipl_book.specs.Entries.{EntryState, depends_on, marked}
+use Rattle.sipl_book.specs.Entries.{EntryState, depends_on, after_change}
 use Rattle.sipl_book.specs.Machine.{IsAccepted, zone_edit, empty_state, after}
 use Rattle.sipl_book.specs.declared.edit.Edit.{Edit}
 use Rattle.sipl_book.specs.declared.event.Event.{Event}
@@ -85,12 +85,12 @@ apart (k ∷ keys) items none =
     let both = neither (not (is_unknown items k)) (list_any (λ k. not (is_unknown items k)) keys) none in
     λ i d inside. λ j. other_keys k items (was_false (is_unknown items k) both.0) i d inside j || apart keys items both.1 i d inside j
 
--- a good entry stays good: what changed is not in its evidence, or else it is not current
+-- a good entry stays good: what changed is not in its evidence, or else it is outdated
 module _ (old new : BookState) (keys : List Key) (client : new.client ≡ old.client)
     (kept : (key : Key) → list_any (same_key key) keys ≡ false → IsKept old.store new.store key)
     (longer : length old.journal ≤ length new.journal) where
-  good-marked : (entry : EntryState) → IsGoodEntry old entry → IsGoodEntry new (marked keys entry)
-  good-marked entry good =
+  good-after_change : (entry : EntryState) → IsGoodEntry old entry → IsGoodEntry new (after_change keys entry)
+  good-after_change entry good =
       record {
         client = good.client ∙ sym client;
         sound = good.sound;
@@ -108,31 +108,31 @@ module _ (old new : BookState) (keys : List Key) (client : new.client ≡ old.cl
         was_true true is = sym is
         was_true false is = refl
 
-  all_good-marked : (entries : List EntryState) → All (IsGoodEntry old) entries → All (IsGoodEntry new) (map (marked keys) entries)
-  all_good-marked entries good =
-      All-map (IsGoodEntry new) (marked keys) entries (All-weaker (IsGoodEntry old) (λ entry. IsGoodEntry new (marked keys entry)) good-marked entries good)
+  all_good-after_change : (entries : List EntryState) → All (IsGoodEntry old) entries → All (IsGoodEntry new) (map (after_change keys) entries)
+  all_good-after_change entries good =
+      All-map (IsGoodEntry new) (after_change keys) entries (All-weaker (IsGoodEntry old) (λ entry. IsGoodEntry new (after_change keys entry)) good-after_change entries good)
 
 -- ---- an edit that is made
 
 pub consistent-changed : (edit : Edit) (old : BookState) (store : Store) (keys : List Key) (journal : List Event) (entries : List EntryState) (queue : QueueState)
     → IsConsistent old → IsEdited (zone_edit edit) old.store store (Ok keys) → length old.journal < old.max_events
-    → journal ≡ old.journal ++ Change edit ∷ [] → entries ≡ map (marked keys) old.entries
+    → journal ≡ old.journal ++ Change edit ∷ [] → entries ≡ map (after_change keys) old.entries
     → IsConsistent (record old { store = store; journal = journal; entries = entries; queue = queue })
 consistent-changed edit old store keys journal entries queue good edited space journal_is entries_is =
     let events = old.journal ++ Change edit ∷ [] in
     let longer : length events ≡ length old.journal + 1 = length-append old.journal (Change edit ∷ []) in
     let accepted = edit_with_more old.store.max_records 1048576 (zone_edit edit) old.store.zones good.records_limit (first_none (refusal_of old.store.max_records (zone_edit edit) old.store.zones) _ edited.accepted) in
-    let new : BookState = record old { store = store; journal = events; entries = map (marked keys) old.entries; queue = queue } in
+    let new : BookState = record old { store = store; journal = events; entries = map (after_change keys) old.entries; queue = queue } in
     subst (λ (p : List Event × List EntryState). IsConsistent (record old { store = store; journal = p.0; entries = p.1; queue = queue })) (λ i. (sym journal_is i, sym entries_is i))
     (record {
       legal = legal-push old.client old.journal (Change edit) empty_state good.legal (subst (IsAccepted old.client (Change edit)) (sym good.replayed) accepted);
       replayed = replay-push old.journal (Change edit) empty_state ∙ ap (after (Change edit)) good.replayed ∙ (λ i. record { zones = sym edited.after i; holds = old.board.holds });
       store = edited.consistent;
       board = good.board;
-      entries = all_good-marked old new keys refl edited.kept (omega (arith, longer)) old.entries good.entries;
-      questions = AllPairs-map (marked keys) (λ a b. a.found.question ≢ b.found.question) (λ a b. a.found.question ≢ b.found.question) (λ a b other. other) old.entries good.questions;
-      ids = AllPairs-map (marked keys) (λ a b. a.id < b.id) (λ a b. a.id < b.id) (λ a b below. below) old.entries good.ids;
-      few_entries = omega (arith, length-map old.entries (marked keys), good.few_entries);
+      entries = all_good-after_change old new keys refl edited.kept (omega (arith, longer)) old.entries good.entries;
+      questions = AllPairs-map (after_change keys) (λ a b. a.found.question ≢ b.found.question) (λ a b. a.found.question ≢ b.found.question) (λ a b other. other) old.entries good.questions;
+      ids = AllPairs-map (after_change keys) (λ a b. a.id < b.id) (λ a b. a.id < b.id) (λ a b below. below) old.entries good.ids;
+      few_entries = omega (arith, length-map old.entries (after_change keys), good.few_entries);
       few_events = omega (arith, longer, space);
       records_limit = rw edited.limit good.records_limit;
       entries_limit = good.entries_limit;

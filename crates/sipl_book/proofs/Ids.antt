@@ -79,7 +79,7 @@ entry_with-is_id (e ∷ es) id = elim (eqb e.id id) as (λ b. is_some (cond b (S
   | false ↦ entry_with-is_id es id
 ]
 
--- the entry with an id is the only one, and decides whether it is not current
+-- the entry with an id is the only one, and decides whether it is outdated
 pub is_outdated-entry_with : (es : List EntryState) (id : ℕ) → InOrder es
     → is_outdated es id ≡ elim (entry_with es id) [ Some e ↦ not e.is_current | None ↦ false ]
 is_outdated-entry_with [] id order = refl
@@ -102,7 +102,7 @@ is_outdated-entry_with (e ∷ es) id order =
     others true none = refl
     others false none = none
 
--- an entry that is not current makes its id one of those
+-- an outdated entry makes its id one of those
 pub not_outdated : (es : List EntryState) (id : ℕ) → is_outdated es id ≡ false → All (λ e. e.is_current ≡ false → eqb e.id id ≡ false) es
 not_outdated [] id none = All-nil (λ e. e.is_current ≡ false → eqb e.id id ≡ false)
 not_outdated (e ∷ es) id none =
@@ -110,9 +110,9 @@ not_outdated (e ∷ es) id none =
     (not_outdated es id (rest (eqb e.id id) e.is_current (is_outdated es id) none))
   where
     first : (a b c : Bool) → ((a && not b) || c) ≡ false → b ≡ false → a ≡ false
-    first true true c none stale = absurd (true≢false stale)
-    first true false c none stale = absurd (true≢false none)
-    first false b c none stale = refl
+    first true true c none out_of_date = absurd (true≢false out_of_date)
+    first true false c none out_of_date = absurd (true≢false none)
+    first false b c none out_of_date = refl
 
     rest : (a b c : Bool) → ((a && not b) || c) ≡ false → c ≡ false
     rest true true c none = none

@@ -1,16 +1,17 @@
-pub mod Journal
-pub mod Moving
-pub mod StoreSets
-pub mod Questions
-pub mod Committed
-pub mod Table
-pub mod Staleness
-pub mod Committing
-pub mod Answering
-pub mod Marking
-pub mod Changing
-pub mod Ids
-pub mod Queues
-pub mod Removing
-pub mod Caches
-pub mod Settling
+pub mod Public
+mod Journal
+mod Moving
+mod StoreSets
+mod Questions
+mod Committed
+mod Table
+mod Staleness
+mod Committing
+mod Answering
+mod Outdating
+mod Changing
+mod Ids
+mod Queues
+mod Removing
+mod Caches
+mod Settling

@@ -17,12 +17,9 @@ use Rattle.std.specs.Result.{result_ok}
 use Rattle.std.proofs.lemmas.Map.Views.{any-filter_same, exact_unsigned_eq}
 use Rattle.sipl_records.specs.declared.record.Key.{Key}
 use Rattle.sipl_repair.specs.QueueState.{QueueState, IsConsistent, is_queued, is_leased, is_held, has_capacity_for, first_of, after_mark, after_lease, with_first_leased, after_give_back}
-use Rattle.sipl_repair.proofs.Consistency.{differs_from_each}
-use Rattle.sipl_repair.proofs.Holding.{is_held-after_mark}
-use Rattle.sipl_repair.proofs.Members.{same_members, contains-from_list, contains-insert, len-from_list, remove-insert}
-use Rattle.sipl_repair.proofs.Runs.{IsConsistent-after_mark}
+use Rattle.sipl_repair.proofs.Public.{differs_from_each, is_held-after_mark, same_members, contains-from_list, contains-insert, len-from_list, remove-insert, IsConsistent-after_mark}
 use Rattle.sipl_book.specs.Cache.{InOrder}
-use Rattle.sipl_book.specs.Entries.{EntryState, depends_on, marked}
+use Rattle.sipl_book.specs.Entries.{EntryState, depends_on, after_change}
 use Rattle.sipl_book.specs.Repairs.{IsQueueAmong, IsQueueOf, after_marks, dependents, outdated}
 use Rattle.sipl_book.proofs.Ids.{ids_of, is_id, is_id-ids_of, apart-ids_of}
 
@@ -147,8 +144,8 @@ outdated-held : (es : List EntryState) (q : QueueState) → All (λ e. e.is_curr
 outdated-held [] q = All-nil (λ e. e.is_current ≡ false → is_held (after_marks q []) e.id ≡ true)
 outdated-held (e ∷ es) q =
     elim (e.is_current) as (λ b. e.is_current ≡ b → All (λ x. x.is_current ≡ false → is_held (after_marks q (map (λ y. y.id) (cond (not b) (e ∷ filter (λ y. not y.is_current) es) (filter (λ y. not y.is_current) es)))) x.id ≡ true) (e ∷ es)) [
-      | true ↦ λ current. All-cons (λ x. x.is_current ≡ false → is_held (after_marks q (outdated es)) x.id ≡ true) e es (λ stale. absurd (true≢false (sym current ∙ stale))) (outdated-held es q)
-      | false ↦ λ stale.
+      | true ↦ λ current. All-cons (λ x. x.is_current ≡ false → is_held (after_marks q (outdated es)) x.id ≡ true) e es (λ out_of_date. absurd (true≢false (sym current ∙ out_of_date))) (outdated-held es q)
+      | false ↦ λ out_of_date.
           let w = after_mark q e.id in
           All-cons (λ x. x.is_current ≡ false → is_held (after_marks w (outdated es)) x.id ≡ true) e es
           (λ _. held-marks w (outdated es) e.id (is_held-after_mark q e.id e.id ∙ or_left (eqb e.id e.id) (is_held q e.id) (eq-eqb e.id e.id refl)))
@@ -177,14 +174,14 @@ IsQueueOf-marks es q order so space =
           | false ↦ All-cons P x.id (outdated xs) (or_left (eqb x.id x.id) (is_id xs x.id) (eq-eqb x.id x.id refl)) later
         ]
 
--- where each entry that is not current is held, only those that become so are marked
+-- where each outdated entry is held, only those that become so are marked
 pub marks-dependents : (keys : List Key) (es : List EntryState) (q : QueueState) → All (λ e. e.is_current ≡ false → is_held q e.id ≡ true) es
-    → after_marks q (outdated (map (marked keys) es)) ≡ after_marks q (dependents keys es)
+    → after_marks q (outdated (map (after_change keys) es)) ≡ after_marks q (dependents keys es)
 marks-dependents keys [] q waiting = refl
 marks-dependents keys (e ∷ es) q waiting = by (marks-dependents keys es) e.is_current (depends_on keys e) refl
   where
     rest : List EntryState
-    rest = filter (λ x. not x.is_current) (map (marked keys) es)
+    rest = filter (λ x. not x.is_current) (map (after_change keys) es)
 
     depending : List EntryState
     depending = filter (λ x. x.is_current && depends_on keys x) es
@@ -195,17 +192,17 @@ marks-dependents keys (e ∷ es) q waiting = by (marks-dependents keys es) e.is_
     later : All (Waiting q) es
     later = All-tail (Waiting q) e es waiting
 
-    by : ((w : QueueState) → All (Waiting w) es → after_marks w (outdated (map (marked keys) es)) ≡ after_marks w (dependents keys es)) → (b d : Bool) → e.is_current ≡ b
-        → after_marks q (map (λ x. x.id) (cond (not (b && not d)) (marked keys e ∷ rest) rest)) ≡ after_marks q (map (λ x. x.id) (cond (b && d) (e ∷ depending) depending))
+    by : ((w : QueueState) → All (Waiting w) es → after_marks w (outdated (map (after_change keys) es)) ≡ after_marks w (dependents keys es)) → (b d : Bool) → e.is_current ≡ b
+        → after_marks q (map (λ x. x.id) (cond (not (b && not d)) (after_change keys e ∷ rest) rest)) ≡ after_marks q (map (λ x. x.id) (cond (b && d) (e ∷ depending) depending))
     by recur true true current =
         recur (after_mark q e.id)
-        (All-weaker (Waiting q) (Waiting (after_mark q e.id)) (λ x held stale. is_held-after_mark q e.id x.id ∙ or_right (eqb x.id e.id) (is_held q x.id) (held stale)) es later)
+        (All-weaker (Waiting q) (Waiting (after_mark q e.id)) (λ x held out_of_date. is_held-after_mark q e.id x.id ∙ or_right (eqb x.id e.id) (is_held q x.id) (held out_of_date)) es later)
     by recur true false current = recur q later
-    by recur false d stale =
-        ap (λ w. after_marks w (outdated (map (marked keys) es))) (cond-true (is_held q e.id) q (record q { queued = q.queued ++ e.id ∷ [] }) (All-head (Waiting q) e es waiting stale))
+    by recur false d out_of_date =
+        ap (λ w. after_marks w (outdated (map (after_change keys) es))) (cond-true (is_held q e.id) q (record q { queued = q.queued ++ e.id ∷ [] }) (All-head (Waiting q) e es waiting out_of_date))
         ∙ recur q later
 
--- the ids of the first entries that are not current are marked
+-- the ids of the first outdated entries are marked
 pub record AreMarked (es : List EntryState) (old : QueueState) (i : ℕ) (q : QueueState) : Type 0 where
   pub rest : after_marks q (outdated (drop i es)) ≡ after_marks old (outdated es)
   pub among : IsQueueAmong es q
@@ -227,9 +224,9 @@ AreMarked-more es old i q e order within is so new marks keeps =
       | inl current ↦
           let rest = step ∙ ap first current in
           subst (AreMarked es old (i + 1)) (sym (keeps current)) (record { rest = ap (after_marks q) (sym rest) ∙ so.rest; among = so.among; space = so.space })
-      | inr stale ↦
-          let rest = step ∙ ap first stale in
-          subst (AreMarked es old (i + 1)) (sym (marks stale)) (record {
+      | inr out_of_date ↦
+          let rest = step ∙ ap first out_of_date in
+          subst (AreMarked es old (i + 1)) (sym (marks out_of_date)) (record {
             rest = ap (after_marks q) (sym rest) ∙ so.rest;
             among = IsQueueAmong-mark es q e.id order so.among so.space (own_id es i e within is);
             space = omega (arith, so.space, capacity-mark q e.id);

@@ -20,8 +20,8 @@ use Rattle.sipl_book.specs.declared.event.Event.{Event}
 use Rattle.sipl_book.specs.declared.limits.Limits.{Limits}
 
 -- what callers see of a book: the client's abilities, the zones with the numbers of their sets, the
--- holds and the clock, the events, the entries with the queue of those that are not current, and the
--- maxima of entries and events
+-- holds and the clock, the events, the entries with the queue of the outdated ones, and the maxima
+-- of entries and events
 pub record BookState : Type 0 where
   pub client : Client
   pub store : Store

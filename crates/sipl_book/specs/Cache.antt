@@ -6,7 +6,7 @@ use Rattle.sipl_repair.specs.QueueState.{QueueState}
 use Rattle.sipl_book.specs.Entries.{EntryState}
 use Rattle.sipl_book.specs.Repairs.{IsQueueOf}
 
--- the entries, the queue of those that are not current, and how many entries there may be
+-- the entries, the queue of the outdated ones, and how many entries there may be
 pub record CacheState : Type 0 where
   pub entries : List EntryState
   pub queue : QueueState

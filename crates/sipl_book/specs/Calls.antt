@@ -17,14 +17,14 @@ use Rattle.sipl_plans.specs.Findings.{Found}
 use Rattle.sipl_book.specs.Book.{BookState, answer_now}
 use Rattle.sipl_repair.specs.QueueState.{after_lease, after_settle, first_of, is_leased}
 use Rattle.sipl_repair.specs.declared.fault.QueueFault.TheVariants.{Empty}
-use Rattle.sipl_book.specs.Entries.{entry_of, is_hot, marked, committed, renewed}
+use Rattle.sipl_book.specs.Entries.{entry_of, has_current_entry, after_change, committed, renewed}
 use Rattle.sipl_book.specs.Machine.{zone_edit}
 use Rattle.sipl_book.specs.Repairs.{after_failure, after_marks, after_removal, after_renewal, after_return, dependents, entry_with, is_leased_for, without}
 use Rattle.sipl_book.specs.declared.edit.Edit.{Edit}
 use Rattle.sipl_book.specs.declared.event.Event.{Event}
 use Rattle.sipl_book.specs.declared.event.Event.TheVariants.{Change, Hold, Release, Advance, Answer}
 use Rattle.sipl_book.specs.declared.fault.BookFault.{BookFault}
-use Rattle.sipl_book.specs.declared.fault.BookFault.TheVariants.{JournalFull, Cold, Stale, Unknown, Gone, Queue, Store as StoreFault, Board, Memory}
+use Rattle.sipl_book.specs.declared.fault.BookFault.TheVariants.{JournalFull, NotCurrent, Stale, Unknown, Gone, Queue, Store as StoreFault, Board, Memory}
 use Rattle.sipl_book.specs.declared.outcome.Changed.{Changed}
 use Rattle.sipl_book.specs.declared.outcome.Handed.{Handed}
 use Rattle.sipl_book.specs.declared.outcome.Uncommitted.{Uncommitted}
@@ -44,7 +44,7 @@ change_refusal edit book =
     unless_full book (option_map StoreFault (store_refusal (zone_edit edit) book.store))
 
 -- An accepted edit changes the zones, the numbers of their sets, and which entries are current, and
--- is the next event. The entries that it makes not current are queued in their order, but for those
+-- is the next event. The entries that it makes outdated are marked in their order, but for those
 -- that are leased. A refused one changes nothing.
 pub record IsChanged (edit : Edit) (old new : BookState) (result : Result Changed BookFault)
     : Type 0 where
@@ -60,7 +60,7 @@ pub record IsChanged (edit : Edit) (old new : BookState) (result : Result Change
       ≡ next_after old.store.zones.records new.store.zones.records old.store.next)
   pub journal : OnOk result (new.journal ≡ old.journal ++ Change edit ∷ [])
   pub entries : OnOk result (new.entries
-      ≡ map (marked (changed_keys old.store.zones.records new.store.zones.records)) old.entries)
+      ≡ map (after_change (changed_keys old.store.zones.records new.store.zones.records)) old.entries)
   pub queue : OnOk result (new.queue ≡ after_marks old.queue
       (dependents (changed_keys old.store.zones.records new.store.zones.records) old.entries))
   pub refused : IfErr result (λ fault. fault ≢ Memory → change_refusal edit old ≡ Some fault)
@@ -106,7 +106,7 @@ answer_event book question words = Answer question words (answer_now book questi
 -- the fault of handing out an answer
 abbrev pub hand_refusal : Question → BookState → Option BookFault
 hand_refusal question book =
-    unless_full book (if is_hot book.entries question then None else Some Cold)
+    unless_full book (if has_current_entry book.entries question then None else Some NotCurrent)
 
 -- An answer that is returned is that of the records and the holds as they are, and is the next
 -- event. It looks at no set. A refused call changes nothing.

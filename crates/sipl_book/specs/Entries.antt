@@ -1,4 +1,4 @@
--- The entries of a book: for each of some questions a finding, current or not.
+-- The entries of a book: for each of some questions a finding, current or outdated.
 use Rattle.std.specs.Prelude.{ℕ, Bool, true, false, not, ◌&&◌, List, [], ◌∷◌, ◌++◌, length, map, find, nat_lt, if◌then◌else◌, Option, None, Some}
 use Rattle.std.specs.Option.{is_some}
 use Rattle.std.specs.List.{list_any}
@@ -24,16 +24,16 @@ abbrev pub entry_of : List EntryState → Question → Option EntryState
 entry_of entries question = find (is_of question) entries
 
 -- whether a question has a current entry
-abbrev pub is_hot : List EntryState → Question → Bool
-is_hot entries question = elim (entry_of entries question) [ Some e ↦ e.is_current | None ↦ false ]
+abbrev pub has_current_entry : List EntryState → Question → Bool
+has_current_entry entries question = elim (entry_of entries question) [ Some e ↦ e.is_current | None ↦ false ]
 
 -- whether one of the keys is in an entry's evidence
 abbrev pub depends_on : List Key → EntryState → Bool
 depends_on keys entry = list_any (λ k. not (is_unknown entry.found.items k)) keys
 
--- an entry after the sets of these keys changed: it stays current only without them
-abbrev pub marked : List Key → EntryState → EntryState
-marked keys entry =
+-- an entry after the sets of these keys changed: it is outdated with one of them in its evidence
+abbrev pub after_change : List Key → EntryState → EntryState
+after_change keys entry =
     record {
       id = entry.id;
       is_current = entry.is_current && not (depends_on keys entry);

@@ -1,6 +1,7 @@
 pub mod Machine
 pub mod Entries
 pub mod Book
+pub mod BookFields
 pub mod Calls
 pub mod BookFault
 pub mod EntryTable

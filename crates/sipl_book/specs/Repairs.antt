@@ -10,7 +10,7 @@ use Rattle.sipl_book.specs.Entries.{EntryState, depends_on, entry_of, is_of}
 abbrev pub entry_with : List EntryState → ℕ → Option EntryState
 entry_with entries id = find (λ e. e.id == id) entries
 
--- whether an id is that of an entry that is not current
+-- whether an id is that of an outdated entry
 abbrev pub is_outdated : List EntryState → ℕ → Bool
 is_outdated entries id = list_any (λ e. e.id == id && not e.is_current) entries
 
@@ -19,7 +19,7 @@ abbrev pub is_leased_for : List EntryState → QueueState → ℕ → Question �
 is_leased_for entries queue id question =
     elim (entry_of entries question) [ Some e ↦ e.id == id && is_leased queue id | None ↦ false ]
 
--- the ids of the entries that are not current, in their order
+-- the ids of the outdated entries, in their order
 abbrev pub outdated : List EntryState → List ℕ
 outdated entries = map (λ e. e.id) (filter (λ e. not e.is_current) entries)
 
@@ -63,7 +63,7 @@ pub record IsQueueAmong (entries : List EntryState) (queue : QueueState) : Type 
   pub apart : (id : ℕ) → is_leased queue id ≡ true → is_queued queue id ≡ false
   pub of_entries : (id : ℕ) → is_held queue id ≡ true → list_any (λ e. e.id == id) entries ≡ true
 
--- and each entry that is not current is queued or leased
+-- and each outdated entry is queued or leased
 pub record IsQueueOf (entries : List EntryState) (queue : QueueState) : Type 0 where
   pub among : IsQueueAmong entries queue
   pub waiting : All (λ e. e.is_current ≡ false → is_held queue e.id ≡ true) entries

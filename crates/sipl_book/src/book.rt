@@ -41,7 +41,7 @@ use std::marker::Model;
 /// time), the numbers of the record sets, the journal and the entries. The journal is always legal
 /// from the empty state: each edit, hold, release and move of the clock in it was accepted there,
 /// and each answer is what RFC 3263, 4, gives from scratch on the records and holds at its place. A
-/// current entry's record sets are as they were read; each other entry is queued or leased.
+/// current entry's record sets are as they were read; each outdated entry is queued or leased.
 #[derive(Drop)]
 pub struct Book {
     alloc: Global,
@@ -54,7 +54,7 @@ pub struct Book {
 }
 
 impl Model for Book {
-    ghost use Rattle.sipl_book.specs.Book.{BookState, IsConsistent};
+    ghost use Rattle.sipl_book.specs.Book.{BookState};
 
     ghost Value = { BookState };
 
@@ -62,27 +62,11 @@ impl Model for Book {
 
     ghost coded = { book_code };
 
-    ghost view = { λ b. record {
-      client = b.abilities;
-      store = b.store;
-      board = b.board;
-      journal = b.journal.items;
-      entries = b.cache.entries;
-      queue = b.cache.queue;
-      max_entries = b.cache.max_entries;
-      max_events = b.max_events;
-    } };
+    ghost use Rattle.sipl_book.specs.BookFields.{IsValidBook, book_of};
 
-    ghost invariant = { λ b. IsConsistent (record {
-      client = b.abilities;
-      store = b.store;
-      board = b.board;
-      journal = b.journal.items;
-      entries = b.cache.entries;
-      queue = b.cache.queue;
-      max_entries = b.cache.max_entries;
-      max_events = b.max_events;
-    }) };
+    ghost view = { book_of };
+
+    ghost invariant = { IsValidBook };
 }
 
 impl Book {
@@ -107,8 +91,8 @@ impl Book {
         }
     }
 
-    /// Edits the zones. The entries whose evidence has the key of a set that changed are no longer
-    /// current, and are queued in their order, but for those that are leased. The cost is that of the
+    /// Edits the zones. The entries whose evidence has the key of a set that changed are outdated
+    /// then, and are marked in their order, but for those that are leased. The cost is that of the
     /// edit, and a look-up for each entry and each key.
     ///
     /// The fault is the first one: a full journal (B3), a fault of the zones (S1 to S8).
@@ -117,7 +101,7 @@ impl Book {
     {
         reserve_event(&mut self.journal, self.max_events)?;
         let keys = edit.apply(&mut self.store)?;
-        self.cache.mark(keys.as_slice());
+        self.cache.outdate(keys.as_slice());
         let number = record_event(&mut self.journal, Event::Change(edit));
         Ok(Changed {
             number,
@@ -188,7 +172,7 @@ impl Book {
         reserve_event(&mut self.journal, self.max_events)?;
         let layout = match self.cache.get(question) {
             Some(entry) if entry.is_current() => entry.layout(),
-            _ => return Err(BookFault::Cold),
+            _ => return Err(BookFault::NotCurrent),
         };
         let (event, answer) = prepare(self.alloc, question, layout, draws, &self.board)?;
         let number = record_event(&mut self.journal, event);
@@ -282,8 +266,8 @@ impl Book {
         Ok(())
     }
 
-    /// How many entries are queued. No id is queued twice, or both queued and leased, and each entry
-    /// that is not current is queued or leased.
+    /// How many entries are queued. No id is queued twice, or both queued and leased, and each
+    /// outdated entry is queued or leased.
     pub fn queued(&self) -> u64
         ensures count { result ≡ length self.now.queue.queued }
         ensures queue { IsQueueOf self.now.entries self.now.queue }

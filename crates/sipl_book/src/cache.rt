@@ -4,7 +4,7 @@ ghost use Rattle.std.specs.List.{AllPairs};
 ghost use Rattle.std.specs.Option.{option_copied};
 ghost use Rattle.sipl_repair.specs.QueueState.{after_lease, after_settle, first_of, is_leased};
 ghost use Rattle.sipl_book.specs.Cache.{InOrder, new_cache};
-ghost use Rattle.sipl_book.specs.Entries.{committed, entry_of, marked, renewed};
+ghost use Rattle.sipl_book.specs.Entries.{after_change, committed, entry_of, renewed};
 ghost use Rattle.sipl_book.specs.Repairs.{IsQueueOf, after_failure, after_marks, after_removal, after_renewal, after_return, dependents, entry_with, is_leased_for, without};
 
 use crate::entries::Entries;
@@ -17,11 +17,10 @@ use sipl_uri::Question;
 use std::alloc::Global;
 use std::marker::Model;
 
-/// Entries, at most so many, and the queue of those that are not current. Contracts see the queue
-/// with space for the ids of as many entries as there may be.
+/// Entries, at most so many, and the queue of the outdated ones. Contracts see the queue with space
+/// for the ids of as many entries as there may be.
 ///
-/// The queued and the leased ids are those of entries, and each entry that is not current is queued
-/// or leased.
+/// The queued and the leased ids are those of entries, and each outdated entry is queued or leased.
 #[derive(Drop)]
 pub(crate) struct Cache {
     alloc: Global,
@@ -87,18 +86,18 @@ impl Cache {
         }
     }
 
-    /// Makes the entries whose evidence has one of these keys, whose sets changed, not current, and
-    /// queues those that are not leased in their order. Takes a look-up for each entry and each key.
+    /// Makes the entries whose evidence has one of these keys, whose sets changed, outdated, and
+    /// marks those that are not leased in their order. Takes a look-up for each entry and each key.
     /// Does not allocate.
-    pub(crate) fn mark(&mut self, changed: &[Key])
+    pub(crate) fn outdate(&mut self, changed: &[Key])
         requires order { InOrder self.old.entries }
         ensures { self.new ≡ record self.old {
-          entries = map (marked changed.now) self.old.entries;
+          entries = map (after_change changed.now) self.old.entries;
           queue = after_marks self.old.queue (dependents changed.now self.old.entries);
         } }
     {
-        self.entries.mark(changed);
-        self.entries.queue_outdated(&mut self.queue);
+        self.entries.outdate(changed);
+        self.entries.mark_outdated(&mut self.queue);
     }
 
     /// Makes a finding the current one of its question, whose entry is not queued then: of the

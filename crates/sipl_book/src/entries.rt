@@ -3,7 +3,7 @@ ghost use Rattle.std.specs.Prelude.{◌≡◌, ◌≢◌, ◌≤◌, [], ◌∷�
 ghost use Rattle.std.specs.List.{AllPairs};
 ghost use Rattle.std.specs.Option.{option_copied};
 ghost use Rattle.sipl_book.specs.Cache.{InOrder};
-ghost use Rattle.sipl_book.specs.Entries.{entry_of, marked, renewed};
+ghost use Rattle.sipl_book.specs.Entries.{after_change, entry_of, renewed};
 ghost use Rattle.sipl_book.specs.Repairs.{IsQueueAmong, after_marks, entry_with, is_outdated, outdated, without};
 
 use crate::entry::Entry;
@@ -55,14 +55,14 @@ impl Entries {
         self.table.get(question)
     }
 
-    /// Marks the entries whose evidence has one of these keys, whose sets changed, as not current.
+    /// Makes the entries whose evidence has one of these keys, whose sets changed, outdated.
     /// Takes a look-up for each entry and each key. Does not allocate.
-    pub(crate) fn mark(&mut self, changed: &[Key])
-        ensures { self.new ≡ map (marked changed.now) self.old }
+    pub(crate) fn outdate(&mut self, changed: &[Key])
+        ensures { self.new ≡ map (after_change changed.now) self.old }
     {
         // Keeps each entry, and writes to it.
         self.table.retain(|_, entry| {
-            entry.mark(changed);
+            entry.outdate(changed);
             true
         });
     }
@@ -105,7 +105,7 @@ impl Entries {
         }
     }
 
-    /// Whether an id is that of an entry that is not current. Logarithmic in the number of entries.
+    /// Whether an id is that of an outdated entry. Logarithmic in the number of entries.
     pub(crate) fn is_outdated(&self, id: u64) -> bool
         requires order { InOrder self.now }
         ensures { result ≡ is_outdated self.now id }
@@ -116,9 +116,8 @@ impl Entries {
         }
     }
 
-    /// Marks the ids of the entries that are not current in their order. Linear in the number of
-    /// entries.
-    pub(crate) fn queue_outdated(&self, queue: &mut Queue)
+    /// Marks the ids of the outdated entries in their order. Linear in the number of entries.
+    pub(crate) fn mark_outdated(&self, queue: &mut Queue)
         requires order { InOrder self.now }
         requires space { length self.now ≤ queue.old.capacity }
         requires among { IsQueueAmong self.now queue.old }

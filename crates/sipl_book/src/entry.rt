@@ -1,7 +1,7 @@
 ghost use Rattle.std.specs.Prelude.{◌≡◌, true};
 ghost use Rattle.sipl_plans.specs.Findings.{IsSound};
 ghost use Rattle.sipl_plans.specs.Servers.{HasFewServers};
-ghost use Rattle.sipl_book.specs.Entries.{depends_on, marked};
+ghost use Rattle.sipl_book.specs.Entries.{after_change, depends_on};
 
 use sipl_evidence::Evidence;
 use sipl_plans::{Finding, Layout};
@@ -53,10 +53,10 @@ impl Entry {
         self.finding = finding;
     }
 
-    // Marks the entry as not current where one of these keys, whose sets changed, is in its
-    // evidence. Linear in the number of keys.
-    pub(crate) fn mark(&mut self, changed: &[Key])
-        ensures { self.new ≡ marked changed.now self.old }
+    // Makes the entry outdated where one of these keys, whose sets changed, is in its evidence.
+    // Linear in the number of keys.
+    pub(crate) fn outdate(&mut self, changed: &[Key])
+        ensures { self.new ≡ after_change changed.now self.old }
     {
         self.is_current = self.is_current && !self.depends_on(changed);
     }

@@ -1,35 +1,43 @@
 ghost use Rattle.std.specs.Prelude.{◌≡◌};
-ghost use Rattle.sipl_book.specs.BookFault.{code_of, message_of};
+ghost use Rattle.sipl_book.specs.BookFault.{code_of};
 
 use sipl_outages::BoardFault;
 use sipl_repair::QueueFault;
 use sipl_zonestore::StoreFault;
 use std::alloc::{AllocError, AllocFailed};
-use std::error::Error;
-use std::fmt;
+use thiserror::Error;
 
 /// Why a call of a book fails.
-#[derive(Clone, Copy, Debug, PartialEq, Eq, Hash)]
+#[derive(Clone, Copy, Debug, PartialEq, Eq, Hash, Error)]
 pub enum BookFault {
     /// B3: the journal has as many events as it may have.
+    #[error("the journal is full")]
     JournalFull,
     /// B1: the question has no current entry.
-    Cold,
+    #[error("the question has no current entry")]
+    NotCurrent,
     /// B2: a record set is no longer as it was read. The place of the first such item in the
     /// evidence, from 0.
+    #[error("a record set has changed since it was read")]
     Stale(usize),
     /// B4: the question has no entry.
+    #[error("the question has no entry")]
     Unknown,
     /// B5: the lease is not one of the question's entry: that was forgotten, or the lease is another
     /// book's.
+    #[error("the lease is not one of the question's entry")]
     Gone,
     /// A fault of the queue: no entry is queued (Q1).
+    #[error(transparent)]
     Queue(QueueFault),
     /// A fault of the zones.
+    #[error(transparent)]
     Store(StoreFault),
     /// A fault of the holds or the clock.
+    #[error(transparent)]
     Board(BoardFault),
     /// An allocation failed.
+    #[error("out of memory")]
     Memory,
 }
 
@@ -40,7 +48,7 @@ impl BookFault {
     {
         match self {
             BookFault::JournalFull => "B3",
-            BookFault::Cold => "B1",
+            BookFault::NotCurrent => "B1",
             BookFault::Stale(_) => "B2",
             BookFault::Unknown => "B4",
             BookFault::Gone => "B5",
@@ -51,28 +59,6 @@ impl BookFault {
         }
     }
 }
-
-impl fmt::Display for BookFault {
-    ghost use Rattle.std.specs.Prelude.{Some};
-
-    ghost output = { λ fault. Some (message_of fault) };
-
-    fn fmt<W: fmt::Write>(&self, f: &mut fmt::Formatter<W>) -> fmt::Result {
-        match self {
-            BookFault::JournalFull => f.write_str("the journal is full"),
-            BookFault::Cold => f.write_str("the question has no current entry"),
-            BookFault::Stale(_) => f.write_str("a record set has changed since it was read"),
-            BookFault::Unknown => f.write_str("the question has no entry"),
-            BookFault::Gone => f.write_str("the lease is not one of the question's entry"),
-            BookFault::Queue(fault) => fault.fmt(f),
-            BookFault::Store(fault) => fault.fmt(f),
-            BookFault::Board(fault) => fault.fmt(f),
-            BookFault::Memory => f.write_str("out of memory"),
-        }
-    }
-}
-
-impl Error for BookFault {}
 
 impl From<StoreFault> for BookFault {
     ghost use Rattle.std.specs.Prelude.{◌≡◌};

@@ -15,8 +15,6 @@ mod event;
 mod fault;
 mod limits;
 mod outcome;
-#[cfg(test)]
-mod tests;
 
 pub use book::Book;
 pub use edit::Edit;

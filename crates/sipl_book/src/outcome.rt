@@ -1,10 +1,10 @@
 ghost use Rattle.std.specs.Prelude.{◌≡◌};
-ghost use Rattle.sipl_book.specs.BookFault.{code_of, message_of};
+ghost use Rattle.sipl_book.specs.BookFault.{code_of};
 
 use crate::fault::BookFault;
 use sipl_plans::{Answer, Finding};
-use std::error::Error;
 use std::fmt;
+use thiserror::Error;
 
 /// An edit that was made.
 #[derive(Clone, Copy, Debug, PartialEq, Eq)]
@@ -25,7 +25,8 @@ pub struct Handed {
 }
 
 /// A finding that was not committed, and why.
-#[derive(Drop)]
+#[derive(Drop, Error)]
+#[error("{fault}")]
 pub struct Uncommitted {
     pub fault: BookFault,
     pub finding: Finding,
@@ -40,21 +41,9 @@ impl Uncommitted {
     }
 }
 
-impl fmt::Display for Uncommitted {
-    ghost use Rattle.std.specs.Prelude.{Some};
-
-    ghost output = { λ uncommitted. Some (message_of uncommitted.fault) };
-
-    fn fmt<W: fmt::Write>(&self, f: &mut fmt::Formatter<W>) -> fmt::Result {
-        self.fault.fmt(f)
-    }
-}
-
 // The finding is not shown.
 impl fmt::Debug for Uncommitted {
     fn fmt<W: fmt::Write>(&self, f: &mut fmt::Formatter<W>) -> fmt::Result {
         f.write_str("Uncommitted")
     }
 }
-
-impl Error for Uncommitted {}

@@ -14,9 +14,9 @@ use Rattle.toml.specs.declared.value.Value.{Value}
 use Rattle.toml.specs.View.{view, members_view}
 use Rattle.toml.proofs.Views.{Entry}
 use Rattle.sipl_names.specs.Labels.{Octets}
-use Rattle.sipl_lines.specs.declared.keys.Settings.{Settings}
-use Rattle.sipl_lines.specs.declared.fault.Refusal.{Refusal}
-use Rattle.sipl_lines.specs.declared.fault.Refusal.TheVariants.{UnknownKey, BadValue, Memory}
+use Rattle.sipl_lines.specs.declared.settings.Settings.{Settings}
+use Rattle.sipl_lines.specs.declared.settings.fault.Refusal.{Refusal}
+use Rattle.sipl_lines.specs.declared.settings.fault.Refusal.TheVariants.{UnknownKey, BadValue, Memory}
 use Rattle.sipl_lines.specs.SettingsFault.{Fault, key_fault}
 use Rattle.sipl_lines.specs.Settings.{earlier, first_fault, member_fault, settings_of, settings_over, value_at}
 use Rattle.sipl_lines.specs.Values.{number_in, transports_in, families_in, listen_in}

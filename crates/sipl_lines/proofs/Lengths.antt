@@ -3,7 +3,7 @@ use Rattle.std.proofs.Common.{◌*◌, ◌≤◌, [], ◌∷◌, length, arith, 
 use Rattle.std.specs.List.{flat_map}
 use Rattle.sipl_names.specs.Labels.{Labels, wire_of, wire_length}
 use Rattle.sipl_names.specs.NamePrint.{printed_label, text_of}
-use Rattle.sipl_names.proofs.TextLength.{length-printed_label}
+use Rattle.sipl_names.proofs.Public.{length-printed_label}
 use Rattle.sipl_records.specs.Kinds.{text_of_kind}
 use Rattle.sipl_records.specs.declared.kind.Kind.{Kind}
 use Rattle.sipl_records.specs.declared.kind.Kind.TheVariants.{Address4, Address6, Alias, Service, Pointer}

@@ -7,14 +7,14 @@ use Rattle.std.proofs.lemmas.List.Elements.{All-nil, All-cons, All-append}
 use Rattle.sipl_records.specs.Sets.{set_of}
 use Rattle.sipl_records.specs.declared.data.Data.{Data}
 use Rattle.sipl_records.specs.declared.record.Key.{Key}
-use Rattle.sipl_records.proofs.SameData.{same_set-Decides}
+use Rattle.sipl_records.proofs.Public.{same_set-Decides}
 use Rattle.sipl_evidence.specs.Items.{Item}
 use Rattle.sipl_plans.specs.Findings.{Found, IsFound}
 use Rattle.sipl_plans.specs.Runs.{RunState, IsSet, IsWanted, IsGiven, wanted}
 use Rattle.sipl_zonestore.specs.Store.{Store, number_in}
 use Rattle.sipl_book.specs.Book.{BookState}
 use Rattle.sipl_book.specs.Calls.{after_look, is_stale, with_looks}
-use Rattle.sipl_book.proofs.Staleness.{position-none}
+use Rattle.sipl_book.proofs.Public.{position-none}
 use Rattle.sipl_lines.specs.Locating.{AreRead, IsLocated}
 
 -- what the run wants is taken from the book

@@ -7,15 +7,15 @@ use Rattle.std.proofs.lemmas.Option.{none-some, same_Some}
 use Rattle.sipl_plans.specs.Findings.{Found}
 use Rattle.sipl_uri.specs.declared.question.Question.{Question}
 use Rattle.sipl_repair.specs.QueueState.{QueueState, is_leased, first_of, after_lease, after_settle, after_give_back as after_front, with_first_leased}
-use Rattle.sipl_repair.proofs.Members.{contains-insert, remove-insert}
+use Rattle.sipl_repair.proofs.Public.{contains-insert, remove-insert}
 use Rattle.sipl_book.specs.Book.{BookState}
 use Rattle.sipl_book.specs.Calls.{IsSettled, after_give_back, after_settlement, is_stale, settle_refusal, with_looks}
-use Rattle.sipl_book.specs.Entries.{EntryState, entry_of, is_hot, is_of, renewed}
+use Rattle.sipl_book.specs.Entries.{EntryState, entry_of, has_current_entry, is_of, renewed}
 use Rattle.sipl_book.specs.Questions.{same_question}
 use Rattle.sipl_book.specs.Repairs.{after_return, is_leased_for, is_outdated}
 use Rattle.sipl_book.specs.declared.fault.BookFault.TheVariants.{Stale, Gone}
 use Rattle.sipl_book.specs.declared.outcome.Uncommitted.{Uncommitted}
-use Rattle.sipl_book.proofs.Committed.{id-renewed, question-renewed, renewed_cases}
+use Rattle.sipl_book.proofs.Public.{id-renewed, question-renewed, renewed_cases}
 use Rattle.sipl_lines.specs.Desk.{IsRenewed}
 use Rattle.sipl_lines.specs.Locating.{IsLocated}
 use Rattle.sipl_lines.proofs.Locating.{not_stale}
@@ -31,7 +31,7 @@ questions-renewed found [] = refl
 questions-renewed found (e ∷ es) = λ i. question-renewed found e i ∷ questions-renewed found es i
 
 -- a current entry is so still
-hot-renewed : (found : Found) (es : List EntryState) (question : Question) → is_hot es question ≡ true → is_hot (map (renewed found) es) question ≡ true
+hot-renewed : (found : Found) (es : List EntryState) (question : Question) → has_current_entry es question ≡ true → has_current_entry (map (renewed found) es) question ≡ true
 hot-renewed found [] question hot = hot
 hot-renewed found (e ∷ es) question hot =
     let same : is_of question (renewed found e) ≡ is_of question e = ap (λ q. same_question q question) (question-renewed found e) in
@@ -80,7 +80,7 @@ renewed-looked old new is =
     record {
       ids = ap (λ (b : BookState). map (λ e. e.id) b.entries) is;
       questions = ap (λ (b : BookState). map (λ e. e.found.question) b.entries) is;
-      current = λ question hot. subst (λ (b : BookState). is_hot b.entries question ≡ true) (sym is) hot;
+      current = λ question hot. subst (λ (b : BookState). has_current_entry b.entries question ≡ true) (sym is) hot;
       queued = (0, ap (λ (b : BookState). b.queue.queued) is);
       leased = ap (λ (b : BookState). b.queue.leased) is;
       capacity = ap (λ (b : BookState). b.queue.capacity) is;
@@ -138,7 +138,7 @@ module _ (old : BookState) (id : ℕ) (question : Question) (first : first_of ol
         record {
           ids = ap (map (λ e. e.id)) entries ∙ ids-renewed found old.entries;
           questions = ap (map (λ e. e.found.question)) entries ∙ questions-renewed found old.entries;
-          current = λ asked hot. ap (λ es. is_hot es asked) entries ∙ hot-renewed found old.entries asked hot;
+          current = λ asked hot. ap (λ es. has_current_entry es asked) entries ∙ hot-renewed found old.entries asked hot;
           queued = (1, settled-next);
           leased = ap (λ (k : QueueState). k.leased) queue;
           capacity = ap (λ (k : QueueState). k.capacity) queue;
@@ -160,7 +160,7 @@ module _ (old : BookState) (id : ℕ) (question : Question) (first : first_of ol
         record {
           ids = ap (map (λ e. e.id)) entries-returned;
           questions = ap (map (λ e. e.found.question)) entries-returned;
-          current = λ asked hot. ap (λ es. is_hot es asked) entries-returned ∙ hot;
+          current = λ asked hot. ap (λ es. has_current_entry es asked) entries-returned ∙ hot;
           queued = (count, ap (λ (k : QueueState). k.queued) queue);
           leased = ap (λ (k : QueueState). k.leased) queue;
           capacity = ap (λ (k : QueueState). k.capacity) queue;

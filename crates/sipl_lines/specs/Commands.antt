@@ -1,8 +1,8 @@
 -- What each command asks of the desk, and its reply.
 use Rattle.std.specs.Prelude.{◌≡◌, ◌⊎◌, ℕ, List, [], ◌∷◌, ◌++◌, length, Option, None, Some, Result, Ok, Err, codes}
 use Rattle.sipl_names.specs.Labels.{Octets, Labels}
-use Rattle.sipl_names.specs.NameFault.{code_of as name_code}
-use Rattle.sipl_names.specs.declared.fault.NameFault.{NameFault}
+use Rattle.sipl_names.specs.InvalidName.{code_of as name_code}
+use Rattle.sipl_names.specs.declared.fault.InvalidName.{InvalidName}
 use Rattle.sipl_records.specs.declared.address.Address.{Address}
 use Rattle.sipl_records.specs.declared.record.Record.{Record}
 use Rattle.sipl_masterfile.specs.Zones.{Zone}
@@ -22,6 +22,8 @@ use Rattle.sipl_book.specs.declared.edit.Edit.TheVariants.{Load, Unload, Add, Re
 use Rattle.sipl_book.specs.declared.fault.BookFault.{BookFault}
 use Rattle.sipl_book.specs.declared.outcome.Changed.{Changed}
 use Rattle.sipl_book.specs.declared.outcome.Handed.{Handed}
+use Rattle.sipl_lines.specs.declared.desk_commands.RecordEdit.{RecordEdit}
+use Rattle.sipl_lines.specs.declared.desk_commands.RecordEdit.TheVariants.{Add as AddRecord, Remove as RemoveRecord}
 use Rattle.sipl_lines.specs.Desk.{DeskRules}
 use Rattle.sipl_lines.specs.ReplyText.{counts_line, refusal_line, text_fault_line, answer_text, evidence_text}
 
@@ -77,19 +79,25 @@ Loads rules (Ok zone) before text after =
     (Load zone) before text after
 
 -- the zone of an apex is unloaded
-abbrev pub Unloads : {D : Type 0} → DeskRules D → Result Labels NameFault → D → Octets → D → Type 0
+abbrev pub Unloads : {D : Type 0} → DeskRules D → Result Labels InvalidName → D → Octets → D → Type 0
 Unloads rules (Err fault) before text after = Refuses (name_code fault) before text after
 Unloads rules (Ok apex) before text after = Edits rules (codes "ok drop") [] (Unload apex) before text after
 
--- the record of a text is added
-abbrev pub Adds : {D : Type 0} → DeskRules D → Result Record ZoneFault → D → Octets → D → Type 0
-Adds rules (Err fault) before text after = Refuses (zone_code fault) before text after
-Adds rules (Ok r) before text after = Edits rules (codes "ok add") [] (Add r) before text after
+-- the words of the reply to an accepted edit of a record, and the edit
+abbrev pub record_words : RecordEdit → Octets
+record_words AddRecord = codes "ok add"
+record_words RemoveRecord = codes "ok del"
 
--- the record of a text is removed
-abbrev pub Removes : {D : Type 0} → DeskRules D → Result Record ZoneFault → D → Octets → D → Type 0
-Removes rules (Err fault) before text after = Refuses (zone_code fault) before text after
-Removes rules (Ok r) before text after = Edits rules (codes "ok del") [] (Remove r) before text after
+abbrev pub record_edit : RecordEdit → Record → Edit
+record_edit AddRecord r = Add r
+record_edit RemoveRecord r = Remove r
+
+-- the record of a text is added or removed
+abbrev pub EditsRecord : {D : Type 0} → DeskRules D → RecordEdit → Result Record ZoneFault → D → Octets → D
+    → Type 0
+EditsRecord rules kind (Err fault) before text after = Refuses (zone_code fault) before text after
+EditsRecord rules kind (Ok r) before text after =
+    Edits rules (record_words kind) [] (record_edit kind r) before text after
 
 -- the targets of a question for random words; they are handed out also where there is no space for
 -- their text

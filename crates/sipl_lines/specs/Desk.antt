@@ -8,7 +8,7 @@ use Rattle.sipl_plans.specs.Findings.{Found}
 use Rattle.sipl_plans.specs.Route.{reads}
 use Rattle.sipl_book.specs.Book.{BookState, answer_now}
 use Rattle.sipl_book.specs.Calls.{IsChanged, MovesBoard, unless_full, answer_event, recorded, after_commit, with_looks}
-use Rattle.sipl_book.specs.Entries.{is_hot}
+use Rattle.sipl_book.specs.Entries.{has_current_entry}
 use Rattle.sipl_book.specs.declared.edit.Edit.{Edit}
 use Rattle.sipl_book.specs.declared.fault.BookFault.{BookFault}
 use Rattle.sipl_book.specs.declared.fault.BookFault.TheVariants.{Memory}
@@ -40,10 +40,10 @@ pub record IsFound (question : Question) (words : List ℕ) (old : BookState)
   pub accepted : OnOk result (unless_full old None ≡ None)
   pub number : IfOk result (λ handed. handed.number ≡ length old.journal)
   pub answer : IfOk result (λ handed. handed.answer ≡ answer_now old question words)
-  pub from_entry : IsTrue (is_hot old.entries question)
+  pub from_entry : IsTrue (has_current_entry old.entries question)
       → OnOk result (new ≡ recorded (answer_event old question words) old)
-  pub committed : IsFalse (is_hot old.entries question) → OnOk result (IsKept question words old new)
-  pub looks : IsTrue (is_hot old.entries question) → new.store.looks ≡ old.store.looks
+  pub committed : IsFalse (has_current_entry old.entries question) → OnOk result (IsKept question words old new)
+  pub looks : IsTrue (has_current_entry old.entries question) → new.store.looks ≡ old.store.looks
   pub refused : IfErr result (λ fault. fault ≢ Memory → unless_full old None ≡ Some fault)
   pub unchanged : OnErr result (new ≡ with_looks new.store.looks old)
 
@@ -63,8 +63,8 @@ pub record AreDependencies (question : Question) (old : BookState)
 pub record IsRenewed (old new : BookState) : Type 0 where
   pub ids : map (λ e. e.id) new.entries ≡ map (λ e. e.id) old.entries
   pub questions : map (λ e. e.found.question) new.entries ≡ map (λ e. e.found.question) old.entries
-  pub current : (question : Question) → IsTrue (is_hot old.entries question)
-      → IsTrue (is_hot new.entries question)
+  pub current : (question : Question) → IsTrue (has_current_entry old.entries question)
+      → IsTrue (has_current_entry new.entries question)
   pub queued : (count : ℕ) × (new.queue.queued ≡ drop count old.queue.queued)
   pub leased : new.queue.leased ≡ old.queue.leased
   pub capacity : new.queue.capacity ≡ old.queue.capacity

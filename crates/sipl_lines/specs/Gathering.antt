@@ -2,14 +2,14 @@
 use Rattle.std.specs.Prelude.{◌≡◌, ◌⊎◌, ℕ, ◌-◌, Bool, true, false, [], ◌∷◌, ◌++◌, length, Result, Ok, Err, IsTrue, nat_lt, if◌then◌else◌}
 use Rattle.sipl_names.specs.Labels.{Octets, Labels}
 use Rattle.sipl_names.specs.NameText.{name_of}
-use Rattle.sipl_names.specs.declared.fault.NameFault.{NameFault}
+use Rattle.sipl_names.specs.declared.fault.InvalidName.{InvalidName}
 use Rattle.sipl_lines.specs.declared.gather.Gathered.{Gathered}
 use Rattle.sipl_lines.specs.declared.gather.Gathered.TheVariants.{Lines, BadApex, LongLine, Lost}
 use Rattle.sipl_lines.specs.declared.gather.Gathering.{Gathering}
 use Rattle.sipl_lines.specs.ZoneLines.{ZoneLines}
 
 -- the zone of an apex, of which no line was taken
-abbrev pub no_lines : Result Labels NameFault → Gathered
+abbrev pub no_lines : Result Labels InvalidName → Gathered
 no_lines (Ok apex) = Lines (record { apex = apex; text = [] })
 no_lines (Err fault) = BadApex fault
 

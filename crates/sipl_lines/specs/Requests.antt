@@ -4,10 +4,10 @@ use lib.Pointwise.{pointwise}
 use Rattle.sipl_records.specs.Fields.{fields_of, trim_start, after_field}
 use Rattle.sipl_records.specs.Numbers.{number_of}
 use Rattle.sipl_choice.specs.declared.transport.Transport.{Transport}
+use Rattle.sipl_choice.specs.Transports.{transport_named}
 use Rattle.sipl_srv.specs.declared.fault.DrawsFault.{DrawsFault}
 use Rattle.sipl_names.specs.Labels.{Octets}
 use Rattle.sipl_lines.specs.DrawsField.{draws_of}
-use Rattle.sipl_lines.specs.Values.{transport_named}
 
 -- a request with its fields; a line without fields and a comment ask for nothing
 pub data Request : Type 0 where

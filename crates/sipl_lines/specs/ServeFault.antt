@@ -1,4 +1,4 @@
--- The faults of serving: their texts, and what a clause says of one of them.
+-- The faults of serving: their codes, and what a clause says of one of them.
 use Rattle.std.specs.Prelude.{Bool, true, false, Result, Ok, Err, codes}
 use Rattle.sipl_names.specs.Labels.{Octets}
 use Rattle.sipl_lines.specs.declared.server.ServeFault.{ServeFault}
@@ -10,13 +10,6 @@ code_of Read = codes "read"
 code_of Write = codes "write"
 code_of TooManyTurns = codes "turns"
 code_of Memory = codes "memory"
-
--- what a fault says to a person
-abbrev pub message_of : ServeFault → Octets
-message_of Read = codes "a read failed"
-message_of Write = codes "a write failed, or wrote nothing"
-message_of TooManyTurns = codes "the session is longer than the reads that are allowed"
-message_of Memory = codes "out of memory"
 
 -- a read failed
 abbrev pub is_read_fault : {T : Type 0} → Result T ServeFault → Bool

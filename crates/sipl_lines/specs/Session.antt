@@ -3,12 +3,13 @@ use Rattle.std.specs.Prelude.{◌≡◌, ◌⊎◌, Bool, true, false, [], ◌++
 use Rattle.std.specs.Bool.{OnTrue, OnFalse}
 use Rattle.sipl_names.specs.Labels.{Octets}
 use Rattle.sipl_names.specs.NameText.{name_of}
-use Rattle.sipl_names.specs.NameFault.{code_of as name_code}
+use Rattle.sipl_names.specs.InvalidName.{code_of as name_code}
 use Rattle.sipl_records.specs.Addresses.{address_of}
 use Rattle.sipl_masterfile.specs.Zones.{zone_of}
 use Rattle.sipl_masterfile.specs.RecordText.{record_of}
 use Rattle.sipl_uri.specs.Uris.{question_of}
-use Rattle.sipl_lines.specs.Commands.{Keeps, Refuses, Fails, Loads, Unloads, Adds, Removes, AnswersUri, ListsUri, Repairs, Holds, Releases, SetsClock}
+use Rattle.sipl_lines.specs.declared.desk_commands.RecordEdit.TheVariants.{Add as AddRecord, Remove as RemoveRecord}
+use Rattle.sipl_lines.specs.Commands.{Keeps, Refuses, Fails, Loads, Unloads, EditsRecord, AnswersUri, ListsUri, Repairs, Holds, Releases, SetsClock}
 use Rattle.sipl_lines.specs.Desk.{DeskRules}
 use Rattle.sipl_lines.specs.Items.{Item, line, end_of_input}
 use Rattle.sipl_lines.specs.Protocol.{Protocol}
@@ -94,8 +95,10 @@ Obeys rules (zone apex lines) before text after =
     ⊎ Gathers rules (lost lines) before text after
 Obeys rules (drop apex) before text after =
     Commands (Unloads rules (name_of apex [])) before text after
-Obeys rules (add r) before text after = Commands (Adds rules (record_of r [])) before text after
-Obeys rules (del r) before text after = Commands (Removes rules (record_of r [])) before text after
+Obeys rules (add r) before text after =
+    Commands (EditsRecord rules AddRecord (record_of r [])) before text after
+Obeys rules (del r) before text after =
+    Commands (EditsRecord rules RemoveRecord (record_of r [])) before text after
 Obeys rules (find uri draws) before text after =
     Commands (AnswersUri rules (question_of uri) draws) before text after
 Obeys rules (deps uri) before text after = Commands (ListsUri rules (question_of uri)) before text after

@@ -10,9 +10,9 @@ use Rattle.toml.specs.Parse.{parse_document}
 use Rattle.sipl_names.specs.Labels.{Octets}
 use Rattle.sipl_choice.specs.declared.transport.Transport.TheVariants.{Udp, Tcp}
 use Rattle.sipl_choice.specs.declared.families.Families.TheVariants.{V4}
-use Rattle.sipl_lines.specs.declared.keys.Settings.{Settings}
+use Rattle.sipl_lines.specs.declared.settings.Settings.{Settings}
 use Rattle.sipl_lines.specs.SettingsFault.{Fault, not_toml, unknown_key, bad_value, key_fault}
-use Rattle.sipl_lines.specs.declared.fault.Refusal.{Refusal}
+use Rattle.sipl_lines.specs.declared.settings.fault.Refusal.{Refusal}
 use Rattle.sipl_lines.specs.Values.{number_in, number_from, transports_in, families_in, listen_in, socket}
 
 -- what the value of a key may be: a list of transports, families, a number from low to high, or

@@ -1,10 +1,10 @@
 -- The faults of settings, and their codes.
 use Rattle.std.specs.Prelude.{ℕ, List, Option, None, Some, codes, string_bytes}
 use Rattle.sipl_names.specs.Labels.{Octets}
-use Rattle.sipl_lines.specs.declared.fault.SettingsFault.{SettingsFault}
-use Rattle.sipl_lines.specs.declared.fault.SettingsFault.TheVariants.{NotToml, UnknownKey, BadValue, Memory}
-use Rattle.sipl_lines.specs.declared.fault.Refusal.{Refusal}
-use Rattle.sipl_lines.specs.declared.fault.Refusal.TheVariants as refusal
+use Rattle.sipl_lines.specs.declared.settings.fault.SettingsFault.{SettingsFault}
+use Rattle.sipl_lines.specs.declared.settings.fault.SettingsFault.TheVariants.{NotToml, UnknownKey, BadValue, Memory}
+use Rattle.sipl_lines.specs.declared.settings.fault.Refusal.{Refusal}
+use Rattle.sipl_lines.specs.declared.settings.fault.Refusal.TheVariants as refusal
 
 -- what is wrong with a text, with the octets of the key
 pub data Fault : Type 0 where

@@ -1,5 +1,5 @@
 -- The values of settings: transports, families, numbers, and where to listen.
-use Rattle.std.specs.Prelude.{ℕ, pos, ◌/◌, ◌&&◌, List, [], ◌∷◌, Option, None, Some, codes, nat_eq, nat_le, find, is_none, option_and_then, if◌then◌else◌, ◌==◌}
+use Rattle.std.specs.Prelude.{ℕ, pos, ◌/◌, ◌&&◌, List, [], ◌∷◌, Option, None, Some, codes, nat_eq, nat_le, is_none, option_and_then, if◌then◌else◌, ◌==◌}
 use Rattle.std.specs.Int.{w32, to_be_bytes}
 use Rattle.std.specs.declared.net.socket_addr.SocketAddrV4.{SocketAddrV4}
 use lib.Pointwise.{pointwise}
@@ -9,10 +9,9 @@ use Rattle.sipl_records.specs.Ipv4.{number_of_text}
 use Rattle.sipl_records.specs.Numbers.{number_of}
 use Rattle.sipl_records.specs.Parts.{split_once}
 use Rattle.sipl_choice.specs.declared.transport.Transport.{Transport}
-use Rattle.sipl_choice.specs.declared.transport.Transport.TheVariants.{Udp, Tcp, Tls, Sctp}
 use Rattle.sipl_choice.specs.declared.families.Families.{Families}
 use Rattle.sipl_choice.specs.declared.families.Families.TheVariants.{V4, V6, V4ThenV6, V6ThenV4}
-use Rattle.sipl_choice.specs.Transports.{transport_text}
+use Rattle.sipl_choice.specs.Transports.{transport_named}
 use Rattle.sipl_choice.specs.Abilities.{abilities_fault}
 
 -- a number that is not negative
@@ -26,10 +25,6 @@ number_from low high d =
     option_and_then (λ n. if nat_le low n && nat_le n high then Some n else None) (number_in d)
 
 -- a transport by its name
-abbrev pub transport_named : Octets → Option Transport
-transport_named word =
-    find (λ t. pointwise nat_eq word (transport_text t)) (Udp ∷ Tcp ∷ Tls ∷ Sctp ∷ [])
-
 abbrev pub transport_in : Data → Option Transport
 transport_in d = option_and_then transport_named (as_str d)
 

@@ -6,7 +6,7 @@ ghost use Rattle.sipl_lines.specs.Checking.{Checks, report_of};
 use crate::reply::{write_counts, write_text_fault};
 use crate::server::{ServeFault, send};
 use crate::tapped::Tapped;
-use sipl_masterfile::{ZoneCause, ZoneFault, read_zone};
+use sipl_masterfile::read_zone;
 use sipl_names::Name;
 use std::alloc::{AllocError, Global};
 use std::io::{Read, Write};
@@ -59,12 +59,7 @@ fn write_report(
             write_counts(out, b"ok", &[records, zone.outside(), zone.repeated()]);
             Ok(true)
         }
-        Err(
-            ZoneFault {
-                cause: ZoneCause::Memory,
-                ..
-            },
-        ) => Err(AllocError),
+        Err(fault) if fault.is_memory() => Err(AllocError),
         Err(fault) => {
             write_text_fault(out, b"err", fault.line, fault.code())?;
             Ok(false)

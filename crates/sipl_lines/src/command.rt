@@ -4,7 +4,6 @@ ghost use Rattle.sipl_records.specs.Fields.{fields_of, trim_start};
 ghost use Rattle.sipl_lines.specs.Requests.{add_request, del_request, deps_request, drop_request, find_request, hold_request, release_request, repair_request, clock_request, outage_request, quit_request, request_of, zone_request, unknown};
 ghost use Rattle.std.specs.Option.{option_map_or};
 ghost use Rattle.sipl_lines.specs.CommandMeaning.{meaning_of};
-ghost use Rattle.sipl_lines.specs.Values.{transport_named};
 
 use crate::draws_field::read_draws;
 use sipl_choice::Transport;
@@ -206,7 +205,7 @@ fn hold_command(rest: &[u8]) -> Option<Command<'_>>
     if next_field(rest).is_some() {
         return None;
     }
-    let transport = read_transport(transport)?;
+    let transport = Transport::from_name(transport)?;
     let port = read_number(port, u64::from(u16::MAX))?;
     let ms = read_number(ms, u64::MAX)?;
     Some(Command::Hold(transport, address, port as u16, ms))
@@ -222,7 +221,7 @@ fn release_command(rest: &[u8]) -> Option<Command<'_>>
     if next_field(rest).is_some() {
         return None;
     }
-    let transport = read_transport(transport)?;
+    let transport = Transport::from_name(transport)?;
     let port = read_number(port, u64::from(u16::MAX))?;
     Some(Command::Release(transport, address, port as u16))
 }
@@ -236,19 +235,6 @@ fn clock_command(rest: &[u8]) -> Option<Command<'_>>
         return None;
     }
     Some(Command::Clock(read_number(ms, u64::MAX)?))
-}
-
-// A transport by its name, in lower case.
-fn read_transport(word: &[u8]) -> Option<Transport>
-    ensures { result ≡ transport_named word.now }
-{
-    match word {
-        b"udp" => Some(Transport::Udp),
-        b"tcp" => Some(Transport::Tcp),
-        b"tls" => Some(Transport::Tls),
-        b"sctp" => Some(Transport::Sctp),
-        _ => None,
-    }
 }
 
 // `quit`.

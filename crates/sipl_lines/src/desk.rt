@@ -1,6 +1,6 @@
 //! What a session's commands act on.
 ghost use Rattle.std.specs.Prelude.{◌≡◌, ◌≢◌, ℕ, [], false, drop, IfErr, OnOk};
-ghost use Rattle.sipl_book.specs.Entries.{is_hot};
+ghost use Rattle.sipl_book.specs.Entries.{has_current_entry};
 ghost use Rattle.sipl_outages.specs.Holds.BoardEvent.{Hold, Release, Advance};
 ghost use Rattle.sipl_lines.specs.Desk.{DeskRules, IsFound, IsRenewed};
 
@@ -65,7 +65,7 @@ impl Desk for Book {
         draws: &Draws,
     ) -> Result<Handed, BookFault> {
         match self.hand(&question, draws) {
-            Err(BookFault::Cold) => find_anew(alloc, self, question, draws),
+            Err(BookFault::NotCurrent) => find_anew(alloc, self, question, draws),
             handed => handed,
         }
     }
@@ -108,7 +108,7 @@ fn find_anew(
     question: Question,
     draws: &Draws,
 ) -> Result<Handed, BookFault>
-    ensures { (is_hot book.old.entries question ≡ false)
+    ensures { (has_current_entry book.old.entries question ≡ false)
         → IsFound question draws.now book.old result book.new }
 {
     let finding = locate(alloc, book, question)?;

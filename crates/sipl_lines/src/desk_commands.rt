@@ -1,11 +1,12 @@
 // What each command asks of a desk, and its reply.
-ghost use Rattle.std.specs.Prelude.{◌≡◌, ◌⊎◌, ◌+◌, ◌≤◌, [], ◌++◌, ◌≢◌, Ok, Err, length, codes, IfOk, IfErr, OnOk, OnErr, vec_len, vec_capacity};
+ghost use Rattle.std.specs.Prelude.{◌≡◌, ◌⊎◌, ◌+◌, ◌≤◌, [], ◌++◌, Ok, Err, length, codes, IfOk, IfErr, OnOk, OnErr, vec_len, vec_capacity};
 ghost use Rattle.sipl_masterfile.specs.RecordText.{record_of};
 ghost use Rattle.sipl_masterfile.specs.Zones.{zone_of};
+ghost use Rattle.sipl_names.specs.NameFault.{IfInvalid};
 ghost use Rattle.sipl_names.specs.NameText.{name_of};
 ghost use Rattle.sipl_records.specs.Addresses.{address_of};
 ghost use Rattle.sipl_uri.specs.Uris.{question_of};
-ghost use Rattle.sipl_lines.specs.Commands.{AnswersUri, Adds, Edits, Holds, ListsUri, Loads, Releases, Removes, Repairs, SetsClock, Unloads, handed_text, result_text};
+ghost use Rattle.sipl_lines.specs.Commands.{AnswersUri, Edits, EditsRecord, Holds, ListsUri, Loads, Releases, Repairs, SetsClock, Unloads, handed_text, result_text};
 ghost use Rattle.sipl_lines.specs.ReplyText.{counts_line, evidence_text, refusal_line};
 ghost use Rattle.sipl_lines.specs.Session.{AppendsText};
 
@@ -15,7 +16,7 @@ use crate::reply::{write_answer, write_counts, write_evidence, write_refusal, wr
 use sipl_book::{BookFault, Edit, Handed};
 use sipl_choice::{Endpoint, Transport};
 use sipl_evidence::Evidence;
-use sipl_masterfile::{ZoneCause, ZoneFault, read_record, read_zone};
+use sipl_masterfile::{ZoneFault, read_record, read_zone};
 use sipl_names::{Name, NameFault};
 use sipl_records::{Address, Record};
 use sipl_srv::{Draws, DrawsFault};
@@ -41,12 +42,7 @@ pub(crate) fn load_zone<D: Desk>(
 {
     let text = match read_zone(alloc, zone.text(), zone.apex()) {
         Ok(text) => text,
-        Err(
-            ZoneFault {
-                cause: ZoneCause::Memory,
-                ..
-            },
-        ) => return Err(AllocError),
+        Err(fault) if fault.is_memory() => return Err(AllocError),
         Err(fault) => return write_text_fault(out, b"err zone", fault.line, fault.code()),
     };
     let records = text.records().len() as u64;
@@ -77,47 +73,38 @@ pub(crate) fn unload_zone<D: Desk>(
 {
     match read_absolute_name(alloc, apex) {
         Ok(apex) => edit(desk, Edit::Unload(apex), b"ok drop", out),
+        Err(NameFault::Invalid(invalid)) => write_refusal(out, invalid.code()),
         Err(NameFault::Memory) => Err(AllocError),
-        Err(fault) => write_refusal(out, fault.code()),
     }
 }
 
-// `add RECORD`: adds a record, and appends the reply.
-pub(crate) fn add_record<D: Desk>(
+// An edit of one record.
+#[derive(Clone, Copy)]
+pub(crate) enum RecordEdit {
+    Add,
+    Remove,
+}
+
+// `add RECORD` or `del RECORD`: adds or removes a record, and appends the reply.
+pub(crate) fn edit_record<D: Desk>(
     alloc: Global,
     desk: &mut D,
+    kind: RecordEdit,
     text: &[u8],
     out: &mut Vec<u8>,
 ) -> Result<(), AllocError>
     requires space { vec_len out.old + MAX_SHORT_REPLY_LEN ≤ vec_capacity out.old }
-    ensures ok { OnOk result (AppendsText (Adds D.rules (record_of text.now []))
+    ensures ok { OnOk result (AppendsText (EditsRecord D.rules kind (record_of text.now []))
         desk.old out.old.items desk.new out.new.items) }
     ensures err { OnErr result (desk.new ≡ desk.old) }
     ensures err_out { OnErr result (out.new.items ≡ out.old.items) }
     ensures capacity { vec_capacity out.old ≤ vec_capacity out.new }
 {
     match read_absolute_record(alloc, text)? {
-        Ok(record) => edit(desk, Edit::Add(record), b"ok add", out),
-        Err(fault) => write_refusal(out, fault.code()),
-    }
-}
-
-// `del RECORD`: removes a record, and appends the reply.
-pub(crate) fn remove_record<D: Desk>(
-    alloc: Global,
-    desk: &mut D,
-    text: &[u8],
-    out: &mut Vec<u8>,
-) -> Result<(), AllocError>
-    requires space { vec_len out.old + MAX_SHORT_REPLY_LEN ≤ vec_capacity out.old }
-    ensures ok { OnOk result (AppendsText (Removes D.rules (record_of text.now []))
-        desk.old out.old.items desk.new out.new.items) }
-    ensures err { OnErr result (desk.new ≡ desk.old) }
-    ensures err_out { OnErr result (out.new.items ≡ out.old.items) }
-    ensures capacity { vec_capacity out.old ≤ vec_capacity out.new }
-{
-    match read_absolute_record(alloc, text)? {
-        Ok(record) => edit(desk, Edit::Remove(record), b"ok del", out),
+        Ok(record) => match kind {
+            RecordEdit::Add => edit(desk, Edit::Add(record), b"ok add", out),
+            RecordEdit::Remove => edit(desk, Edit::Remove(record), b"ok del", out),
+        },
         Err(fault) => write_refusal(out, fault.code()),
     }
 }
@@ -322,7 +309,7 @@ fn reply_moved(outcome: Result<u64, BookFault>, words: &[u8], numbers: &[u64], o
 fn read_absolute_name(alloc: Global, text: &[u8]) -> Result<Name, NameFault>
     ensures read { IfOk result (λ name. name_of text.now [] ≡ Ok name) }
     ensures refused { IfErr result
-        (λ fault. fault ≢ NameFault.Memory → name_of text.now [] ≡ Err fault) }
+        (λ fault. IfInvalid fault (λ invalid. name_of text.now [] ≡ Err invalid)) }
 {
     Name::from_text(alloc, text, &Name::root(alloc))
 }
@@ -333,12 +320,7 @@ fn read_absolute_record(alloc: Global, text: &[u8]) -> Result<Result<Record, Zon
     ensures { IfOk result (λ read. read ≡ record_of text.now []) }
 {
     match read_record(alloc, text, &Name::root(alloc)) {
-        Err(
-            ZoneFault {
-                cause: ZoneCause::Memory,
-                ..
-            },
-        ) => Err(AllocError),
+        Err(fault) if fault.is_memory() => Err(AllocError),
         read => Ok(read),
     }
 }

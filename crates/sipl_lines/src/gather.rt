@@ -3,7 +3,7 @@ ghost use Rattle.std.specs.Prelude.{◌≡◌, ◌⊎◌, ◌==◌, IsTrue, OnOk
 ghost use Rattle.sipl_lines.specs.Gathering.{IsOrLost, gathering_of, after_line, gathered_after, at_end, with_line, keeps_lines};
 
 use crate::command::MAX_LINE_LEN;
-use sipl_names::{Name, NameFault};
+use sipl_names::{InvalidName, Name, NameFault};
 use std::alloc::{AllocError, Global};
 use std::marker::Model;
 
@@ -28,7 +28,7 @@ pub(crate) enum Gathered {
     // The apex, and the lines that were taken.
     Lines(ZoneLines),
     // The apex is no name.
-    BadApex(NameFault),
+    BadApex(InvalidName),
     // A line has more octets than one may have: K2. No lines are kept.
     LongLine,
     // An allocation failed. No lines are kept.
@@ -99,8 +99,8 @@ impl Gathering {
                 apex,
                 text: Vec::new(alloc),
             }),
+            Err(NameFault::Invalid(invalid)) => Gathered::BadApex(invalid),
             Err(NameFault::Memory) => Gathered::Lost,
-            Err(fault) => Gathered::BadApex(fault),
         };
         Gathering {
             left: lines,

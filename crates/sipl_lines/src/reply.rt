@@ -56,6 +56,17 @@ fn write_number(out: &mut Vec<u8>, number: u64)
         .unwrap();
 }
 
+// Appends a space and a word to space that is reserved.
+fn write_word(out: &mut Vec<u8>, word: &[u8])
+    requires { vec_len out.old + 1 + length word.now ≤ vec_capacity out.old }
+    ensures ok { out.new.items ≡ out.old.items ++ word_field word.now }
+    ensures len { vec_len out.new ≡ vec_len out.old + 1 + length word.now }
+    ensures capacity { vec_capacity out.old ≤ vec_capacity out.new }
+{
+    out.push_reserved(b' ');
+    out.extend_from_slice(word).unwrap();
+}
+
 // Appends the reply to a command that is refused. An error leaves `out` as it was.
 pub(crate) fn write_refusal(out: &mut Vec<u8>, code: &str) -> Result<(), AllocError>
     ensures ok { OnOk result (out.new.items ≡ out.old.items ++ refusal_line code.now) }
@@ -86,8 +97,7 @@ pub(crate) fn write_text_fault(
     out.reserve(words.len().saturating_add(tail_len))?;
     out.extend_from_slice(words).unwrap();
     write_number(out, line);
-    out.push_reserved(b' ');
-    out.extend_from_slice(code.as_bytes()).unwrap();
+    write_word(out, code.as_bytes());
     out.push_reserved(b'\n');
     Ok(())
 }
@@ -151,9 +161,7 @@ fn write_target(out: &mut Vec<u8>, number: u64, target: &Endpoint)
 {
     out.extend_from_slice(b"target").unwrap();
     write_number(out, number);
-    out.push_reserved(b' ');
-    out.extend_from_slice(target.transport.name().as_bytes())
-        .unwrap();
+    write_word(out, target.transport.name().as_bytes());
     out.push_reserved(b' ');
     target.address.write(out).unwrap();
     write_number(out, u64::from(target.port));
@@ -213,8 +221,7 @@ fn write_kind_and_count(out: &mut Vec<u8>, kind: Kind, count: u64)
         ++ (word_field (text_of_kind kind) ++ number_field count ++ 10 ∷ []) }
     ensures capacity { vec_capacity out.old ≤ vec_capacity out.new }
 {
-    out.push_reserved(b' ');
-    out.extend_from_slice(kind.name().as_bytes()).unwrap();
+    write_word(out, kind.name().as_bytes());
     write_number(out, count);
     out.push_reserved(b'\n');
 }

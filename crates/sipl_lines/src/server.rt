@@ -12,10 +12,9 @@ use crate::lines::Pending;
 use crate::session::Session;
 use crate::tapped::Tapped;
 use std::alloc::{AllocError, Global};
-use std::error::Error;
-use std::fmt;
 use std::io::{Read, Write};
 use std::marker::Model;
+use thiserror::Error;
 
 /// The maximum number of reads of one call of [`serve`].
 pub const MAX_READS: u64 = 1 << 32;
@@ -33,15 +32,19 @@ pub enum Ended {
 }
 
 /// Why a session was aborted.
-#[derive(Clone, Copy, Debug, PartialEq, Eq)]
+#[derive(Clone, Copy, Debug, PartialEq, Eq, Hash, Error)]
 pub enum ServeFault {
     /// The reader returned an error.
+    #[error("a read failed")]
     Read,
     /// The writer returned an error, or wrote nothing of a text.
+    #[error("a write failed, or wrote nothing")]
     Write,
     /// The reads that are allowed were made, and the session had not ended.
+    #[error("the session is longer than the reads that are allowed")]
     TooManyTurns,
     /// An allocation failed.
+    #[error("out of memory")]
     Memory,
 }
 
@@ -58,24 +61,6 @@ impl ServeFault {
         }
     }
 }
-
-impl fmt::Display for ServeFault {
-    ghost use Rattle.std.specs.Prelude.{Some};
-    ghost use Rattle.sipl_lines.specs.ServeFault.{message_of};
-
-    ghost output = { λ fault. Some (message_of fault) };
-
-    fn fmt<W: fmt::Write>(&self, f: &mut fmt::Formatter<W>) -> fmt::Result {
-        f.write_str(match self {
-            ServeFault::Read => "a read failed",
-            ServeFault::Write => "a write failed, or wrote nothing",
-            ServeFault::TooManyTurns => "the session is longer than the reads that are allowed",
-            ServeFault::Memory => "out of memory",
-        })
-    }
-}
-
-impl Error for ServeFault {}
 
 impl From<AllocError> for ServeFault {
     ghost use Rattle.std.specs.Prelude.{◌≡◌};

@@ -8,7 +8,7 @@ ghost use Rattle.sipl_lines.specs.Session.{AppendsText, GathersOrLoses, LoadsGat
 use crate::command::{Command, read_command};
 use crate::desk::Desk;
 use crate::desk_commands::{
-    MAX_SHORT_REPLY_LEN, add_record, find, hold, list_evidence, load_zone, release, remove_record,
+    MAX_SHORT_REPLY_LEN, RecordEdit, edit_record, find, hold, list_evidence, load_zone, release,
     repair, set_clock, unload_zone,
 };
 use crate::gather::{Gathered, Gathering};
@@ -146,8 +146,8 @@ impl Session {
                 Ok(())
             }
             Command::Drop(apex) => unload_zone(alloc, desk, apex, out),
-            Command::Add(record) => add_record(alloc, desk, record, out),
-            Command::Del(record) => remove_record(alloc, desk, record, out),
+            Command::Add(record) => edit_record(alloc, desk, RecordEdit::Add, record, out),
+            Command::Del(record) => edit_record(alloc, desk, RecordEdit::Remove, record, out),
             Command::Find(uri, draws) => find(alloc, desk, uri, draws, out),
             Command::Deps(uri) => list_evidence(alloc, desk, uri, out),
             Command::Repair => {

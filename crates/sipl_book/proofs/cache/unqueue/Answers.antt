@@ -1,8 +1,7 @@
 use Rattle.std.proofs.Common.{◌≡◌, ℕ, true, false, not, eqb, filter, inl, inr, sym, ◌∙◌, true≢false}
 use Rattle.std.proofs.lemmas.Bool.{cases_Bool}
 use Rattle.sipl_repair.specs.QueueState.{QueueState, IsConsistent, is_queued, is_leased}
-use Rattle.sipl_repair.proofs.Consistency.{filter-absent}
-use Rattle.sipl_repair.proofs.Members.{remove_absent}
+use Rattle.sipl_repair.proofs.Public.{filter-absent, remove_absent}
 use Rattle.sipl_book.proofs.cache.unqueue.Goals as goal
 
 -- a queued id is not leased

@@ -3,7 +3,7 @@ use Rattle.std.proofs.lemmas.Result.{err_from_is_err_and}
 use Rattle.sipl_records.specs.declared.record.Key.{Key}
 use Rattle.sipl_book.specs.Book.{IsConsistent}
 use Rattle.sipl_book.specs.Cache.{CacheState}
-use Rattle.sipl_book.specs.Entries.{marked}
+use Rattle.sipl_book.specs.Entries.{after_change}
 use Rattle.sipl_book.specs.Repairs.{after_marks, dependents}
 use Rattle.sipl_book.specs.declared.event.Event.TheVariants.{Change}
 use Rattle.sipl_book.proofs.Changing.{consistent-changed, refused-change}
@@ -19,11 +19,11 @@ invariant_of-self-2 c =
     let inside = c.self.inside in
     let keys = c.in_ok-keys.keys in
     let events = c.record_event-number.new.journal.items in
-    let changed = λ (marks : List Key). record inside.cache {
-      entries = map (marked marks) inside.cache.entries;
-      queue = after_marks inside.cache.queue (dependents marks inside.cache.entries);
+    let changed = λ (changes : List Key). record inside.cache {
+      entries = map (after_change changes) inside.cache.entries;
+      queue = after_marks inside.cache.queue (dependents changes inside.cache.entries);
     } in
-    let cache : c.mark.new.self ≡ changed keys = c.mark.ensures ∙ ap changed c.as_slice.ensures in
+    let cache : c.outdate.new.self ≡ changed keys = c.outdate.ensures ∙ ap changed c.as_slice.ensures in
     subst (λ (k : CacheState). IsConsistent (record {
       client = inside.abilities;
       store = c.apply.new.store;

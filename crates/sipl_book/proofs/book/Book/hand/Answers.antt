@@ -2,7 +2,7 @@ use Rattle.std.proofs.Common.{◌≡◌, true, [], ◌∷◌, ◌++◌, length, 
 use Rattle.sipl_plans.specs.Plan.{draw}
 use Rattle.sipl_book.specs.Book.{BookState, answer_now}
 use Rattle.sipl_book.specs.Calls.{IsHanded, answer_event}
-use Rattle.sipl_book.specs.Entries.{EntryState, is_hot}
+use Rattle.sipl_book.specs.Entries.{EntryState, has_current_entry}
 use Rattle.sipl_book.specs.declared.event.Event.TheVariants.{Answer}
 use Rattle.sipl_book.proofs.Answering.{current_answer, consistent-answered, handed}
 use Rattle.sipl_book.proofs.book.Book.hand.Goals as goal
@@ -42,9 +42,9 @@ invariant_of-self-2 c =
 
 pub returns : goal.returns
 returns c =
-    let hot : is_hot (old c).entries c.args.question.now ≡ true =
-    ap (λ (entry : Option EntryState). let hot : Bool = elim entry [ Some e ↦ e.is_current | None ↦ false ] in hot) (sym c.in-Some.ensures.entry) ∙ current c in
+    let has : has_current_entry (old c).entries c.args.question.now ≡ true =
+    ap (λ (entry : Option EntryState). let has : Bool = elim entry [ Some e ↦ e.is_current | None ↦ false ] in has) (sym c.in-Some.ensures.entry) ∙ current c in
     subst (λ before. IsHanded c.args.question.now c.args.draws.now before
     (record (old c) { journal = c.record_event-number.new.journal.items }) (Ok (record { number = c.record_event-number.result; answer = c.in_ok-event.answer }))) c.self.view_is
     (handed (old c) c.args.question.now c.args.draws.now c.record_event-number.new.journal.items c.record_event-number.result c.in_ok-event.answer
-    c.in_ok-reserve_event.ensures.few hot (c.record_event-number.ensures.number ∙ ap length c.reserve_event.ensures.items) (c.in_ok-event.ensures.answer ∙ drawn c) (journal c))
+    c.in_ok-reserve_event.ensures.few has (c.record_event-number.ensures.number ∙ ap length c.reserve_event.ensures.items) (c.in_ok-event.ensures.answer ∙ drawn c) (journal c))

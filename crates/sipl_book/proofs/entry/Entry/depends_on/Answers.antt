@@ -4,7 +4,7 @@ use Rattle.std.proofs.lemmas.Iterator.{YieldsList-from_slice}
 use Rattle.std.proofs.lemmas.Iterator.Search.{any_from_yields_List}
 use Rattle.sipl_evidence.specs.Places.{place_of}
 use Rattle.sipl_book.specs.Entries.{EntryState}
-use Rattle.sipl_book.proofs.Marking.{is_some-place_of}
+use Rattle.sipl_book.proofs.Outdating.{is_some-place_of}
 use Rattle.sipl_book.proofs.entry.Entry.depends_on.Goals as goal
 
 pub returns : goal.returns

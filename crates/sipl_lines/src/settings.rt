@@ -1,16 +1,22 @@
-ghost use Rattle.std.specs.Prelude.{◌≡◌, IfOk};
-ghost use Rattle.toml.specs.View.{view};
-ghost use Rattle.sipl_lines.specs.Settings.{defaults, IsWithinLimits, SetsKey};
+//! The settings of the program, read from a TOML document.
+ghost use Rattle.std.specs.Prelude.{◌≡◌, ◌≢◌, None, Some, Ok, Err, IfOk, IfErr, IfSome};
+ghost use Rattle.toml.specs.Parse.{parse_document};
+ghost use Rattle.toml.specs.View.{table_view, view};
+ghost use Rattle.sipl_lines.specs.SettingsFault.{fault_of};
+ghost use Rattle.sipl_lines.specs.Settings.{defaults, IsWithinLimits, SetsKey, settings_of};
 
-use crate::fault::Refusal;
-use crate::values;
+mod fault;
+mod values;
+
+use fault::Refusal;
+pub use fault::SettingsFault;
 use sipl_book::{MAX_ENTRIES, MAX_EVENTS};
 use sipl_choice::{Abilities, Families, Transport};
 use sipl_outages::MAX_HOLDS;
 use sipl_zonestore::MAX_RECORDS;
 use std::alloc::{AllocError, Global};
 use std::net::{Ipv4Addr, SocketAddrV4};
-use toml::Value;
+use toml::{Table, Value};
 
 /// The settings of the program, each by the name of its key, but for `abilities`.
 #[derive(Debug, Drop)]
@@ -38,8 +44,33 @@ pub struct Settings {
 }
 
 impl Settings {
+    /// Reads the program's settings from a TOML document. Its keys are the fields, with
+    /// `transports` and `families` in place of `abilities`. A missing key has its default.
+    ///
+    /// `transports` is a list of `"udp"`, `"tcp"`, `"tls"` and `"sctp"`, not empty and none twice.
+    /// `families` is `"v4"`, `"v6"`, `"v4v6"` or `"v6v4"`, in the order of look-ups. `listen` is an
+    /// IPv4 address, a colon and a port. The others are integers. Their limits are at the fields.
+    ///
+    /// The fault is G1 where the text is not a TOML document. Otherwise it is that of the first key, in
+    /// the order of the keys' octets, that is unknown (G2) or does not allow its value (G3).
+    pub fn from_toml(alloc: Global, text: &str) -> Result<Self, SettingsFault>
+        ensures read { IfOk result (λ settings. settings_of text.now ≡ Ok settings) }
+        ensures limits { IfOk result (λ settings. IsWithinLimits settings) }
+        ensures refused { IfErr result (λ fault. IfSome (fault_of fault)
+            (λ fault. settings_of text.now ≡ Err fault)) }
+    {
+        let table = read_table(alloc, text)?;
+        let mut settings = Settings::defaults(alloc)?;
+        for (key, value) in table {
+            if let Err(refusal) = settings.set(alloc, key.as_str(), &value) {
+                return Err(refusal.at(key));
+            }
+        }
+        Ok(settings)
+    }
+
     // The settings of an empty document.
-    pub(crate) fn defaults(alloc: Global) -> Result<Self, AllocError>
+    fn defaults(alloc: Global) -> Result<Self, AllocError>
         ensures { IfOk result (λ settings. settings ≡ defaults) }
     {
         let preference = Vec::from_slice(alloc, &[Transport::Udp, Transport::Tcp])?;
@@ -57,7 +88,7 @@ impl Settings {
     }
 
     // Sets the fields that a key stands for.
-    pub(crate) fn set(&mut self, alloc: Global, key: &str, value: &Value) -> Result<(), Refusal>
+    fn set(&mut self, alloc: Global, key: &str, value: &Value) -> Result<(), Refusal>
         ensures set { SetsKey key.now (view value.now) self.old result self.new }
         ensures limits { IsWithinLimits self.old → IsWithinLimits self.new }
     {
@@ -77,9 +108,22 @@ impl Settings {
             "tries" => self.tries = values::number(value, 1, 16)?,
             "workers" => self.workers = values::number(value, 0, 64)?,
             "sessions" => self.sessions = values::number(value, 1, 1_000_000)?,
-            "listen" => self.listen = values::listen(value)?,
+            "listen" => self.listen = values::loopback(value)?,
             _ => return Err(Refusal::UnknownKey),
         }
         Ok(())
+    }
+}
+
+// The table of a TOML document.
+fn read_table(alloc: Global, text: &str) -> Result<Table, SettingsFault>
+    ensures read { IfOk result (λ table. parse_document text.now ≡ Some (table_view table)) }
+    ensures refused { IfErr result (λ fault. fault ≢ SettingsFault.Memory
+        → (fault ≡ SettingsFault.NotToml) × (parse_document text.now ≡ None)) }
+{
+    match toml::table_from_str(alloc, text) {
+        Ok(table) => Ok(table),
+        Err(error) if error.is_memory() => Err(SettingsFault::Memory),
+        Err(_) => Err(SettingsFault::NotToml),
     }
 }

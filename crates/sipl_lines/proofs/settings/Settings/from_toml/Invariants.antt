@@ -5,7 +5,7 @@ use Rattle.std.specs.List.Sorted.{IsStrictlySortedBy}
 use Rattle.toml.specs.View.{members_view}
 use Rattle.sipl_lines.specs.Settings.{IsWithinLimits, settings_of}
 use Rattle.sipl_lines.proofs.InOrder.{settings_from}
-use Rattle.sipl_lines.proofs.document.settings.Given as goal
+use Rattle.sipl_lines.proofs.settings.Settings.from_toml.Given as goal
 
 abbrev pub invariant-loop-key : goal.invariant-loop-key
 invariant-loop-key l = record {

@@ -6,8 +6,8 @@ use Rattle.sipl_book.specs.Repairs.{IsQueueAmong, after_marks, outdated}
 use Rattle.sipl_repair.specs.QueueState.{after_mark}
 use Rattle.sipl_book.proofs.Ids.{is_id}
 use Rattle.sipl_book.proofs.Queues.{AreMarked-more, has_space, own_id}
-use Rattle.sipl_book.proofs.entries.Entries.queue_outdated.Goals as goal
-use Rattle.sipl_book.proofs.entries.Entries.queue_outdated.Goals.{then-not-is_current, else-not-is_current}
+use Rattle.sipl_book.proofs.entries.Entries.mark_outdated.Goals as goal
+use Rattle.sipl_book.proofs.entries.Entries.mark_outdated.Goals.{then-not-is_current, else-not-is_current}
 
 pub loop-entry-init : goal.loop-entry-init
 loop-entry-init c =
@@ -36,7 +36,7 @@ loop-entry-preserved c =
     c.loop-entry-test.true c.entry-item.is c.loop-entry.invariant c.if-not-is_current.queue in
     elim c.if-not-is_current.branch [
       | then-not-is_current w ↦ more (λ _. w.queue-is ∙ w.mark.ensures ∙ ap (after_mark c.loop-entry.queue) w.id.ensures) (λ current. absurd (true≢false (sym current ∙ sym c.is_current.ensures ∙ w.if-not-is_current.true)))
-      | else-not-is_current w ↦ more (λ stale. absurd (true≢false (sym w.if-not-is_current.false ∙ c.is_current.ensures ∙ stale))) (λ _. w.queue-is)
+      | else-not-is_current w ↦ more (λ out_of_date. absurd (true≢false (sym w.if-not-is_current.false ∙ c.is_current.ensures ∙ out_of_date))) (λ _. w.queue-is)
     ]
 
 pub returns : goal.returns

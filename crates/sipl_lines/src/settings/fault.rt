@@ -38,7 +38,7 @@ impl SettingsFault {
 
 impl From<AllocError> for SettingsFault {
     ghost use Rattle.std.specs.Prelude.{◌≡◌};
-    ghost use Rattle.sipl_lines.specs.declared.fault.SettingsFault.TheVariants.{Memory};
+    ghost use Rattle.sipl_lines.specs.declared.settings.fault.SettingsFault.TheVariants.{Memory};
 
     ghost from_gives = { λ _ fault. fault ≡ Memory };
 
@@ -49,7 +49,7 @@ impl From<AllocError> for SettingsFault {
 
 // Why a key or its value is refused.
 #[derive(Clone, Copy, Debug, PartialEq, Eq)]
-pub(crate) enum Refusal {
+pub(super) enum Refusal {
     UnknownKey,
     BadValue,
     Memory,
@@ -57,7 +57,7 @@ pub(crate) enum Refusal {
 
 impl Refusal {
     // The fault of a key that is refused.
-    pub(crate) fn at(self, key: String) -> SettingsFault
+    pub(super) fn at(self, key: String) -> SettingsFault
         ensures { fault_of result ≡ key_fault self (string_bytes key) }
     {
         match self {
@@ -70,7 +70,7 @@ impl Refusal {
 
 impl From<AbilitiesFault> for Refusal {
     ghost use Rattle.std.specs.Prelude.{◌≡◌};
-    ghost use Rattle.sipl_lines.specs.declared.fault.Refusal.TheVariants.{BadValue};
+    ghost use Rattle.sipl_lines.specs.declared.settings.fault.Refusal.TheVariants.{BadValue};
 
     ghost from_gives = { λ _ refusal. refusal ≡ BadValue };
 
@@ -81,7 +81,7 @@ impl From<AbilitiesFault> for Refusal {
 
 impl From<AllocError> for Refusal {
     ghost use Rattle.std.specs.Prelude.{◌≡◌};
-    ghost use Rattle.sipl_lines.specs.declared.fault.Refusal.TheVariants.{Memory};
+    ghost use Rattle.sipl_lines.specs.declared.settings.fault.Refusal.TheVariants.{Memory};
 
     ghost from_gives = { λ _ refusal. refusal ≡ Memory };
 
@@ -92,7 +92,7 @@ impl From<AllocError> for Refusal {
 
 impl<T: Drop> From<AllocFailed<T>> for Refusal {
     ghost use Rattle.std.specs.Prelude.{◌≡◌};
-    ghost use Rattle.sipl_lines.specs.declared.fault.Refusal.TheVariants.{Memory};
+    ghost use Rattle.sipl_lines.specs.declared.settings.fault.Refusal.TheVariants.{Memory};
 
     ghost from_gives = { λ _ refusal. refusal ≡ Memory };
 

@@ -12,7 +12,7 @@ use Rattle.sipl_evidence.specs.Items.{Item}
 use Rattle.sipl_evidence.specs.Known.{known, is_unknown}
 use Rattle.sipl_evidence.specs.Places.{place_of}
 use Rattle.sipl_book.specs.Questions.{same_question}
-use Rattle.sipl_book.specs.Entries.{EntryState, marked}
+use Rattle.sipl_book.specs.Entries.{EntryState, after_change}
 use Rattle.sipl_book.specs.EntryTable.{IsTable}
 use Rattle.sipl_book.proofs.Table.{Rows}
 
@@ -51,21 +51,21 @@ is_some-place_of items k =
 
 -- ---- the table
 
--- a table whose entries are marked
-abbrev pub marked_rows : List Key → Rows → Rows
-marked_rows keys es = map (λ e. (e.0, marked keys e.1)) es
+-- a table after a change of sets
+abbrev pub rows_after_change : List Key → Rows → Rows
+rows_after_change keys es = map (λ e. (e.0, after_change keys e.1)) es
 
-keys-marked : (keys : List Key) (es : Rows) → keys_of (marked_rows keys es) ≡ keys_of es
-keys-marked keys [] = refl
-keys-marked keys (e ∷ es) = λ i. e.0 ∷ keys-marked keys es i
+keys-after_change : (keys : List Key) (es : Rows) → keys_of (rows_after_change keys es) ≡ keys_of es
+keys-after_change keys [] = refl
+keys-after_change keys (e ∷ es) = λ i. e.0 ∷ keys-after_change keys es i
 
-pub values-marked : (keys : List Key) (es : Rows) → values_of (marked_rows keys es) ≡ map (marked keys) (values_of es)
-values-marked keys [] = refl
-values-marked keys (e ∷ es) = λ i. marked keys e.1 ∷ values-marked keys es i
+pub values-after_change : (keys : List Key) (es : Rows) → values_of (rows_after_change keys es) ≡ map (after_change keys) (values_of es)
+values-after_change keys [] = refl
+values-after_change keys (e ∷ es) = λ i. after_change keys e.1 ∷ values-after_change keys es i
 
-pub IsTable-marked : (keys : List Key) (es : Rows) → IsTable es → IsTable (marked_rows keys es)
-IsTable-marked keys es table =
+pub IsTable-after_change : (keys : List Key) (es : Rows) → IsTable es → IsTable (rows_after_change keys es)
+IsTable-after_change keys es table =
     record {
-      keyed = All-map (λ (e : Question × EntryState). e.1.found.question ≡ e.0) (λ e. (e.0, marked keys e.1)) es table.keyed;
-      distinct = subst (IsDistinct same_question) (sym (keys-marked keys es)) table.distinct;
+      keyed = All-map (λ (e : Question × EntryState). e.1.found.question ≡ e.0) (λ e. (e.0, after_change keys e.1)) es table.keyed;
+      distinct = subst (IsDistinct same_question) (sym (keys-after_change keys es)) table.distinct;
     }

@@ -4,8 +4,8 @@ use Rattle.sipl_records.specs.Ipv4.{number_of_text}
 use Rattle.sipl_records.specs.Numbers.{number_of}
 use Rattle.sipl_records.specs.Parts.{split_once}
 use Rattle.sipl_lines.proofs.Listening.{listen_at-Some, listen_at-elsewhere, listen_at-zero}
-use Rattle.sipl_lines.proofs.values.socket.Goals as goal
-use Rattle.sipl_lines.proofs.values.socket.Goals.{then-not-is_loopback-via-then-not-is_loopback, then-not-is_loopback-via-else-not-is_loopback+then-port-eq0}
+use Rattle.sipl_lines.proofs.settings.values.loopback_socket.Goals as goal
+use Rattle.sipl_lines.proofs.settings.values.loopback_socket.Goals.{then-not-is_loopback-via-then-not-is_loopback, then-not-is_loopback-via-else-not-is_loopback+then-port-eq0}
 
 pub returns-then-not-is_loopback : goal.returns-then-not-is_loopback
 unfolding IsIpv4OfBits

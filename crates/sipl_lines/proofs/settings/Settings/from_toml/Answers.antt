@@ -1,5 +1,5 @@
 use Rattle.sipl_lines.proofs.InOrder.{rest_in_order, settings_of-allowed, settings_of-refused}
-use Rattle.sipl_lines.proofs.document.settings.Goals as goal
+use Rattle.sipl_lines.proofs.settings.Settings.from_toml.Goals as goal
 
 pub returns-in-Err-clause-refused : goal.returns-in-Err-clause-refused
 returns-in-Err-clause-refused c =

@@ -4,7 +4,7 @@ ghost use Rattle.std.specs.Option.{ok_or};
 ghost use Rattle.toml.specs.View.{view};
 ghost use Rattle.sipl_lines.specs.Values.{families_in, listen_at, listen_in, number_from, transport_in, transports_listed};
 
-use crate::fault::Refusal;
+use super::fault::Refusal;
 use sipl_choice::{Families, Transport};
 use sipl_records::{read_ipv4, read_number, split_once};
 use std::alloc::Global;
@@ -12,7 +12,7 @@ use std::net::{Ipv4Addr, SocketAddrV4};
 use toml::Value;
 
 // A whole number from `min` to `max`.
-pub(crate) fn number(value: &Value, min: usize, max: usize) -> Result<usize, Refusal>
+pub(super) fn number(value: &Value, min: usize, max: usize) -> Result<usize, Refusal>
     ensures read { result ≡ ok_or (number_from min max (view value.now)) Refusal.BadValue }
     ensures within { IfOk result (λ number. number ≤ max) }
 {
@@ -26,7 +26,7 @@ pub(crate) fn number(value: &Value, min: usize, max: usize) -> Result<usize, Ref
 }
 
 // A list of transports, which may be empty or repeat one.
-pub(crate) fn transports(alloc: Global, value: &Value) -> Result<Vec<Transport>, Refusal>
+pub(super) fn transports(alloc: Global, value: &Value) -> Result<Vec<Transport>, Refusal>
     ensures read { IfOk result (λ transports.
         transports_listed (view value.now) ≡ Some transports.items) }
     ensures refused { IfErr result (λ refusal. refusal ≢ Refusal.Memory
@@ -45,16 +45,13 @@ fn transport(value: &Value) -> Result<Transport, Refusal>
     ensures { result ≡ ok_or (transport_in (view value.now)) Refusal.BadValue }
 {
     match value.as_str() {
-        Some("udp") => Ok(Transport::Udp),
-        Some("tcp") => Ok(Transport::Tcp),
-        Some("tls") => Ok(Transport::Tls),
-        Some("sctp") => Ok(Transport::Sctp),
-        _ => Err(Refusal::BadValue),
+        Some(name) => Transport::from_name(name.as_bytes()).ok_or(Refusal::BadValue),
+        None => Err(Refusal::BadValue),
     }
 }
 
 // The families of addresses, in their order.
-pub(crate) fn families(value: &Value) -> Result<Families, Refusal>
+pub(super) fn families(value: &Value) -> Result<Families, Refusal>
     ensures { result ≡ ok_or (families_in (view value.now)) Refusal.BadValue }
 {
     match value.as_str() {
@@ -67,17 +64,17 @@ pub(crate) fn families(value: &Value) -> Result<Families, Refusal>
 }
 
 // An address in 127.0.0.0/8 and a port.
-pub(crate) fn listen(value: &Value) -> Result<SocketAddrV4, Refusal>
+pub(super) fn loopback(value: &Value) -> Result<SocketAddrV4, Refusal>
     ensures { result ≡ ok_or (listen_in (view value.now)) Refusal.BadValue }
 {
     match value.as_str() {
-        Some(text) => socket(text.as_bytes()).ok_or(Refusal::BadValue),
+        Some(text) => loopback_socket(text.as_bytes()).ok_or(Refusal::BadValue),
         None => Err(Refusal::BadValue),
     }
 }
 
 // `ADDRESS:PORT`.
-fn socket(text: &[u8]) -> Option<SocketAddrV4>
+fn loopback_socket(text: &[u8]) -> Option<SocketAddrV4>
     ensures { result ≡ listen_at text.now }
 {
     let (host, digits) = split_once(text, b':');

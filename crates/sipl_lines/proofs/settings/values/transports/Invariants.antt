@@ -1,7 +1,7 @@
 use Rattle.std.proofs.Common.{◌≡◌, ◌++◌, option_map, drop}
 use Rattle.toml.specs.View.{items_view}
 use Rattle.sipl_lines.specs.Values.{transports_named}
-use Rattle.sipl_lines.proofs.values.transports.Given as goal
+use Rattle.sipl_lines.proofs.settings.values.transports.Given as goal
 
 abbrev pub invariant-loop-word : goal.invariant-loop-word
 invariant-loop-word l =
