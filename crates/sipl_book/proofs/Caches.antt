@@ -21,9 +21,10 @@ use Rattle.sipl_book.specs.Cache.{InOrder, IsCache}
 use Rattle.sipl_book.specs.Entries.{EntryState, is_of, entry_of, after_change, renewed}
 use Rattle.sipl_book.specs.Repairs.{IsQueueAmong, after_marks, is_outdated, outdated, without}
 use Rattle.sipl_book.proofs.Committed.{AllPairs-map, current, is_of_decides, absent_from_entry_of, renewed_cases, id-renewed}
-use Rattle.sipl_book.proofs.Ids.{is_id, eqb-swap, not_outdated, other_ids}
+use Rattle.sipl_book.proofs.Ids.{differ, is_id, eqb-swap, not_outdated, other_ids}
 use Rattle.sipl_book.proofs.Removing.{without-absent}
 use Rattle.sipl_book.proofs.Queues.{consistent, capacity-marks, IsQueueOf-marks}
+use Rattle.sipl_book.proofs.Waiting.{AreOutdated, outdated-added, outdated-after_change, outdated-give_back, outdated-lease, outdated-renewed, outdated-requeue, outdated-without}
 
 -- what is held waits
 abbrev Waits : QueueState → EntryState → Type 0
@@ -51,6 +52,7 @@ IsCache-new =
     record {
       waits = record {
         among = record { distinct = IsConsistent-empty.distinct; apart = IsConsistent-empty.apart; of_entries = λ k held. absurd (true≢false (sym held ∙ contains-empty nat_cmp k)) };
+        outdated = λ id queued. absurd (true≢false (sym queued));
         waiting = All-nil (Waits empty_queue);
       };
       space = omega arith;
@@ -67,18 +69,21 @@ module _ (keys : List Key) (es : List EntryState) (q : QueueState) (order : InOr
   pub IsCache-after_change : IsCache (map (after_change keys) es) (after_marks q (outdated (map (after_change keys) es)))
   IsCache-after_change =
       record {
-        waits = IsQueueOf-marks (map (after_change keys) es) q (InOrder-after_change keys es order) among-after_change space-after_change;
+        waits = IsQueueOf-marks (map (after_change keys) es) q (InOrder-after_change keys es order) among-after_change
+            (λ id queued. outdated-after_change keys es id (so.waits.outdated id queued)) space-after_change;
         space = omega (arith, space-after_change, capacity-marks q (outdated (map (after_change keys) es)));
       }
 
 -- ---- leases
 
 -- a queue that holds the same ids is that of the same entries
-same_held : (es : List EntryState) (q new : QueueState) → IsCache es q → IsConsistent new → ((k : ℕ) → is_held new k ≡ is_held q k) → new.capacity ≡ q.capacity → IsCache es new
-same_held es q new so good same capacity =
+same_held : (es : List EntryState) (q new : QueueState) → IsCache es q → IsConsistent new → AreOutdated es new → ((k : ℕ) → is_held new k ≡ is_held q k) → new.capacity ≡ q.capacity
+    → IsCache es new
+same_held es q new so good queued same capacity =
     record {
       waits = record {
         among = record { distinct = good.distinct; apart = good.apart; of_entries = λ k held. so.waits.among.of_entries k (sym (same k) ∙ held) };
+        outdated = queued;
         waiting = All-weaker (Waits q) (Waits new) (λ e waits out_of_date. same e.id ∙ waits out_of_date) es so.waits.waiting;
       };
       space = omega (arith, so.space, capacity);
@@ -89,21 +94,40 @@ module _ (es : List EntryState) (q : QueueState) (order : InOrder es) (so : IsCa
   is_good = consistent es q order so.waits.among so.space
 
   pub IsCache-lease : IsCache es (after_lease q)
-  IsCache-lease = same_held es q (after_lease q) so (IsConsistent-after_lease q is_good) (is_held-after_lease q) (capacity q.queued)
+  IsCache-lease = same_held es q (after_lease q) so (IsConsistent-after_lease q is_good) (outdated-lease es q so.waits.outdated q.queued refl) (is_held-after_lease q) (capacity q.queued)
     where
       capacity : (ks : List ℕ) → (with_first_leased q ks).capacity ≡ q.capacity
       capacity [] = refl
       capacity (k ∷ ks) = refl
 
-  pub IsCache-requeue : (id : ℕ) → IsCache es (after_requeue q id)
-  IsCache-requeue id =
-      same_held es q (after_requeue q id) so (IsConsistent-after_requeue q id is_good) (is_held-after_requeue q id)
+  pub IsCache-requeue : (id : ℕ) → is_outdated es id ≡ true → IsCache es (after_requeue q id)
+  IsCache-requeue id own =
+      same_held es q (after_requeue q id) so (IsConsistent-after_requeue q id is_good) (outdated-requeue es q id so.waits.outdated own) (is_held-after_requeue q id)
       (cond_both (is_leased q id) _ q (λ (w : QueueState). w.capacity ≡ q.capacity) (λ _. refl) (λ _. refl))
 
-  pub IsCache-give_back : (id : ℕ) → IsCache es (after_give_back q id)
-  IsCache-give_back id =
-      same_held es q (after_give_back q id) so (IsConsistent-after_give_back q id is_good) (is_held-after_give_back q id)
+  pub IsCache-give_back : (id : ℕ) → is_outdated es id ≡ true → IsCache es (after_give_back q id)
+  IsCache-give_back id own =
+      same_held es q (after_give_back q id) so (IsConsistent-after_give_back q id is_good) (outdated-give_back es q id so.waits.outdated own) (is_held-after_give_back q id)
       (cond_both (is_leased q id) _ q (λ (w : QueueState). w.capacity ≡ q.capacity) (λ _. refl) (λ _. refl))
+
+-- an entry of a question has the id of the one that is found
+own_ids : (question : Question) (es : List EntryState) (own : EntryState) → AllPairs (λ a b. a.found.question ≢ b.found.question) es
+    → entry_of es question ≡ Some own → All (λ e. e.found.question ≡ question → e.id ≡ own.id) es
+own_ids question [] own apart is = All-nil (λ e. e.found.question ≡ question → e.id ≡ own.id)
+own_ids question (x ∷ es) own apart is =
+    let Own : EntryState → Type 0 = λ e. e.found.question ≡ question → e.id ≡ own.id in
+    let rest : AllPairs (λ a b. a.found.question ≢ b.found.question) es = λ i j d below within. apart (suc i) (suc j) d (omega arith) (omega arith) in
+    elim (is_of question x) as (λ b. is_of question x ≡ b → cond b (Some x) (entry_of es question) ≡ Some own → All Own (x ∷ es)) [
+      | true ↦ λ mine first.
+          All-cons Own x es (λ _. ap (λ (e : EntryState). e.id) (same_Some x own first))
+          (λ k d within same. absurd (apart 0 (suc k) d (omega arith) (omega arith) ((is_of_decides question x).0 mine ∙ sym same)))
+      | false ↦ λ other later.
+          All-cons Own x es (λ same. absurd (true≢false (sym ((is_of_decides question x).1 same) ∙ other))) (own_ids question es own rest later)
+    ] refl is
+
+was_false : (b : Bool) → not b ≡ true → b ≡ false
+was_false true is = absurd (true≢false (sym is))
+was_false false is = refl
 
 -- ---- a settlement
 
@@ -131,21 +155,27 @@ IsCache-settle es q id order so none =
     record {
       waits = record {
         among = record { distinct = good.distinct; apart = good.apart; of_entries = λ k held. so.waits.among.of_entries k (settled-before q id k held) };
+        outdated = so.waits.outdated;
         waiting = λ i d within out_of_date. settled-after q id _ (others i d within out_of_date) (so.waits.waiting i d within out_of_date);
       };
       space = so.space;
     }
 
 -- the id of the entry that gets a finding is settled
-pub IsCache-settled : (found : Found) (es : List EntryState) (q : QueueState) (own : EntryState) → InOrder es → IsCache es q → entry_of es found.question ≡ Some own
+pub IsCache-settled : (found : Found) (es : List EntryState) (q : QueueState) (own : EntryState) → InOrder es → AllPairs (λ a b. a.found.question ≢ b.found.question) es
+    → IsCache es q → is_leased q own.id ≡ true → entry_of es found.question ≡ Some own
     → IsCache (map (renewed found) es) (after_settle q own.id)
-IsCache-settled found es q own order so is =
+IsCache-settled found es q own order apart so leased is =
+    let mine = own_ids found.question es own apart is in
     let good = IsConsistent-after_settle q own.id (consistent es q order so.waits.among so.space) in
     let others = other_ids found.question es own order is in
     let among = among_same (renewed found) (id-renewed found) es q so.waits.among in
     record {
       waits = record {
         among = record { distinct = good.distinct; apart = good.apart; of_entries = λ k held. among.of_entries k (settled-before q own.id k held) };
+        outdated = λ k queued. outdated-renewed found es own.id mine k
+            (differ k own.id (λ same. true≢false (sym queued ∙ ap (is_queued q) same ∙ so.waits.among.apart own.id leased)))
+            (so.waits.outdated k queued);
         waiting = All-map (Waits (after_settle q own.id)) (renewed found) es (λ i d within.
             renewed_cases found _ (Waits (after_settle q own.id)) (λ _ out_of_date. absurd (true≢false out_of_date))
             (λ other out_of_date. settled-after q own.id _ (others i d within other) (so.waits.waiting i d within out_of_date)));
@@ -160,6 +190,7 @@ IsCache-reserve es q n so =
     record {
       waits = record {
         among = record { distinct = so.waits.among.distinct; apart = so.waits.among.apart; of_entries = so.waits.among.of_entries };
+        outdated = so.waits.outdated;
         waiting = so.waits.waiting;
       };
       space = omega (arith, so.space);
@@ -200,13 +231,17 @@ module _ (es : List EntryState) (q : QueueState) (id : ℕ) (order : InOrder es)
       ap (λ b. b || is_leased q k) (queued-unqueued q id k) ∙ unqueued_after (eqb k id) (is_queued q k) (is_leased q k) other held
 
 -- the question's entry gets the finding, and is not queued
-pub IsCache-renewed : (found : Found) (es : List EntryState) (q : QueueState) (own : EntryState) → InOrder es → IsCache es q → entry_of es found.question ≡ Some own
-    → IsCache (map (renewed found) es) (unqueued q own.id)
-IsCache-renewed found es q own order so is =
+pub IsCache-renewed : (found : Found) (es : List EntryState) (q : QueueState) (own : EntryState) → InOrder es → AllPairs (λ a b. a.found.question ≢ b.found.question) es
+    → IsCache es q → entry_of es found.question ≡ Some own → IsCache (map (renewed found) es) (unqueued q own.id)
+IsCache-renewed found es q own order apart so is =
+    let mine = own_ids found.question es own apart is in
     let others = other_ids found.question es own order is in
     record {
       waits = record {
         among = among_same (renewed found) (id-renewed found) es (unqueued q own.id) (among-unqueued es q own.id order so);
+        outdated = λ k queued.
+            let parts = and_parts (not (eqb k own.id)) (is_queued q k) (sym (queued-unqueued q own.id k) ∙ queued) in
+            outdated-renewed found es own.id mine k (was_false (eqb k own.id) parts.0) (so.waits.outdated k parts.1);
         waiting = All-map (Waits (unqueued q own.id)) (renewed found) es (λ i d within.
             renewed_cases found _ (Waits (unqueued q own.id)) (λ _ out_of_date. absurd (true≢false out_of_date))
             (λ other out_of_date. held-unqueued es q own.id order so _ (others i d within other) (so.waits.waiting i d within out_of_date)));
@@ -225,27 +260,13 @@ IsCache-added found number es q so space =
           apart = so.waits.among.apart;
           of_entries = λ k held. list_any-append (λ (e : EntryState). eqb e.id k) es (current number found ∷ []) ∙ or_left (is_id es k) _ (so.waits.among.of_entries k held);
         };
+        outdated = λ k queued. outdated-added es (current number found) k (so.waits.outdated k queued);
         waiting = All-push (Waits q) es (current number found) so.waits.waiting (λ out_of_date. absurd (true≢false out_of_date));
       };
       space = omega (arith, space, length-append es (current number found ∷ []));
     }
 
 -- ---- the removal of an entry
-
--- an entry of a question has the id of the one that is found
-own_ids : (question : Question) (es : List EntryState) (own : EntryState) → AllPairs (λ a b. a.found.question ≢ b.found.question) es
-    → entry_of es question ≡ Some own → All (λ e. e.found.question ≡ question → e.id ≡ own.id) es
-own_ids question [] own apart is = All-nil (λ e. e.found.question ≡ question → e.id ≡ own.id)
-own_ids question (x ∷ es) own apart is =
-    let Own : EntryState → Type 0 = λ e. e.found.question ≡ question → e.id ≡ own.id in
-    let rest : AllPairs (λ a b. a.found.question ≢ b.found.question) es = λ i j d below within. apart (suc i) (suc j) d (omega arith) (omega arith) in
-    elim (is_of question x) as (λ b. is_of question x ≡ b → cond b (Some x) (entry_of es question) ≡ Some own → All Own (x ∷ es)) [
-      | true ↦ λ mine first.
-          All-cons Own x es (λ _. ap (λ (e : EntryState). e.id) (same_Some x own first))
-          (λ k d within same. absurd (apart 0 (suc k) d (omega arith) (omega arith) ((is_of_decides question x).0 mine ∙ sym same)))
-      | false ↦ λ other later.
-          All-cons Own x es (λ same. absurd (true≢false (sym ((is_of_decides question x).1 same) ∙ other))) (own_ids question es own rest later)
-    ] refl is
 
 is_id-without : (question : Question) (es : List EntryState) (k : ℕ) → All (λ e. e.found.question ≡ question → eqb e.id k ≡ false) es
     → is_id (without question es) k ≡ is_id es k
@@ -258,10 +279,6 @@ is_id-without question (e ∷ es) k others =
         → is_id (cond (not b) (e ∷ without question es) (without question es)) k ≡ (eqb e.id k || is_id es k)
     by true mine other rest = rest ∙ ap (λ b. b || is_id es k) (sym (other (mine refl)))
     by false mine other rest = ap (λ b. eqb e.id k || b) rest
-
-was_false : (b : Bool) → not b ≡ true → b ≡ false
-was_false true is = absurd (true≢false (sym is))
-was_false false is = refl
 
 pub IsCache-removed : (question : Question) (es : List EntryState) (q : QueueState) (own : EntryState) → InOrder es
     → AllPairs (λ a b. a.found.question ≢ b.found.question) es → IsCache es q → entry_of es question ≡ Some own
@@ -281,6 +298,9 @@ IsCache-removed question es q own order apart so is =
               is_id-without question es k (λ i d within same. ap (λ n. eqb n k) (mine i d within same) ∙ eqb-swap own.id k ∙ other)
               ∙ so.waits.among.of_entries k parts.1;
         };
+        outdated = λ k queued.
+            let parts = and_parts (not (eqb k own.id)) (is_queued q k) (sym (queued-unqueued q own.id k) ∙ queued) in
+            outdated-without question es own.id mine k (was_false (eqb k own.id) parts.0) (so.waits.outdated k parts.1);
         waiting = All-filter_weaker (λ e. (e.found.question ≢ question → eqb e.id own.id ≡ false) × Waits q e) (Waits (after_forget q own.id)) (λ e. not (is_of question e))
             (λ e passes facts out_of_date.
             let other = facts.0 (not_from_Decides (is_of question e) (is_of_decides question e) (was_false (is_of question e) passes)) in

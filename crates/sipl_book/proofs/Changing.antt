@@ -25,6 +25,7 @@ use Rattle.sipl_book.specs.declared.event.Event.{Event}
 use Rattle.sipl_book.specs.declared.event.Event.TheVariants.{Change}
 use Rattle.sipl_book.specs.declared.fault.BookFault.TheVariants.{JournalFull, Store as OfStore, Memory as BookMemory}
 use Rattle.sipl_book.proofs.Committed.{AllPairs-map}
+use Rattle.sipl_book.proofs.Honest.{TakesNumbers, read-after}
 use Rattle.sipl_book.proofs.Journal.{legal-push, replay-push}
 
 -- ---- an edit that is accepted is accepted where more records may be kept
@@ -88,12 +89,13 @@ apart (k ∷ keys) items none =
 -- a good entry stays good: what changed is not in its evidence, or else it is outdated
 module _ (old new : BookState) (keys : List Key) (client : new.client ≡ old.client)
     (kept : (key : Key) → list_any (same_key key) keys ≡ false → IsKept old.store new.store key)
-    (longer : length old.journal ≤ length new.journal) where
+    (edited : TakesNumbers old.store new.store) (longer : length old.journal ≤ length new.journal) where
   good-after_change : (entry : EntryState) → IsGoodEntry old entry → IsGoodEntry new (after_change keys entry)
   good-after_change entry good =
       record {
         client = good.client ∙ sym client;
         sound = good.sound;
+        read = read-after old.store new.store entry.found.items edited good.read;
         up_to_date = λ current.
             let parts = and_parts entry.is_current (not (depends_on keys entry)) current in
             let others = apart keys entry.found.items (was_true (depends_on keys entry) parts.1) in
@@ -129,7 +131,7 @@ consistent-changed edit old store keys journal entries queue good edited space j
       replayed = replay-push old.journal (Change edit) empty_state ∙ ap (after (Change edit)) good.replayed ∙ (λ i. record { zones = sym edited.after i; holds = old.board.holds });
       store = edited.consistent;
       board = good.board;
-      entries = all_good-after_change old new keys refl edited.kept (omega (arith, longer)) old.entries good.entries;
+      entries = all_good-after_change old new keys refl edited.kept (record { numbers = edited.numbers; next = edited.next }) (omega (arith, longer)) old.entries good.entries;
       questions = AllPairs-map (after_change keys) (λ a b. a.found.question ≢ b.found.question) (λ a b. a.found.question ≢ b.found.question) (λ a b other. other) old.entries good.questions;
       ids = AllPairs-map (after_change keys) (λ a b. a.id < b.id) (λ a b. a.id < b.id) (λ a b below. below) old.entries good.ids;
       few_entries = omega (arith, length-map old.entries (after_change keys), good.few_entries);
@@ -159,7 +161,7 @@ refused-change edit old store journal fault edited space journal_is =
     record {
       accepted = tt;
       number = tt;
-      sets = tt;
+      changed = tt;
       zones = tt;
       numbers = tt;
       next = tt;

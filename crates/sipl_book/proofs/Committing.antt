@@ -1,15 +1,16 @@
 -- A book stays consistent when sets are looked at, and when a finding is committed.
-use Rattle.std.proofs.Common.{◌≡◌, ℕ, ◌+◌, ◌<◌, List, [], ◌∷◌, length, length-append, None, position, refl, sym, ap, ◌∙◌, arith}
+use Rattle.std.proofs.Common.{◌≡◌, ℕ, ◌+◌, ◌<◌, List, [], ◌∷◌, length, length-append, refl, sym, ap, ◌∙◌, arith}
 use Rattle.std.proofs.lemmas.List.Elements.{All-weaker}
 use Rattle.sipl_plans.specs.Findings.{Found, IsSound}
 use Rattle.sipl_book.specs.Book.{BookState, IsConsistent, IsGoodEntry}
-use Rattle.sipl_book.specs.Calls.{after_commit, answer_event, is_stale, with_looks}
+use Rattle.sipl_book.specs.Calls.{after_commit, answer_event, with_looks}
 use Rattle.sipl_book.specs.Entries.{EntryState}
+use Rattle.sipl_book.specs.Honesty.{AreCurrent}
 use Rattle.sipl_book.specs.Machine.{State, answer_in, empty_state}
 use Rattle.sipl_book.specs.declared.event.Event.{Event}
 use Rattle.sipl_book.proofs.Committed.{current, All-committed, questions-committed, ids-committed, length-committed}
 use Rattle.sipl_book.proofs.Journal.{legal-push, replay-push, good-later}
-use Rattle.sipl_book.proofs.Staleness.{up_to_date}
+use Rattle.sipl_book.proofs.Honest.{read-current, sets-sound}
 
 -- a book is consistent whatever the count of looks
 module _ (looks : ℕ) (book : BookState) (so : IsConsistent book) where
@@ -32,7 +33,7 @@ module _ (looks : ℕ) (book : BookState) (so : IsConsistent book) where
           numbered = so.store.numbered;
         };
         board = so.board;
-        entries = All-weaker (IsGoodEntry book) (IsGoodEntry looked) (good-later book looked refl refl refl (omega arith)) book.entries so.entries;
+        entries = All-weaker (IsGoodEntry book) (IsGoodEntry looked) (good-later book looked refl refl refl refl (omega arith)) book.entries so.entries;
         questions = so.questions;
         ids = so.ids;
         few_entries = so.few_entries;
@@ -42,9 +43,9 @@ module _ (looks : ℕ) (book : BookState) (so : IsConsistent book) where
         events_limit = so.events_limit;
       }
 
--- the commit of a finding whose sets are as they were read
+-- the commit of a finding whose sets are as the book has them
 module _ (book : BookState) (found : Found) (words : List ℕ) (so : IsConsistent book) (sound : IsSound found) (client : found.client ≡ book.client)
-    (space : length book.journal < book.max_events) (fresh : position (is_stale book.store) found.items ≡ None) where
+    (space : length book.journal < book.max_events) (now : AreCurrent book.store found.items) where
   abbrev new : BookState
   new = after_commit found words book
 
@@ -60,8 +61,13 @@ module _ (book : BookState) (found : Found) (words : List ℕ) (so : IsConsisten
   -- an entry with the finding is good
   good-current : (id : ℕ) → id < length new.journal → IsGoodEntry new (current id found)
   good-current id made =
-      let now = up_to_date book.store found fresh in
-      record { client = client; sound = sound; up_to_date = λ _. record { agrees = now.agrees; numbers = now.numbers }; made = made }
+      record {
+        client = client;
+        sound = sound;
+        read = read-current book.store found.items so.store (sets-sound found sound) now;
+        up_to_date = λ _. now;
+        made = made;
+      }
 
   pub consistent_committed : IsConsistent new
   consistent_committed =
@@ -72,7 +78,7 @@ module _ (book : BookState) (found : Found) (words : List ℕ) (so : IsConsisten
         store = so.store;
         board = so.board;
         entries = All-committed (IsGoodEntry book) (IsGoodEntry new) found number book.max_entries book.entries
-            (good-later book new refl refl refl (omega (arith, one_more)))
+            (good-later book new refl refl refl refl (omega (arith, one_more)))
             (λ entry good. good-current entry.id (omega (arith, good.made, one_more)))
             (good-current number (omega (arith, one_more))) so.entries;
         questions = questions-committed found number book.max_entries book.entries so.questions;

@@ -10,7 +10,8 @@ use Rattle.sipl_outages.specs.Board.{BoardState, IsConsistent as IsConsistentBoa
 use Rattle.sipl_outages.specs.declared.fault.BoardFault.TheVariants.{TooFar, BoardFull}
 use Rattle.sipl_outages.specs.Holds.{Holds, BoardEvent, is_new_hold, refusal_of}
 use Rattle.sipl_outages.specs.Holds.BoardEvent.{Hold, Release, Advance}
-use Rattle.sipl_zonestore.specs.Numbers.{number_of}
+use Rattle.sipl_zonestore.specs.Numbers.{SetNumber, number_of}
+use Rattle.sipl_zonestore.specs.Store.{Zones}
 use Rattle.sipl_book.specs.Book.{BookState, IsConsistent, IsGoodEntry, state_of}
 use Rattle.sipl_book.specs.Calls.{recorded}
 use Rattle.sipl_book.specs.Entries.{EntryState}
@@ -51,12 +52,18 @@ accepted_with_more max_holds (Advance to) holds within accepted = accepted
 
 -- a good entry stays good where the zones and the numbers of their sets are as before
 module _ (old new : BookState) (client : new.client ≡ old.client) (zones : new.store.zones ≡ old.store.zones)
-    (numbers : new.store.numbers ≡ old.store.numbers) (longer : length old.journal ≤ length new.journal) where
+    (numbers : new.store.numbers ≡ old.store.numbers) (next : new.store.next ≡ old.store.next) (longer : length old.journal ≤ length new.journal) where
   pub good-later : (entry : EntryState) → IsGoodEntry old entry → IsGoodEntry new entry
   good-later entry good =
       record {
         client = good.client ∙ sym client;
         sound = good.sound;
+        read = record {
+          sets = good.read.sets;
+          given = λ k d below. omega (arith, good.read.given k d below, next);
+          honest = subst (λ (p : Zones × List SetNumber). All (λ item. number_of p.1 item.key ≡ item.number → set_of p.0.records item.key ≡ item.content) entry.found.items)
+              (λ i. (sym zones i, sym numbers i)) good.read.honest;
+        };
         up_to_date = λ current. let fresh = good.up_to_date current in record {
           agrees = subst (λ loaded. Agrees (set_of loaded.records) entry.found.items) (sym zones) fresh.agrees;
           numbers = subst (λ numbered. All (λ item. number_of numbered item.key ≡ item.number) entry.found.items) (sym numbers) fresh.numbers;
@@ -80,7 +87,7 @@ consistent-recorded book event board good good_board space accepted leads =
       replayed = replay-push book.journal event empty_state ∙ ap (after event) good.replayed ∙ leads;
       store = good.store;
       board = good_board;
-      entries = all_good-later book (recorded event (record book { board = board })) refl refl refl (omega (arith, longer)) book.entries good.entries;
+      entries = all_good-later book (recorded event (record book { board = board })) refl refl refl refl (omega (arith, longer)) book.entries good.entries;
       questions = good.questions;
       ids = good.ids;
       few_entries = good.few_entries;

@@ -6,6 +6,7 @@ mod Questions
 mod Committed
 mod Table
 mod Staleness
+mod Honest
 mod Committing
 mod Answering
 mod Outdating
@@ -13,5 +14,10 @@ mod Changing
 mod Ids
 mod Queues
 mod Removing
+mod Waiting
 mod Caches
 mod Settling
+mod Legal
+mod Locating
+mod Finding
+mod Repairing

@@ -22,6 +22,7 @@ use Rattle.sipl_book.specs.Cache.{InOrder}
 use Rattle.sipl_book.specs.Entries.{EntryState, depends_on, after_change}
 use Rattle.sipl_book.specs.Repairs.{IsQueueAmong, IsQueueOf, after_marks, dependents, outdated}
 use Rattle.sipl_book.proofs.Ids.{ids_of, is_id, is_id-ids_of, apart-ids_of}
+use Rattle.sipl_book.proofs.Waiting.{AreOutdated, are_outdated, outdated-marks}
 
 -- ---- the space that a queue shows
 
@@ -153,10 +154,14 @@ outdated-held (e ∷ es) q =
     ] refl
 
 -- marks of ids of entries leave the queue of those entries
-pub IsQueueOf-marks : (es : List EntryState) (q : QueueState) → InOrder es → IsQueueAmong es q → length es ≤ q.capacity
+pub IsQueueOf-marks : (es : List EntryState) (q : QueueState) → InOrder es → IsQueueAmong es q → AreOutdated es q → length es ≤ q.capacity
     → IsQueueOf es (after_marks q (outdated es))
-IsQueueOf-marks es q order so space =
-    record { among = each (outdated es) q so space (outdated_ids es); waiting = outdated-held es q }
+IsQueueOf-marks es q order so queued space =
+    record {
+      among = each (outdated es) q so space (outdated_ids es);
+      outdated = outdated-marks es q (outdated es) queued (are_outdated es);
+      waiting = outdated-held es q;
+    }
   where
     each : (ids : List ℕ) (w : QueueState) → IsQueueAmong es w → length es ≤ w.capacity → All (λ id. is_id es id ≡ true) ids → IsQueueAmong es (after_marks w ids)
     each [] w among fits own = among
@@ -257,6 +262,11 @@ first-idle es q id so first =
       | inl is ↦ absurd (true≢false (sym queued ∙ so.apart id is))
       | inr other ↦ other
     ]
+
+-- the first of the queued ids is queued
+pub first-queued : (ids : List ℕ) (id : ℕ) → first_of ids ≡ Ok id → list_any (eqb id) ids ≡ true
+first-queued [] id first = cc
+first-queued (x ∷ rest) id first = let same : x ≡ id = cc in ap (λ b. b || list_any (eqb id) rest) (eq-eqb id x (sym same))
 
 -- a lease that is given back at once leaves the queue as it was
 pub give_back-lease : (es : List EntryState) (q : QueueState) (id : ℕ) → IsQueueAmong es q → first_of q.queued ≡ Ok id → after_give_back (after_lease q) id ≡ q

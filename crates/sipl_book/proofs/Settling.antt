@@ -1,5 +1,5 @@
 -- A book stays consistent when its queue changes, when a lease is settled, and when an entry is forgotten.
-use Rattle.std.proofs.Common.{◌≡◌, ◌≢◌, ◌<◌, ◌≤◌, Bool, true, false, not, List, map, length, None, position, refl, sym, ◌∙◌, arith}
+use Rattle.std.proofs.Common.{◌≡◌, ◌≢◌, ◌<◌, ◌≤◌, Bool, true, false, not, List, map, length, refl, sym, ◌∙◌, arith}
 use Rattle.std.specs.List.{All, AllPairs}
 use Rattle.std.proofs.Math.ListN.{length-map}
 use Rattle.std.proofs.lemmas.List.Elements.{All-map, All-filter, All-weaker}
@@ -9,12 +9,12 @@ use Rattle.sipl_plans.specs.Findings.{Found, IsSound}
 use Rattle.sipl_repair.specs.QueueState.{QueueState}
 use Rattle.sipl_uri.specs.declared.question.Question.{Question}
 use Rattle.sipl_book.specs.Book.{BookState, IsConsistent, IsGoodEntry}
-use Rattle.sipl_book.specs.Calls.{is_stale}
 use Rattle.sipl_book.specs.Entries.{EntryState, is_of, renewed}
+use Rattle.sipl_book.specs.Honesty.{AreCurrent}
 use Rattle.sipl_book.specs.Repairs.{without}
 use Rattle.sipl_book.proofs.Committed.{AllPairs-map, renewed_cases, id-renewed, question-renewed}
 use Rattle.sipl_book.proofs.Journal.{all_good-later}
-use Rattle.sipl_book.proofs.Staleness.{up_to_date}
+use Rattle.sipl_book.proofs.Honest.{read-current, sets-sound}
 
 -- other entries and another queue, where the entries are good and stand apart in their order
 consistent-with : (book : BookState) (entries : List EntryState) (queue : QueueState) → IsConsistent book
@@ -27,7 +27,7 @@ consistent-with book entries queue so good apart order few =
       replayed = so.replayed;
       store = so.store;
       board = so.board;
-      entries = all_good-later book new refl refl refl (omega arith) entries good;
+      entries = all_good-later book new refl refl refl refl (omega arith) entries good;
       questions = apart;
       ids = order;
       few_entries = omega (arith, few, so.few_entries);
@@ -40,18 +40,18 @@ consistent-with book entries queue so good apart order few =
 pub consistent-queued : (book : BookState) (queue : QueueState) → IsConsistent book → IsConsistent (record book { queue = queue })
 consistent-queued book queue so = consistent-with book book.entries queue so so.entries so.questions so.ids (omega arith)
 
--- the entry of the finding's question gets the finding, whose sets are as they were read
+-- the entry of the finding's question gets the finding, whose sets are as the book has them
 pub consistent-settled : (book : BookState) (found : Found) (queue : QueueState) → IsConsistent book → IsSound found → found.client ≡ book.client
-    → position (is_stale book.store) found.items ≡ None → IsConsistent (record book { entries = map (renewed found) book.entries; queue = queue })
-consistent-settled book found queue so sound client fresh =
-    let now = up_to_date book.store found fresh in
+    → AreCurrent book.store found.items → IsConsistent (record book { entries = map (renewed found) book.entries; queue = queue })
+consistent-settled book found queue so sound client now =
+    let read = read-current book.store found.items so.store (sets-sound found sound) now in
     let Apart : EntryState → EntryState → Type 0 = λ a b. a.found.question ≢ b.found.question in
     let Before : EntryState → EntryState → Type 0 = λ a b. a.id < b.id in
     consistent-with book (map (renewed found) book.entries) queue so
     (All-map (IsGoodEntry book) (renewed found) book.entries
     (All-weaker (IsGoodEntry book) (λ e. IsGoodEntry book (renewed found e)) (λ e good.
     renewed_cases found e (IsGoodEntry book)
-    (λ _. record { client = client; sound = sound; up_to_date = λ _. record { agrees = now.agrees; numbers = now.numbers }; made = good.made })
+    (λ _. record { client = client; sound = sound; read = read; up_to_date = λ _. now; made = good.made })
     (λ _. good)) book.entries so.entries))
     (AllPairs-map (renewed found) Apart Apart (λ a b apart same. apart (sym (question-renewed found a) ∙ same ∙ question-renewed found b)) book.entries so.questions)
     (AllPairs-map (renewed found) Before Before (λ a b before. omega (arith, id-renewed found a, id-renewed found b)) book.entries so.ids)

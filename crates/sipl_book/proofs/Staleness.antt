@@ -1,5 +1,5 @@
 -- Sets that are no longer as they were read.
-use Rattle.std.proofs.Common.{◌≡◌, ℕ, ◌<◌, Bool, true, false, ltb, List, [], ◌∷◌, length, length-take, take, get_or, None, Some, position, refl, sym, ap, ◌∙◌, inl, inr, arith}
+use Rattle.std.proofs.Common.{◌≡◌, ℕ, ◌+◌, ◌<◌, Bool, true, false, ltb, List, [], ◌∷◌, length, length-take, take, get_or, Option, None, Some, position, refl, sym, ap, ◌∙◌, inl, inr, add-one, arith}
 use Rattle.std.specs.List.{All, position_or_len}
 use Rattle.std.proofs.lemmas.Bool.{and_parts, not-false, eqb-true, cases_lt, lt-ltb, le-ltb, cond-true, cond-false}
 use Rattle.std.proofs.lemmas.List.{get_or-take}
@@ -9,9 +9,9 @@ use Rattle.sipl_records.specs.Sets.{set_of}
 use Rattle.sipl_records.proofs.Public.{same_set-Decides}
 use Rattle.sipl_evidence.specs.Items.{Item}
 use Rattle.sipl_zonestore.specs.Store.{Store, number_in}
-use Rattle.sipl_plans.specs.Findings.{Found}
-use Rattle.sipl_book.specs.Book.{IsUpToDate}
-use Rattle.sipl_book.specs.Calls.{is_stale, store_with_looks}
+use Rattle.sipl_zonestore.specs.Looks.{looked}
+use Rattle.sipl_book.specs.Calls.{after_looks, compared, is_renumbered, is_stale}
+use Rattle.sipl_book.specs.Honesty.{AreCurrent, IsHonest}
 
 -- ---- the first item that passes a test
 
@@ -51,18 +51,35 @@ fresh_item store item fresh =
     let same = and_parts _ _ (not-false _ fresh) in
     (eqb-true _ _ same.0, (same_set-Decides _ _).0 same.1)
 
--- where no item of a finding is stale, what it has read is still so
-pub up_to_date : (store : Store) (found : Found) → position (is_stale store) found.items ≡ None → IsUpToDate store found
-up_to_date store found none =
-    let fresh = fails-all (is_stale store) found.items none in
+-- where no item is stale, all are as they were read
+pub current-fresh : (store : Store) (items : List Item) → position (is_stale store) items ≡ None → AreCurrent store items
+current-fresh store items none =
+    let fresh = fails-all (is_stale store) items none in
     record {
       agrees = λ k d below. (fresh_item store _ (fresh k d below)).1;
       numbers = λ k d below. (fresh_item store _ (fresh k d below)).0;
     }
 
+-- where no number is another one, honest items are as they were read
+pub current-numbered : (store : Store) (items : List Item) → IsHonest store items → position (is_renumbered store) items ≡ None → AreCurrent store items
+current-numbered store items honest none =
+    let same = fails-all (is_renumbered store) items none in
+    let numbers : All (λ item. number_in store item.key ≡ item.number) items =
+    λ k d below. eqb-true _ _ (not-false _ (same k d below)) in
+    record { agrees = λ k d below. honest k d below (numbers k d below); numbers = numbers }
+
 -- ---- looks
 
--- two counts of looks, one after the other, are the second
-pub looked_more : (first old new : Store) → old ≡ store_with_looks old.looks first → new ≡ store_with_looks new.looks old
-    → new ≡ store_with_looks new.looks first
-looked_more first old new before after = after ∙ ap (store_with_looks new.looks) before
+-- how many items are compared, where the first that is stale is at a place
+pub compared-first : (store : Store) (items : List Item) (place : ℕ) → position (is_stale store) items ≡ Some place → compared store items ≡ place + 1
+compared-first store items place first =
+    ap (λ (o : Option ℕ). let n : ℕ = elim o [ Some i ↦ i + 1 | None ↦ length items ] in n) first
+
+-- or where none is stale
+pub compared-all : (store : Store) (items : List Item) → position (is_stale store) items ≡ None → compared store items ≡ length items
+compared-all store items none =
+    ap (λ (o : Option ℕ). let n : ℕ = elim o [ Some i ↦ i + 1 | None ↦ length items ] in n) none
+
+-- one look more
+pub looked_once : (count : ℕ) (store : Store) → looked (after_looks count store) ≡ after_looks (count + 1) store
+looked_once count store = ap (λ n. after_looks n store) (sym (add-one count))

@@ -4,17 +4,17 @@ use Rattle.std.specs.List.{All, AllPairs}
 use Rattle.sipl_records.specs.Sets.{set_of}
 use Rattle.sipl_choice.specs.Abilities.{Client}
 use Rattle.sipl_uri.specs.declared.question.Question.{Question}
-use Rattle.sipl_evidence.specs.Known.{Agrees}
-use Rattle.sipl_zonestore.specs.Store.{Store, number_in, no_zones}
+use Rattle.sipl_zonestore.specs.Store.{Store, no_zones}
 use Rattle.sipl_zonestore.specs.Consistent.{IsConsistent as IsConsistentStore}
 use Rattle.sipl_outages.specs.Board.{BoardState, IsConsistent as IsConsistentBoard}
 use Rattle.sipl_outages.specs.Holds.{no_holds}
-use Rattle.sipl_plans.specs.Findings.{Found, IsSound}
+use Rattle.sipl_plans.specs.Findings.{IsSound}
 use Rattle.sipl_plans.specs.Route.{route}
 use Rattle.sipl_plans.specs.declared.answer.Answer.{Answer as Targets}
 use Rattle.sipl_repair.specs.QueueState.{QueueState}
 use Rattle.sipl_book.specs.Cache.{new_queue}
 use Rattle.sipl_book.specs.Entries.{EntryState}
+use Rattle.sipl_book.specs.Honesty.{AreCurrent, WereRead}
 use Rattle.sipl_book.specs.Machine.{State, empty_state, answer_in, IsLegal, replay}
 use Rattle.sipl_book.specs.declared.event.Event.{Event}
 use Rattle.sipl_book.specs.declared.limits.Limits.{Limits}
@@ -60,18 +60,18 @@ new_book client limits =
       max_events = limits.journal;
     }
 
--- what an entry that is current has read is still so: the sets of the keys, and their numbers
-pub record IsUpToDate (store : Store) (found : Found) : Type 0 where
-  pub agrees : Agrees (set_of store.zones.records) found.items
-  pub numbers : All (λ item. number_in store item.key ≡ item.number) found.items
+-- the number of the next event, and the id of an entry that it makes
+abbrev pub next_event : BookState → ℕ
+next_event book = length book.journal
 
--- an entry's finding is one for the client, is sound, and is up to date where the entry is current;
--- the entry was made by an event before now
+-- an entry's finding is one for the client and is sound, and its sets were read; where the entry is
+-- current they are still so. The entry was made by an event before now
 pub record IsGoodEntry (book : BookState) (entry : EntryState) : Type 0 where
   pub client : entry.found.client ≡ book.client
   pub sound : IsSound entry.found
-  pub up_to_date : IsTrue entry.is_current → IsUpToDate book.store entry.found
-  pub made : entry.id < length book.journal
+  pub read : WereRead book.store entry.found.items
+  pub up_to_date : IsTrue entry.is_current → AreCurrent book.store entry.found.items
+  pub made : entry.id < next_event book
 
 -- a current entry's layout is the route of its question on the records as they are
 abbrev pub HasRoute : BookState → EntryState → Type 0

@@ -1,5 +1,5 @@
 -- What the calls of a book do, and how they end.
-use Rattle.std.specs.Prelude.{◌≡◌, ◌≢◌, ℕ, Bool, not, ◌==◌, ◌&&◌, List, [], ◌∷◌, ◌++◌, length, map, position, nat_le, if◌then◌else◌, Option, None, Some, is_some, option_map, Result, Ok, OnOk, OnErr, IfOk, IfErr, true, false}
+use Rattle.std.specs.Prelude.{◌≡◌, ◌≢◌, ℕ, zero, suc, Bool, not, ◌==◌, ◌&&◌, ◌+◌, ◌-◌, ◌^◌, min, List, [], ◌∷◌, ◌++◌, length, map, position, nat_le, if◌then◌else◌, Option, None, Some, is_some, option_map, Result, Ok, OnOk, OnErr, IfOk, IfErr, true, false}
 use lib.Pointwise.{pointwise}
 use Rattle.sipl_records.specs.Sets.{set_of, same_data}
 use Rattle.sipl_records.specs.declared.record.Key.{Key}
@@ -14,7 +14,7 @@ use Rattle.sipl_zonestore.specs.Numbers.{number_after, next_after}
 use Rattle.sipl_outages.specs.Holds.{BoardEvent, refusal_of as hold_refusal, after as after_hold}
 use Rattle.sipl_outages.specs.Holds.BoardEvent.{Hold as HoldFor, Release as ReleaseOf, Advance as AdvanceTo}
 use Rattle.sipl_plans.specs.Findings.{Found}
-use Rattle.sipl_book.specs.Book.{BookState, answer_now}
+use Rattle.sipl_book.specs.Book.{BookState, answer_now, next_event}
 use Rattle.sipl_repair.specs.QueueState.{after_lease, after_settle, first_of, is_leased}
 use Rattle.sipl_repair.specs.declared.fault.QueueFault.TheVariants.{Empty}
 use Rattle.sipl_book.specs.Entries.{entry_of, has_current_entry, after_change, committed, renewed}
@@ -25,14 +25,14 @@ use Rattle.sipl_book.specs.declared.event.Event.{Event}
 use Rattle.sipl_book.specs.declared.event.Event.TheVariants.{Change, Hold, Release, Advance, Answer}
 use Rattle.sipl_book.specs.declared.fault.BookFault.{BookFault}
 use Rattle.sipl_book.specs.declared.fault.BookFault.TheVariants.{JournalFull, NotCurrent, Stale, Unknown, Gone, Queue, Store as StoreFault, Board, Memory}
-use Rattle.sipl_book.specs.declared.outcome.Changed.{Changed}
+use Rattle.sipl_book.specs.declared.outcome.Done.{Done}
 use Rattle.sipl_book.specs.declared.outcome.Handed.{Handed}
 use Rattle.sipl_book.specs.declared.outcome.Uncommitted.{Uncommitted}
 
 -- the fault of a call that records an event: a full journal comes before all others
 abbrev pub unless_full : BookState → Option BookFault → Option BookFault
 unless_full book fault =
-    if nat_le book.max_events (length book.journal) then Some JournalFull else fault
+    if nat_le book.max_events (next_event book) then Some JournalFull else fault
 
 -- a book with one more event
 abbrev pub recorded : Event → BookState → BookState
@@ -46,11 +46,11 @@ change_refusal edit book =
 -- An accepted edit changes the zones, the numbers of their sets, and which entries are current, and
 -- is the next event. The entries that it makes outdated are marked in their order, but for those
 -- that are leased. A refused one changes nothing.
-pub record IsChanged (edit : Edit) (old new : BookState) (result : Result Changed BookFault)
+pub record IsChanged (edit : Edit) (old new : BookState) (result : Result Done BookFault)
     : Type 0 where
   pub accepted : OnOk result (change_refusal edit old ≡ None)
-  pub number : IfOk result (λ changed. changed.number ≡ length old.journal)
-  pub sets : IfOk result (λ changed. changed.sets
+  pub number : IfOk result (λ done. done.number ≡ next_event old)
+  pub changed : IfOk result (λ done. done.changed
       ≡ length (changed_keys old.store.zones.records new.store.zones.records))
   pub zones : OnOk result (new.store.zones ≡ after_edit (zone_edit edit) old.store.zones)
   pub numbers : OnOk result ((key : Key) → number_in new.store key
@@ -94,7 +94,7 @@ after_board event book =
 pub record MovesBoard (event : BoardEvent) (old new : BookState) (result : Result ℕ BookFault)
     : Type 0 where
   pub accepted : OnOk result (board_refusal event old ≡ None)
-  pub number : IfOk result (λ number. number ≡ length old.journal)
+  pub number : IfOk result (λ number. number ≡ next_event old)
   pub after : OnOk result (new ≡ after_board event old)
   pub refused : IfErr result (λ fault. fault ≢ Memory → board_refusal event old ≡ Some fault)
   pub unchanged : OnErr result (new ≡ old)
@@ -113,11 +113,15 @@ hand_refusal question book =
 pub record IsHanded (question : Question) (words : List ℕ) (old new : BookState)
     (result : Result Handed BookFault) : Type 0 where
   pub accepted : OnOk result (hand_refusal question old ≡ None)
-  pub number : IfOk result (λ handed. handed.number ≡ length old.journal)
+  pub number : IfOk result (λ handed. handed.number ≡ next_event old)
   pub answer : IfOk result (λ handed. handed.answer ≡ answer_now old question words)
   pub after : OnOk result (new ≡ recorded (answer_event old question words) old)
   pub refused : IfErr result (λ fault. fault ≢ Memory → hand_refusal question old ≡ Some fault)
   pub unchanged : OnErr result (new ≡ old)
+
+-- whether a set has another number than when it was read
+abbrev pub is_renumbered : Store → Item → Bool
+is_renumbered store item = not (number_in store item.key == item.number)
 
 -- whether a set that was read is no longer so, by its number or by its data
 abbrev pub is_stale : Store → Item → Bool
@@ -125,10 +129,55 @@ is_stale store item =
     not (number_in store item.key == item.number
     && pointwise same_data (set_of store.zones.records item.key) item.content)
 
--- the fault of a commit: the place, from 0, of the first set that is no longer as it was read
-abbrev pub commit_refusal : Found → BookState → Option BookFault
-commit_refusal found book =
-    unless_full book (option_map Stale (position (is_stale book.store) found.items))
+-- the fault of a commit: the place, from 0, of the first set that has changed by the test
+abbrev pub commit_refusal : (Store → Item → Bool) → Found → BookState → Option BookFault
+commit_refusal has_changed found book =
+    unless_full book (option_map Stale (position (has_changed book.store) found.items))
+
+-- a count of looks after so many more; it stops at the greatest number of 64 bits
+abbrev pub looks_after : ℕ → ℕ → ℕ
+looks_after zero looks = looks
+looks_after (suc more) looks = min (looks_after more looks + 1) (2 ^ 64 - 1)
+
+-- a store after so many looks more
+abbrev pub after_looks : ℕ → Store → Store
+after_looks count store = record store { looks = looks_after count store.looks }
+
+-- how many sets are compared: those up to the first that has changed
+abbrev pub compared : Store → List Item → ℕ
+compared store items = elim (position (is_stale store) items) [ Some place ↦ place + 1 | None ↦ length items ]
+
+-- a book after the sets of a finding were compared with its own, which is a look for each
+abbrev pub after_comparison : Found → BookState → BookState
+after_comparison found book =
+    record book { store = after_looks (compared book.store found.items) book.store }
+
+-- the same, but with a full journal none is compared
+abbrev pub after_check : Found → BookState → BookState
+after_check found book =
+    if nat_le book.max_events (next_event book) then book else after_comparison found book
+
+-- the book after the commit of a finding
+abbrev pub after_commit : Found → List ℕ → BookState → BookState
+after_commit found words book =
+    recorded (answer_event book found.question words) (record book {
+      entries = committed found (next_event book) book.max_entries book.entries;
+      queue = after_renewal book.queue (entry_of book.entries found.question);
+    })
+
+-- A finding that is committed gives the answer of the records and the holds as they are, which is
+-- the next event, and the question's entry is current and not queued. A refused one is returned, and
+-- changes nothing. The test tells which sets have changed; `looked` is the old book after its looks.
+pub record IsCommitted (has_changed : Store → Item → Bool) (found : Found) (words : List ℕ)
+    (old looked new : BookState) (result : Result Handed Uncommitted) : Type 0 where
+  pub accepted : OnOk result (commit_refusal has_changed found old ≡ None)
+  pub number : IfOk result (λ handed. handed.number ≡ next_event old)
+  pub answer : IfOk result (λ handed. handed.answer ≡ answer_now old found.question words)
+  pub after : OnOk result (new ≡ after_commit found words looked)
+  pub refused : IfErr result (λ uncommitted. uncommitted.fault ≢ Memory
+      → commit_refusal has_changed found old ≡ Some uncommitted.fault)
+  pub finding : IfErr result (λ uncommitted. uncommitted.finding ≡ found)
+  pub unchanged : OnErr result (new ≡ looked)
 
 -- a store with this count of looks
 abbrev pub store_with_looks : ℕ → Store → Store
@@ -137,28 +186,6 @@ store_with_looks looks store = record store { looks = looks }
 -- a book whose sets were looked at
 abbrev pub with_looks : ℕ → BookState → BookState
 with_looks looks book = record book { store = store_with_looks looks book.store }
-
--- the book after the commit of a finding
-abbrev pub after_commit : Found → List ℕ → BookState → BookState
-after_commit found words book =
-    recorded (answer_event book found.question words) (record book {
-      entries = committed found (length book.journal) book.max_entries book.entries;
-      queue = after_renewal book.queue (entry_of book.entries found.question);
-    })
-
--- A finding that is committed gives the answer of the records and the holds as they are, which is
--- the next event, and the question's entry is current and not queued. A refused one is returned, and
--- changes nothing. Either may count looks.
-pub record IsCommitted (found : Found) (words : List ℕ) (old new : BookState)
-    (result : Result Handed Uncommitted) : Type 0 where
-  pub accepted : OnOk result (commit_refusal found old ≡ None)
-  pub number : IfOk result (λ handed. handed.number ≡ length old.journal)
-  pub answer : IfOk result (λ handed. handed.answer ≡ answer_now old found.question words)
-  pub after : OnOk result (new ≡ with_looks new.store.looks (after_commit found words old))
-  pub refused : IfErr result (λ uncommitted. uncommitted.fault ≢ Memory
-      → commit_refusal found old ≡ Some uncommitted.fault)
-  pub finding : IfErr result (λ uncommitted. uncommitted.finding ≡ found)
-  pub unchanged : OnErr result (new ≡ with_looks new.store.looks old)
 
 -- a book after one look at a set
 abbrev pub after_look : BookState → BookState
@@ -181,11 +208,11 @@ abbrev pub after_give_back : ℕ → BookState → BookState
 after_give_back id book = record book { queue = after_return book.entries book.queue id }
 
 -- the fault of a settlement: the lease is not that of the question's entry, or the place, from 0, of
--- the first set that is no longer as it was read
-abbrev pub settle_refusal : ℕ → Found → BookState → Option BookFault
-settle_refusal id found book =
+-- the first set that has changed by the test
+abbrev pub settle_refusal : (Store → Item → Bool) → ℕ → Found → BookState → Option BookFault
+settle_refusal has_changed id found book =
     if is_leased_for book.entries book.queue id found.question
-    then option_map Stale (position (is_stale book.store) found.items) else Some Gone
+    then option_map Stale (position (has_changed book.store) found.items) else Some Gone
 
 -- the book after a settlement that was refused for a set
 abbrev pub after_stale : ℕ → BookState → BookState
@@ -201,16 +228,17 @@ after_settlement id found book =
 
 -- A finding that is settled is that of the leased entry, which is current then. A refused one is
 -- returned; its lease is spent as one that is given back, or else its entry is the last of the
--- queue, unless it is current. No event is recorded. Looks may be counted.
-pub record IsSettled (id : ℕ) (found : Found) (old new : BookState)
-    (result : Result (Unit {0}) Uncommitted) : Type 0 where
-  pub accepted : OnOk result (settle_refusal id found old ≡ None)
-  pub after : OnOk result (new ≡ with_looks new.store.looks (after_settlement id found old))
-  pub refused : IfErr result (λ uncommitted. settle_refusal id found old ≡ Some uncommitted.fault)
+-- queue, unless it is current. No event is recorded. The test tells which sets have changed; `looked`
+-- is the old book after its looks.
+pub record IsSettled (has_changed : Store → Item → Bool) (id : ℕ) (found : Found)
+    (old looked new : BookState) (result : Result (Unit {0}) Uncommitted) : Type 0 where
+  pub accepted : OnOk result (settle_refusal has_changed id found old ≡ None)
+  pub after : OnOk result (new ≡ after_settlement id found looked)
+  pub refused : IfErr result
+      (λ uncommitted. settle_refusal has_changed id found old ≡ Some uncommitted.fault)
   pub finding : IfErr result (λ uncommitted. uncommitted.finding ≡ found)
   pub gone : IfErr result (λ uncommitted. uncommitted.fault ≡ Gone → new ≡ after_give_back id old)
-  pub stale : IfErr result (λ uncommitted. uncommitted.fault ≢ Gone
-      → new ≡ with_looks new.store.looks (after_stale id old))
+  pub stale : IfErr result (λ uncommitted. uncommitted.fault ≢ Gone → new ≡ after_stale id looked)
 
 -- the book without the entry of a question
 abbrev pub after_forget : Question → BookState → BookState

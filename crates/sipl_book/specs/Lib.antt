@@ -1,5 +1,6 @@
 pub mod Machine
 pub mod Entries
+pub mod Honesty
 pub mod Book
 pub mod BookFields
 pub mod Calls
@@ -9,3 +10,4 @@ pub mod Questions
 pub mod Repairs
 pub mod Cache
 pub mod Codes
+pub mod Lookups

@@ -63,7 +63,8 @@ pub record IsQueueAmong (entries : List EntryState) (queue : QueueState) : Type 
   pub apart : (id : ℕ) → is_leased queue id ≡ true → is_queued queue id ≡ false
   pub of_entries : (id : ℕ) → is_held queue id ≡ true → list_any (λ e. e.id == id) entries ≡ true
 
--- and each outdated entry is queued or leased
+-- and what is queued is outdated, and each outdated entry is queued or leased
 pub record IsQueueOf (entries : List EntryState) (queue : QueueState) : Type 0 where
   pub among : IsQueueAmong entries queue
+  pub outdated : (id : ℕ) → is_queued queue id ≡ true → is_outdated entries id ≡ true
   pub waiting : All (λ e. e.is_current ≡ false → is_held queue e.id ≡ true) entries

@@ -1,27 +1,29 @@
-ghost use Rattle.std.specs.Prelude.{◌≡◌, ◌≢◌, ◌+◌, ◌^◌, ◌<◌, ◌≤◌, [], ◌∷◌, ◌++◌, length, position, option_map, IfOk, IfErr, IfSome, OnOk, OnErr, vec_len, vec_capacity};
+ghost use Rattle.std.specs.Prelude.{◌≡◌, ◌≢◌, ◌+◌, ◌^◌, ◌<◌, ◌≤◌, [], ◌∷◌, ◌++◌, true, length, option_map, Some, None, IsTrue, IfOk, IfErr, IfSome, OnOk, OnErr, vec_len, vec_capacity};
 ghost use Rattle.std.specs.List.{All};
 ghost use Rattle.std.specs.Option.{option_copied};
 ghost use Rattle.sipl_records.specs.Sets.{set_of};
 ghost use Rattle.sipl_zonestore.specs.Store.{number_in};
+ghost use Rattle.sipl_zonestore.specs.Consistent.{IsConsistent as IsConsistentStore};
 ghost use Rattle.sipl_outages.specs.Holds.BoardEvent.{Hold, Release, Advance};
 ghost use Rattle.sipl_plans.specs.Findings.{IsSound};
-ghost use Rattle.sipl_plans.specs.Plan.{draw, plan};
+ghost use Rattle.sipl_plans.specs.Plan.{draw};
 ghost use Rattle.sipl_plans.specs.Runs.{IsSet};
 ghost use Rattle.sipl_plans.specs.Servers.{HasFewServers};
-ghost use Rattle.sipl_book.specs.Book.{HasRoute, IsConsistent, IsGoodEntry, new_book, state_of};
-ghost use Rattle.sipl_book.specs.Calls.{IsChanged, MovesBoard, IsHanded, IsCommitted, IsLeased, IsSettled, IsForgotten, after_give_back, after_look, is_stale, store_with_looks};
+ghost use Rattle.sipl_book.specs.Book.{HasRoute, IsGoodEntry, answer_now, new_book, next_event, state_of};
+ghost use Rattle.sipl_book.specs.Calls.{IsChanged, MovesBoard, IsHanded, IsCommitted, IsLeased, IsSettled, IsForgotten, after_check, after_commit, after_comparison, after_give_back, after_look, after_settlement, after_stale, is_renumbered, is_stale};
+ghost use Rattle.sipl_book.specs.Honesty.{AreCurrent, IsHonest};
 ghost use Rattle.sipl_book.specs.Entries.{entry_of};
-ghost use Rattle.sipl_book.specs.Repairs.{IsQueueOf};
+ghost use Rattle.sipl_book.specs.Repairs.{IsQueueOf, is_leased_for, is_outdated};
 ghost use Rattle.sipl_book.specs.Machine.{IsLegal, replay, empty_state};
 
 use crate::cache::Cache;
-use crate::checks::{first_stale, reserve_event};
+use crate::checks::{first_renumbered, first_stale, reserve_event};
 use crate::edit::Edit;
 use crate::entry::Entry;
 use crate::event::Event;
 use crate::fault::BookFault;
 use crate::limits::Limits;
-use crate::outcome::{Changed, Handed, Uncommitted};
+use crate::outcome::{Done, Handed, Uncommitted};
 use sipl_choice::{Abilities, Endpoint};
 use sipl_evidence::dup_data;
 use sipl_outages::Board;
@@ -91,21 +93,26 @@ impl Book {
         }
     }
 
+    // The allocator of all that the book keeps.
+    pub(crate) fn alloc(&self) -> Global {
+        self.alloc
+    }
+
     /// Edits the zones. The entries whose evidence has the key of a set that changed are outdated
     /// then, and are marked in their order, but for those that are leased. The cost is that of the
     /// edit, and a look-up for each entry and each key.
     ///
     /// The fault is the first one: a full journal (B3), a fault of the zones (S1 to S8).
-    pub fn change(&mut self, edit: Edit) -> Result<Changed, BookFault>
+    pub fn change(&mut self, edit: Edit) -> Result<Done, BookFault>
         ensures { IsChanged edit self.old self.new result }
     {
         reserve_event(&mut self.journal, self.max_events)?;
         let keys = edit.apply(&mut self.store)?;
         self.cache.outdate(keys.as_slice());
         let number = record_event(&mut self.journal, Event::Change(edit));
-        Ok(Changed {
+        Ok(Done {
             number,
-            sets: keys.len() as u64,
+            changed: keys.len() as u64,
         })
     }
 
@@ -155,6 +162,8 @@ impl Book {
         ensures value { IfOk result
             (λ read. read.1 ≡ set_of self.old.store.zones.records key.now) }
         ensures set { IfOk result (λ read. IsSet key.now read.0 read.1) }
+        ensures given { IfOk result (λ read. read.0 < self.old.store.next) }
+        ensures consistent { IsConsistentStore self.old.store }
         ensures looked { self.new ≡ after_look self.old }
     {
         let (number, content) = self.store.set(key);
@@ -181,26 +190,77 @@ impl Book {
 
     /// Commits a finding: returns its answer for these random words, which is that of the records
     /// and the holds as they are, and makes the entry of its question current. With as many entries
-    /// as the maximum a question that has none gets none. Compares the sets that were read with
-    /// those of the zones, which counts looks. Linear in the evidence and the targets.
+    /// as the maximum a question that has none gets none. Compares the numbers of the sets, and looks
+    /// at none. Linear in the evidence and the targets.
+    ///
+    /// Where a set has the number that it had when it was read, its data must be those that were
+    /// read, as they are where they came from `read`.
+    ///
+    /// The fault is the first one: a full journal (B3), a set whose number is no longer as it was
+    /// read (B2). The finding is returned with it.
+    pub fn commit(&mut self, finding: Finding, draws: &Draws) -> Result<Handed, Uncommitted>
+        requires client { finding.client ≡ self.old.client }
+        requires honest { IsHonest self.old.store finding.items }
+        ensures { IsCommitted is_renumbered finding draws.now self.old self.old self.new result }
+    {
+        if self.journal.len() >= self.max_events {
+            let fault = BookFault::JournalFull;
+            return Err(Uncommitted { fault, finding });
+        }
+        if let Some(place) = first_renumbered(&self.store, finding.evidence().items()) {
+            let fault = BookFault::Stale(place);
+            return Err(Uncommitted { fault, finding });
+        }
+        self.commit_current(finding, draws)
+    }
+
+    /// Commits a finding as `commit` does, wherever its sets come from. Compares the sets that were
+    /// read with those of the zones, which counts looks. Linear in the evidence and the targets.
     ///
     /// The fault is the first one: a full journal (B3), a set whose number or data are no longer as
     /// they were read (B2). The finding is returned with it.
     pub fn commit_checked(&mut self, finding: Finding, draws: &Draws) -> Result<Handed, Uncommitted>
         requires client { finding.client ≡ self.old.client }
-        ensures { IsCommitted finding draws.now self.old self.new result }
+        ensures { IsCommitted is_stale finding draws.now
+            self.old (after_check finding self.old) self.new result }
     {
-        if let Err(fault) = reserve_event(&mut self.journal, self.max_events) {
+        if self.journal.len() >= self.max_events {
+            let fault = BookFault::JournalFull;
             return Err(Uncommitted { fault, finding });
         }
-        let prepared = prepare_checked(self.alloc, &finding, draws, &mut self.store, &self.board);
-        let (event, answer) = match prepared {
-            Ok(prepared) => prepared,
-            Err(fault) => return Err(Uncommitted { fault, finding }),
+        if let Some(place) = first_stale(&mut self.store, finding.evidence().items()) {
+            let fault = BookFault::Stale(place);
+            return Err(Uncommitted { fault, finding });
+        }
+        self.commit_current(finding, draws)
+    }
+
+    // Commits a finding whose sets are as they were read. The only error is an allocation failure;
+    // then nothing changes.
+    fn commit_current(&mut self, finding: Finding, draws: &Draws) -> Result<Handed, Uncommitted>
+        requires client { finding.client ≡ self.old.client }
+        requires sound { IsSound finding }
+        requires current { AreCurrent self.old.store finding.items }
+        requires space { next_event self.old < self.old.max_events }
+        ensures number { IfOk result (λ handed. handed.number ≡ next_event self.old) }
+        ensures answer { IfOk result
+            (λ handed. handed.answer ≡ answer_now self.old finding.question draws.now) }
+        ensures after { OnOk result (self.new ≡ after_commit finding draws.now self.old) }
+        ensures memory { IfErr result (λ uncommitted. uncommitted.fault ≡ BookFault.Memory) }
+        ensures finding { IfErr result (λ uncommitted. uncommitted.finding ≡ finding) }
+        ensures unchanged { OnErr result (self.new ≡ self.old) }
+    {
+        let fault = BookFault::Memory;
+        let Ok(()) = self.journal.reserve(1) else {
+            return Err(Uncommitted { fault, finding });
+        };
+        let (question, layout) = (finding.question(), finding.layout());
+        let prepared = prepare(self.alloc, question, layout, draws, &self.board);
+        let Ok((event, answer)) = prepared else {
+            return Err(Uncommitted { fault, finding });
         };
         let id = self.journal.len() as u64;
         if let Err(finding) = self.cache.commit(finding, id) {
-            let fault = BookFault::Memory;
             return Err(Uncommitted { fault, finding });
         }
         let number = record_event(&mut self.journal, event);
@@ -215,28 +275,78 @@ impl Book {
         ensures leased { IsLeased self.old self.new result }
         ensures entry { IfOk result (λ leased.
             option_map (λ e. e.id) (entry_of self.old.entries leased.1) ≡ Some leased.0) }
+        ensures outdated { IfOk result
+            (λ leased. is_outdated self.old.entries leased.0 ≡ true) }
     {
         self.cache.lease()
     }
 
     /// Settles a lease with a finding: the entry of its question gets it and is current. Compares the
-    /// sets that were read with those of the zones, which counts looks. Records no event. Does not
-    /// allocate. Linear in the evidence.
+    /// numbers of the sets, and looks at none. Records no event. Does not allocate. Linear in the
+    /// evidence.
+    ///
+    /// Where a set has the number that it had when it was read, its data must be those that were
+    /// read, as they are where they came from `read`.
     ///
     /// The fault is the first one: the finding's question has no entry with the lease's id, or that
-    /// is not leased (B5), and the lease is spent as by `give_back`; a set whose number or data are
-    /// no longer as they were read (B2), and the entry is the last one of the queue, unless it is
-    /// current. The finding is returned with it.
-    pub fn settle_checked(&mut self, lease: Lease, finding: Finding) -> Result<(), Uncommitted>
+    /// is not leased (B5), and the lease is spent as by `give_back`; a set whose number is no longer
+    /// as it was read (B2), and the entry is the last one of the queue, unless it is current. The
+    /// finding is returned with it.
+    pub fn settle(&mut self, lease: Lease, finding: Finding) -> Result<(), Uncommitted>
         requires client { finding.client ≡ self.old.client }
-        ensures { IsSettled lease finding self.old self.new result }
+        requires honest { IsHonest self.old.store finding.items }
+        ensures { IsSettled is_renumbered lease finding self.old self.old self.new result }
     {
         if !self.cache.is_leased_for(lease.id(), finding.question()) {
             self.cache.give_back(lease);
             let fault = BookFault::Gone;
             return Err(Uncommitted { fault, finding });
         }
-        if let Some(place) = first_stale(&mut self.store, finding.evidence().items()) {
+        let changed = first_renumbered(&self.store, finding.evidence().items());
+        self.settle_compared(lease, finding, changed)
+    }
+
+    /// Settles a lease with a finding as `settle` does, wherever its sets come from. Compares the
+    /// sets that were read with those of the zones, which counts looks. Records no event. Does not
+    /// allocate. Linear in the evidence.
+    ///
+    /// The fault is the first one: B5 as of `settle`; a set whose number or data are no longer as
+    /// they were read (B2), and the entry is the last one of the queue, unless it is current. The
+    /// finding is returned with it.
+    pub fn settle_checked(&mut self, lease: Lease, finding: Finding) -> Result<(), Uncommitted>
+        requires client { finding.client ≡ self.old.client }
+        ensures { IsSettled is_stale lease finding
+            self.old (after_comparison finding self.old) self.new result }
+    {
+        if !self.cache.is_leased_for(lease.id(), finding.question()) {
+            self.cache.give_back(lease);
+            let fault = BookFault::Gone;
+            return Err(Uncommitted { fault, finding });
+        }
+        let changed = first_stale(&mut self.store, finding.evidence().items());
+        self.settle_compared(lease, finding, changed)
+    }
+
+    // Settles the lease of the question's entry with a finding, unless the set at a place of its
+    // evidence has changed (B2).
+    fn settle_compared(
+        &mut self,
+        lease: Lease,
+        finding: Finding,
+        changed: Option<usize>,
+    ) -> Result<(), Uncommitted>
+        requires client { finding.client ≡ self.old.client }
+        requires leased { IsTrue (is_leased_for self.old.entries self.old.queue lease finding.question) }
+        requires sound { IsSound finding }
+        requires current { changed ≡ None → AreCurrent self.old.store finding.items }
+        ensures accepted { OnOk result (changed ≡ None) }
+        ensures after { OnOk result (self.new ≡ after_settlement lease finding self.old) }
+        ensures refused { IfErr result
+            (λ uncommitted. option_map BookFault.Stale changed ≡ Some uncommitted.fault) }
+        ensures finding { IfErr result (λ uncommitted. uncommitted.finding ≡ finding) }
+        ensures stale { OnErr result (self.new ≡ after_stale lease self.old) }
+    {
+        if let Some(place) = changed {
             self.cache.requeue(lease);
             let fault = BookFault::Stale(place);
             return Err(Uncommitted { fault, finding });
@@ -266,8 +376,8 @@ impl Book {
         Ok(())
     }
 
-    /// How many entries are queued. No id is queued twice, or both queued and leased, and each
-    /// outdated entry is queued or leased.
+    /// How many entries are queued. No id is queued twice, or both queued and leased; what is queued is
+    /// outdated, and each outdated entry is queued or leased.
     pub fn queued(&self) -> u64
         ensures count { result ≡ length self.now.queue.queued }
         ensures queue { IsQueueOf self.now.entries self.now.queue }
@@ -278,6 +388,7 @@ impl Book {
     /// The entry of a question, if there is one. Constant time but for hashing. Does not allocate.
     pub fn entry(&self, question: &Question) -> Option<&Entry>
         ensures entry { option_copied result ≡ entry_of self.now.entries question.now }
+        ensures question { IfSome result (λ e. e.now.found.question ≡ question.now) }
         ensures good { All (IsGoodEntry self.now) self.now.entries }
         ensures routes { All (HasRoute self.now) self.now.entries }
     {
@@ -351,31 +462,4 @@ fn prepare(
     let answer = draw(alloc, layout, draws, board)?;
     let event = Event::Answer(question.dup(alloc)?, *draws, answer.dup(alloc)?);
     Ok((event, answer))
-}
-
-// The event of a finding's answer, and the answer, where none of its sets has changed in the store
-// since it was read; else B2. Counts looks.
-fn prepare_checked(
-    alloc: Global,
-    finding: &Finding,
-    draws: &Draws,
-    store: &mut ZoneStore,
-    board: &Board,
-) -> Result<(Event, Answer), BookFault>
-    ensures sound { IsSound finding.now }
-    ensures fresh { OnOk result (position (is_stale store.old) finding.now.items ≡ None) }
-    ensures event { IfOk result (λ prepared. prepared.0
-        ≡ Event.Answer finding.now.question draws.now prepared.1) }
-    ensures answer { IfOk result (λ prepared. prepared.1
-        ≡ plan (set_of store.old.zones.records) board.now.holds finding.now.question
-        finding.now.client draws.now) }
-    ensures stale { IfErr result (λ fault. fault ≢ BookFault.Memory
-        → option_map BookFault.Stale (position (is_stale store.old) finding.now.items)
-        ≡ Some fault) }
-    ensures looks { store.new ≡ store_with_looks store.new.looks store.old }
-{
-    if let Some(place) = first_stale(store, finding.evidence().items()) {
-        return Err(BookFault::Stale(place));
-    }
-    Ok(prepare(alloc, finding.question(), finding.layout(), draws, board)?)
 }

@@ -1,11 +1,11 @@
 //! The entries of a book, and the queue of those that are to be looked up again.
-ghost use Rattle.std.specs.Prelude.{◌≡◌, ◌≢◌, ◌==◌, false, [], length, map, filter, not, is_some, option_map, None, Some, Ok, IfOk, IfErr, IsTrue, OnOk, OnErr};
+ghost use Rattle.std.specs.Prelude.{◌≡◌, ◌≢◌, ◌==◌, false, true, [], length, map, filter, not, is_some, option_map, None, Some, Ok, IfOk, IfErr, IsTrue, OnOk, OnErr};
 ghost use Rattle.std.specs.List.{AllPairs};
 ghost use Rattle.std.specs.Option.{option_copied};
 ghost use Rattle.sipl_repair.specs.QueueState.{after_lease, after_settle, first_of, is_leased};
 ghost use Rattle.sipl_book.specs.Cache.{InOrder, new_cache};
 ghost use Rattle.sipl_book.specs.Entries.{after_change, committed, entry_of, renewed};
-ghost use Rattle.sipl_book.specs.Repairs.{IsQueueOf, after_failure, after_marks, after_removal, after_renewal, after_return, dependents, entry_with, is_leased_for, without};
+ghost use Rattle.sipl_book.specs.Repairs.{IsQueueOf, after_failure, after_marks, after_removal, after_renewal, after_return, dependents, entry_with, is_leased_for, is_outdated, without};
 
 use crate::entries::Entries;
 use crate::entry::Entry;
@@ -151,6 +151,8 @@ impl Cache {
         ensures question { IfOk result (λ leased.
             option_map (λ e. e.found.question) (entry_with self.old.entries leased.0) ≡ Some leased.1) }
         ensures idle { IfOk result (λ leased. is_leased self.old.queue leased.0 ≡ false) }
+        ensures outdated { IfOk result
+            (λ leased. is_outdated self.old.entries leased.0 ≡ true) }
         ensures ok { OnOk result
             (self.new ≡ record self.old { queue = after_lease self.old.queue }) }
         ensures empty { IfErr result (λ fault. fault ≢ BookFault.Memory

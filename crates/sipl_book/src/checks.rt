@@ -1,6 +1,7 @@
-// What is checked before a book records an event.
+// What is checked before a book records an event or takes a finding.
 ghost use Rattle.std.specs.Prelude.{◌≡◌, ◌<◌, length, nat_le, if◌then◌else◌, OnOk, IfErr, position, vec_len, vec_capacity};
-ghost use Rattle.sipl_book.specs.Calls.{is_stale, store_with_looks};
+ghost use Rattle.sipl_zonestore.specs.Looks.{looked};
+ghost use Rattle.sipl_book.specs.Calls.{after_looks, compared, is_renumbered, is_stale};
 
 use crate::event::Event;
 use crate::fault::BookFault;
@@ -24,11 +25,20 @@ pub(crate) fn reserve_event(journal: &mut Vec<Event>, max_events: usize) -> Resu
     Ok(())
 }
 
+// The place of the first item whose set has another number than when it was read. Looks at no data.
+pub(crate) fn first_renumbered(store: &ZoneStore, items: &[Item]) -> Option<usize>
+    ensures { result ≡ position (is_renumbered store.now) items.now }
+{
+    items
+        .iter()
+        .position(|item| store.number(item.key()) != item.number())
+}
+
 // The place of the first item whose set is no longer as it was read. Counts a look for each item up
 // to it.
 pub(crate) fn first_stale(store: &mut ZoneStore, items: &[Item]) -> Option<usize>
     ensures place { result ≡ position (is_stale store.old) items.now }
-    ensures looks { store.new ≡ store_with_looks store.new.looks store.old }
+    ensures looks { store.new ≡ after_looks (compared store.old items.now) store.old }
 {
     for (place, item) in items.iter().enumerate() {
         if is_stale(store, item) {
@@ -41,7 +51,7 @@ pub(crate) fn first_stale(store: &mut ZoneStore, items: &[Item]) -> Option<usize
 // Whether the item's set is no longer as it was read. Counts a look.
 fn is_stale(store: &mut ZoneStore, item: &Item) -> bool
     ensures stale { result ≡ is_stale store.old item.now }
-    ensures looks { store.new ≡ store_with_looks store.new.looks store.old }
+    ensures looks { store.new ≡ looked store.old }
 {
     let (number, content) = store.set(item.key());
     number != item.number() || *content != *item.content()

@@ -133,7 +133,8 @@ impl Entries {
     /// Gives a finding to the entry of its question, which is current then. Without such an entry
     /// nothing changes. Constant time but for hashing. Does not allocate.
     pub(crate) fn renew(&mut self, finding: Finding)
-        ensures { self.new ≡ map (renewed finding) self.old }
+        ensures questions { AllPairs (λ a b. a.found.question ≢ b.found.question) self.old }
+        ensures after { self.new ≡ map (renewed finding) self.old }
     {
         if let Some(entry) = self.table.get_mut(finding.question()) {
             entry.renew(finding);

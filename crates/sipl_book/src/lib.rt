@@ -13,7 +13,9 @@ mod entries;
 mod entry;
 mod event;
 mod fault;
+pub mod laws;
 mod limits;
+mod lookups;
 mod outcome;
 
 pub use book::Book;
@@ -22,4 +24,4 @@ pub use entry::Entry;
 pub use event::Event;
 pub use fault::BookFault;
 pub use limits::{Limits, MAX_ENTRIES, MAX_EVENTS};
-pub use outcome::{Changed, Handed, Uncommitted};
+pub use outcome::{Done, Handed, Uncommitted};

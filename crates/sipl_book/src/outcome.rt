@@ -8,11 +8,11 @@ use thiserror::Error;
 
 /// An edit that was made.
 #[derive(Clone, Copy, Debug, PartialEq, Eq)]
-pub struct Changed {
+pub struct Done {
     /// The number of its event.
     pub number: u64,
     /// How many record sets changed.
-    pub sets: u64,
+    pub changed: u64,
 }
 
 /// An answer, and the number of its event.

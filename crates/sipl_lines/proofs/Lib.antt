@@ -7,9 +7,6 @@ pub mod Results
 pub mod Lengths
 pub mod Steps
 pub mod Words
-pub mod Locating
-pub mod Finding
-pub mod Repairing
 pub mod InOrder
 pub mod Listening
 pub mod Rows

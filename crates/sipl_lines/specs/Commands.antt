@@ -20,7 +20,7 @@ use Rattle.sipl_book.specs.BookFault.{code_of as book_code}
 use Rattle.sipl_book.specs.declared.edit.Edit.{Edit}
 use Rattle.sipl_book.specs.declared.edit.Edit.TheVariants.{Load, Unload, Add, Remove}
 use Rattle.sipl_book.specs.declared.fault.BookFault.{BookFault}
-use Rattle.sipl_book.specs.declared.outcome.Changed.{Changed}
+use Rattle.sipl_book.specs.declared.outcome.Done.{Done}
 use Rattle.sipl_book.specs.declared.outcome.Handed.{Handed}
 use Rattle.sipl_lines.specs.declared.desk_commands.RecordEdit.{RecordEdit}
 use Rattle.sipl_lines.specs.declared.desk_commands.RecordEdit.TheVariants.{Add as AddRecord, Remove as RemoveRecord}
@@ -58,8 +58,8 @@ DoesInSpace Acts reply_of before text after =
     ⊎ Does Acts (λ value. refusal_line (codes "Memory")) before text after
 
 -- the reply to an accepted edit: words, counts, and how many sets changed
-abbrev pub changed_text : Octets → List ℕ → Changed → Octets
-changed_text words counts changed = counts_line words (counts ++ changed.sets ∷ [])
+abbrev pub changed_text : Octets → List ℕ → Done → Octets
+changed_text words counts done = counts_line words (counts ++ done.changed ∷ [])
 
 -- the reply to a question: its targets, or why there are none
 abbrev pub handed_text : Handed → Octets

@@ -15,7 +15,6 @@ pub mod ZoneLines
 pub mod Gathering
 pub mod CommandMeaning
 pub mod ReplyText
-pub mod Locating
 pub mod Desk
 pub mod Commands
 pub mod Session

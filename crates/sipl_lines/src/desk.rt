@@ -1,11 +1,8 @@
 //! What a session's commands act on.
-ghost use Rattle.std.specs.Prelude.{◌≡◌, ◌≢◌, ℕ, [], false, drop, IfErr, OnOk};
-ghost use Rattle.sipl_book.specs.Entries.{has_current_entry};
 ghost use Rattle.sipl_outages.specs.Holds.BoardEvent.{Hold, Release, Advance};
-ghost use Rattle.sipl_lines.specs.Desk.{DeskRules, IsFound, IsRenewed};
+ghost use Rattle.sipl_lines.specs.Desk.{DeskRules};
 
-use crate::locate::locate;
-use sipl_book::{Book, BookFault, Changed, Edit, Handed};
+use sipl_book::{Book, BookFault, Done, Edit, Handed};
 use sipl_choice::Endpoint;
 use sipl_evidence::Evidence;
 use sipl_srv::Draws;
@@ -27,7 +24,7 @@ pub trait Desk {
         ensures { rules.Finds question draws.now self.old result self.new };
 
     /// Edits the zones.
-    fn change(&mut self, edit: Edit) -> Result<Changed, BookFault>
+    fn change(&mut self, edit: Edit) -> Result<Done, BookFault>
         ensures { rules.Changes edit self.old result self.new };
 
     /// Holds an endpoint for some milliseconds from now. Returns the event's number.
@@ -51,8 +48,7 @@ pub trait Desk {
         ensures { rules.Repairs self.old result self.new };
 }
 
-/// A book as a desk: a question without a current entry is looked up by a run over the book's record
-/// sets, which is committed.
+/// A book as a desk: the calls are those of the book, which has its own allocator.
 impl Desk for Book {
     ghost use Rattle.sipl_lines.specs.Desk.{book_rules};
 
@@ -60,17 +56,14 @@ impl Desk for Book {
 
     fn find(
         &mut self,
-        alloc: Global,
+        _alloc: Global,
         question: Question,
         draws: &Draws,
     ) -> Result<Handed, BookFault> {
-        match self.hand(&question, draws) {
-            Err(BookFault::NotCurrent) => find_anew(alloc, self, question, draws),
-            handed => handed,
-        }
+        Book::find(self, question, draws)
     }
 
-    fn change(&mut self, edit: Edit) -> Result<Changed, BookFault> {
+    fn change(&mut self, edit: Edit) -> Result<Done, BookFault> {
         Book::change(self, edit)
     }
 
@@ -86,55 +79,11 @@ impl Desk for Book {
         Book::advance(self, to)
     }
 
-    fn deps(&mut self, alloc: Global, question: Question) -> Result<Evidence, BookFault> {
-        let finding = locate(alloc, self, question)?;
-        Ok(finding.into_evidence())
+    fn deps(&mut self, _alloc: Global, question: Question) -> Result<Evidence, BookFault> {
+        Book::deps(self, question)
     }
 
-    fn repair(&mut self, alloc: Global) -> Result<(), BookFault> {
-        let mut left = self.queued();
-        while left > 0 {
-            repair_next(alloc, self)?;
-            left -= 1;
-        }
-        Ok(())
-    }
-}
-
-// The answer to a question that has no current entry: by a run, whose finding is committed.
-fn find_anew(
-    alloc: Global,
-    book: &mut Book,
-    question: Question,
-    draws: &Draws,
-) -> Result<Handed, BookFault>
-    ensures { (has_current_entry book.old.entries question ≡ false)
-        → IsFound question draws.now book.old result book.new }
-{
-    let finding = locate(alloc, book, question)?;
-    match book.commit_checked(finding, draws) {
-        Ok(handed) => Ok(handed),
-        Err(uncommitted) => Err(uncommitted.fault),
-    }
-}
-
-// Looks up the first queued entry again. Where an allocation fails it is still the first.
-fn repair_next(alloc: Global, book: &mut Book) -> Result<(), BookFault>
-    ensures renewed { IsRenewed book.old book.new }
-    ensures next { OnOk result (book.new.queue.queued ≡ drop 1 book.old.queue.queued) }
-    ensures failed { IfErr result
-        (λ fault. fault ≢ BookFault.Memory → book.old.queue.queued ≡ []) }
-{
-    let (lease, question) = book.lease()?;
-    match locate(alloc, book, question) {
-        Ok(finding) => match book.settle_checked(lease, finding) {
-            Ok(()) => Ok(()),
-            // it stays queued
-            Err(_) => Ok(()),
-        },
-        Err(error) => {
-            book.give_back(lease);
-            Err(error.into())
-        }
+    fn repair(&mut self, _alloc: Global) -> Result<(), BookFault> {
+        Book::repair(self)
     }
 }

@@ -48,9 +48,9 @@ pub(crate) fn load_zone<D: Desk>(
     let records = text.records().len() as u64;
     let counts = [records, text.outside(), text.repeated()];
     match desk.change(Edit::Load(text)) {
-        Ok(changed) => {
+        Ok(done) => {
             let [records, outside, repeated] = counts;
-            write_counts(out, b"ok zone", &[records, outside, repeated, changed.sets]);
+            write_counts(out, b"ok zone", &[records, outside, repeated, done.changed]);
             Ok(())
         }
         Err(fault) => write_refusal(out, fault.code()),
@@ -125,8 +125,8 @@ fn edit<D: Desk>(
     ensures capacity { vec_capacity out.old ≤ vec_capacity out.new }
 {
     match desk.change(edit) {
-        Ok(changed) => {
-            write_counts(out, words, &[changed.sets]);
+        Ok(done) => {
+            write_counts(out, words, &[done.changed]);
             Ok(())
         }
         Err(fault) => write_refusal(out, fault.code()),

@@ -9,7 +9,6 @@ mod desk_commands;
 mod draws_field;
 mod gather;
 mod lines;
-mod locate;
 mod reply;
 mod server;
 mod session;

@@ -1,9 +1,10 @@
 //! Tests of a book over a zone of three NAPTR records, two SRV records and two addresses.
 ghost use Rattle.std.specs.Prelude.{◌≡◌, ◌≤◌, [], ◌∷◌};
 
+mod lookups;
 mod repairs;
 
-use sipl_book::{Book, BookFault, Changed, Edit, Limits, MAX_ENTRIES, MAX_EVENTS};
+use sipl_book::{Book, BookFault, Done, Edit, Limits, MAX_ENTRIES, MAX_EVENTS};
 use sipl_choice::{Abilities, Endpoint, Families, Transport};
 use sipl_masterfile::{read_record, read_zone};
 use sipl_names::Name;
@@ -43,6 +44,7 @@ enum Scenario {
     Order,
     RefusedSettlement,
     Forgotten,
+    Lookups,
 }
 
 // Plays a scenario with a book of so many entries and events at most, which it alone owns.
@@ -96,6 +98,7 @@ fn run(rt: &impl Abort, alloc: Global, book: &mut Book, scenario: Scenario) {
         Scenario::Order => repairs::order(rt, alloc, book),
         Scenario::RefusedSettlement => repairs::refused_settlement(rt, alloc, book),
         Scenario::Forgotten => repairs::forgotten(rt, alloc, book),
+        Scenario::Lookups => lookups::lookups(rt, alloc, book),
     }
 }
 
@@ -128,7 +131,7 @@ fn apex(rt: &impl Abort, alloc: Global) -> Name {
 
 // ---- calls of the book
 
-fn change(rt: &impl Abort, book: &mut Book, edit: Edit) -> Changed
+fn change(rt: &impl Abort, book: &mut Book, edit: Edit) -> Done
     ensures { book.new.client ≡ book.old.client }
 {
     book.change(edit).expect(rt, "the edit is refused")
@@ -141,13 +144,13 @@ fn load_zone(rt: &impl Abort, alloc: Global, book: &mut Book)
     changes(rt, change(rt, book, Edit::Load(zone)), 0, 4);
 }
 
-fn add(rt: &impl Abort, alloc: Global, book: &mut Book, text: &[u8]) -> Changed
+fn add(rt: &impl Abort, alloc: Global, book: &mut Book, text: &[u8]) -> Done
     ensures { book.new.client ≡ book.old.client }
 {
     change(rt, book, Edit::Add(record(rt, alloc, text)))
 }
 
-fn remove(rt: &impl Abort, alloc: Global, book: &mut Book, text: &[u8]) -> Changed
+fn remove(rt: &impl Abort, alloc: Global, book: &mut Book, text: &[u8]) -> Done
     ensures { book.new.client ≡ book.old.client }
 {
     change(rt, book, Edit::Remove(record(rt, alloc, text)))
@@ -228,8 +231,8 @@ fn entry(rt: &impl Abort, alloc: Global, book: &Book, uri: &[u8]) -> Option<(u64
 
 // ---- what is expected
 
-fn changes(rt: &impl Abort, changed: Changed, number: u64, sets: u64) {
-    assert_eq!(rt; changed, Changed { number, sets });
+fn changes(rt: &impl Abort, done: Done, number: u64, changed: u64) {
+    assert_eq!(rt; done, Done { number, changed });
 }
 
 // Whether an answer is these targets over TCP at port 5060.

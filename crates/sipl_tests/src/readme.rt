@@ -1,45 +1,26 @@
 // The README's example: a zone is loaded and edited, and a URI's targets are asked for.
+use sipl_book::{Book, Edit, Limits};
 use sipl_choice::{Abilities, Families, Transport};
 use sipl_masterfile::{read_record, read_zone};
 use sipl_names::Name;
-use sipl_outages::Board;
-use sipl_plans::{Answer, plan_of};
+use sipl_plans::Answer;
 use sipl_srv::Draws;
 use sipl_uri::Uri;
-use sipl_zonestore::ZoneStore;
 use std::alloc::Global;
 
-fn load(alloc: Global, store: &mut ZoneStore) -> anyhow::Result<()> {
-    let apex = Name::from_text(alloc, b"example.com.", &Name::root(alloc))?;
-    store.load(&read_zone(alloc, b"$TTL 1h\nserver1 A 192.0.2.1", &apex)?)?;
-    store.add(&read_record(alloc, b"server1 A 192.0.2.2", &apex)?)?;
-    Ok(())
-}
-
-fn targets(alloc: Global, store: &mut ZoneStore, uri: &[u8]) -> anyhow::Result<Answer> {
-    let question = Uri::parse(alloc, uri)?;
+fn targets(alloc: Global, uri: &[u8]) -> anyhow::Result<Answer> {
     let abilities = Abilities::new(vec![in alloc; Transport::Udp]?, Families::V4)?;
-    let (board, draws) = (Board::new(alloc), Draws::from_seed(42));
-    Ok(plan_of(
-        alloc,
-        store.records(),
-        &board,
-        &question,
-        &abilities,
-        &draws,
-    )?)
-}
-
-fn has_two_targets(alloc: Global, store: &mut ZoneStore) -> anyhow::Result<bool> {
-    load(alloc, store)?;
-    let answer = targets(alloc, store, b"sip:server1.example.com:5070")?;
-    Ok(matches!(&answer, Answer::Targets(targets) if targets.len() == 2))
+    let mut book = Book::new(alloc, abilities, &Limits::greatest());
+    let apex = Name::from_text(alloc, b"example.com.", &Name::root(alloc))?;
+    let zone = read_zone(alloc, b"$TTL 1h\nserver1 A 192.0.2.1", &apex)?;
+    book.change(Edit::Load(zone))?;
+    book.change(Edit::Add(read_record(alloc, b"server1 A 192.0.2.2", &apex)?))?;
+    let handed = book.find(Uri::parse(alloc, uri)?, &Draws::from_seed(42))?;
+    Ok(handed.answer)
 }
 
 #[test]
 fn readme_example_finds_two_targets(rt: HostRuntime) {
-    let mut store = ZoneStore::new(rt.alloc());
-    let found = has_two_targets(rt.alloc(), &mut store);
-    drop(store);
-    assert!(rt; matches!(found, Ok(true)));
+    let answer = targets(rt.alloc(), b"sip:server1.example.com:5070");
+    assert!(rt; matches!(&answer, Ok(Answer::Targets(targets)) if targets.len() == 2));
 }

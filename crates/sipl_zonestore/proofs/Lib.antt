@@ -1,3 +1,4 @@
+pub mod Public
 pub mod Elements
 pub mod Keys
 pub mod Positions

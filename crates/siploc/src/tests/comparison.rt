@@ -2,7 +2,6 @@
 use itoa::Buffer;
 use sipl_book::{Book, Edit, Limits};
 use sipl_choice::{Abilities, Families, Transport};
-use sipl_lines::Desk;
 use sipl_masterfile::{read_record, read_zone};
 use sipl_names::Name;
 use sipl_outages::Board;
@@ -192,7 +191,7 @@ fn agreed(
     uri: &[u8],
     draws: &Draws,
 ) -> Result<Option<usize>, Fail> {
-    let found = book.find(alloc, Uri::parse(alloc, uri)?, draws)?;
+    let found = book.find(Uri::parse(alloc, uri)?, draws)?;
     let question = Uri::parse(alloc, uri)?;
     let (board, abilities) = (book.board(), book.abilities());
     let plain = plain_answer(alloc, store, board, &question, abilities, draws)?;

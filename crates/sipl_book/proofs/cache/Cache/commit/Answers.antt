@@ -15,5 +15,5 @@ invariant_of-self c =
     let is : entry_of es found.question ≡ Some own =
     ap (entry_of es) (sym c.question.ensures) ∙ sym c.get.ensures.entry ∙ ap option_copied c.in-Some.is in
     let queue : c.unqueue.new.queue ≡ unqueued q own.id = c.unqueue.ensures ∙ ap (unqueued q) c.id-id.ensures in
-    subst (λ (p : List EntryState × QueueState). IsCache p.0 p.1) (λ i. (sym c.renew.ensures i, sym queue i))
-    (IsCache-renewed found es q own order c.self.invariant is)
+    subst (λ (p : List EntryState × QueueState). IsCache p.0 p.1) (λ i. (sym c.renew.ensures.after i, sym queue i))
+    (IsCache-renewed found es q own order c.renew.ensures.questions c.self.invariant is)

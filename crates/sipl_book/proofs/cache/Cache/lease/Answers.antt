@@ -1,10 +1,10 @@
 use Rattle.std.proofs.Common.{◌≡◌, true, None, is_some, option_copied, sym, ap, subst, ◌∙◌, true≢false}
 use Rattle.sipl_repair.specs.QueueState.{QueueState, after_give_back}
 use Rattle.sipl_book.specs.Cache.{CacheState, InOrder, IsCache}
-use Rattle.sipl_book.specs.Repairs.{entry_with}
+use Rattle.sipl_book.specs.Repairs.{entry_with, is_outdated}
 use Rattle.sipl_book.proofs.Caches.{IsCache-lease}
 use Rattle.sipl_book.proofs.Ids.{is_id, entry_with-is_id}
-use Rattle.sipl_book.proofs.Queues.{first-held, give_back-lease}
+use Rattle.sipl_book.proofs.Queues.{first-held, first-queued, give_back-lease}
 use Rattle.sipl_book.proofs.cache.Cache.lease.Goals as goal
 
 pub unreachable-requires : goal.unreachable-requires
@@ -37,3 +37,10 @@ pub returns-in-Err-clause-err : goal.returns-in-Err-clause-err
 returns-in-Err-clause-err c =
     let inside = c.self.inside in
     (λ i. record { entries = inside.entries; queue = record (as_before c i) { capacity = inside.max_entries }; max_entries = inside.max_entries }) ∙ c.self.view_is
+
+pub returns-in-Ok-clause-outdated : goal.returns-in-Ok-clause-outdated
+returns-in-Ok-clause-outdated c =
+    let q = c.self.inside.queue in
+    let id = c.in_ok-lease.lease in
+    subst (λ (cache : CacheState). is_outdated cache.entries id ≡ true) c.self.view_is
+    (c.self.invariant.waits.outdated id (first-queued q.queued id (sym c.lease.ensures.first ∙ c.in_ok-lease.was)))

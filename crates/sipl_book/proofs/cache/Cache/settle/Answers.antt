@@ -26,6 +26,6 @@ invariant_of-self c =
         let q = c.self.inside.queue in
         let order = subst (λ (cache : CacheState). InOrder cache.entries) (sym c.self.view_is) c.requires.order in
         let same : own.id ≡ c.args.lease = exact_unsigned_eq own.id c.args.lease (and_parts _ _ leased).0 in
-        subst (λ (p : List EntryState × QueueState). IsCache p.0 p.1) (λ i. (sym c.renew.ensures i, sym (c.settle.ensures ∙ ap (after_settle q) (sym same)) i))
-        (IsCache-settled c.args.finding es q own order c.self.invariant is)
+        subst (λ (p : List EntryState × QueueState). IsCache p.0 p.1) (λ i. (sym c.renew.ensures.after i, sym (c.settle.ensures ∙ ap (after_settle q) (sym same)) i))
+        (IsCache-settled c.args.finding es q own order c.renew.ensures.questions c.self.invariant (ap (is_leased q) same ∙ (and_parts _ _ leased).1) is)
     by None is leased = absurd (true≢false (sym leased))

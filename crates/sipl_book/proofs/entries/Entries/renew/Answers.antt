@@ -1,14 +1,14 @@
-use Rattle.std.proofs.Common.{◌≡◌, None, Some, map, sym, ap, subst, ◌∙◌}
-use Rattle.std.specs.List.{IsDistinct}
+use Rattle.std.proofs.Common.{◌≡◌, ◌≢◌, List, None, Some, map, sym, ap, subst, ◌∙◌}
+use Rattle.std.specs.List.{AllPairs, IsDistinct}
 use Rattle.std.specs.Map.{lookup, values_of, set_value}
 use Rattle.std.specs.Option.{option_copied_mut}
 use Rattle.sipl_uri.specs.contracts.question.QuestionPartialEq.TheImpl.{eq-value}
-use Rattle.sipl_book.specs.Entries.{entry_of, renewed}
+use Rattle.sipl_book.specs.Entries.{EntryState, entry_of, renewed}
 use Rattle.sipl_book.specs.EntryTable.{IsTable}
 use Rattle.sipl_book.specs.declared.entries.Entries.TheInside.{Inside}
 use Rattle.sipl_book.proofs.Committed.{current, absent_from_entry_of}
 use Rattle.sipl_book.proofs.Removing.{values-written, written_entry, renewed-absent}
-use Rattle.sipl_book.proofs.Table.{Rows, get-entry_of, IsTable-insert_entry}
+use Rattle.sipl_book.proofs.Table.{Rows, get-entry_of, questions-table, IsTable-insert_entry}
 use Rattle.sipl_book.proofs.entries.Entries.renew.Goals as goal
 use Rattle.sipl_book.proofs.entries.Entries.renew.Goals.{in-Some, in_default}
 
@@ -43,8 +43,13 @@ invariant_of-self c =
           (subst IsTable (sym (ap (λ m. m.entries) c.get_mut.follows.holds-at-none)) c.self.invariant)
     ]
 
-pub returns : goal.returns
-returns c =
+pub returns-clause-questions : goal.returns-clause-questions
+returns-clause-questions c =
+    subst (λ (es : List EntryState). AllPairs (λ a b. a.found.question ≢ b.found.question) es) c.self.view_is
+    (questions-table c.self.inside.table.entries c.self.invariant)
+
+pub returns-clause-after : goal.returns-clause-after
+returns-clause-after c =
     let es = rows c in
     let found = c.args.finding in
     elim c.match-get_mut.branch [

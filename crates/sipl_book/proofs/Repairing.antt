@@ -1,0 +1,217 @@
+-- Repairs of a book: what a lease and its settlement leave.
+use Rattle.std.proofs.Common.{◌≡◌, ℕ, ◌+◌, Bool, true, false, ◌&&◌, cond, eqb, List, [], ◌∷◌, map, drop, Option, None, Some, option_map, Result, Ok, Err, inl, inr, position, refl, sym, ap, subst, ◌∙◌}
+use Rattle.std.specs.FinSet as set
+use Rattle.std.specs.Result.{IsOk}
+use Rattle.std.proofs.lemmas.Bool.{cond-true, eq-eqb, or_left, and_from}
+use Rattle.std.specs.List.{All, Contains}
+use Rattle.std.proofs.lemmas.List.{drop-drop}
+use Rattle.std.proofs.lemmas.List.Elements.{All-contains, All-contains_itself, All-map, All-weaker}
+use Rattle.std.proofs.lemmas.Option.{none-some, same_Some}
+use Rattle.sipl_plans.specs.Findings.{Found}
+use Rattle.sipl_uri.specs.declared.question.Question.{Question}
+use Rattle.sipl_repair.specs.QueueState.{QueueState, is_leased, first_of, after_lease, after_settle, after_give_back as after_front, with_first_leased}
+use Rattle.sipl_repair.proofs.Public.{contains-insert, remove-insert}
+use Rattle.sipl_book.specs.Book.{BookState}
+use Rattle.sipl_book.specs.Calls.{IsSettled, after_give_back, after_settlement, is_renumbered, settle_refusal, with_looks}
+use Rattle.sipl_book.specs.Entries.{EntryState, entry_of, has_current_entry, is_of, renewed}
+use Rattle.sipl_book.specs.Questions.{same_question}
+use Rattle.sipl_book.specs.Repairs.{after_return, is_leased_for, is_outdated}
+use Rattle.sipl_book.specs.declared.fault.BookFault.TheVariants.{Stale, Gone}
+use Rattle.sipl_book.specs.declared.outcome.Uncommitted.{Uncommitted}
+use Rattle.sipl_book.specs.Lookups.{IsLocated, IsOldOrRenewed, IsRenewed}
+use Rattle.sipl_book.proofs.Committed.{id-renewed, question-renewed, renewed_cases}
+use Rattle.sipl_book.proofs.Locating.{located-as, not_renumbered}
+
+-- ---- the entries
+
+ids-renewed : (found : Found) (es : List EntryState) → map (λ e. e.id) (map (renewed found) es) ≡ map (λ e. e.id) es
+ids-renewed found [] = refl
+ids-renewed found (e ∷ es) = λ i. id-renewed found e i ∷ ids-renewed found es i
+
+questions-renewed : (found : Found) (es : List EntryState) → map (λ e. e.found.question) (map (renewed found) es) ≡ map (λ e. e.found.question) es
+questions-renewed found [] = refl
+questions-renewed found (e ∷ es) = λ i. question-renewed found e i ∷ questions-renewed found es i
+
+-- a current entry is so still
+current-renewed : (found : Found) (es : List EntryState) (question : Question) → has_current_entry es question ≡ true → has_current_entry (map (renewed found) es) question ≡ true
+current-renewed found [] question current = current
+current-renewed found (e ∷ es) question current =
+    let same : is_of question (renewed found e) ≡ is_of question e = ap (λ q. same_question q question) (question-renewed found e) in
+    subst (λ b. current_of (cond b (Some (renewed found e)) (entry_of (map (renewed found) es) question)) ≡ true) (sym same)
+    (elim (is_of question e) as (λ b. current_of (cond b (Some e) (entry_of es question)) ≡ true → current_of (cond b (Some (renewed found e)) (entry_of (map (renewed found) es) question)) ≡ true) [
+      | true ↦ λ own. renewed_cases found e (λ x. x.is_current ≡ true) (λ _. refl) (λ _. own)
+      | false ↦ λ other. current-renewed found es question other
+    ] current)
+  where
+    current_of : Option EntryState → Bool
+    current_of o = elim o [ Some e ↦ e.is_current | None ↦ false ]
+
+-- each entry is as it was, or has the finding
+found-renewed : (book : BookState) (found : Found) (question : Question) → IsLocated book.store question book.client found → All (IsOldOrRenewed book) (map (renewed found) book.entries)
+found-renewed book found question is =
+    let located : IsLocated book.store found.question book.client found = record { question = refl; client = is.client; current = is.current; sound = is.sound } in
+    All-map (IsOldOrRenewed book) (renewed found) book.entries
+    (All-weaker (Contains book.entries) (λ e. IsOldOrRenewed book (renewed found e)) (λ e old. renewed_cases found e (IsOldOrRenewed book) (λ _. inr (refl, located)) (λ _. inl old))
+    book.entries (All-contains_itself book.entries))
+
+-- each entry is as it was
+found-same : (book : BookState) (entries : List EntryState) → entries ≡ book.entries → All (IsOldOrRenewed book) entries
+found-same book entries same =
+    subst (All (IsOldOrRenewed book)) (sym same)
+    (All-weaker (Contains book.entries) (IsOldOrRenewed book) (λ e old. inl old) book.entries (All-contains_itself book.entries))
+
+-- ---- the queue
+
+module _ (q : QueueState) (id : ℕ) (idle : is_leased q id ≡ false) where
+  fault-first : first_of [] ≡ Ok id → ⊥
+  fault-first same = cc
+
+  -- an id that is leased and settled is held no longer
+  spent : (ks : List ℕ) → first_of ks ≡ Ok id → after_settle (with_first_leased q ks) id ≡ record q { queued = drop 1 ks }
+  spent [] first = absurd (fault-first first)
+  spent (k ∷ ks) first =
+      let same : k ≡ id = cc first in
+      λ i. record q { queued = ks; leased = (ap (λ n. set.remove (set.insert q.leased n) id) same ∙ remove-insert q.leased id idle) i }
+
+  first_leased : (ks : List ℕ) → first_of ks ≡ Ok id → is_leased (with_first_leased q ks) id ≡ true
+  first_leased [] first = absurd (fault-first first)
+  first_leased (k ∷ ks) first =
+      let same : k ≡ id = cc first in
+      contains-insert q.leased k id ∙ or_left (eqb id k) (is_leased q id) (eq-eqb id k (sym same))
+
+  -- one that is leased and given back is the first again
+  returned : (ks : List ℕ) → first_of ks ≡ Ok id → after_front (with_first_leased q ks) id ≡ record q { queued = ks }
+  returned [] first = absurd (fault-first first)
+  returned (k ∷ ks) first =
+      let same : k ≡ id = cc first in
+      let leased : QueueState = record q { queued = ks; leased = set.insert q.leased k } in
+      cond-true (is_leased leased id) (record leased { queued = id ∷ ks; leased = set.remove leased.leased id }) leased (first_leased (k ∷ ks) first)
+      ∙ (λ i. record q { queued = sym same i ∷ ks; leased = (ap (λ n. set.remove (set.insert q.leased n) id) same ∙ remove-insert q.leased id idle) i })
+
+-- ---- the book
+
+-- looks are counted
+pub renewed-looked : (old new : BookState) → new ≡ with_looks new.store.looks old → IsRenewed old new
+renewed-looked old new is =
+    record {
+      ids = ap (λ (b : BookState). map (λ e. e.id) b.entries) is;
+      questions = ap (λ (b : BookState). map (λ e. e.found.question) b.entries) is;
+      findings = found-same old new.entries (ap (λ (b : BookState). b.entries) is);
+      current = λ question current. subst (λ (b : BookState). has_current_entry b.entries question ≡ true) (sym is) current;
+      queued = (0, ap (λ (b : BookState). b.queue.queued) is);
+      leased = ap (λ (b : BookState). b.queue.leased) is;
+      capacity = ap (λ (b : BookState). b.queue.capacity) is;
+      others = is ∙ (λ i. with_looks new.store.looks (record old { entries = (sym is i).entries; queue = (sym is i).queue }));
+    }
+
+-- a finding on the records after a renewal is one on those before it
+located-before : (old now : BookState) (question : Question) (found : Found) → IsRenewed old now → IsLocated now.store question now.client found → IsLocated old.store question old.client found
+located-before old now question found so is =
+    located-as now.store old.store (ap (λ (b : BookState). b.store.zones) (sym so.others)) (ap (λ (b : BookState). b.store.numbers) (sym so.others)) question old.client found
+    (subst (λ client. IsLocated now.store question client found) (ap (λ (b : BookState). b.client) so.others) is)
+
+-- one renewal after another
+pub renewed-more : (old now new : BookState) → IsRenewed old now → IsRenewed now new → IsRenewed old new
+renewed-more old now new so later =
+    record {
+      ids = later.ids ∙ so.ids;
+      questions = later.questions ∙ so.questions;
+      findings = λ k d below. elim (later.findings k d below) [
+        | inl old_one ↦ All-contains (IsOldOrRenewed old) now.entries _ so.findings old_one
+        | inr one ↦ inr (one.0, located-before old now _ _ so one.1)
+      ];
+      current = λ question current. later.current question (so.current question current);
+      queued = (so.queued.0 + later.queued.0, later.queued.1 ∙ ap (drop later.queued.0) so.queued.1 ∙ drop-drop later.queued.0 so.queued.0 old.queue.queued);
+      leased = later.leased ∙ so.leased;
+      capacity = later.capacity ∙ so.capacity;
+      others = later.others ∙ (λ i. with_looks new.store.looks (record (so.others i) { entries = new.entries; queue = new.queue }));
+    }
+
+-- an entry that was leased
+module _ (old : BookState) (id : ℕ) (question : Question) (first : first_of old.queue.queued ≡ Ok id) (idle : is_leased old.queue id ≡ false)
+    (own : option_map (λ e. e.id) (entry_of old.entries question) ≡ Some id) (leased now : BookState)
+    (is : leased ≡ record old { queue = after_lease old.queue }) (looked : now ≡ with_looks now.store.looks leased) where
+  before : now ≡ with_looks now.store.looks (record old { queue = after_lease old.queue })
+  before = looked ∙ ap (with_looks now.store.looks) is
+
+  is_own : is_leased_for old.entries (after_lease old.queue) id question ≡ true
+  is_own =
+      elim (entry_of old.entries question) as (λ o. option_map (λ e. e.id) o ≡ Some id → (elim o [ Some e ↦ eqb e.id id && is_leased (after_lease old.queue) id | None ↦ false ]) ≡ true) [
+        | None ↦ λ none. absurd (none-some id none)
+        | Some e ↦ λ same. and_from _ _ (eq-eqb e.id id (same_Some e.id id same)) (first_leased old.queue id idle old.queue.queued first)
+      ] own
+
+  -- its settlement is not refused
+  settles : (found : Found) → IsLocated leased.store question leased.client found → settle_refusal is_renumbered id found now ≡ None
+  settles found located =
+      let mine : is_leased_for now.entries now.queue id found.question ≡ true =
+      ap (is_leased_for now.entries now.queue id) located.question ∙ ap (λ (b : BookState). is_leased_for b.entries b.queue id question) before ∙ is_own in
+      cond-true (is_leased_for now.entries now.queue id found.question) (option_map Stale (position (is_renumbered now.store) found.items)) (Some Gone) mine
+      ∙ ap (λ (b : BookState). option_map Stale (position (is_renumbered b.store) found.items)) looked
+      ∙ ap (option_map Stale) (not_renumbered leased.store found.items located.current)
+
+  -- the book after it is settled
+  module _ (found : Found) (new : BookState) (located : IsLocated leased.store question leased.client found) (after : new ≡ after_settlement id found now) where
+    entries : new.entries ≡ map (renewed found) old.entries
+    entries = ap (λ (b : BookState). b.entries) after ∙ ap (λ (b : BookState). map (renewed found) b.entries) before
+
+    queue : new.queue ≡ record old.queue { queued = drop 1 old.queue.queued }
+    queue = ap (λ (b : BookState). b.queue) after ∙ ap (λ (b : BookState). after_settle b.queue id) before ∙ spent old.queue id idle old.queue.queued first
+
+    located-old : IsLocated old.store question old.client found
+    located-old = subst (λ (b : BookState). IsLocated b.store question b.client found) is located
+
+    settled-next : new.queue.queued ≡ drop 1 old.queue.queued
+    settled-next = ap (λ (k : QueueState). k.queued) queue
+
+    renewed-settled : IsRenewed old new
+    renewed-settled =
+        record {
+          ids = ap (map (λ e. e.id)) entries ∙ ids-renewed found old.entries;
+          questions = ap (map (λ e. e.found.question)) entries ∙ questions-renewed found old.entries;
+          findings = subst (All (IsOldOrRenewed old)) (sym entries) (found-renewed old found question located-old);
+          current = λ asked current. ap (λ es. has_current_entry es asked) entries ∙ current-renewed found old.entries asked current;
+          queued = (1, settled-next);
+          leased = ap (λ (k : QueueState). k.leased) queue;
+          capacity = ap (λ (k : QueueState). k.capacity) queue;
+          others = after
+              ∙ (λ i. record (before i) { entries = (sym after i).entries; queue = (sym after i).queue })
+              ∙ ap (λ looks. with_looks looks (record old { entries = new.entries; queue = new.queue })) (sym (ap (λ (b : BookState). b.store.looks) after));
+        }
+
+  pub settled_ok : (found : Found) (new : BookState) (result : Result (Unit {0}) Uncommitted) → IsLocated leased.store question leased.client found
+      → IsSettled is_renumbered id found now now new result → IsOk result
+  settled_ok found new (Ok done) located so = refl
+  settled_ok found new (Err uncommitted) located so = absurd (none-some uncommitted.fault (sym (settles found located) ∙ so.refused))
+
+  pub settled : (found : Found) (new : BookState) (result : Result (Unit {0}) Uncommitted) → IsLocated leased.store question leased.client found
+      → IsSettled is_renumbered id found now now new result → IsRenewed old new × (new.queue.queued ≡ drop 1 old.queue.queued)
+  settled found new (Ok done) located so = (renewed-settled found new located so.after, settled-next found new located so.after)
+  settled found new (Err uncommitted) located so = absurd (none-some uncommitted.fault (sym (settles found located) ∙ so.refused))
+
+  -- the book after it is given back
+  module _ (new : BookState) (after : new ≡ after_give_back id now) where
+    entries-returned : new.entries ≡ old.entries
+    entries-returned = ap (λ (b : BookState). b.entries) after ∙ ap (λ (b : BookState). b.entries) before
+
+    renewed-queue : (count : ℕ) → new.queue ≡ record old.queue { queued = drop count old.queue.queued } → IsRenewed old new
+    renewed-queue count queue =
+        record {
+          ids = ap (map (λ e. e.id)) entries-returned;
+          questions = ap (map (λ e. e.found.question)) entries-returned;
+          findings = found-same old new.entries entries-returned;
+          current = λ asked current. ap (λ es. has_current_entry es asked) entries-returned ∙ current;
+          queued = (count, ap (λ (k : QueueState). k.queued) queue);
+          leased = ap (λ (k : QueueState). k.leased) queue;
+          capacity = ap (λ (k : QueueState). k.capacity) queue;
+          others = after
+              ∙ (λ i. record (before i) { entries = (sym after i).entries; queue = (sym after i).queue })
+              ∙ ap (λ looks. with_looks looks (record old { entries = new.entries; queue = new.queue })) (sym (ap (λ (b : BookState). b.store.looks) after));
+        }
+
+    pub renewed-returned : IsRenewed old new
+    renewed-returned =
+        elim (is_outdated old.entries id) as (λ b. new.queue ≡ cond b (after_front (after_lease old.queue) id) (after_settle (after_lease old.queue) id) → IsRenewed old new) [
+          | true ↦ λ back. renewed-queue 0 (back ∙ returned old.queue id idle old.queue.queued first)
+          | false ↦ λ gone. renewed-queue 1 (gone ∙ spent old.queue id idle old.queue.queued first)
+        ] (ap (λ (b : BookState). b.queue) after ∙ ap (λ (b : BookState). after_return b.entries b.queue id) before)

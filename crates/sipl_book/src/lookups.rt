@@ -1,0 +1,97 @@
+// Looking questions up: runs over a book's own sets.
+ghost use Rattle.std.specs.Prelude.{◌≡◌, ◌≢◌, [], drop, length, IfOk, IfErr, OnOk, IsFalse};
+ghost use Rattle.sipl_book.specs.Calls.{with_looks};
+ghost use Rattle.sipl_book.specs.Entries.{has_current_entry};
+ghost use Rattle.sipl_book.specs.Lookups.{AreDependencies, IsFound, IsLocated, IsRenewed, IsRepaired, after_reads};
+
+use crate::book::Book;
+use crate::fault::BookFault;
+use crate::outcome::Handed;
+use sipl_evidence::Evidence;
+use sipl_plans::{Finding, Run};
+use sipl_srv::Draws;
+use sipl_uri::Question;
+use std::alloc::AllocError;
+
+impl Book {
+    /// The answer to a question for these random words: that of its current entry, or else that of a
+    /// run over the book's sets, which is committed. A run looks once at each set that it reads. With
+    /// a current entry linear in the targets.
+    ///
+    /// The fault is a full journal (B3).
+    pub fn find(&mut self, question: Question, draws: &Draws) -> Result<Handed, BookFault>
+        ensures { IsFound question draws.now self.old self.new result }
+    {
+        match self.hand(&question, draws) {
+            Err(BookFault::NotCurrent) => self.find_anew(question, draws),
+            handed => handed,
+        }
+    }
+
+    // The answer to a question that has no current entry: by a run, whose finding is committed.
+    fn find_anew(&mut self, question: Question, draws: &Draws) -> Result<Handed, BookFault>
+        requires { IsFalse (has_current_entry self.old.entries question) }
+        ensures { IsFound question draws.now self.old self.new result }
+    {
+        let finding = self.locate(question)?;
+        self.commit(finding, draws)
+            .map_err(|uncommitted| uncommitted.fault)
+    }
+
+    /// The record sets that the targets of a question depend on, in the order of reading, with a look
+    /// at each. Keeps nothing. The only error is a failed allocation.
+    pub fn deps(&mut self, question: Question) -> Result<Evidence, BookFault>
+        ensures { AreDependencies question self.old self.new result }
+    {
+        Ok(self.locate(question)?.into_evidence())
+    }
+
+    /// Looks the queued entries up again, each once, at most as many as were queued at first. The
+    /// only error is a failed allocation; the entries that are still queued can be repaired later.
+    pub fn repair(&mut self) -> Result<(), BookFault>
+        ensures { IsRepaired self.old self.new result }
+    {
+        while self.queued() > 0 {
+            self.repair_next()?;
+        }
+        Ok(())
+    }
+
+    // Looks up the first queued entry again. Where an allocation fails it is still the first.
+    fn repair_next(&mut self) -> Result<(), BookFault>
+        ensures renewed { IsRenewed self.old self.new }
+        ensures next { OnOk result (self.new.queue.queued ≡ drop 1 self.old.queue.queued) }
+        ensures failed { IfErr result
+            (λ fault. fault ≢ BookFault.Memory → self.old.queue.queued ≡ []) }
+    {
+        let (lease, question) = self.lease()?;
+        match self.locate(question) {
+            Ok(finding) => {
+                self.settle(lease, finding).unwrap();
+                Ok(())
+            }
+            Err(error) => {
+                self.give_back(lease);
+                Err(error.into())
+            }
+        }
+    }
+
+    // The route of a question on the records as they are, and the record sets that it looks at. The
+    // only error is an allocation failure. Only the count of looks changes.
+    fn locate(&mut self, question: Question) -> Result<Finding, AllocError>
+        ensures located { IfOk result
+            (λ finding. IsLocated self.old.store question self.old.client finding) }
+        ensures looks { IfOk result
+            (λ finding. self.new ≡ after_reads (length finding.items) self.old) }
+        ensures unchanged { self.new ≡ with_looks self.new.store.looks self.old }
+    {
+        let alloc = self.alloc();
+        let mut run = Run::start(alloc, question, self.abilities())?;
+        while let Some(key) = run.wants() {
+            let (number, content) = self.read(key)?;
+            run.give(alloc, number, content.as_slice())?;
+        }
+        Ok(run.finish().ok().unwrap())
+    }
+}

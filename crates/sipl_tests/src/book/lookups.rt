@@ -1,0 +1,47 @@
+//! Tests of questions that a book looks up itself.
+use super::{
+    ADDRESS_2, BOB, SERVER_1, SERVER_2, Scenario, draws, entry, has_events, has_looks, is_entry,
+    play, question, remove, targets,
+};
+use sipl_book::{Book, BookFault, MAX_ENTRIES, MAX_EVENTS};
+use sipl_plans::Answer;
+use std::alloc::Global;
+use std::process::Abort;
+
+// The answer to the question for these words, or the fault.
+fn find(
+    rt: &impl Abort,
+    alloc: Global,
+    book: &mut Book,
+    words: &[u32],
+) -> Result<Answer, BookFault> {
+    book.find(question(rt, alloc, BOB), &draws(rt, words))
+        .map(|handed| handed.answer)
+}
+
+// The route of the question reads four sets: the NAPTR records, the SRV records and two addresses. A
+// server without an address may have an alias, which is a fifth set.
+pub(super) fn lookups(rt: &impl Abort, alloc: Global, book: &mut Book) {
+    targets(rt, find(rt, alloc, book, &[2, 0]), &[SERVER_2, SERVER_1]);
+    has_looks(rt, book, 4);
+    targets(rt, find(rt, alloc, book, &[2, 0]), &[SERVER_2, SERVER_1]);
+    has_looks(rt, book, 4);
+    remove(rt, alloc, book, ADDRESS_2);
+    is_entry(rt, entry(rt, alloc, book, BOB), Some((1, false)));
+    book.repair().expect(rt, "out of memory");
+    is_entry(rt, entry(rt, alloc, book, BOB), Some((1, true)));
+    has_looks(rt, book, 9);
+    targets(rt, find(rt, alloc, book, &[2, 0]), &[SERVER_1]);
+    has_looks(rt, book, 9);
+    let evidence = book
+        .deps(question(rt, alloc, BOB))
+        .expect(rt, "out of memory");
+    assert_eq!(rt; evidence.items().len(), 5);
+    has_looks(rt, book, 14);
+    has_events(rt, book, 5);
+}
+
+#[test]
+fn a_question_is_looked_up_once_until_a_set_of_its_evidence_changes(rt: HostRuntime) {
+    play(&rt, rt.alloc(), MAX_ENTRIES, MAX_EVENTS, Scenario::Lookups);
+}
