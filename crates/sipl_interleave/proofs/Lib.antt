@@ -1,0 +1,10 @@
+mod Returning
+mod Numbers
+mod Jobs
+mod Entries
+mod Leases
+mod Keeping
+mod Moving
+mod Working
+mod Making
+mod Right

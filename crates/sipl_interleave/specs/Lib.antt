@@ -1,0 +1,6 @@
+pub mod WorldFault
+pub mod Jobs
+pub mod Worker
+pub mod World
+pub mod Steps
+pub mod Plays

@@ -1,0 +1,101 @@
+-- The steps of a world in their order: each answer is right by the plain machine alone.
+use Rattle.std.specs.Prelude.{◌≡◌, ℕ, ◌==◌, List, [], ◌∷◌, if◌then◌else◌, Option, None, Some, option_map}
+use Rattle.sipl_choice.specs.Abilities.{Client}
+use Rattle.sipl_uri.specs.declared.question.Question.{Question}
+use Rattle.sipl_interleave.specs.Jobs.{Job, job_at}
+use Rattle.sipl_book.specs.Machine.{State, after, answer_in}
+use Rattle.sipl_interleave.specs.Steps.{IsStep}
+use Rattle.sipl_interleave.specs.World.{WorldState}
+use Rattle.sipl_book.specs.declared.event.Event.{Event}
+use Rattle.sipl_book.specs.declared.event.Event.TheVariants.{Change as Changes, Hold as Holds, Release as Releases, Advance as Advances, Answer as Answers}
+use Rattle.sipl_interleave.specs.declared.reply.Reply.{Reply}
+use Rattle.sipl_interleave.specs.declared.reply.Reply.TheVariants.{Changed, Moved, Answered, Started}
+use Rattle.sipl_interleave.specs.declared.step.Step.{Step}
+use Rattle.sipl_interleave.specs.declared.step.Step.TheVariants.{Change, Hold, Release, Advance, Hand, Start, Commit}
+
+-- the steps are made one after the other, each with its reply
+abbrev pub Plays : List Step → WorldState → List Reply → WorldState → Type 0
+Plays [] old [] new = new ≡ old
+Plays [] old (reply ∷ replies) new = ⊥
+Plays (step ∷ steps) old [] new = ⊥
+Plays (step ∷ steps) old (reply ∷ replies) new =
+    (next : WorldState) × IsStep step old next reply × Plays steps next replies new
+
+-- the question that each worker looks up, by the worker's number
+abbrev pub Asked : Type 0
+Asked = ℕ → Option Question
+
+-- after a worker began to look up the question of a step
+abbrev pub after_start : Step → Asked → Asked
+after_start (Start w question) asked = λ v. if v == w then Some question else asked v
+after_start step asked = asked
+
+-- after a step with its reply
+abbrev pub asked_after : Step → Reply → Asked → Asked
+asked_after step Started asked = after_start step asked
+asked_after step reply asked = asked
+
+-- the question and the random words of a step that hands out an answer: a worker commits the answer
+-- to the question of its last run
+abbrev pub asks : Asked → Step → Option (Question × List ℕ)
+asks asked (Hand question words) = Some (question, words)
+asks asked (Commit w words) = option_map (λ question. (question, words)) (asked w)
+asks asked step = None
+
+-- the event of an edit
+abbrev pub edit_of : Step → Option Event
+edit_of (Change edit) = Some (Changes edit)
+edit_of step = None
+
+-- the event of a hold, a release or a move of the clock
+abbrev pub move_of : Step → Option Event
+move_of (Hold endpoint ms) = Some (Holds endpoint ms)
+move_of (Release endpoint) = Some (Releases endpoint)
+move_of (Advance to) = Some (Advances to)
+move_of step = None
+
+-- the event of a step with its reply: an edit, a hold, a release or a move of the clock that was
+-- accepted, or an answer that was handed out
+abbrev pub event_of : Asked → Step → Reply → Option Event
+event_of asked step (Changed done) = edit_of step
+event_of asked step (Moved number) = move_of step
+event_of asked step (Answered handed) =
+    option_map (λ question. Answers question.0 question.1 handed.answer) (asks asked step)
+event_of asked step reply = None
+
+-- the state of the plain machine after an event, if there is one
+abbrev pub after_event : Option Event → State → State
+after_event (Some event) state = after event state
+after_event None state = state
+
+-- an event, if there is one, before others
+abbrev pub with_event : Option Event → List Event → List Event
+with_event (Some event) events = event ∷ events
+with_event None events = events
+
+-- an answer that is handed out is that of the plain machine in this state, for the step's question
+-- and random words
+abbrev pub IsRightAnswer : Client → State → Asked → Step → Reply → Type 0
+IsRightAnswer client state asked step (Answered handed) =
+    option_map (λ question. answer_in state question.0 client question.1) (asks asked step)
+    ≡ Some handed.answer
+IsRightAnswer client state asked step reply = Unit {0}
+
+-- each answer that is handed out is that of the plain machine in the state to which the edits, holds,
+-- releases and moves of the clock that were accepted before it lead (RFC 3263, 4)
+abbrev pub AnswersAreRight : Client → State → Asked → List Step → List Reply → Type 0
+AnswersAreRight client state asked (step ∷ steps) (reply ∷ replies) =
+    IsRightAnswer client state asked step reply
+    × AnswersAreRight client (after_event (event_of asked step reply) state)
+    (asked_after step reply asked) steps replies
+AnswersAreRight client state asked steps replies = Unit {0}
+
+-- the events of the steps with their replies, in their order
+abbrev pub events_of : Asked → List Step → List Reply → List Event
+events_of asked (step ∷ steps) (reply ∷ replies) =
+    with_event (event_of asked step reply) (events_of (asked_after step reply asked) steps replies)
+events_of asked steps replies = []
+
+-- the questions that the workers look up
+abbrev pub asked_by : List (Option Job) → Asked
+asked_by workers w = option_map (λ job. job.run.question) (job_at workers w)
