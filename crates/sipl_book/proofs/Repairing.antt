@@ -1,10 +1,13 @@
 -- Repairs of a book: what a lease and its settlement leave.
-use Rattle.std.proofs.Common.{◌≡◌, ℕ, ◌+◌, Bool, true, false, ◌&&◌, cond, eqb, List, [], ◌∷◌, map, drop, Option, None, Some, option_map, Result, Ok, Err, inl, inr, position, refl, sym, ap, subst, ◌∙◌}
+use Rattle.std.proofs.Common.{◌≡◌, ℕ, zero, suc, ◌+◌, ◌-◌, ◌^◌, Bool, true, false, ◌&&◌, cond, eqb, List, [], ◌∷◌, ◌++◌, length, map, take, drop, Option, None, Some, option_map, Result, Ok, Err, inl, inr, min, position, refl, sym, ap, subst, ◌∙◌, append_assoc, add-zero, arith}
 use Rattle.std.specs.FinSet as set
 use Rattle.std.specs.Result.{IsOk}
 use Rattle.std.proofs.lemmas.Bool.{cond-true, eq-eqb, or_left, and_from}
-use Rattle.std.specs.List.{All, Contains}
-use Rattle.std.proofs.lemmas.List.{drop-drop}
+use Rattle.std.proofs.Math.ListN.{length-map}
+use Rattle.std.specs.List.{All, Contains, sum_by}
+use Rattle.std.proofs.lemmas.List.{drop-drop, append-nil, take-append-drop}
+use Rattle.std.proofs.lemmas.Grind.{common_steps}
+use Rattle.std.proofs.lemmas.List.Sums.{sum_by-append, sum_by-cons}
 use Rattle.std.proofs.lemmas.List.Elements.{All-contains, All-contains_itself, All-map, All-weaker}
 use Rattle.std.proofs.lemmas.Option.{none-some, same_Some}
 use Rattle.sipl_plans.specs.Findings.{Found}
@@ -12,13 +15,15 @@ use Rattle.sipl_uri.specs.declared.question.Question.{Question}
 use Rattle.sipl_repair.specs.QueueState.{QueueState, is_leased, first_of, after_lease, after_settle, after_give_back as after_front, with_first_leased}
 use Rattle.sipl_repair.proofs.Public.{contains-insert, remove-insert}
 use Rattle.sipl_book.specs.Book.{BookState}
-use Rattle.sipl_book.specs.Calls.{IsSettled, after_give_back, after_settlement, is_renumbered, settle_refusal, with_looks}
+use Rattle.sipl_book.specs.Calls.{IsSettled, after_give_back, after_settlement, is_renumbered, looks_after, settle_refusal, with_looks}
 use Rattle.sipl_book.specs.Entries.{EntryState, entry_of, has_current_entry, is_of, renewed}
 use Rattle.sipl_book.specs.Questions.{same_question}
-use Rattle.sipl_book.specs.Repairs.{after_return, is_leased_for, is_outdated}
+use Rattle.sipl_book.specs.Repairs.{after_return, entry_with, is_leased_for, is_outdated}
 use Rattle.sipl_book.specs.declared.fault.BookFault.TheVariants.{Stale, Gone}
 use Rattle.sipl_book.specs.declared.outcome.Uncommitted.{Uncommitted}
-use Rattle.sipl_book.specs.Lookups.{IsLocated, IsOldOrRenewed, IsRenewed}
+use Rattle.sipl_plans.specs.Route.{reads}
+use Rattle.sipl_records.specs.Sets.{set_of}
+use Rattle.sipl_book.specs.Lookups.{IsLocated, IsOldOrRenewed, IsRenewed, after_reads, question_with, sets_read}
 use Rattle.sipl_book.proofs.Committed.{id-renewed, question-renewed, renewed_cases}
 use Rattle.sipl_book.proofs.Locating.{located-as, not_renumbered}
 
@@ -59,6 +64,96 @@ found-same : (book : BookState) (entries : List EntryState) → entries ≡ book
 found-same book entries same =
     subst (All (IsOldOrRenewed book)) (sym same)
     (All-weaker (Contains book.entries) (IsOldOrRenewed book) (λ e old. inl old) book.entries (All-contains_itself book.entries))
+
+-- ---- the looks
+
+-- the same questions by the same ids
+same_questions : (xs ys : List EntryState) → map (λ e. e.id) xs ≡ map (λ e. e.id) ys → map (λ e. e.found.question) xs ≡ map (λ e. e.found.question) ys
+    → (id : ℕ) → question_with xs id ≡ question_with ys id
+same_questions [] [] ids questions id = refl
+same_questions [] (y ∷ ys) ids questions id = absurd (cc ids)
+same_questions (x ∷ xs) [] ids questions id = absurd (cc ids)
+same_questions (x ∷ xs) (y ∷ ys) ids questions id =
+    let same : x.id ≡ y.id = cc ids in
+    let own : x.found.question ≡ y.found.question = cc questions in
+    let others_ids : map (λ e. e.id) xs ≡ map (λ e. e.id) ys = cc ids in
+    let others_questions : map (λ e. e.found.question) xs ≡ map (λ e. e.found.question) ys = cc questions in
+    subst (λ n. question_with (x ∷ xs) id ≡ option_map (λ e. e.found.question) (cond (eqb n id) (Some y) (entry_with ys id))) same
+    (elim (eqb x.id id) as (λ b. option_map (λ e. e.found.question) (cond b (Some x) (entry_with xs id)) ≡ option_map (λ e. e.found.question) (cond b (Some y) (entry_with ys id))) [
+      | true ↦ ap Some own
+      | false ↦ same_questions xs ys others_ids others_questions id
+    ])
+
+-- a renewal leaves how many sets a look-up reads
+sets_read-renewed : (old now : BookState) → IsRenewed old now → (id : ℕ) → sets_read now id ≡ sets_read old id
+sets_read-renewed old now so id =
+    let count : Option Question → BookState → ℕ = λ question book. elim question [
+      | Some q ↦ length (reads (set_of book.store.zones.records) q book.client)
+      | None ↦ 0
+    ] in
+    ap (λ question. count question now) (same_questions now.entries old.entries so.ids so.questions id)
+    ∙ (λ i. elim (question_with old.entries id) [
+      | Some q ↦ length (reads (set_of (so.others i).store.zones.records) q (so.others i).client)
+      | None ↦ 0
+    ])
+
+-- some looks after others
+looks_after-add : (more first looks : ℕ) → looks_after more (looks_after first looks) ≡ looks_after (more + first) looks
+looks_after-add zero first looks =
+    let none : first ≡ zero + first = omega arith in
+    ap (λ n. looks_after n looks) none
+looks_after-add (suc more) first looks =
+    let next : suc (more + first) ≡ suc more + first = omega arith in
+    ap (λ n. min (n + 1) (2 ^ 64 - 1)) (looks_after-add more first looks) ∙ ap (λ n. looks_after n looks) next
+
+-- what a repair has looked at: the sets of the first queued entries
+pub record LooksAtFirst (old now : BookState) : Type 0 where
+  pub first : List ℕ
+  pub queued : old.queue.queued ≡ first ++ now.queue.queued
+  pub looks : now.store.looks ≡ looks_after (sum_by (sets_read old) first) old.store.looks
+
+-- nothing was looked at yet
+pub looked_at_none : (book : BookState) → LooksAtFirst book book
+looked_at_none book = record { first = []; queued = refl; looks = refl }
+
+-- one more entry
+pub looked_at_more : (old now new : BookState) → IsRenewed old now → LooksAtFirst old now → new.queue.queued ≡ drop 1 now.queue.queued
+    → new.store.looks ≡ looks_after (sum_by (sets_read now) (take 1 now.queue.queued)) now.store.looks → LooksAtFirst old new
+looked_at_more old now new so before next looks =
+    let queue : List ℕ = now.queue.queued in
+    let same : sum_by (sets_read now) (take 1 queue) ≡ sum_by (sets_read old) (take 1 queue) =
+    λ i. sum_by (λ id. sets_read-renewed old now so id i) (take 1 queue) in
+    let count : sum_by (sets_read now) (take 1 queue) + sum_by (sets_read old) before.first ≡ sum_by (sets_read old) (before.first ++ take 1 queue) =
+    omega (arith, same, sum_by-append (sets_read old) before.first (take 1 queue)) in
+    record {
+      first = before.first ++ take 1 queue;
+      queued = before.queued
+          ∙ ap (λ rest. before.first ++ rest) (sym (take-append-drop 1 queue))
+          ∙ sym (append_assoc before.first (take 1 queue) (drop 1 queue))
+          ∙ ap (λ rest. (before.first ++ take 1 queue) ++ rest) (sym next);
+      looks = looks
+          ∙ ap (looks_after (sum_by (sets_read now) (take 1 queue))) before.looks
+          ∙ looks_after-add (sum_by (sets_read now) (take 1 queue)) (sum_by (sets_read old) before.first) old.store.looks
+          ∙ ap (λ n. looks_after n old.store.looks) count;
+    }
+
+-- all of them
+pub looked_at_all : (old new : BookState) → LooksAtFirst old new → new.queue.queued ≡ []
+    → new.store.looks ≡ looks_after (sum_by (sets_read old) old.queue.queued) old.store.looks
+looked_at_all old new is none =
+    is.looks ∙ ap (λ ids. looks_after (sum_by (sets_read old) ids) old.store.looks)
+    (sym (is.queued ∙ ap (λ rest. is.first ++ rest) none ∙ append-nil is.first))
+
+-- the first id of a queue alone
+sum_first : (f : ℕ → ℕ) (ks : List ℕ) (id : ℕ) → first_of ks ≡ Ok id → sum_by f (take 1 ks) ≡ f id
+sum_first f [] id first = absurd (fault-none first)
+  where
+    fault-none : first_of [] ≡ Ok id → ⊥
+    fault-none same = cc
+sum_first f (k ∷ ks) id first =
+    let same : k ≡ id = cc first in
+    let one : take 1 (k ∷ ks) ≡ k ∷ [] = grind (arith, common_steps) in
+    ap (sum_by f) one ∙ sum_by-cons f k [] ∙ add-zero (f k) ∙ ap f same
 
 -- ---- the queue
 
@@ -161,6 +256,23 @@ module _ (old : BookState) (id : ℕ) (question : Question) (first : first_of ol
     located-old : IsLocated old.store question old.client found
     located-old = subst (λ (b : BookState). IsLocated b.store question b.client found) is located
 
+    -- a look at each set that the route of its question reads
+    looks-settled : now ≡ after_reads (length found.items) leased → question_with old.entries id ≡ Some question
+        → new.store.looks ≡ looks_after (sum_by (sets_read old) (take 1 old.queue.queued)) old.store.looks
+    looks-settled read asked =
+        let keys : length (reads (set_of old.store.zones.records) question old.client) ≡ length found.items =
+        ap (λ q. length (reads (set_of old.store.zones.records) q old.client)) (sym located-old.question)
+        ∙ ap (λ client. length (reads (set_of old.store.zones.records) found.question client)) (sym located-old.client)
+        ∙ ap length (located-old.sound.reads (set_of old.store.zones.records) located-old.current.agrees)
+        ∙ length-map found.items (λ item. item.key) in
+        let count : sum_by (sets_read old) (take 1 old.queue.queued) ≡ length found.items =
+        sum_first (sets_read old) old.queue.queued id first
+        ∙ ap (λ o. elim o [ Some q ↦ length (reads (set_of old.store.zones.records) q old.client) | None ↦ 0 ]) asked
+        ∙ keys in
+        ap (λ (b : BookState). b.store.looks) after ∙ ap (λ (b : BookState). b.store.looks) read
+        ∙ ap (λ (b : BookState). looks_after (length found.items) b.store.looks) is
+        ∙ ap (λ n. looks_after n old.store.looks) (sym count)
+
     settled-next : new.queue.queued ≡ drop 1 old.queue.queued
     settled-next = ap (λ (k : QueueState). k.queued) queue
 
@@ -188,6 +300,12 @@ module _ (old : BookState) (id : ℕ) (question : Question) (first : first_of ol
       → IsSettled is_renumbered id found now now new result → IsRenewed old new × (new.queue.queued ≡ drop 1 old.queue.queued)
   settled found new (Ok done) located so = (renewed-settled found new located so.after, settled-next found new located so.after)
   settled found new (Err uncommitted) located so = absurd (none-some uncommitted.fault (sym (settles found located) ∙ so.refused))
+
+  pub settled_looks : (found : Found) (new : BookState) (result : Result (Unit {0}) Uncommitted) → IsLocated leased.store question leased.client found
+      → IsSettled is_renumbered id found now now new result → now ≡ after_reads (length found.items) leased → question_with old.entries id ≡ Some question
+      → new.store.looks ≡ looks_after (sum_by (sets_read old) (take 1 old.queue.queued)) old.store.looks
+  settled_looks found new (Ok done) located so read asked = looks-settled found new located so.after read asked
+  settled_looks found new (Err uncommitted) located so read asked = absurd (none-some uncommitted.fault (sym (settles found located) ∙ so.refused))
 
   -- the book after it is given back
   module _ (new : BookState) (after : new ≡ after_give_back id now) where

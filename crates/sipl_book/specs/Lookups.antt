@@ -1,6 +1,6 @@
 -- Looking questions up on the records of a book: answers, dependencies and repairs.
-use Rattle.std.specs.Prelude.{◌≡◌, ◌≢◌, ◌⊎◌, ℕ, List, [], length, map, drop, None, Some, Result, OnOk, OnErr, IfOk, IfErr, IsTrue, IsFalse}
-use Rattle.std.specs.List.{All, Contains}
+use Rattle.std.specs.Prelude.{◌≡◌, ◌≢◌, ◌⊎◌, ℕ, List, [], length, map, drop, option_map, Option, None, Some, Result, OnOk, OnErr, IfOk, IfErr, IsTrue, IsFalse}
+use Rattle.std.specs.List.{All, Contains, sum_by}
 use Rattle.sipl_records.specs.Sets.{set_of}
 use Rattle.sipl_choice.specs.Abilities.{Client}
 use Rattle.sipl_uri.specs.declared.question.Question.{Question}
@@ -9,9 +9,10 @@ use Rattle.sipl_zonestore.specs.Store.{Store}
 use Rattle.sipl_plans.specs.Findings.{Found, IsSound}
 use Rattle.sipl_plans.specs.Route.{reads}
 use Rattle.sipl_book.specs.Book.{BookState, answer_now, next_event}
-use Rattle.sipl_book.specs.Calls.{after_commit, after_looks, answer_event, recorded, unless_full, with_looks}
+use Rattle.sipl_book.specs.Calls.{after_commit, after_looks, answer_event, looks_after, recorded, unless_full, with_looks}
 use Rattle.sipl_book.specs.Entries.{EntryState, has_current_entry}
 use Rattle.sipl_book.specs.Honesty.{AreCurrent}
+use Rattle.sipl_book.specs.Repairs.{entry_with}
 use Rattle.sipl_book.specs.declared.fault.BookFault.{BookFault}
 use Rattle.sipl_book.specs.declared.fault.BookFault.TheVariants.{Memory}
 use Rattle.sipl_book.specs.declared.outcome.Handed.{Handed}
@@ -86,9 +87,23 @@ pub record IsRenewed (old new : BookState) : Type 0 where
   pub others : new ≡ with_looks new.store.looks
       (record old { entries = new.entries; queue = new.queue })
 
--- A repair looks the queued entries up again, which are current then. Only an allocation may fail:
--- then some of them still wait, in their order.
+-- the question of the entry with an id
+abbrev pub question_with : List EntryState → ℕ → Option Question
+question_with entries id = option_map (λ e. e.found.question) (entry_with entries id)
+
+-- how many sets the route of that question reads on the records as they are
+abbrev pub sets_read : BookState → ℕ → ℕ
+sets_read book id =
+    elim (question_with book.entries id) [
+      | Some question ↦ length (reads (set_of book.store.zones.records) question book.client)
+      | None ↦ 0
+    ]
+
+-- A repair looks the queued entries up again, which are current then, with a look at each set that
+-- their routes read. Only an allocation may fail: then some of them still wait, in their order.
 pub record IsRepaired (old new : BookState) (result : Result (Unit {0}) BookFault) : Type 0 where
   pub done : OnOk result (new.queue.queued ≡ [])
+  pub looks : OnOk result (new.store.looks
+      ≡ looks_after (sum_by (sets_read old) old.queue.queued) old.store.looks)
   pub failed : IfErr result (λ fault. fault ≡ Memory)
   pub renewed : IsRenewed old new

@@ -1,8 +1,9 @@
 // Looking questions up: runs over a book's own sets.
-ghost use Rattle.std.specs.Prelude.{◌≡◌, ◌≢◌, [], drop, length, IfOk, IfErr, OnOk, IsFalse};
-ghost use Rattle.sipl_book.specs.Calls.{with_looks};
+ghost use Rattle.std.specs.Prelude.{◌≡◌, ◌≢◌, [], drop, take, length, IfOk, IfErr, OnOk, IsFalse};
+ghost use Rattle.std.specs.List.{sum_by};
+ghost use Rattle.sipl_book.specs.Calls.{looks_after, with_looks};
 ghost use Rattle.sipl_book.specs.Entries.{has_current_entry};
-ghost use Rattle.sipl_book.specs.Lookups.{AreDependencies, IsFound, IsLocated, IsRenewed, IsRepaired, after_reads};
+ghost use Rattle.sipl_book.specs.Lookups.{AreDependencies, IsFound, IsLocated, IsRenewed, IsRepaired, after_reads, sets_read};
 
 use crate::book::Book;
 use crate::fault::BookFault;
@@ -46,8 +47,8 @@ impl Book {
         Ok(self.locate(question)?.into_evidence())
     }
 
-    /// Looks the queued entries up again, each once, at most as many as were queued at first. The
-    /// only error is a failed allocation; the entries that are still queued can be repaired later.
+    /// Looks the queued entries up again, each once, with a look at each set that their routes read.
+    /// The only error is a failed allocation; the entries that are still queued can be repaired later.
     pub fn repair(&mut self) -> Result<(), BookFault>
         ensures { IsRepaired self.old self.new result }
     {
@@ -61,6 +62,8 @@ impl Book {
     fn repair_next(&mut self) -> Result<(), BookFault>
         ensures renewed { IsRenewed self.old self.new }
         ensures next { OnOk result (self.new.queue.queued ≡ drop 1 self.old.queue.queued) }
+        ensures looks { OnOk result (self.new.store.looks ≡ looks_after
+            (sum_by (sets_read self.old) (take 1 self.old.queue.queued)) self.old.store.looks) }
         ensures failed { IfErr result
             (λ fault. fault ≢ BookFault.Memory → self.old.queue.queued ≡ []) }
     {

@@ -35,15 +35,17 @@ pub struct World {
 }
 
 impl Model for World {
-    ghost use Rattle.sipl_interleave.specs.World.{IsWorld, WorldState, world_code};
+    ghost use Rattle.sipl_interleave.specs.World.{WorldState, world_code};
 
     ghost Value = { WorldState };
 
     ghost coded = { world_code };
 
-    ghost view = { λ w. record { book = w.book; workers = w.workers } };
+    ghost use Rattle.sipl_interleave.specs.WorldFields.{IsValidWorld, world_of};
 
-    ghost invariant = { λ w. IsWorld (record { book = w.book; workers = w.workers }) };
+    ghost view = { world_of };
+
+    ghost invariant = { IsValidWorld };
 }
 
 impl Drop for World {

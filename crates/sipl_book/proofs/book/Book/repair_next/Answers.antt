@@ -1,4 +1,4 @@
-use Rattle.sipl_book.proofs.Repairing.{settled, settled_ok, renewed-returned}
+use Rattle.sipl_book.proofs.Repairing.{settled, settled_looks, settled_ok, renewed-returned}
 use Rattle.sipl_book.proofs.book.Book.repair_next.Goals as goal
 
 pub unwrap-requires : goal.unwrap-requires
@@ -12,6 +12,12 @@ returns-in-Ok-clause-renewed c =
     let lease = c.in_ok-lease.ensures.leased in
     (settled c.args.self.now c.in_ok-lease.lease c.in_ok-lease.question lease.id lease.idle c.in_ok-lease.ensures.entry c.lease.new.self c.locate.new.self lease.after c.locate.ensures.unchanged
     c.in-Ok.finding c.settle.new.self c.settle.result c.in-Ok.ensures.located c.settle.ensures).0
+
+pub returns-in-Ok-clause-looks : goal.returns-in-Ok-clause-looks
+returns-in-Ok-clause-looks c =
+    let lease = c.in_ok-lease.ensures.leased in
+    settled_looks c.args.self.now c.in_ok-lease.lease c.in_ok-lease.question lease.id lease.idle c.in_ok-lease.ensures.entry c.lease.new.self c.locate.new.self lease.after c.locate.ensures.unchanged
+    c.in-Ok.finding c.settle.new.self c.settle.result c.in-Ok.ensures.located c.settle.ensures c.in-Ok.ensures.looks lease.question
 
 pub returns-in-Err-clause-renewed : goal.returns-in-Err-clause-renewed
 returns-in-Err-clause-renewed c =
