@@ -4,7 +4,6 @@ pub mod Keys
 pub mod Positions
 pub mod SameSets
 pub mod SetTables
-pub mod SetEdits
 pub mod ChangedKeys
 pub mod Scans
 pub mod TableSteps

@@ -26,13 +26,6 @@ pub from-none : {X : Type 0} (p : X → Bool) (i : ℕ) (xs : List X) → list_a
 from-none p i [] none = refl
 from-none p i (x ∷ xs) none = rw (or_left (p x) (list_any p xs) none) (from-none p (i + 1) xs (or_right (p x) (list_any p xs) none))
 
-pub none-from : {X : Type 0} (p : X → Bool) (i : ℕ) (xs : List X) → position_from p i xs ≡ None → list_any p xs ≡ false
-none-from p i [] none = refl
-none-from p i (x ∷ xs) none = elim (cases_Bool (p x)) [
-  | inl here ↦ let never : Some i ≡ None = rw here at none in cc
-  | inr other ↦ rw other (none-from p (i + 1) xs (rw other at none))
-]
-
 pub from-some : {X : Type 0} (p : X → Bool) (i : ℕ) (xs : List X) → list_any p xs ≡ true → (n : ℕ) × (position_from p i xs ≡ Some n)
 from-some p i [] some = cc
 from-some p i (x ∷ xs) some = elim (cases_Bool (p x)) [

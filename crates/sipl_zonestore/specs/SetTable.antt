@@ -1,6 +1,7 @@
 -- A table of record sets by their keys.
-use Rattle.std.specs.Prelude.{◌≡◌, ℕ, Bool, false, not, ◌&&◌, List, [], ◌∷◌, ◌++◌, map, filter, if◌then◌else◌}
-use Rattle.std.specs.List.{list_all, position_from}
+use Rattle.std.specs.Prelude.{◌≡◌, ℕ, Bool, false, not, ◌&&◌, List, [], ◌∷◌, ◌++◌, map, filter, if◌then◌else◌, IfSome}
+use Rattle.std.specs.List.{position_from}
+use Rattle.std.specs.Map.{lookup}
 use Rattle.std.specs.Option.{option_to_list, unwrap_or}
 use lib.Pointwise.{pointwise}
 use Rattle.sipl_records.specs.Sets.{set_of, same_data, same_key, key_of}
@@ -38,13 +39,26 @@ content_of (s ∷ sets) key =
 abbrev pub numbers_of : List NumberedSet → List SetNumber
 numbers_of sets = map (λ s. record { key = s.key; number = (carried s.number s.values).number }) sets
 
--- whether each set has data
-abbrev pub are_filled : List NumberedSet → Bool
-are_filled sets = list_all (λ s. not (is_empty s.values)) sets
+-- the sets of a table by keys
+abbrev pub sets_in : List (Key × Content) → List NumberedSet
+sets_in entries = map (λ e. record { key = e.0; number = e.1.number; values = e.1.values }) entries
+
+-- each set that a look-up in a table by keys finds has data
+abbrev pub HaveData : List (Key × Content) → Type 0
+HaveData entries =
+    (key : Key) → IfSome (lookup (same_key key) entries) (λ set. is_empty set.values ≡ false)
 
 -- the content with this number and one more datum
 abbrev pub pushed : ℕ → Data → Content → Content
 pushed number value content = record { number = number; values = content.values ++ value ∷ [] }
+
+-- the content without a datum, which keeps its number
+abbrev pub data_without : Data → Content → Content
+data_without value content =
+    record {
+      number = content.number;
+      values = filter (λ other. not (same_data value other)) content.values;
+    }
 
 -- the content without a datum
 abbrev pub without : Data → Content → Content

@@ -1,48 +1,84 @@
 //! The record sets of a store (RFC 2181, 5) by their keys, with their numbers.
-ghost use Rattle.std.specs.Prelude.{◌≡◌, [], false, OnOk, OnErr, if◌then◌else◌};
-ghost use Rattle.std.specs.List.{position_from};
+ghost use Rattle.std.specs.Prelude.{◌≡◌, [], ◌∷◌, false, IfOk, OnOk, OnErr, if◌then◌else◌};
 ghost use Rattle.sipl_names.specs.Labels.{is_within};
 ghost use Rattle.sipl_records.specs.declared.record.Key.{Key};
 ghost use Rattle.sipl_records.specs.Sets.{same_key};
-ghost use Rattle.sipl_zonestore.specs.SetTable.{content_of, no_content, has_set, pushed, without, renumbered};
+ghost use Rattle.sipl_zonestore.specs.Numbers.{is_empty};
+ghost use Rattle.sipl_zonestore.specs.SetTable.{content_of, no_content, data_without, has_set, pushed, without, renumbered};
 
+use indexmap::IndexMap;
 use sipl_names::Name;
 use sipl_records::{Data, Key};
 use std::alloc::{AllocError, Global};
 use std::marker::Model;
 
-// A record set and its number.
+// The number and the data of a record set.
 #[derive(Drop)]
 struct RecordSet {
-    key: Key,
     number: u64,
     values: Vec<Data>,
 }
 
 impl Model for RecordSet {
-    ghost use Rattle.sipl_zonestore.specs.SetTable.{NumberedSet};
+    ghost use Rattle.sipl_zonestore.specs.SetTable.{Content};
 
-    ghost Value = { NumberedSet };
+    ghost Value = { Content };
 
-    ghost view = { λ s. record { key = s.key; number = s.number; values = s.values.items } };
+    ghost view = { λ s. record { number = s.number; values = s.values.items } };
 }
 
-// Record sets with their numbers, by their keys; each has data. A list that is searched from its
-// front.
+impl RecordSet {
+    // The set of one datum.
+    fn new(alloc: Global, number: u64, value: Data) -> Result<Self, AllocError>
+        ensures { IfOk result
+            (λ set. set ≡ record { number = number; values = value ∷ [] }) }
+    {
+        let mut values = Vec::new(alloc);
+        values.push(value)?;
+        Ok(RecordSet { number, values })
+    }
+
+    // Appends a datum to the set, which gets this number.
+    fn push(&mut self, number: u64, value: Data) -> Result<(), AllocError>
+        ensures pushed { OnOk result (self.new ≡ pushed number value self.old) }
+        ensures unchanged { OnErr result (self.new ≡ self.old) }
+    {
+        self.values.push(value)?;
+        self.number = number;
+        Ok(())
+    }
+
+    // Removes a datum from the set.
+    fn remove(&mut self, value: &Data)
+        ensures { self.new ≡ data_without value.now self.old }
+    {
+        self.values.retain(|other| *value != *other);
+    }
+
+    // Whether no datum is left.
+    fn is_empty(&self) -> bool
+        ensures { result ≡ is_empty self.now.values }
+    {
+        self.values.is_empty()
+    }
+}
+
+// Record sets with their numbers, by their keys; each has data. Contracts see a list of the sets,
+// and of a call that changes the table what it has for each key: their order is not kept.
 #[derive(Drop)]
 pub(crate) struct SetTable {
-    sets: Vec<RecordSet>,
+    sets: IndexMap<Key, RecordSet>,
 }
 
 impl Model for SetTable {
-    ghost use Rattle.std.specs.Prelude.{◌≡◌, List, true};
-    ghost use Rattle.sipl_zonestore.specs.SetTable.{NumberedSet, are_filled};
+    ghost use Rattle.std.specs.Prelude.{List};
+    ghost use Rattle.sipl_zonestore.specs.SetTable.{NumberedSet, HaveData, sets_in};
 
     ghost Value = { List NumberedSet };
 
-    ghost view = { λ t. t.sets.items };
+    ghost view = { λ t. sets_in t.sets.entries };
 
-    ghost invariant = { λ t. are_filled t.sets.items ≡ true };
+    ghost invariant = { λ t. HaveData t.sets.entries };
 }
 
 impl SetTable {
@@ -51,20 +87,18 @@ impl SetTable {
         ensures { result ≡ [] }
     {
         SetTable {
-            sets: Vec::new(alloc),
+            sets: IndexMap::new(alloc),
         }
     }
 
-    // The number of the key's set and its data, 0 and none where it has no set.
+    // The number of the key's set and its data, 0 and none where it has no set. Constant time but
+    // for hashing.
     pub(crate) fn get(&self, key: &Key) -> (u64, &[Data])
         ensures number { result.0 ≡ (content_of self.now key.now).number }
         ensures values { result.1.now ≡ (content_of self.now key.now).values }
     {
-        match self.position(key) {
-            Some(place) => {
-                let set = &self.sets[place];
-                (set.number, &set.values)
-            }
+        match self.sets.get(key) {
+            Some(set) => (set.number, &set.values),
             None => (0, &[]),
         }
     }
@@ -83,7 +117,7 @@ impl SetTable {
         self.get(key).0
     }
 
-    // Appends a datum to the key's set, which gets this number.
+    // Appends a datum to the key's set, which gets this number. Constant time but for hashing.
     pub(crate) fn push(
         &mut self,
         alloc: Global,
@@ -96,54 +130,47 @@ impl SetTable {
             else content_of self.old other)) }
         ensures unchanged { OnErr result (self.new ≡ self.old) }
     {
-        if let Some(place) = self.position(&key) {
-            let set = &mut self.sets[place];
-            set.values.push(value)?;
-            set.number = number;
-            return Ok(());
+        if let Some(set) = self.sets.get_mut(&key) {
+            return set.push(number, value);
         }
-        let mut values = Vec::new(alloc);
-        values.push(value)?;
-        self.sets.push(RecordSet {
-            key,
-            number,
-            values,
-        })?;
+        let set = RecordSet::new(alloc, number, value)?;
+        self.sets.insert(key, set)?;
         Ok(())
     }
 
-    // Removes a datum from the key's set. Does not allocate.
+    // Removes a datum from the key's set. Constant time but for hashing and the data of the set.
+    // Does not allocate.
     pub(crate) fn remove(&mut self, key: &Key, value: &Data)
         ensures { (other : Key) → content_of self.new other
             ≡ (if same_key key.now other then without value.now (content_of self.old other)
             else content_of self.old other) }
     {
-        let Some(place) = self.position(key) else {
+        let Some(set) = self.sets.get_mut(key) else {
             return;
         };
-        let set = &mut self.sets[place];
-        set.values.retain(|other| *value != *other);
-        if set.values.is_empty() {
-            self.sets.retain(|set| *key != set.key);
+        set.remove(value);
+        if set.is_empty() {
+            self.sets.swap_remove(key);
         }
     }
 
-    // Numbers the key's set, if it has one, and returns whether it does. Does not allocate.
+    // Numbers the key's set, if it has one, and returns whether it does. Constant time but for
+    // hashing. Does not allocate.
     pub(crate) fn set_number(&mut self, key: &Key, number: u64) -> bool
         ensures found { result ≡ has_set self.old key.now }
         ensures numbered { (other : Key) → content_of self.new other
             ≡ (if same_key key.now other then renumbered number (content_of self.old other)
             else content_of self.old other) }
     {
-        let Some(place) = self.position(key) else {
+        let Some(set) = self.sets.get_mut(key) else {
             return false;
         };
-        let set = &mut self.sets[place];
         set.number = number;
         true
     }
 
     // Replaces the sets whose owners are within the apex by these, whose owners are within it too.
+    // Linear in the number of sets.
     pub(crate) fn replace_within(
         &mut self,
         apex: &Name,
@@ -157,15 +184,8 @@ impl SetTable {
         ensures unchanged { OnErr result (self.new ≡ self.old) }
     {
         self.sets.reserve(text.sets.len())?;
-        self.sets.retain(|set| !set.key.name.is_within(apex));
+        self.sets.retain(|key, _| !key.name.is_within(apex));
         self.sets.append(&mut text.sets).unwrap();
         Ok(())
-    }
-
-    // The place of the key's set.
-    fn position(&self, key: &Key) -> Option<usize>
-        ensures { result ≡ position_from (λ s. same_key s.key key.now) 0 self.now }
-    {
-        self.sets.iter().position(|set| set.key == *key)
     }
 }

@@ -90,9 +90,9 @@ impl ZoneStore {
     /// Loads a zone: the records of its text replace those within its apex, and are last, and its
     /// apex is last where it is new. Returns the keys of the sets that changed, in the order of
     /// their first places in the old records followed by the new ones; in this order those that
-    /// are not empty take the next numbers. Linear in the number of all records, with a look-up of
-    /// its set for each record that the zone had and for each that it has; a look-up is linear in
-    /// the number of sets.
+    /// are not empty take the next numbers. Linear in the number of all records, with look-ups of
+    /// its set for each record that the zone had and for each that it has; a look-up takes constant
+    /// time but for hashing.
     ///
     /// The fault is the first one: a loaded zone strictly above or below the apex (S1), more
     /// records than the store's maximum (S7), too few numbers (S8).
@@ -147,7 +147,7 @@ impl ZoneStore {
     }
 
     /// The number of the key's set and its data, in the order of addition; 0 and no data where it
-    /// is empty. Counts one look. Linear in the number of sets.
+    /// is empty. Counts one look. Constant time but for hashing. Does not allocate.
     pub fn set(&mut self, key: &Key) -> (u64, &[Data])
         ensures number { result.0 ≡ number_in self.old key.now }
         ensures value { result.1.now ≡ set_of self.old.zones.records key.now }
@@ -158,8 +158,8 @@ impl ZoneStore {
         self.records.set(key)
     }
 
-    /// The number of the key's set, 0 where it is empty. Counts no look. Linear in the number of
-    /// sets.
+    /// The number of the key's set, 0 where it is empty. Counts no look. Constant time but for
+    /// hashing. Does not allocate.
     pub fn number(&self, key: &Key) -> u64
         ensures number { result ≡ number_in self.now key.now }
         ensures consistent { IsConsistent self.now }
