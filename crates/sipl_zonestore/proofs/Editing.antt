@@ -1,5 +1,5 @@
 -- What an edit does to a store, from what it does to its records.
-use Rattle.std.proofs.Common.{◌≡◌, ℕ, Bool, true, false, not, if◌then◌else◌, List, Option, None, Some, Result, Ok, Err, refl, ap, subst, sym, ◌∙◌}
+use Rattle.std.proofs.Common.{◌≡◌, ◌≢◌, ℕ, Bool, true, false, not, if◌then◌else◌, List, Option, None, Some, Result, Ok, Err, refl, ap, subst, sym, ◌∙◌}
 use Rattle.std.specs.Prelude.{OnOk, OnErr}
 use Rattle.std.specs.Option.{option_or}
 use Rattle.std.specs.List.{list_any}
@@ -8,7 +8,7 @@ use Rattle.sipl_records.specs.Sets.{same_record, same_key}
 use Rattle.sipl_records.specs.declared.record.Record.{Record}
 use Rattle.sipl_records.specs.declared.record.Key.{Key}
 use Rattle.sipl_zonestore.specs.declared.fault.StoreFault.{StoreFault}
-use Rattle.sipl_zonestore.specs.declared.fault.StoreFault.TheVariants.{NoZone, Absent}
+use Rattle.sipl_zonestore.specs.declared.fault.StoreFault.TheVariants.{NoZone, Absent, Memory}
 use Rattle.sipl_zonestore.specs.Store.{Zones, Store, number_in, is_covered}
 use Rattle.sipl_zonestore.specs.Edits.{Edit, unload, remove, after, refusal_of}
 use Rattle.sipl_zonestore.specs.Changes.{changed_keys}
@@ -69,7 +69,7 @@ edited edit old new (Err fault) good held accepted is _ apexes limit looks =
     }
 
 -- one that the zones refuse
-pub refused-edit : (edit : Edit) (store : Store) (fault : StoreFault) → IsConsistent store → refusal_of store.max_records edit store.zones ≡ Some fault → IsEdited edit store store (Err fault)
+pub refused-edit : (edit : Edit) (store : Store) (fault : StoreFault) → IsConsistent store → (fault ≢ Memory → refusal_of store.max_records edit store.zones ≡ Some fault) → IsEdited edit store store (Err fault)
 refused-edit edit store fault held why = record {
   accepted = tt;
   after = tt;
@@ -77,7 +77,7 @@ refused-edit edit store fault held why = record {
   numbers = tt;
   kept = tt;
   next = tt;
-  refused = λ some. first_some (refusal_of store.max_records edit store.zones) (number_refusal store.zones.records (after edit store.zones).records store.next) fault why;
+  refused = λ some. first_some (refusal_of store.max_records edit store.zones) (number_refusal store.zones.records (after edit store.zones).records store.next) fault (why some);
   unchanged = refl;
   limit = refl;
   looks = refl;

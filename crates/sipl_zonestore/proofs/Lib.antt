@@ -4,6 +4,8 @@ pub mod Keys
 pub mod Positions
 pub mod SameSets
 pub mod SetTables
+pub mod BareOwners
+pub mod Comparing
 pub mod ChangedKeys
 pub mod Scans
 pub mod TableSteps

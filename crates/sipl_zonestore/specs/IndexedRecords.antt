@@ -1,7 +1,9 @@
 -- Records with an index of their sets, each of which has a number.
-use Rattle.std.specs.Prelude.{◌≡◌, ◌≢◌, ℕ, ◌+◌, ◌^◌, ◌≤◌, List, None, Some, Result, OnOk, OnErr, IfOk, IfErr}
+use Rattle.std.specs.Prelude.{◌≡◌, ◌≢◌, ℕ, ◌+◌, ◌^◌, ◌≤◌, Bool, List, None, Some, Result, OnOk, OnErr, IfOk, IfErr}
+use Rattle.sipl_names.specs.Labels.{Labels}
 use Rattle.sipl_records.specs.declared.record.Record.{Record}
 use Rattle.sipl_records.specs.declared.record.Key.{Key}
+use Rattle.sipl_zonestore.specs.BareOwners.{HasBare}
 use Rattle.sipl_zonestore.specs.Changes.{changed_keys}
 use Rattle.sipl_zonestore.specs.Numbers.{SetNumber, number_of, number_after, next_after, number_refusal}
 use Rattle.sipl_zonestore.specs.SetTable.{NumberedSet, HasSets}
@@ -14,9 +16,12 @@ pub record IndexedState : Type 0 where
   pub numbers : List SetNumber
   pub next : ℕ
 
--- what always holds: the table has the sets of the records, and no number is above 2^52
-pub record IsIndexed (records : List Record) (sets : List NumberedSet) (next : ℕ) : Type 0 where
+-- what always holds: the one table has the sets of the records, the other the owners of those of
+-- which nothing is kept, and no number is above 2^52
+pub record IsIndexed (records : List Record) (sets : List NumberedSet) (bare : Labels → Bool)
+    (next : ℕ) : Type 0 where
   pub has_sets : HasSets sets records
+  pub has_bare : HasBare bare records
   pub last : next ≤ 2 ^ 52 + 1
 
 -- the records become these, unless too few numbers are left

@@ -9,5 +9,6 @@ pub mod Edited
 pub mod ZoneStore
 pub mod Machine
 pub mod SetTable
+pub mod BareOwners
 pub mod IndexedRecords
 pub use Rattle.sipl_masterfile.specs.Zones

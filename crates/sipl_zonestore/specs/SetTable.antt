@@ -1,11 +1,14 @@
 -- A table of record sets by their keys.
-use Rattle.std.specs.Prelude.{◌≡◌, ℕ, Bool, false, not, ◌&&◌, List, [], ◌∷◌, ◌++◌, map, filter, if◌then◌else◌, IfSome}
+use Rattle.std.specs.Prelude.{◌≡◌, ℕ, Bool, false, not, ◌&&◌, ◌||◌, List, [], ◌∷◌, ◌++◌, map, filter, if◌then◌else◌, IfSome}
 use Rattle.std.specs.List.{position_from}
 use Rattle.std.specs.Map.{lookup}
 use Rattle.std.specs.Option.{option_to_list, unwrap_or}
 use lib.Pointwise.{pointwise}
-use Rattle.sipl_records.specs.Sets.{set_of, same_data, same_key, key_of}
+use Rattle.sipl_names.specs.Labels.{Labels}
+use Rattle.sipl_records.specs.Sets.{set_of, same_data, same_key, same_kind, key_of}
 use Rattle.sipl_records.specs.declared.data.Data.{Data}
+use Rattle.sipl_records.specs.declared.kind.Kind.{Kind}
+use Rattle.sipl_records.specs.declared.kind.Kind.TheVariants.{Address4, Address6, Alias, Service, Pointer}
 use Rattle.sipl_records.specs.declared.record.Record.{Record}
 use Rattle.sipl_records.specs.declared.record.Key.{Key}
 use Rattle.sipl_zonestore.specs.Numbers.{SetNumber, is_empty}
@@ -72,6 +75,20 @@ renumbered number content = carried number content.values
 -- whether the key has a set
 abbrev pub has_set : List NumberedSet → Key → Bool
 has_set sets key = not (is_empty (content_of sets key).values)
+
+-- whether the owner has a set of this kind
+abbrev pub has_kind_set : List NumberedSet → Labels → Kind → Bool
+has_kind_set sets name kind = has_set sets (record { name = name; kind = kind })
+
+-- whether a record of this key conflicts with the sets of its owner (RFC 1034, 3.6.2): an alias does
+-- with each, and any other record with an alias
+abbrev pub conflicts_in : List NumberedSet → Key → Bool
+conflicts_in sets key =
+    if same_kind key.kind Alias
+    then has_kind_set sets key.name Address4 || has_kind_set sets key.name Address6
+    || has_kind_set sets key.name Alias || has_kind_set sets key.name Service
+    || has_kind_set sets key.name Pointer
+    else has_kind_set sets key.name Alias
 
 -- the key of a record, where its set has other data
 abbrev pub keys_left : List NumberedSet → Record → List Key

@@ -1,13 +1,13 @@
 //! The faults of edits.
-ghost use Rattle.std.specs.Prelude.{◌≡◌, ◌≤◌, ℕ, true, false, length, Some, None, MatchResult};
-ghost use Rattle.std.specs.List.{count_by, list_any};
-ghost use Rattle.sipl_records.specs.Sets.{conflicts, same_record, shares_set};
+ghost use Rattle.std.specs.Prelude.{◌≡◌, ◌≢◌, ◌≤◌, ℕ, true, false, length, Some, None, MatchResult};
+ghost use Rattle.std.specs.List.{list_any};
 ghost use Rattle.sipl_names.specs.Labels.{same_name};
 ghost use Rattle.sipl_zonestore.specs.Edits.{refusal_of, load, unload, add, remove};
 ghost use Rattle.sipl_zonestore.specs.Store.{overlaps, is_covered, records_outside};
 
 use crate::apexes::has_apex;
 use crate::fault::StoreFault;
+use crate::indexed_records::IndexedRecords;
 use sipl_masterfile::ZoneText;
 use sipl_names::Name;
 use sipl_records::{MAX_SET_LEN, Record};
@@ -49,53 +49,55 @@ pub(crate) fn check_unload(apex: &Name, apexes: &[Name]) -> Result<(), StoreFaul
     Ok(())
 }
 
-// The fault of removing the record from these, if there is one.
+// The fault of removing the record from these, if there is one. Linear in the number of apexes.
 pub(crate) fn check_remove(
     old: &Record,
     apexes: &[Name],
-    records: &[Record],
+    records: &IndexedRecords,
 ) -> Result<(), StoreFault>
     ensures { (max_records : ℕ) → MatchResult result
         (λ _. refusal_of max_records (remove old.now)
-        (record { apexes = apexes.now; records = records.now }) ≡ None)
-        (λ fault. refusal_of max_records (remove old.now)
-        (record { apexes = apexes.now; records = records.now }) ≡ Some fault) }
+        (record { apexes = apexes.now; records = records.now.records }) ≡ None)
+        (λ fault. fault ≢ StoreFault.Memory → refusal_of max_records (remove old.now)
+        (record { apexes = apexes.now; records = records.now.records }) ≡ Some fault) }
 {
     if !is_covered(apexes, &old.owner) {
         return Err(StoreFault::NoZone);
     }
-    if !has_record(records, old) {
+    if !records.contains(old)? {
         return Err(StoreFault::Absent);
     }
     Ok(())
 }
 
-// The fault of adding the record beside these apexes and records, if there is one.
+// The fault of adding the record beside these apexes and records, if there is one. Linear in the
+// number of apexes.
 pub(crate) fn check_add(
     max_records: usize,
     new: &Record,
     apexes: &[Name],
-    records: &[Record],
+    records: &IndexedRecords,
 ) -> Result<(), StoreFault>
     ensures { MatchResult result
         (λ _. refusal_of max_records (add new.now)
-        (record { apexes = apexes.now; records = records.now }) ≡ None)
-        (λ fault. refusal_of max_records (add new.now)
-        (record { apexes = apexes.now; records = records.now }) ≡ Some fault) }
+        (record { apexes = apexes.now; records = records.now.records }) ≡ None)
+        (λ fault. fault ≢ StoreFault.Memory → refusal_of max_records (add new.now)
+        (record { apexes = apexes.now; records = records.now.records }) ≡ Some fault) }
 {
     if !is_covered(apexes, &new.owner) {
         return Err(StoreFault::NoZone);
     }
-    if has_record(records, new) {
+    let found = records.compare(new)?;
+    if found.is_repeated {
         return Err(StoreFault::Duplicate);
     }
-    if has_conflict(records, new) {
+    if found.conflicts {
         return Err(StoreFault::AliasBesideData);
     }
-    if count_set(new, records) >= MAX_SET_LEN {
+    if found.set_len >= MAX_SET_LEN {
         return Err(StoreFault::SetFull);
     }
-    if records.len() >= max_records {
+    if records.as_slice().len() >= max_records {
         return Err(StoreFault::StoreFull);
     }
     Ok(())
@@ -122,20 +124,6 @@ fn is_covered(apexes: &[Name], owner: &Name) -> bool
     apexes.iter().any(|apex| owner.is_within(apex))
 }
 
-// Whether the record is among these.
-fn has_record(records: &[Record], new: &Record) -> bool
-    ensures { result ≡ list_any (same_record new.now) records.now }
-{
-    records.iter().any(|other| *new == *other)
-}
-
-// Whether the record conflicts with one of these.
-fn has_conflict(records: &[Record], new: &Record) -> bool
-    ensures { result ≡ list_any (conflicts new.now) records.now }
-{
-    records.iter().any(|other| new.conflicts_with(other))
-}
-
 // How many records have owners outside the apex.
 fn count_outside(apex: &Name, records: &[Record]) -> usize
     ensures { result ≡ length (records_outside apex.now records.now) }
@@ -144,11 +132,4 @@ fn count_outside(apex: &Name, records: &[Record]) -> usize
         .iter()
         .filter(|record| !record.owner.is_within(apex))
         .count()
-}
-
-// How many records share a set with this one.
-fn count_set(new: &Record, records: &[Record]) -> usize
-    ensures { result ≡ count_by (shares_set new.now) records.now }
-{
-    records.iter().filter(|other| new.shares_set(other)).count()
 }

@@ -1,36 +1,47 @@
 //! Records with an index of their sets.
-ghost use Rattle.std.specs.Prelude.{◌≡◌, ◌≤◌, ◌^◌, ◌+◌, [], ◌∷◌, ◌++◌, length, true, false, IfOk, vec_len, vec_capacity};
-ghost use Rattle.std.specs.List.{list_all, list_any};
-ghost use Rattle.sipl_names.specs.Labels.{is_within};
-ghost use Rattle.sipl_records.specs.Sets.{same_record, set_of};
+ghost use Rattle.std.specs.Prelude.{◌≡◌, ◌≤◌, ◌^◌, ◌+◌, ◌&&◌, ◌||◌, not, [], ◌∷◌, ◌++◌, length, true, false, if◌then◌else◌, IfOk, OnOk, OnErr, vec_len, vec_capacity};
+ghost use Rattle.std.specs.List.{count_by, list_all, list_any};
+ghost use Rattle.indexmap.specs.IndexSet.{IsUnchanged, contains};
+ghost use Rattle.sipl_names.specs.Labels.{Labels, is_within, same_name};
+ghost use Rattle.sipl_records.specs.declared.record.Key.{Key};
+ghost use Rattle.sipl_records.specs.Sets.{conflicts, same_record, set_of, shares_set};
 ghost use Rattle.sipl_masterfile.specs.Zones.{has_repeats};
+ghost use Rattle.sipl_zonestore.specs.BareOwners.{is_bare_at};
 ghost use Rattle.sipl_zonestore.specs.Numbers.{number_of};
+ghost use Rattle.sipl_zonestore.specs.SetTable.{content_of, no_content};
 ghost use Rattle.sipl_zonestore.specs.Store.{records_outside};
 ghost use Rattle.sipl_zonestore.specs.Edits.{records_without};
 ghost use Rattle.sipl_zonestore.specs.IndexedRecords.{IsReplaced};
 
+use crate::bare_owners::{bare_owner, bare_owners, insert_owner, remove_owner, replace_owners};
 use crate::compare::{changed_within, own_key};
+use crate::comparison::{Comparison, has_conflict, has_value};
 use crate::fault::StoreFault;
 use crate::set_numbers::{
     check_numbers, count_numbered, number_sets, push_to_set, remove_from_set, sets_of,
 };
 use crate::sets::SetTable;
+use indexmap::IndexSet;
 use sipl_names::Name;
 use sipl_records::{Data, Key, Record, Sequence};
 use std::alloc::{AllocError, Global};
 use std::marker::Model;
 
-// Records in the order of addition, and an index of their sets by their keys, each set with its
-// number. A set takes the next number whenever it changes.
+// Records in the order of addition, an index of their sets by their keys, each set with its number,
+// and the owners of those of which nothing is kept, which are in no set. A set takes the next number
+// whenever it changes.
 #[derive(Drop)]
 pub(crate) struct IndexedRecords {
     alloc: Global,
     records: Vec<Record>,
     sets: SetTable,
+    bare: IndexSet<Name>,
     next: u64,
 }
 
 impl Model for IndexedRecords {
+    ghost use Rattle.indexmap.specs.IndexSet.{contains};
+    ghost use Rattle.sipl_names.specs.Labels.{same_name};
     ghost use Rattle.sipl_zonestore.specs.SetTable.{numbers_of};
     ghost use Rattle.sipl_zonestore.specs.IndexedRecords.{IndexedState, IsIndexed};
 
@@ -42,7 +53,7 @@ impl Model for IndexedRecords {
       next = r.next;
     } };
 
-    ghost invariant = { λ r. IsIndexed r.records.items r.sets r.next };
+    ghost invariant = { λ r. IsIndexed r.records.items r.sets (contains same_name r.bare) r.next };
 }
 
 impl IndexedRecords {
@@ -55,6 +66,7 @@ impl IndexedRecords {
             alloc,
             records: Vec::new(alloc),
             sets: SetTable::new(alloc),
+            bare: IndexSet::new(alloc),
             next,
         }
     }
@@ -81,6 +93,41 @@ impl IndexedRecords {
         self.sets.number(key)
     }
 
+    // Whether the record that is sought is among these. Constant time but for hashing and the data of its set.
+    pub(crate) fn contains(&self, sought: &Record) -> Result<bool, AllocError>
+        ensures { IfOk result
+            (λ found. found ≡ list_any (same_record sought.now) self.now.records) }
+    {
+        let Some(key) = sought.key(self.alloc)? else {
+            return Ok(self.bare.contains(&sought.owner));
+        };
+        Ok(has_value(self.sets.values(&key), &sought.value))
+    }
+
+    // Compares a new record with these. Constant time but for hashing and the data of its set.
+    pub(crate) fn compare(&self, new: &Record) -> Result<Comparison, AllocError>
+        ensures repeated { IfOk result
+            (λ found. found.is_repeated ≡ list_any (same_record new.now) self.now.records) }
+        ensures conflicts { IfOk result
+            (λ found. found.conflicts ≡ list_any (conflicts new.now) self.now.records) }
+        ensures set_len { IfOk result
+            (λ found. found.set_len ≡ count_by (shares_set new.now) self.now.records) }
+    {
+        let Some(key) = new.key(self.alloc)? else {
+            return Ok(Comparison {
+                is_repeated: self.bare.contains(&new.owner),
+                conflicts: false,
+                set_len: 0,
+            });
+        };
+        let values = self.sets.values(&key);
+        Ok(Comparison {
+            is_repeated: has_value(values, &new.value),
+            set_len: values.len(),
+            conflicts: has_conflict(&self.sets, key),
+        })
+    }
+
     // Replaces the records within the apex by those of a text, which are last. Returns the keys of
     // the sets that changed.
     pub(crate) fn replace_within(
@@ -101,7 +148,7 @@ impl IndexedRecords {
         number_sets(&mut sets, &keys, self.next);
         let copies = copy_records(self.alloc, text)?;
         self.records.reserve(copies.len())?;
-        self.sets.replace_within(apex, sets)?;
+        replace_tables(self.alloc, &mut self.sets, &mut self.bare, apex, text, sets)?;
         replace_records(&mut self.records, apex, copies);
         self.next += count as u64;
         Ok(Sequence::from_vec(keys))
@@ -114,8 +161,11 @@ impl IndexedRecords {
     {
         let keys = own_key(self.alloc, new)?;
         let copy = new.dup(self.alloc)?;
+        let owner = bare_owner(self.alloc, new)?;
         self.records.reserve(1)?;
+        self.bare.reserve(1)?;
         let next = push_to_set(self.alloc, &mut self.sets, self.next, new)?;
+        insert_owner(&mut self.bare, owner);
         self.records.push_reserved(copy);
         self.next = next;
         Ok(Sequence::from_vec(keys))
@@ -128,10 +178,39 @@ impl IndexedRecords {
     {
         let keys = own_key(self.alloc, old)?;
         let next = remove_from_set(self.alloc, &mut self.sets, self.next, old)?;
+        remove_owner(&mut self.bare, old);
         self.records.retain(|record| *old != *record);
         self.next = next;
         Ok(Sequence::from_vec(keys))
     }
+}
+
+// Replaces what the tables have of the records within the apex by what a text has, whose sets are
+// these.
+fn replace_tables(
+    alloc: Global,
+    sets: &mut SetTable,
+    bare: &mut IndexSet<Name>,
+    apex: &Name,
+    text: &[Record],
+    text_sets: SetTable,
+) -> Result<(), AllocError>
+    requires { (key : Key) → is_within key.name apex.now ≡ false
+        → content_of text_sets key ≡ no_content }
+    ensures sets { OnOk result ((key : Key) → content_of sets.new key
+        ≡ (if is_within key.name apex.now then content_of text_sets key
+        else content_of sets.old key)) }
+    ensures bare { OnOk result ((name : Labels) → contains same_name bare.new name
+        ≡ (not (is_within name apex.now) && contains same_name bare.old name
+        || list_any (is_bare_at name) text.now)) }
+    ensures sets_left { OnErr result (sets.new ≡ sets.old) }
+    ensures bare_left { OnErr result (IsUnchanged bare.old bare.new) }
+{
+    let owners = bare_owners(alloc, text)?;
+    bare.reserve(owners.len())?;
+    sets.replace_within(apex, text_sets)?;
+    replace_owners(bare, apex, owners);
+    Ok(())
 }
 
 // Copies of the records.

@@ -2,8 +2,10 @@
 #![tactic(auto)]
 
 mod apexes;
+mod bare_owners;
 mod checks;
 mod compare;
+mod comparison;
 mod fault;
 mod indexed_records;
 pub mod laws;

@@ -122,7 +122,8 @@ impl ZoneStore {
     }
 
     /// Adds a record, which is last. Returns the key of its set, if it is in one, which takes the
-    /// next number. Linear in the number of all records.
+    /// next number. Linear in the number of loaded zones, and in the number of data of its set, which
+    /// is at most 32, but for hashing.
     ///
     /// The fault is the first one: an owner in no loaded zone (S2), a record that is in the store
     /// already (S3), an alias beside other data (S5), a set of 32 records (S6), as many records as
@@ -130,7 +131,7 @@ impl ZoneStore {
     pub fn add(&mut self, new: &Record) -> Result<Sequence<Key>, StoreFault>
         ensures { IsEdited (add new.now) self.old self.new result }
     {
-        check_add(self.max_records, new, &self.apexes, self.records.as_slice())?;
+        check_add(self.max_records, new, &self.apexes, &self.records)?;
         self.records.push(new)
     }
 
@@ -142,7 +143,7 @@ impl ZoneStore {
     pub fn remove(&mut self, old: &Record) -> Result<Sequence<Key>, StoreFault>
         ensures { IsEdited (remove old.now) self.old self.new result }
     {
-        check_remove(old, &self.apexes, self.records.as_slice())?;
+        check_remove(old, &self.apexes, &self.records)?;
         self.records.remove(old)
     }
 

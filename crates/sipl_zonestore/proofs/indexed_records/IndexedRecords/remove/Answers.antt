@@ -1,11 +1,16 @@
 use Rattle.std.proofs.Common.{◌≡◌, not, ap, sym, ◌∙◌, rules}
 use Rattle.std.proofs.lemmas.Fn.{filter_same}
 use Rattle.std.proofs.lemmas.Result.{err_from_is_err_and}
+use Rattle.indexmap.specs.IndexSet.{contains}
+use Rattle.std.specs.List.{list_any}
+use Rattle.sipl_names.specs.Labels.{same_name}
 use Rattle.sipl_records.specs.declared.record.Record.{Record}
 use Rattle.sipl_records.specs.Sets.{set_of, same_record}
 use Rattle.sipl_records.proofs.Public.{same_record_is}
+use Rattle.sipl_zonestore.specs.BareOwners.{is_bare_at}
 use Rattle.sipl_zonestore.specs.Edits.{records_without}
 use Rattle.sipl_zonestore.specs.SetTable.{numbers_of}
+use Rattle.sipl_zonestore.proofs.BareOwners.{bare-removed}
 use Rattle.sipl_zonestore.proofs.Recorded.{taken_out, removed-sets, refused, refused-remove}
 use Rattle.sipl_zonestore.proofs.indexed_records.IndexedRecords.remove.Goals as goal
 
@@ -14,6 +19,9 @@ invariant_of-self-2 c =
     let kept : c.retain.new.self.items ≡ records_without c.args.old.now c.self.inside.records.items = filter_same _ (λ (r : Record). not (same_record c.args.old.now r)) _ (λ x b f k. search (rules, same_record_is)) _ _ c.retain.ensures.filtered in
     record {
       has_sets = λ key. removed-sets c.self.inside.records.items c.args.old.now c.self.inside.next c.self.inside.sets c.remove_from_set.new.sets c.self.invariant.has_sets c.in_ok-next.ensures.content key ∙ ap (λ rs. set_of rs key) (sym kept);
+      has_bare = λ name.
+          bare-removed c.self.inside.records.items c.args.old.now (contains same_name c.self.inside.bare) (contains same_name c.remove_owner.new.owners) c.self.invariant.has_bare c.remove_owner.ensures name
+          ∙ ap (λ rs. list_any (is_bare_at name) rs) (sym kept);
       last = c.in_ok-next.ensures.last;
     }
 

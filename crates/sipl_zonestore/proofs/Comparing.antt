@@ -1,0 +1,159 @@
+-- What the tables of sets and owners tell of a record beside others.
+use Rattle.std.proofs.Common.{◌≡◌, suc, Bool, true, false, not, ◌&&◌, ◌||◌, List, [], ◌∷◌, length, Option, None, Some, option_map, if◌then◌else◌, refl, ap, sym, ◌∙◌, inl, inr}
+use Rattle.std.specs.List.{filter, list_any, count_by}
+use Rattle.std.specs.Option.{is_some, option_map_or}
+use Rattle.std.proofs.lemmas.Bool.{cases_Bool}
+use Rattle.std.proofs.lemmas.List.Sums.{length-filter}
+use Rattle.sipl_names.specs.Labels.{Labels, same_name}
+use Rattle.sipl_names.proofs.Public.{same_name_decides}
+use Rattle.sipl_records.specs.declared.data.Data.{Data}
+use Rattle.sipl_records.specs.declared.data.Data.TheVariants.{Bare}
+use Rattle.sipl_records.specs.declared.kind.Kind.{Kind}
+use Rattle.sipl_records.specs.declared.kind.Kind.TheVariants.{Address4, Address6, Alias, Service, Pointer}
+use Rattle.sipl_records.specs.declared.record.Record.{Record}
+use Rattle.sipl_records.specs.declared.record.Key.{Key}
+use Rattle.sipl_records.specs.Sets.{conflicts, has_key, has_kind, has_some_kind, key_of, kind_of, same_data, same_kind, same_record, set_of, shares_set}
+use Rattle.sipl_records.proofs.Public.{filter-none, has_key-key_of, has_key-name, is_key, key_of-name, same_key-refl, same_name-sym, same_record-Decides, shares_set-Some}
+use Rattle.sipl_zonestore.specs.Numbers.{is_empty}
+use Rattle.sipl_zonestore.specs.SetTable.{NumberedSet, HasSets, conflicts_in, content_of, has_kind_set, has_set}
+use Rattle.sipl_zonestore.specs.BareOwners.{HasBare, is_bare_at}
+use Rattle.sipl_zonestore.proofs.Elements.{count-same}
+use Rattle.sipl_zonestore.proofs.BareOwners.{any-agree, any-none}
+
+-- a key has a set where a record has the key
+not_empty : (records : List Record) (key : Key) → not (is_empty (set_of records key)) ≡ list_any (has_key key) records
+not_empty [] key = refl
+not_empty (r ∷ records) key = elim (cases_Bool (has_key key r)) [
+  | inl here ↦ rw here refl
+  | inr other ↦ rw other (not_empty records key)
+]
+
+has_set-any : (sets : List NumberedSet) (records : List Record) (key : Key) → HasSets sets records → has_set sets key ≡ list_any (has_key key) records
+has_set-any sets records key has = ap (λ set. not (is_empty set)) (has key) ∙ not_empty records key
+
+-- ---- a record of a set
+
+-- it is among the records where its datum is in its set
+repeated-in : (records : List Record) (new : Record) (key : Key) → key_of new ≡ Some key → list_any (same_data new.value) (set_of records key) ≡ list_any (same_record new) records
+repeated-in [] new key own = refl
+repeated-in (r ∷ records) new key own = elim (cases_Bool (has_key key r)) [
+  | inl here ↦
+      let owner : same_name new.owner r.owner ≡ true = (same_name_decides new.owner r.owner).1 (key_of-name new key own ∙ sym (has_key-name key r here)) in
+      rw (here, owner) (ap (λ b. same_data new.value r.value || b) (repeated-in records new key own))
+  | inr other ↦
+      let apart : same_record new r ≡ false = elim (cases_Bool (same_record new r)) [
+        | inl same ↦
+            let never : true ≡ false = sym (has_key-key_of key new ∙ ap (is_key key) own ∙ same_key-refl key) ∙ ap (has_key key) ((same_record-Decides new r).0 same) ∙ other in cc
+        | inr apart ↦ apart
+      ] in
+      rw (other, apart) (repeated-in records new key own)
+]
+
+pub repeated-is : (sets : List NumberedSet) (records : List Record) (new : Record) (key : Key) → HasSets sets records → key_of new ≡ Some key → list_any (same_data new.value) (content_of sets key).values ≡ list_any (same_record new) records
+repeated-is sets records new key has own = ap (list_any (same_data new.value)) (has key) ∙ repeated-in records new key own
+
+length-set : (records : List Record) (key : Key) → length (set_of records key) ≡ length (filter (has_key key) records)
+length-set [] key = refl
+length-set (r ∷ records) key = elim (cases_Bool (has_key key r)) [
+  | inl here ↦ rw here (ap suc (length-set records key))
+  | inr other ↦ rw other (length-set records key)
+]
+
+-- its set has as many data as there are records in its set
+pub set_len-is : (sets : List NumberedSet) (records : List Record) (new : Record) (key : Key) → HasSets sets records → key_of new ≡ Some key → length (content_of sets key).values ≡ count_by (shares_set new) records
+set_len-is sets records new key has own =
+    ap length (has key) ∙ length-set records key ∙ length-filter (has_key key) records ∙ sym (count-same (shares_set new) (has_key key) (shares_set-Some new key own) records)
+
+-- the kind of a record's key
+own_kind : (new : Record) (key : Key) (own : Option Kind) → option_map (λ kind. record { name = new.owner; kind = kind }) own ≡ Some key → own ≡ Some key.kind
+own_kind new key None is = cc
+own_kind new key (Some kind) is =
+    let made : Key = record { name = new.owner; kind = kind } in
+    let same : made ≡ key = cc in
+    ap (λ (k : Key). Some k.kind) same
+
+-- which records conflict with one, by the kinds
+any-or : {X : Type 0} (p q : X → Bool) (xs : List X) → list_any (λ x. p x || q x) xs ≡ (list_any p xs || list_any q xs)
+any-or p q [] = refl
+any-or p q (x ∷ xs) = ap (λ b. (p x || q x) || b) (any-or p q xs) ∙ moved (p x) (q x) (list_any p xs) (list_any q xs) where
+  moved : (a b c d : Bool) → ((a || b) || (c || d)) ≡ ((a || c) || (b || d))
+  moved true b c d = refl
+  moved false true true d = refl
+  moved false true false d = refl
+  moved false false true d = refl
+  moved false false false d = refl
+
+abbrev of_kind : Labels → Kind → Record → Bool
+of_kind name kind r = has_key (record { name = name; kind = kind }) r
+
+beside-alias : (same : Bool) (other : Option Kind) → (same && true && is_some other && (true || option_map_or (λ own. same_kind own Alias) other false)) ≡ (same && option_map_or (λ own. same_kind own Address4) other false || same && option_map_or (λ own. same_kind own Address6) other false || same && option_map_or (λ own. same_kind own Alias) other false || same && option_map_or (λ own. same_kind own Service) other false || same && option_map_or (λ own. same_kind own Pointer) other false)
+beside-alias true None = refl
+beside-alias false None = refl
+beside-alias true (Some Address4) = refl
+beside-alias true (Some Address6) = refl
+beside-alias true (Some Alias) = refl
+beside-alias true (Some Service) = refl
+beside-alias true (Some Pointer) = refl
+beside-alias false (Some kind) = refl
+
+beside-other : (same : Bool) (other : Option Kind) → (same && true && is_some other && (false || option_map_or (λ own. same_kind own Alias) other false)) ≡ (same && option_map_or (λ own. same_kind own Alias) other false)
+beside-other true None = refl
+beside-other false None = refl
+beside-other true (Some kind) = refl
+beside-other false (Some kind) = refl
+
+conflicts-of : (new r : Record) (key : Key) → key_of new ≡ Some key → conflicts new r ≡ (same_name r.owner key.name && true && is_some (kind_of r.value) && (same_kind key.kind Alias || option_map_or (λ own. same_kind own Alias) (kind_of r.value) false))
+conflicts-of new r key own =
+    let kind : kind_of new.value ≡ Some key.kind = own_kind new key (kind_of new.value) own in
+    let owner : same_name new.owner r.owner ≡ same_name r.owner key.name = same_name-sym new.owner r.owner ∙ ap (same_name r.owner) (key_of-name new key own) in
+    (λ i. owner i && is_some (kind i) && is_some (kind_of r.value) && (option_map_or (λ own. same_kind own Alias) (kind i) false || option_map_or (λ own. same_kind own Alias) (kind_of r.value) false))
+
+pub conflicts-is : (sets : List NumberedSet) (records : List Record) (new : Record) (key : Key) → HasSets sets records → key_of new ≡ Some key → conflicts_in sets key ≡ list_any (conflicts new) records
+conflicts-is sets records new key has own = by_case (same_kind key.kind Alias) refl where
+  found : (kind : Kind) → has_kind_set sets key.name kind ≡ list_any (of_kind key.name kind) records
+  found kind = has_set-any sets records (record { name = key.name; kind = kind }) has
+
+  four : Record → Bool
+  four r = of_kind key.name Address4 r || of_kind key.name Address6 r || of_kind key.name Alias r || of_kind key.name Service r
+
+  by_case : (b : Bool) → same_kind key.kind Alias ≡ b → (if b then has_kind_set sets key.name Address4 || has_kind_set sets key.name Address6 || has_kind_set sets key.name Alias || has_kind_set sets key.name Service || has_kind_set sets key.name Pointer else has_kind_set sets key.name Alias) ≡ list_any (conflicts new) records
+  by_case true alias =
+      (λ i. found Address4 i || found Address6 i || found Alias i || found Service i || found Pointer i)
+      ∙ ap (λ b. b || list_any (of_kind key.name Alias) records || list_any (of_kind key.name Service) records || list_any (of_kind key.name Pointer) records) (sym (any-or (of_kind key.name Address4) (of_kind key.name Address6) records))
+      ∙ ap (λ b. b || list_any (of_kind key.name Service) records || list_any (of_kind key.name Pointer) records) (sym (any-or (λ r. of_kind key.name Address4 r || of_kind key.name Address6 r) (of_kind key.name Alias) records))
+      ∙ ap (λ b. b || list_any (of_kind key.name Pointer) records) (sym (any-or (λ r. of_kind key.name Address4 r || of_kind key.name Address6 r || of_kind key.name Alias r) (of_kind key.name Service) records))
+      ∙ sym (any-or (λ r. of_kind key.name Address4 r || of_kind key.name Address6 r || of_kind key.name Alias r || of_kind key.name Service r) (of_kind key.name Pointer) records)
+      ∙ any-agree _ (conflicts new) (λ r. sym (conflicts-of new r key own ∙ ap (λ b. same_name r.owner key.name && true && is_some (kind_of r.value) && (b || option_map_or (λ own. same_kind own Alias) (kind_of r.value) false)) alias ∙ beside-alias (same_name r.owner key.name) (kind_of r.value))) records
+  by_case false other =
+      found Alias
+      ∙ any-agree (of_kind key.name Alias) (conflicts new) (λ r. sym (conflicts-of new r key own ∙ ap (λ b. same_name r.owner key.name && true && is_some (kind_of r.value) && (b || option_map_or (λ own. same_kind own Alias) (kind_of r.value) false)) other ∙ beside-other (same_name r.owner key.name) (kind_of r.value))) records
+
+-- ---- a record of no set
+
+no_kind : (new : Record) (own : Option Kind) → option_map {U = Key} (λ kind. record { name = new.owner; kind = kind }) own ≡ None → own ≡ None
+no_kind new None is = refl
+no_kind new (Some kind) is = cc
+
+pub kindless : (new : Record) → key_of new ≡ None → kind_of new.value ≡ None
+kindless new none = no_kind new (kind_of new.value) none
+
+same-bare : (a b : Data) → kind_of a ≡ None → not (is_some (kind_of b)) ≡ same_data a b
+same-bare Bare Bare none = refl
+same-bare Bare _ none = refl
+same-bare _ _ none = cc
+
+pub bare-repeated : (owners : Labels → Bool) (records : List Record) (new : Record) → HasBare owners records → key_of new ≡ None → owners new.owner ≡ list_any (same_record new) records
+bare-repeated owners records new has none =
+    has new.owner ∙ any-agree (is_bare_at new.owner) (same_record new) (λ r. ap (λ b. same_name new.owner r.owner && b) (same-bare new.value r.value (kindless new none))) records
+
+pub bare-conflicts : (records : List Record) (new : Record) → key_of new ≡ None → false ≡ list_any (conflicts new) records
+bare-conflicts records new none = sym (any-none (conflicts new) (λ r. ap (λ (own : Option Kind). same_name new.owner r.owner && is_some own && has_some_kind r.value && (option_map_or (λ own. same_kind own Alias) own false || has_kind Alias r.value)) (kindless new none) ∙ nothing (same_name new.owner r.owner) (has_some_kind r.value) (has_kind Alias r.value)) records) where
+  nothing : (a b c : Bool) → (a && false && b && (false || c)) ≡ false
+  nothing true b c = refl
+  nothing false b c = refl
+
+pub bare-count : (records : List Record) (new : Record) → key_of new ≡ None → 0 ≡ count_by (shares_set new) records
+bare-count records new none = sym (sym (length-filter (shares_set new) records) ∙ ap length (filter-none (shares_set new) (λ r. ap (λ (own : Option Kind). same_name new.owner r.owner && option_map_or (λ kind. has_kind kind r.value) own false) (kindless new none) ∙ nothing (same_name new.owner r.owner)) records)) where
+  nothing : (a : Bool) → (a && false) ≡ false
+  nothing true = refl
+  nothing false = refl

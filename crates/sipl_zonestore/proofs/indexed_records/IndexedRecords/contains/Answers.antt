@@ -1,0 +1,16 @@
+use Rattle.std.proofs.Common.{ap, sym, ◌∙◌}
+use Rattle.std.specs.List.{list_any}
+use Rattle.sipl_records.specs.Sets.{same_data, same_record}
+use Rattle.sipl_zonestore.specs.IndexedRecords.{IndexedState}
+use Rattle.sipl_zonestore.proofs.Comparing.{bare-repeated, repeated-is}
+use Rattle.sipl_zonestore.proofs.indexed_records.IndexedRecords.contains.Goals as goal
+
+pub returns-in_default : goal.returns-in_default
+returns-in_default c =
+    c.contains.ensures ∙ bare-repeated _ c.self.inside.records.items c.args.sought.now c.self.invariant.has_bare (sym c.in_ok-key.ensures ∙ c.in_default.is) ∙ ap (λ (state : IndexedState). list_any (same_record c.args.sought.now) state.records) c.self.view_is
+
+pub returns : goal.returns
+returns c =
+    c.has_value.ensures ∙ ap (list_any (same_data c.args.sought.now.value)) c.values.ensures
+    ∙ repeated-is c.self.inside.sets c.self.inside.records.items c.args.sought.now c.in-Some.key c.self.invariant.has_sets (sym c.in_ok-key.ensures ∙ c.in-Some.is)
+    ∙ ap (λ (state : IndexedState). list_any (same_record c.args.sought.now) state.records) c.self.view_is

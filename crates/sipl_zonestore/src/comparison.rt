@@ -1,0 +1,64 @@
+//! A record compared with those of its owner, by the tables of sets and owners.
+ghost use Rattle.std.specs.Prelude.{◌≡◌, ◌||◌};
+ghost use Rattle.std.specs.List.{list_any};
+ghost use Rattle.sipl_records.specs.declared.record.Key.{Key};
+ghost use Rattle.sipl_records.specs.Sets.{same_data};
+ghost use Rattle.sipl_zonestore.specs.SetTable.{conflicts_in, has_kind_set};
+
+use crate::sets::SetTable;
+use sipl_records::{Data, Key, Kind};
+
+// What records are to a new one.
+#[derive(Clone, Copy)]
+pub(crate) struct Comparison {
+    // Whether one of them is equal to the new one.
+    pub(crate) is_repeated: bool,
+    // Whether one of them conflicts with it.
+    pub(crate) conflicts: bool,
+    // How many of them are in its set.
+    pub(crate) set_len: usize,
+}
+
+// Whether the datum is in the set.
+pub(crate) fn has_value(values: &[Data], value: &Data) -> bool
+    ensures { result ≡ list_any (same_data value.now) values.now }
+{
+    values.iter().any(|other| *value == *other)
+}
+
+// Whether a record of this key conflicts with one of the sets of its owner. At most five look-ups.
+// Does not allocate.
+pub(crate) fn has_conflict(sets: &SetTable, mut key: Key) -> bool
+    ensures { result ≡ conflicts_in sets.now key }
+{
+    match key.kind {
+        Kind::Alias => has_any_kind(sets, &mut key),
+        Kind::Address4 | Kind::Address6 | Kind::Service | Kind::Pointer => {
+            has_kind(sets, &mut key, Kind::Alias)
+        }
+    }
+}
+
+// Whether the key's owner has a set of some kind.
+fn has_any_kind(sets: &SetTable, key: &mut Key) -> bool
+    ensures { result ≡ (has_kind_set sets.now key.old.name Kind.Address4
+        || has_kind_set sets.now key.old.name Kind.Address6
+        || has_kind_set sets.now key.old.name Kind.Alias
+        || has_kind_set sets.now key.old.name Kind.Service
+        || has_kind_set sets.now key.old.name Kind.Pointer) }
+{
+    has_kind(sets, key, Kind::Address4)
+        || has_kind(sets, key, Kind::Address6)
+        || has_kind(sets, key, Kind::Alias)
+        || has_kind(sets, key, Kind::Service)
+        || has_kind(sets, key, Kind::Pointer)
+}
+
+// Whether the key's owner has a set of this kind, which the key is given.
+fn has_kind(sets: &SetTable, key: &mut Key, kind: Kind) -> bool
+    ensures found { result ≡ has_kind_set sets.now key.old.name kind }
+    ensures name { key.new.name ≡ key.old.name }
+{
+    key.kind = kind;
+    !sets.values(key).is_empty()
+}
