@@ -1,21 +1,22 @@
 -- Records whose sets are numbered, once records have changed.
-use Rattle.std.proofs.Common.{◌≡◌, ◌≢◌, ℕ, ◌+◌, ◌^◌, ◌<◌, ◌≤◌, Bool, true, false, not, List, [], ◌∷◌, ◌++◌, length, Option, None, Some, Ok, Err, if◌then◌else◌, cond, refl, ap, sym, ◌∙◌, arith, append-nil}
-use Rattle.std.specs.List.{filter, list_any, list_all, position_from}
+use Rattle.std.proofs.Common.{◌≡◌, ◌≢◌, ℕ, ◌+◌, ◌^◌, ◌<◌, ◌≤◌, Bool, true, false, not, ◌&&◌, List, [], ◌∷◌, ◌++◌, length, Option, None, Some, Ok, Err, if◌then◌else◌, cond, refl, ap, sym, ◌∙◌, arith, append-nil}
+use Rattle.std.specs.List.{filter, filter_map, list_any, list_all, position_from}
 use Rattle.std.specs.Option.{option_to_list, unwrap_or}
 use Rattle.sipl_names.specs.Labels.{is_within}
 use Rattle.sipl_records.specs.declared.record.Record.{Record}
 use Rattle.sipl_records.specs.declared.record.Key.{Key}
 use Rattle.sipl_records.specs.Sets.{has_key, set_of, same_data, same_key, same_record, key_of}
-use Rattle.sipl_records.proofs.Public.{same_key-Decides, same_key-refl, has_key-key_of, is_key, set_of-append}
+use Rattle.sipl_records.specs.Unique.{unique}
+use Rattle.sipl_records.proofs.Public.{filter-filter, filter-none, same_key-Decides, same_key-refl, has_key-key_of, is_key, set_of-append}
 use Rattle.sipl_zonestore.specs.declared.fault.StoreFault.{StoreFault}
 use Rattle.sipl_zonestore.specs.declared.fault.StoreFault.TheVariants.{Memory, NumberSpent}
 use Rattle.sipl_zonestore.specs.Store.{records_outside}
 use Rattle.sipl_zonestore.specs.Edits.{records_without}
-use Rattle.sipl_zonestore.specs.Changes.{changed_keys}
+use Rattle.sipl_zonestore.specs.Changes.{is_changed, changed_keys}
 use Rattle.sipl_zonestore.specs.Numbers.{is_empty, number_of, numbered_keys, number_after, next_after, number_refusal}
 use Rattle.sipl_zonestore.specs.SetTable.{NumberedSet, Content, carried, content_of, numbers_of, pushed, without, renumbered, keys_left, has_set, HasSets}
 use Rattle.sipl_zonestore.specs.IndexedRecords.{IndexedState, IsReplaced}
-use Rattle.sipl_zonestore.proofs.ChangedKeys.{changed-add, changed-remove, set_of-without, set_of-others}
+use Rattle.sipl_zonestore.proofs.ChangedKeys.{changed-add, changed-remove, set-inside, set_of-without, set_of-others, stays}
 use Rattle.sipl_zonestore.proofs.Elements.{chosen-first, chosen-second}
 use Rattle.sipl_zonestore.proofs.SetTables.{number_of-numbers_of, is_empty-push}
 use Rattle.sipl_zonestore.proofs.Replacing.{IsReplacement, empty-number, accepted-numbers, refused-numbers, replaced-number, filter-numbered}
@@ -159,3 +160,24 @@ refused-add old r next fault why =
 pub refused-remove : (old : List Record) (r : Record) (next : ℕ) (sets : List NumberedSet) (fault : StoreFault) → HasSets sets old → list_any (same_record r) old ≡ true → (2 ^ 52 + 1 < next + length (keys_left sets r)) × (fault ≡ NumberSpent) → number_refusal old (records_without r old) next ≡ Some fault
 refused-remove old r next sets fault has some why =
     refused-numbers old (records_without r old) next (length (keys_left sets r)) (ap length (sym (numbered-remove old r sets has some))) why.0 ∙ ap (λ f. Some f) (sym why.1)
+
+-- where records are only left out, no set takes a number
+numbered-outside : (apex : List (List ℕ)) (old : List Record) → numbered_keys old (records_outside apex old ++ []) ≡ []
+numbered-outside apex old =
+    filter-filter (λ key. not (is_empty (set_of (records_outside apex old ++ []) key))) (is_changed old (records_outside apex old ++ [])) (unique same_key (filter_map key_of (old ++ (records_outside apex old ++ []))))
+    ∙ filter-none (λ key. is_changed old (records_outside apex old ++ []) key && not (is_empty (set_of (records_outside apex old ++ []) key))) (λ key. by_case key (is_within key.name apex) refl) (unique same_key (filter_map key_of (old ++ (records_outside apex old ++ [])))) where
+      nothing : (b : Bool) → (b && false) ≡ false
+      nothing true = refl
+      nothing false = refl
+
+      by_case : (key : Key) (b : Bool) → is_within key.name apex ≡ b → (is_changed old (records_outside apex old ++ []) key && not (is_empty (set_of (records_outside apex old ++ []) key))) ≡ false
+      by_case key true inside =
+          ap (λ set. is_changed old (records_outside apex old ++ []) key && not (is_empty set)) (set-inside apex old [] key inside) ∙ nothing (is_changed old (records_outside apex old ++ []) key)
+      by_case key false outside = ap (λ differs. differs && not (is_empty (set_of (records_outside apex old ++ []) key))) (stays apex old [] key refl outside)
+
+-- so the numbers never run out
+pub never_spent : (apex : List (List ℕ)) (old : List Record) (next : ℕ) (fault : StoreFault) → next ≤ 2 ^ 52 + 1 → (fault ≢ Memory → number_refusal old (records_outside apex old ++ []) next ≡ Some fault) → fault ≢ NumberSpent
+never_spent apex old next fault few why spent =
+    let some : fault ≢ Memory = λ memory. let never : NumberSpent ≡ Memory = sym spent ∙ memory in cc in
+    let never : None ≡ Some fault = sym (accepted-numbers old (records_outside apex old ++ []) next 0 (sym (ap length (numbered-outside apex old))) (omega (arith, few))) ∙ why some in
+    cc

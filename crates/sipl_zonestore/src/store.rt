@@ -1,4 +1,4 @@
-ghost use Rattle.std.specs.Prelude.{◌≡◌, ◌^◌, ◌≤◌, []};
+ghost use Rattle.std.specs.Prelude.{◌≡◌, ◌≢◌, ◌^◌, ◌≤◌, [], Err};
 ghost use Rattle.std.specs.Borrow.{sem};
 ghost use Rattle.std.specs.Io.BufRead.{Rests};
 ghost use Rattle.sipl_records.specs.Sets.{set_of};
@@ -111,9 +111,10 @@ impl ZoneStore {
     /// Unloads the zone of this apex: the apex and all records within it are gone. Returns the keys
     /// of the sets that changed, as `load` does. The cost is that of `load`.
     ///
-    /// The fault is that the apex is not loaded (S2).
+    /// The fault is that the apex is not loaded (S2). No set takes a number, so none is spent.
     pub fn unload(&mut self, apex: &Name) -> Result<Sequence<Key>, StoreFault>
-        ensures { IsEdited (unload apex.now) self.old self.new result }
+        ensures edited { IsEdited (unload apex.now) self.old self.new result }
+        ensures numbers { result ≢ Err StoreFault.NumberSpent }
     {
         check_unload(apex, &self.apexes)?;
         let keys = self.records.replace_within(apex, &[])?;
