@@ -1,6 +1,8 @@
 -- Tables of the owners of records of which nothing is kept.
-use Rattle.std.proofs.Common.{◌≡◌, ℕ, ◌+◌, ◌<◌, Bool, true, false, not, ◌&&◌, ◌||◌, List, [], ◌∷◌, ◌++◌, length, take, get_or, Option, Some, cond, is_some, refl, ap, sym, ◌∙◌, inl, inr}
+use Rattle.std.proofs.Common.{◌≡◌, ℕ, ◌+◌, ◌<◌, ◌≤◌, Bool, true, false, not, ◌&&◌, ◌||◌, List, [], ◌∷◌, ◌++◌, length, take, get_or, Option, None, Some, cond, is_some, refl, ap, sym, ◌∙◌, inl, inr, arith}
 use Rattle.std.specs.List.{filter, list_any}
+use Rattle.std.specs.Option.{option_to_list}
+use mir.Val.{bool_byte}
 use Rattle.std.proofs.lemmas.Bool.{cases_Bool}
 use Rattle.std.proofs.lemmas.List.Folds.{list_any-append, list_any_more}
 use Rattle.sipl_names.specs.Labels.{Labels, same_name, is_within}
@@ -23,6 +25,11 @@ any-agree p q agree (x ∷ xs) = λ i. agree x i || any-agree p q agree xs i
 pub any-none : {X : Type 0} (p : X → Bool) → ((x : X) → p x ≡ false) → (xs : List X) → list_any p xs ≡ false
 any-none p none [] = refl
 any-none p none (x ∷ xs) = rw (none x) (any-none p none xs)
+
+-- space for the owner, if there is one
+pub owner-fits : (own : Option Labels) (count space : ℕ) → count ≡ bool_byte (is_some own) → count ≤ space → length (option_to_list own) ≤ space
+owner-fits None count space is fits = omega arith
+owner-fits (Some owner) count space is fits = omega (arith, is, fits)
 
 cond_true : (a b : Bool) → cond a true b ≡ (a || b)
 cond_true true b = refl

@@ -1,5 +1,6 @@
 //! The owners of records of types that are not read, of which nothing is kept.
-ghost use Rattle.std.specs.Prelude.{◌≡◌, ◌≤◌, ◌&&◌, ◌||◌, not, IfOk};
+ghost use Rattle.std.specs.Prelude.{◌≡◌, ◌≤◌, ◌&&◌, ◌||◌, not, length, IfOk};
+ghost use Rattle.std.specs.Option.{option_to_list};
 ghost use Rattle.indexmap.specs.IndexSet.{contains, index_set_len, spare};
 ghost use Rattle.sipl_names.specs.Labels.{Labels, is_within, same_name};
 ghost use Rattle.sipl_zonestore.specs.BareOwners.{HasBare, is_bare_at, is_name};
@@ -23,7 +24,7 @@ pub(crate) fn bare_owner(alloc: Global, new: &Record) -> Result<Option<Name>, Al
 
 // Adds the owner, if there is one. Does not allocate.
 pub(crate) fn insert_owner(owners: &mut IndexSet<Name>, owner: Option<Name>)
-    requires { 1 ≤ spare owners.old }
+    requires { length (option_to_list owner) ≤ spare owners.old }
     ensures { (name : Labels) → contains same_name owners.new name
         ≡ (is_name name owner || contains same_name owners.old name) }
 {

@@ -163,7 +163,7 @@ impl IndexedRecords {
         let copy = new.dup(self.alloc)?;
         let owner = bare_owner(self.alloc, new)?;
         self.records.reserve(1)?;
-        self.bare.reserve(1)?;
+        self.bare.reserve(usize::from(owner.is_some()))?;
         let next = push_to_set(self.alloc, &mut self.sets, self.next, new)?;
         insert_owner(&mut self.bare, owner);
         self.records.push_reserved(copy);

@@ -1,14 +1,19 @@
 use Rattle.std.proofs.Common.{◌++◌, ◌∷◌, [], ◌||◌, ap, sym, ◌∙◌}
 use Rattle.std.specs.List.{list_any}
+use mir.Val.{bool_byte}
 use Rattle.std.proofs.lemmas.Result.{err_from_is_err_and}
 use Rattle.indexmap.specs.IndexSet.{contains}
 use Rattle.sipl_names.specs.Labels.{same_name}
 use Rattle.sipl_records.specs.Sets.{set_of}
 use Rattle.sipl_zonestore.specs.BareOwners.{is_bare_at, is_name}
 use Rattle.sipl_zonestore.specs.SetTable.{numbers_of}
-use Rattle.sipl_zonestore.proofs.BareOwners.{bare-added}
+use Rattle.sipl_zonestore.proofs.BareOwners.{bare-added, owner-fits}
 use Rattle.sipl_zonestore.proofs.Recorded.{added, pushed-sets, refused, refused-add}
 use Rattle.sipl_zonestore.proofs.indexed_records.IndexedRecords.push.Goals as goal
+
+pub insert_owner-requires : goal.insert_owner-requires
+insert_owner-requires c =
+    owner-fits c.in_ok-owner.owner c.from.result _ (c.from.ensures ∙ ap bool_byte c.is_some.ensures) c.in_ok-reserve-2.ensures.ok
 
 pub invariant_of-self-2 : goal.invariant_of-self-2
 invariant_of-self-2 c = record {
