@@ -80,8 +80,8 @@ has_set sets key = not (is_empty (content_of sets key).values)
 abbrev pub has_kind_set : List NumberedSet → Labels → Kind → Bool
 has_kind_set sets name kind = has_set sets (record { name = name; kind = kind })
 
--- whether a record of this key conflicts with the sets of its owner (RFC 1034, 3.6.2): an alias does
--- with each, and any other record with an alias
+-- whether a record of this key conflicts with the sets of its owner (RFC 1034, 3.6.2): an alias
+-- does with each, and any other record with an alias
 abbrev pub conflicts_in : List NumberedSet → Key → Bool
 conflicts_in sets key =
     if same_kind key.kind Alias

@@ -27,9 +27,9 @@ use sipl_records::{Data, Key, Record, Sequence};
 use std::alloc::{AllocError, Global};
 use std::marker::Model;
 
-// Records in the order of addition, an index of their sets by their keys, each set with its number,
-// and the owners of those of which nothing is kept, which are in no set. A set takes the next number
-// whenever it changes.
+// Records in the order of addition, a table of their sets by their keys, each set with its number,
+// and a table of the owners of those of which nothing is kept, which are in no set. A set takes the
+// next number whenever it changes.
 #[derive(Drop)]
 pub(crate) struct IndexedRecords {
     alloc: Global,
@@ -93,7 +93,8 @@ impl IndexedRecords {
         self.sets.number(key)
     }
 
-    // Whether the record that is sought is among these. Constant time but for hashing and the data of its set.
+    // Whether the record that is sought is among these. Constant time but for hashing and the data of
+    // its set.
     pub(crate) fn contains(&self, sought: &Record) -> Result<bool, AllocError>
         ensures { IfOk result
             (λ found. found ≡ list_any (same_record sought.now) self.now.records) }

@@ -123,8 +123,8 @@ impl ZoneStore {
     }
 
     /// Adds a record, which is last. Returns the key of its set, if it is in one, which takes the
-    /// next number. Linear in the number of loaded zones, and in the number of data of its set, which
-    /// is at most 32, but for hashing.
+    /// next number. But for hashing, linear in the number of loaded zones and of the data of its set,
+    /// which are at most 32.
     ///
     /// The fault is the first one: an owner in no loaded zone (S2), a record that is in the store
     /// already (S3), an alias beside other data (S5), a set of 32 records (S6), as many records as
