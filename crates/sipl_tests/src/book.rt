@@ -6,7 +6,7 @@ mod repairs;
 
 use sipl_book::{Book, BookFault, Done, Edit, Limits, MAX_ENTRIES, MAX_EVENTS};
 use sipl_choice::{Abilities, Endpoint, Families, Transport};
-use sipl_masterfile::{read_record, read_zone};
+use sipl_masterfile::{ZoneText, read_record, read_zone};
 use sipl_names::Name;
 use sipl_outages::BoardFault;
 use sipl_plans::{Answer, Finding, Run};
@@ -16,7 +16,7 @@ use sipl_uri::{Question, Uri};
 use std::alloc::Global;
 use std::process::Abort;
 
-const ZONE: &[u8] = b"@ NAPTR 50 50 \"s\" \"SIPS+D2T\" \"\" _sips._tcp
+pub(crate) const ZONE: &[u8] = b"@ NAPTR 50 50 \"s\" \"SIPS+D2T\" \"\" _sips._tcp
 @ NAPTR 90 50 \"s\" \"SIP+D2T\" \"\" _sip._tcp
 @ NAPTR 100 50 \"s\" \"SIP+D2U\" \"\" _sip._udp
 _sip._tcp SRV 0 1 5060 server1
@@ -73,7 +73,7 @@ fn new_book(rt: &impl Abort, alloc: Global, entries: usize, journal: usize) -> B
     Book::new(alloc, abilities(rt, alloc), &limits)
 }
 
-fn abilities(rt: &impl Abort, alloc: Global) -> Abilities
+pub(crate) fn abilities(rt: &impl Abort, alloc: Global) -> Abilities
     ensures { result ≡ record {
       preference = Transport.Tcp ∷ Transport.Udp ∷ [];
       families = Families.V4;
@@ -113,20 +113,25 @@ fn tcp(number: u32) -> Endpoint {
     }
 }
 
-fn question(rt: &impl Abort, alloc: Global, uri: &[u8]) -> Question {
+pub(crate) fn question(rt: &impl Abort, alloc: Global, uri: &[u8]) -> Question {
     Uri::parse(alloc, uri).expect(rt, "the URI is refused")
 }
 
-fn draws(rt: &impl Abort, words: &[u32]) -> Draws {
+pub(crate) fn draws(rt: &impl Abort, words: &[u32]) -> Draws {
     Draws::from_words(words).expect(rt, "the words are refused")
 }
 
-fn record(rt: &impl Abort, alloc: Global, text: &[u8]) -> Record {
+pub(crate) fn record(rt: &impl Abort, alloc: Global, text: &[u8]) -> Record {
     read_record(alloc, text, &Name::root(alloc)).expect(rt, "the record is refused")
 }
 
-fn apex(rt: &impl Abort, alloc: Global) -> Name {
+pub(crate) fn apex(rt: &impl Abort, alloc: Global) -> Name {
     Name::from_text(alloc, b"example.com.", &Name::root(alloc)).expect(rt, "the name is refused")
+}
+
+// The zone of the apex with this text.
+pub(crate) fn zone(rt: &impl Abort, alloc: Global, text: &[u8]) -> ZoneText {
+    read_zone(alloc, text, &apex(rt, alloc)).expect(rt, "the zone is refused")
 }
 
 // ---- calls of the book
@@ -140,8 +145,12 @@ fn change(rt: &impl Abort, book: &mut Book, edit: Edit) -> Done
 fn load_zone(rt: &impl Abort, alloc: Global, book: &mut Book)
     ensures { book.new.client ≡ book.old.client }
 {
-    let zone = read_zone(alloc, ZONE, &apex(rt, alloc)).expect(rt, "the zone is refused");
-    changes(rt, change(rt, book, Edit::Load(zone)), 0, 4);
+    changes(
+        rt,
+        change(rt, book, Edit::Load(zone(rt, alloc, ZONE))),
+        0,
+        4,
+    );
 }
 
 fn add(rt: &impl Abort, alloc: Global, book: &mut Book, text: &[u8]) -> Done

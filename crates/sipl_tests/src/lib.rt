@@ -11,6 +11,8 @@ mod evidence;
 #[cfg(test)]
 mod failover;
 #[cfg(test)]
+mod interleave;
+#[cfg(test)]
 mod masterfile;
 #[cfg(test)]
 mod names;
