@@ -1,17 +1,27 @@
 //! Tests of worlds: steps of several workers over one book, in any order.
 ghost use Rattle.std.specs.Prelude.{◌≤◌};
 
+mod chance;
+mod counts;
 mod examples;
+mod numbers;
+mod orders;
 mod script;
 
 use crate::book::abilities;
 use sipl_book::Limits;
+use sipl_choice::Abilities;
 use sipl_interleave::World;
-use std::alloc::Global;
+use sipl_outages::Board;
+use sipl_plans::{Answer, plan_of};
+use sipl_srv::Draws;
+use sipl_uri::Question;
+use sipl_zonestore::ZoneStore;
+use std::alloc::{AllocError, Global};
 use std::process::Abort;
 
-// A world of 1 to 64 workers for a client of TCP and UDP over IPv4, whose book keeps so many entries
-// and events at most.
+// A world of 1 to 64 workers for a client of TCP and UDP over IPv4, whose book keeps so many
+// entries and events at most.
 fn new_world(
     rt: &impl Abort,
     alloc: Global,
@@ -30,4 +40,25 @@ fn new_world(
         ..Limits::greatest()
     };
     World::new(alloc, abilities(rt, alloc), &limits, workers).expect(rt, "out of memory")
+}
+
+// The answer of the plain program on the records of a store and the holds of a board.
+fn plain_answer(
+    alloc: Global,
+    store: &mut ZoneStore,
+    board: &Board,
+    question: &Question,
+    abilities: &Abilities,
+    draws: &Draws,
+) -> Result<Answer, AllocError> {
+    plan_of(alloc, store.records(), board, question, abilities, draws)
+}
+
+// Whether two answers are the same.
+fn is_same(one: &Answer, other: &Answer) -> bool {
+    match (one, other) {
+        (Answer::Targets(one), Answer::Targets(other)) => one.as_slice() == other.as_slice(),
+        (Answer::None(one), Answer::None(other)) => one == other,
+        _ => false,
+    }
 }

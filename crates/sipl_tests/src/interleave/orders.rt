@@ -1,0 +1,494 @@
+//! Every order of the steps of two workers and of three edits: each commit is refused exactly where
+//! a set changed after it was read, and each answer is that of the plain program on the records to
+//! which the edits before it lead.
+use super::{is_same, new_world, plain_answer};
+use crate::book::{abilities, draws, question, record, zone};
+use sipl_book::{BookFault, Edit, MAX_ENTRIES, MAX_EVENTS};
+use sipl_choice::Abilities;
+use sipl_interleave::{Reply, Step, World, WorldFault, play};
+use sipl_outages::Board;
+use sipl_plans::Answer;
+use sipl_records::Record;
+use sipl_uri::Question;
+use sipl_zonestore::ZoneStore;
+use std::alloc::Global;
+use std::process::Abort;
+
+const ZONE: &[u8] = b"_sip._udp.a SRV 0 0 5060 s
+_sip._tcp.a SRV 0 0 5060 t
+s A 192.0.2.1
+t A 192.0.2.2
+";
+
+// The records of the edits: the first is added and removed, and then the second is added.
+const ADDRESS: &[u8] = b"s.example.com. A 192.0.2.11";
+
+const SERVICE: &[u8] = b"_sip._tcp.a.example.com. SRV 1 0 5070 t.example.com.";
+
+// The questions.
+const URIS: [&[u8]; 3] = [
+    b"sip:s.example.com:5070",
+    b"sip:a.example.com;transport=udp",
+    b"sip:a.example.com;transport=tcp",
+];
+
+// The sets that their runs read.
+const SETS: [&[Set]; 3] = [
+    &[Set::Addresses],
+    &[Set::Unchanged, Set::Addresses],
+    &[Set::Services, Set::Unchanged],
+];
+
+#[derive(Clone, Copy)]
+enum Set {
+    // That of the first two edits.
+    Addresses,
+    // That of the third.
+    Services,
+    Unchanged,
+}
+
+// How many of the first edits change a set.
+fn changes(set: Set, edits: usize) -> usize {
+    match set {
+        Set::Addresses => edits.min(2),
+        Set::Services => edits.min(3) / 3,
+        Set::Unchanged => 0,
+    }
+}
+
+// What a worker does in one go.
+#[derive(Clone, Copy)]
+enum Piece {
+    // Begins to look up a question, and reads a set. A beginning touches the worker alone.
+    Begin(usize),
+    Read,
+    Commit,
+}
+
+// What each of the workers does.
+const PIECES: [[Piece; 5]; 2] = [
+    [
+        Piece::Begin(0),
+        Piece::Commit,
+        Piece::Begin(1),
+        Piece::Read,
+        Piece::Commit,
+    ],
+    [
+        Piece::Begin(2),
+        Piece::Read,
+        Piece::Commit,
+        Piece::Begin(0),
+        Piece::Commit,
+    ],
+];
+
+// An order of all pieces: each is of the worker of this number, or is an edit where it is 2.
+type Order = [u8; 13];
+
+// The numbers of 13 digits in base 3.
+const NUMBERS: u32 = 1_594_323;
+
+// The digits of a number in base 3.
+fn order_of(number: u32) -> Order {
+    let mut rest = number;
+    let mut order = [0; 13];
+    for digit in &mut order {
+        *digit = (rest % 3) as u8;
+        rest /= 3;
+    }
+    order
+}
+
+// Whether the workers have five pieces each, and so the edits are three.
+fn is_complete(order: &Order) -> bool {
+    [0, 1].iter().all(|worker| order.iter().filter(|digit| *digit == worker).count() == 5)
+}
+
+// What is expected of a step.
+#[derive(Clone, Copy, Debug)]
+enum Expected {
+    Changed,
+    Started,
+    Read,
+    // The answer to this question after so many edits.
+    Answer(usize, usize),
+    // B2, at this place.
+    Stale(usize),
+    NotCurrent,
+}
+
+// What all plays need.
+#[derive(Drop)]
+struct Materials {
+    alloc: Global,
+    questions: Vec<Question>,
+    records: Vec<Record>,
+    // After each number of edits, the answers to the questions.
+    answers: Vec<Answer>,
+}
+
+impl Materials {
+    fn new(rt: &impl Abort, alloc: Global) -> Self {
+        let mut materials = Materials {
+            alloc,
+            questions: Vec::new(alloc),
+            records: Vec::new(alloc),
+            answers: Vec::new(alloc),
+        };
+        materials.fill(rt);
+        materials
+    }
+
+    fn fill(&mut self, rt: &impl Abort) {
+        let alloc = self.alloc;
+        for uri in URIS {
+            push(rt, &mut self.questions, question(rt, alloc, uri));
+        }
+        for text in [ADDRESS, ADDRESS, SERVICE] {
+            push(rt, &mut self.records, record(rt, alloc, text));
+        }
+        let mut store = ZoneStore::new(alloc);
+        self.fill_answers(rt, &mut store);
+    }
+
+    fn fill_answers(&mut self, rt: &impl Abort, store: &mut ZoneStore) {
+        is_made(rt, store.load(&zone(rt, self.alloc, ZONE)).is_ok());
+        for edits in 0..4_usize {
+            self.push_answers(rt, store);
+            self.edit_store(rt, store, edits);
+        }
+    }
+
+    fn push_answers(&mut self, rt: &impl Abort, store: &mut ZoneStore) {
+        let abilities = abilities(rt, self.alloc);
+        for question in &self.questions {
+            push_answer(
+                rt,
+                self.alloc,
+                &mut self.answers,
+                store,
+                question,
+                &abilities,
+            );
+        }
+    }
+
+    // Makes the next edit, after so many, if there is one.
+    fn edit_store(&self, rt: &impl Abort, store: &mut ZoneStore, edits: usize) {
+        if let Some(record) = self.records.get(edits) {
+            let made = if edits == 1 {
+                store.remove(record).is_ok()
+            } else {
+                store.add(record).is_ok()
+            };
+            is_made(rt, made);
+        }
+    }
+
+    // The next edit, after so many.
+    fn edit(&self, rt: &impl Abort, edits: usize) -> Edit {
+        let record = copy_of(rt, self.alloc, self.records.get(edits));
+        if edits == 1 {
+            Edit::Remove(record)
+        } else {
+            Edit::Add(record)
+        }
+    }
+
+    fn question(&self, rt: &impl Abort, index: usize) -> Question {
+        let question = self.questions.get(index).expect(rt, "a question");
+        question.dup(self.alloc).expect(rt, "out of memory")
+    }
+
+    // The answer to a question after so many edits.
+    fn answer(&self, index: usize, edits: usize) -> Option<&Answer> {
+        self.answers
+            .get(edits.saturating_mul(3).saturating_add(index))
+    }
+
+    fn is_expected(&self, reply: &Reply, expected: Expected) -> bool {
+        match (reply, expected) {
+            (Reply::Changed(done), Expected::Changed) => done.changed == 1,
+            (Reply::Started, Expected::Started) | (Reply::Read(_), Expected::Read) => true,
+            (Reply::Answered(handed), Expected::Answer(index, edits)) => {
+                match self.answer(index, edits) {
+                    Some(answer) => is_same(answer, &handed.answer),
+                    None => false,
+                }
+            }
+            (Reply::Uncommitted(uncommitted), Expected::Stale(place)) => {
+                uncommitted.fault == BookFault::Stale(place)
+            }
+            (Reply::Refused(fault), Expected::NotCurrent) => {
+                *fault == WorldFault::Book(BookFault::NotCurrent)
+            }
+            _ => false,
+        }
+    }
+}
+
+fn push<T: Drop>(rt: &impl Abort, items: &mut Vec<T>, item: T) {
+    is_made(rt, items.push(item).is_ok());
+}
+
+fn is_made(rt: &impl Abort, is_made: bool) {
+    assert!(rt; is_made, "an edit is refused, or out of memory");
+}
+
+fn copy_of(rt: &impl Abort, alloc: Global, record: Option<&Record>) -> Record {
+    let record = record.expect(rt, "a record");
+    record.dup(alloc).expect(rt, "out of memory")
+}
+
+fn push_answer(
+    rt: &impl Abort,
+    alloc: Global,
+    answers: &mut Vec<Answer>,
+    store: &mut ZoneStore,
+    question: &Question,
+    abilities: &Abilities,
+) {
+    let board = Board::new(alloc);
+    let answer = plain_answer(alloc, store, &board, question, abilities, &draws(rt, &[]));
+    push(rt, answers, answer.expect(rt, "out of memory"));
+}
+
+// What a worker has done.
+#[derive(Clone, Copy)]
+struct Job {
+    pieces: usize,
+    question: usize,
+    // How many edits were made before each read.
+    edits: [usize; 2],
+}
+
+const NO_JOB: Job = Job {
+    pieces: 0,
+    question: 0,
+    edits: [0, 0],
+};
+
+// The place of the first set of a question that an edit changed since it was read: given how many
+// edits were made before each read, and until now.
+fn first_changed(question: usize, then: [usize; 2], now: usize) -> Option<usize> {
+    let sets = SETS.get(question)?;
+    sets.iter()
+        .zip(then)
+        .position(|(set, then)| changes(*set, then) != changes(*set, now))
+}
+
+// The steps of an order, with what is expected of them, and what they have done.
+#[derive(Drop)]
+struct Walk {
+    steps: Vec<Step>,
+    expected: Vec<Expected>,
+    edits: usize,
+    jobs: [Job; 2],
+    // How many edits were made before each question's entry was committed.
+    entries: [Option<usize>; 3],
+}
+
+impl Walk {
+    fn new(alloc: Global) -> Self {
+        Walk {
+            steps: Vec::new(alloc),
+            expected: Vec::new(alloc),
+            edits: 0,
+            jobs: [NO_JOB, NO_JOB],
+            entries: [None, None, None],
+        }
+    }
+
+    fn push(&mut self, rt: &impl Abort, step: Step, expected: Expected) {
+        push(rt, &mut self.steps, step);
+        push(rt, &mut self.expected, expected);
+    }
+
+    // The pieces in their order, and then an answer to each question from its entry.
+    fn walk(&mut self, rt: &impl Abort, materials: &Materials, order: &Order) {
+        for digit in order {
+            match *digit {
+                0 => self.piece(rt, materials, 0),
+                1 => self.piece(rt, materials, 1),
+                _ => self.edit(rt, materials),
+            }
+        }
+        for index in 0..3_usize {
+            self.hand(rt, materials, index);
+        }
+    }
+
+    fn edit(&mut self, rt: &impl Abort, materials: &Materials) {
+        let edit = materials.edit(rt, self.edits);
+        self.push(rt, Step::Change(edit), Expected::Changed);
+        self.edits = self.edits.saturating_add(1);
+    }
+
+    // The next piece of a worker.
+    fn piece(&mut self, rt: &impl Abort, materials: &Materials, worker: usize) {
+        let job = self.jobs.get(worker).copied().unwrap_or(NO_JOB);
+        let piece = match PIECES.get(worker) {
+            Some(pieces) => pieces.get(job.pieces).copied(),
+            None => None,
+        };
+        let next = match piece {
+            Some(Piece::Begin(index)) => self.begin(rt, materials, worker, index),
+            Some(Piece::Read) => self.read(rt, worker, job),
+            Some(Piece::Commit) => self.commit(rt, worker, job),
+            None => job,
+        };
+        self.set_job(worker, next, job.pieces.saturating_add(1));
+    }
+
+    fn set_job(&mut self, worker: usize, next: Job, pieces: usize) {
+        if let Some(job) = self.jobs.get_mut(worker) {
+            *job = Job { pieces, ..next };
+        }
+    }
+
+    fn begin(
+        &mut self,
+        rt: &impl Abort,
+        materials: &Materials,
+        worker: usize,
+        question: usize,
+    ) -> Job {
+        let step = Step::Start(worker, materials.question(rt, question));
+        self.push(rt, step, Expected::Started);
+        self.push(rt, Step::Read(worker), Expected::Read);
+        Job {
+            question,
+            edits: [self.edits, self.edits],
+            ..NO_JOB
+        }
+    }
+
+    // The second read of a run.
+    fn read(&mut self, rt: &impl Abort, worker: usize, job: Job) -> Job {
+        self.push(rt, Step::Read(worker), Expected::Read);
+        let [first, _] = job.edits;
+        Job {
+            edits: [first, self.edits],
+            ..job
+        }
+    }
+
+    fn commit(&mut self, rt: &impl Abort, worker: usize, job: Job) -> Job {
+        let expected = match first_changed(job.question, job.edits, self.edits) {
+            Some(place) => Expected::Stale(place),
+            None => self.entry(job.question),
+        };
+        self.push(rt, Step::Commit(worker, draws(rt, &[])), expected);
+        job
+    }
+
+    // The question has a current entry then.
+    fn entry(&mut self, question: usize) -> Expected {
+        if let Some(entry) = self.entries.get_mut(question) {
+            *entry = Some(self.edits);
+        }
+        Expected::Answer(question, self.edits)
+    }
+
+    fn hand(&mut self, rt: &impl Abort, materials: &Materials, question: usize) {
+        let expected = if self.is_current(question) {
+            Expected::Answer(question, self.edits)
+        } else {
+            Expected::NotCurrent
+        };
+        let step = Step::Hand(materials.question(rt, question), draws(rt, &[]));
+        self.push(rt, step, expected);
+    }
+
+    fn is_current(&self, question: usize) -> bool {
+        match self.entries.get(question) {
+            Some(Some(edits)) => first_changed(question, [*edits, *edits], self.edits).is_none(),
+            _ => false,
+        }
+    }
+}
+
+#[derive(Clone, Copy, Debug, Default)]
+struct Counts {
+    plays: u32,
+    // Commits that were refused.
+    refused: u32,
+}
+
+// Plays an order in a new world, which it alone owns.
+fn play_order(rt: &impl Abort, materials: &Materials, order: &Order, counts: &mut Counts) {
+    let mut world = new_world(rt, materials.alloc, MAX_ENTRIES, MAX_EVENTS, 2);
+    play_in(rt, materials, &mut world, order, counts);
+}
+
+fn play_in(
+    rt: &impl Abort,
+    materials: &Materials,
+    world: &mut World,
+    order: &Order,
+    counts: &mut Counts,
+) {
+    world.step(Step::Change(Edit::Load(zone(rt, materials.alloc, ZONE))));
+    let mut walk = Walk::new(materials.alloc);
+    walk.walk(rt, materials, order);
+    let Walk {
+        steps,
+        expected,
+        ..
+    } = walk;
+    let replies = replies_to(rt, world, steps);
+    are_expected(rt, materials, &replies, &expected, counts);
+}
+
+fn replies_to(rt: &impl Abort, world: &mut World, steps: Vec<Step>) -> Vec<Reply> {
+    play(world, steps).expect(rt, "out of memory")
+}
+
+fn are_expected(
+    rt: &impl Abort,
+    materials: &Materials,
+    replies: &[Reply],
+    expected: &[Expected],
+    counts: &mut Counts,
+) {
+    is_made(rt, replies.len() == expected.len());
+    for (reply, expected) in replies.iter().zip(expected) {
+        is_expected(rt, materials, reply, *expected);
+        if let Expected::Stale(_) = expected {
+            counts.refused = counts.refused.saturating_add(1);
+        }
+    }
+    counts.plays = counts.plays.saturating_add(1);
+}
+
+fn is_expected(rt: &impl Abort, materials: &Materials, reply: &Reply, expected: Expected) {
+    assert!(rt; materials.is_expected(reply, expected), "not {expected:?}");
+}
+
+fn play_each(rt: &impl Abort, materials: &Materials) {
+    let mut counts = Counts::default();
+    for number in 0..NUMBERS {
+        let order = order_of(number);
+        if is_complete(&order) {
+            play_order(rt, materials, &order, &mut counts);
+        }
+    }
+    are_counted(rt, counts);
+}
+
+// Each play has four commits.
+fn are_counted(rt: &impl Abort, counts: Counts) {
+    assert_eq!(rt; counts.plays, 72_072);
+    assert!(rt;
+        counts.refused > 0 && counts.refused < 4 * 72_072,
+        "{counts:?}"
+    );
+}
+
+#[test]
+fn commits_in_each_order_are_refused_where_a_set_changed(rt: HostRuntime) {
+    let materials = Materials::new(&rt, rt.alloc());
+    play_each(&rt, &materials);
+}
