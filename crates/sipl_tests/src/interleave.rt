@@ -11,13 +11,14 @@ mod script;
 use crate::book::abilities;
 use sipl_book::Limits;
 use sipl_choice::Abilities;
-use sipl_interleave::World;
+use sipl_interleave::{Reply, Step, World, play};
 use sipl_outages::Board;
 use sipl_plans::{Answer, plan_of};
+use sipl_records::Record;
 use sipl_srv::Draws;
 use sipl_uri::Question;
 use sipl_zonestore::ZoneStore;
-use std::alloc::{AllocError, Global};
+use std::alloc::Global;
 use std::process::Abort;
 
 // A world of 1 to 64 workers for a client of TCP and UDP over IPv4, whose book keeps so many
@@ -44,14 +45,15 @@ fn new_world(
 
 // The answer of the plain program on the records of a store and the holds of a board.
 fn plain_answer(
+    rt: &impl Abort,
     alloc: Global,
     store: &mut ZoneStore,
     board: &Board,
     question: &Question,
     abilities: &Abilities,
     draws: &Draws,
-) -> Result<Answer, AllocError> {
-    plan_of(alloc, store.records(), board, question, abilities, draws)
+) -> Answer {
+    plan_of(alloc, store.records(), board, question, abilities, draws).expect(rt, "out of memory")
 }
 
 // Whether two answers are the same.
@@ -61,4 +63,18 @@ fn is_same(one: &Answer, other: &Answer) -> bool {
         (Answer::None(one), Answer::None(other)) => one == other,
         _ => false,
     }
+}
+
+// Makes the steps in one play.
+fn play_all(rt: &impl Abort, world: &mut World, steps: Vec<Step>) -> Vec<Reply> {
+    play(world, steps).expect(rt, "out of memory")
+}
+
+fn copy_of(rt: &impl Abort, alloc: Global, record: &Record) -> Record {
+    record.dup(alloc).expect(rt, "out of memory")
+}
+
+// Ends the test where this is not so.
+fn expects(rt: &impl Abort, is_so: bool, what: &str) {
+    assert!(rt; is_so, "not so: {what}");
 }

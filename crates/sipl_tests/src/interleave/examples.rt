@@ -1,8 +1,8 @@
 //! Worked examples: each is a script, with the replies that were worked out by hand.
 ghost use Rattle.std.specs.Prelude.{◌≤◌};
 
-use super::new_world;
 use super::script::{Line, Script, Shown, Target, plays, plays_at_once, question_of};
+use super::{expects, new_world};
 use crate::book::ZONE;
 use sipl_book::{MAX_ENTRIES, MAX_EVENTS};
 use sipl_choice::Transport::{Tcp, Udp};
@@ -118,11 +118,11 @@ fn is_entry(rt: &impl Abort, alloc: Global, world: &World, uri: &str, expected: 
 
 fn has_entry(rt: &impl Abort, world: &World, question: &Question, expected: Option<bool>) {
     let is_current = world.book().entry(question).map(|entry| entry.is_current());
-    assert_eq!(rt; is_current, expected);
+    expects(rt, is_current == expected, "an entry, or none");
 }
 
 fn has_looks(rt: &impl Abort, world: &World, looks: u64) {
-    assert_eq!(rt; world.book().looks(), looks);
+    expects(rt, world.book().looks() == looks, "no look");
 }
 
 const ADDED_POINTER: Script = &[

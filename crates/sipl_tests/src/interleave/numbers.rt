@@ -3,6 +3,7 @@ use crate::book::apex;
 use sipl_choice::Transport::{Sctp, Tcp, Tls, Udp};
 use sipl_choice::{Abilities, Endpoint, Families, Transport};
 use sipl_masterfile::read_record;
+use sipl_names::Name;
 use sipl_records::{Address, Record};
 use sipl_srv::Draws;
 use std::alloc::Global;
@@ -105,7 +106,7 @@ impl Numbers {
 
     pub(super) fn record(&mut self, rt: &impl Abort, alloc: Global) -> Record {
         let text = joined(rt, alloc, &self.parts());
-        read_record(alloc, &text, &apex(rt, alloc)).expect(rt, "a record")
+        record_within(rt, alloc, &text, &apex(rt, alloc))
     }
 
     pub(super) fn words(&mut self) -> Draws {
@@ -128,6 +129,10 @@ impl Numbers {
         let preference = Vec::from_slice(alloc, transports).expect(rt, "out of memory");
         Abilities::new(preference, families).expect(rt, "abilities")
     }
+}
+
+fn record_within(rt: &impl Abort, alloc: Global, text: &[u8], origin: &Name) -> Record {
+    read_record(alloc, text, origin).expect(rt, "a record")
 }
 
 fn joined(rt: &impl Abort, alloc: Global, parts: &[&str]) -> Vec<u8> {

@@ -1,11 +1,12 @@
 //! Every order of the steps of two workers and of three edits: each commit is refused exactly where
 //! a set changed after it was read, and each answer is that of the plain program on the records to
 //! which the edits before it lead.
-use super::{is_same, new_world, plain_answer};
+use super::counts::count;
+use super::{copy_of, expects, is_same, new_world, plain_answer, play_all};
 use crate::book::{abilities, draws, question, record, zone};
 use sipl_book::{BookFault, Edit, MAX_ENTRIES, MAX_EVENTS};
 use sipl_choice::Abilities;
-use sipl_interleave::{Reply, Step, World, WorldFault, play};
+use sipl_interleave::{Reply, Step, World, WorldFault};
 use sipl_outages::Board;
 use sipl_plans::Answer;
 use sipl_records::Record;
@@ -107,9 +108,10 @@ fn is_complete(order: &Order) -> bool {
 }
 
 // What is expected of a step.
-#[derive(Clone, Copy, Debug)]
+#[derive(Clone, Copy)]
 enum Expected {
-    Changed,
+    // So many sets changed.
+    Changed(u64),
     Started,
     Read,
     // The answer to this question after so many edits.
@@ -154,7 +156,8 @@ impl Materials {
     }
 
     fn fill_answers(&mut self, rt: &impl Abort, store: &mut ZoneStore) {
-        is_made(rt, store.load(&zone(rt, self.alloc, ZONE)).is_ok());
+        let is_loaded = store.load(&zone(rt, self.alloc, ZONE)).is_ok();
+        expects(rt, is_loaded, "a zone");
         for edits in 0..4_usize {
             self.push_answers(rt, store);
             self.edit_store(rt, store, edits);
@@ -183,13 +186,14 @@ impl Materials {
             } else {
                 store.add(record).is_ok()
             };
-            is_made(rt, made);
+            expects(rt, made, "an edit");
         }
     }
 
     // The next edit, after so many.
     fn edit(&self, rt: &impl Abort, edits: usize) -> Edit {
-        let record = copy_of(rt, self.alloc, self.records.get(edits));
+        let record = self.records.get(edits).expect(rt, "a record");
+        let record = copy_of(rt, self.alloc, record);
         if edits == 1 {
             Edit::Remove(record)
         } else {
@@ -210,7 +214,7 @@ impl Materials {
 
     fn is_expected(&self, reply: &Reply, expected: Expected) -> bool {
         match (reply, expected) {
-            (Reply::Changed(done), Expected::Changed) => done.changed == 1,
+            (Reply::Changed(done), Expected::Changed(sets)) => done.changed == sets,
             (Reply::Started, Expected::Started) | (Reply::Read(_), Expected::Read) => true,
             (Reply::Answered(handed), Expected::Answer(index, edits)) => {
                 match self.answer(index, edits) {
@@ -230,16 +234,7 @@ impl Materials {
 }
 
 fn push<T: Drop>(rt: &impl Abort, items: &mut Vec<T>, item: T) {
-    is_made(rt, items.push(item).is_ok());
-}
-
-fn is_made(rt: &impl Abort, is_made: bool) {
-    assert!(rt; is_made, "an edit is refused, or out of memory");
-}
-
-fn copy_of(rt: &impl Abort, alloc: Global, record: Option<&Record>) -> Record {
-    let record = record.expect(rt, "a record");
-    record.dup(alloc).expect(rt, "out of memory")
+    expects(rt, items.push(item).is_ok(), "memory");
 }
 
 fn push_answer(
@@ -251,8 +246,9 @@ fn push_answer(
     abilities: &Abilities,
 ) {
     let board = Board::new(alloc);
-    let answer = plain_answer(alloc, store, &board, question, abilities, &draws(rt, &[]));
-    push(rt, answers, answer.expect(rt, "out of memory"));
+    let draws = draws(rt, &[]);
+    let answer = plain_answer(rt, alloc, store, &board, question, abilities, &draws);
+    push(rt, answers, answer);
 }
 
 // What a worker has done.
@@ -306,23 +302,33 @@ impl Walk {
         push(rt, &mut self.expected, expected);
     }
 
-    // The pieces in their order, and then an answer to each question from its entry.
+    // The zone, the pieces in their order, and an answer to each question from its entry.
     fn walk(&mut self, rt: &impl Abort, materials: &Materials, order: &Order) {
+        self.load(rt, materials);
         for digit in order {
-            match *digit {
-                0 => self.piece(rt, materials, 0),
-                1 => self.piece(rt, materials, 1),
-                _ => self.edit(rt, materials),
-            }
+            self.next(rt, materials, *digit);
         }
         for index in 0..3_usize {
             self.hand(rt, materials, index);
         }
     }
 
+    fn load(&mut self, rt: &impl Abort, materials: &Materials) {
+        let load = Edit::Load(zone(rt, materials.alloc, ZONE));
+        self.push(rt, Step::Change(load), Expected::Changed(4));
+    }
+
+    fn next(&mut self, rt: &impl Abort, materials: &Materials, digit: u8) {
+        match digit {
+            0 => self.piece(rt, materials, 0),
+            1 => self.piece(rt, materials, 1),
+            _ => self.edit(rt, materials),
+        }
+    }
+
     fn edit(&mut self, rt: &impl Abort, materials: &Materials) {
         let edit = materials.edit(rt, self.edits);
-        self.push(rt, Step::Change(edit), Expected::Changed);
+        self.push(rt, Step::Change(edit), Expected::Changed(1));
         self.edits = self.edits.saturating_add(1);
     }
 
@@ -410,11 +416,11 @@ impl Walk {
     }
 }
 
-#[derive(Clone, Copy, Debug, Default)]
+#[derive(Clone, Copy, Default)]
 struct Counts {
-    plays: u32,
+    plays: u64,
     // Commits that were refused.
-    refused: u32,
+    refused: u64,
 }
 
 // Plays an order in a new world, which it alone owns.
@@ -430,20 +436,25 @@ fn play_in(
     order: &Order,
     counts: &mut Counts,
 ) {
-    world.step(Step::Change(Edit::Load(zone(rt, materials.alloc, ZONE))));
     let mut walk = Walk::new(materials.alloc);
     walk.walk(rt, materials, order);
+    play_walk(rt, materials, world, walk, counts);
+}
+
+fn play_walk(
+    rt: &impl Abort,
+    materials: &Materials,
+    world: &mut World,
+    walk: Walk,
+    counts: &mut Counts,
+) {
     let Walk {
         steps,
         expected,
         ..
     } = walk;
-    let replies = replies_to(rt, world, steps);
+    let replies = play_all(rt, world, steps);
     are_expected(rt, materials, &replies, &expected, counts);
-}
-
-fn replies_to(rt: &impl Abort, world: &mut World, steps: Vec<Step>) -> Vec<Reply> {
-    play(world, steps).expect(rt, "out of memory")
 }
 
 fn are_expected(
@@ -453,18 +464,12 @@ fn are_expected(
     expected: &[Expected],
     counts: &mut Counts,
 ) {
-    is_made(rt, replies.len() == expected.len());
+    expects(rt, replies.len() == expected.len(), "a reply for each step");
     for (reply, expected) in replies.iter().zip(expected) {
-        is_expected(rt, materials, reply, *expected);
-        if let Expected::Stale(_) = expected {
-            counts.refused = counts.refused.saturating_add(1);
-        }
+        expects(rt, materials.is_expected(reply, *expected), "a reply");
+        count(matches!(expected, Expected::Stale(_)), &mut counts.refused);
     }
-    counts.plays = counts.plays.saturating_add(1);
-}
-
-fn is_expected(rt: &impl Abort, materials: &Materials, reply: &Reply, expected: Expected) {
-    assert!(rt; materials.is_expected(reply, expected), "not {expected:?}");
+    count(true, &mut counts.plays);
 }
 
 fn play_each(rt: &impl Abort, materials: &Materials) {
@@ -480,11 +485,9 @@ fn play_each(rt: &impl Abort, materials: &Materials) {
 
 // Each play has four commits.
 fn are_counted(rt: &impl Abort, counts: Counts) {
-    assert_eq!(rt; counts.plays, 72_072);
-    assert!(rt;
-        counts.refused > 0 && counts.refused < 4 * 72_072,
-        "{counts:?}"
-    );
+    expects(rt, counts.plays == 72_072, "72,072 plays");
+    expects(rt, counts.refused > 0, "refused commits");
+    expects(rt, counts.refused < 4 * 72_072, "accepted commits");
 }
 
 #[test]

@@ -1,9 +1,10 @@
 //! Scripts: steps of a world, with the replies to them.
+use super::{expects, play_all};
 use crate::book::{apex, draws, question, record, zone};
 use sipl_book::{BookFault, Edit, Uncommitted};
 use sipl_choice::{Endpoint, Transport};
 use sipl_evidence::Item;
-use sipl_interleave::{Reply, Step, World, play};
+use sipl_interleave::{Reply, Step, World};
 use sipl_names::Name;
 use sipl_plans::{Answer, Reason};
 use sipl_records::{Address, Key, Kind};
@@ -202,24 +203,31 @@ fn shows(rt: &impl Abort, alloc: Global, reply: &Reply, shown: Shown, index: usi
 // Makes the steps of a script, each with its reply.
 pub(super) fn plays(rt: &impl Abort, alloc: Global, world: &mut World, script: Script) {
     for (index, (line, shown)) in script.iter().enumerate() {
-        let reply = world.step(step(rt, alloc, *line));
-        shows(rt, alloc, &reply, *shown, index);
+        plays_line(rt, alloc, world, *line, *shown, index);
     }
+}
+
+fn plays_line(
+    rt: &impl Abort,
+    alloc: Global,
+    world: &mut World,
+    line: Line,
+    shown: Shown,
+    index: usize,
+) {
+    let step = step(rt, alloc, line);
+    shows(rt, alloc, &world.step(step), shown, index);
 }
 
 // The same in one play.
 pub(super) fn plays_at_once(rt: &impl Abort, alloc: Global, world: &mut World, script: Script) {
-    let replies = play(world, steps_of(rt, alloc, script)).expect(rt, "out of memory");
+    let replies = play_all(rt, world, steps_of(rt, alloc, script));
     are_shown(rt, alloc, &replies, script);
 }
 
 fn are_shown(rt: &impl Abort, alloc: Global, replies: &[Reply], script: Script) {
-    has_len(rt, replies, script.len());
+    expects(rt, replies.len() == script.len(), "a reply for each step");
     for (index, (reply, (_, shown))) in replies.iter().zip(script).enumerate() {
         shows(rt, alloc, reply, *shown, index);
     }
-}
-
-fn has_len(rt: &impl Abort, replies: &[Reply], len: usize) {
-    assert_eq!(rt; replies.len(), len);
 }

@@ -4,7 +4,7 @@ use Rattle.sipl_book.proofs.Public.{set_is_set}
 use Rattle.sipl_tests.proofs.interleave.plain_answer.Goals as goal
 
 pub plan_of-requires : goal.plan_of-requires
-plan_of-requires c =
+plan_of-requires g c =
     record {
       small_sets = λ key.
           subst (λ records. length (set_of records key) ≤ 32) (sym c.records.ensures.value)
