@@ -1,10 +1,11 @@
 -- The places of items in a table by names.
-use Rattle.std.proofs.Common.{◌≡◌, ◌≢◌, ℕ, zero, suc, ◌<◌, ◌+◌, ltb, Bool, true, false, not, cond, ◌&&◌, List, [], ◌∷◌, ◌++◌, length, get_or, position, Option, None, Some, unwrap_or, is_some, option_map, ◌⊎◌, refl, ap, sym, ◌∙◌, inl, inr, arith, length-append}
+use Rattle.std.proofs.Common.{◌≡◌, ◌≢◌, ℕ, zero, suc, ◌<◌, ◌+◌, min, ltb, Bool, true, false, not, cond, ◌&&◌, List, [], ◌∷◌, ◌++◌, length, get_or, take, position, Option, None, Some, unwrap_or, is_some, option_map, ◌⊎◌, refl, ap, sym, subst, ◌∙◌, inl, inr, arith, length-append}
 use Rattle.std.specs.List.{position_or_len}
 use Rattle.std.proofs.lemmas.Bool.{cases_Bool, cases_lt, lt-ltb, le-ltb}
 use Rattle.std.proofs.lemmas.List.Quantifiers.{all_pairs_push, position-Some}
 use Rattle.std.proofs.Math.ListN.{get_or-append}
-use Rattle.std.proofs.Math.Seq.{get_or-append_seam}
+use Rattle.std.proofs.Math.Seq.{get_or-append_seam, take-suc}
+use Rattle.std.proofs.lemmas.List.{get_or-take, length-take, length-take-le}
 use Rattle.sipl_names.specs.Labels.{Labels, same_name}
 use Rattle.sipl_names.proofs.Public.{same_name_decides}
 use Rattle.sipl_records.specs.declared.kind.Kind.{Kind}
@@ -14,7 +15,7 @@ use Rattle.sipl_records.proofs.Public.{same_key-Decides, same_key-sym}
 use Rattle.sipl_evidence.specs.declared.places.Places.{Places}
 use Rattle.sipl_evidence.specs.Items.{Item, HasDistinctKeys}
 use Rattle.sipl_evidence.specs.Known.{known, is_unknown}
-use Rattle.sipl_evidence.specs.Places.{place_at, place_among, place_in, place_of, IsIndexed}
+use Rattle.sipl_evidence.specs.Places.{place_at, place_among, place_in, place_of, IsIndexed, IsEvidence}
 
 -- a table in which the place of one key is another, or there is none any more
 module _ (old new : Labels → Option Places) (k : Key) (place : Option ℕ) (changed : Places)
@@ -188,6 +189,53 @@ indexed-pop items item old new indexed after = record {
 
 pub indexed-empty : IsIndexed [] (λ _. None)
 indexed-empty = record { distinct = λ i j d below inside. absurd (omega arith); places = λ k. refl }
+
+-- the first keys of distinct ones are distinct
+distinct-take : (items : List Item) (n : ℕ) → HasDistinctKeys items → HasDistinctKeys (take n items)
+distinct-take items n distinct i j d below inside same =
+    let count : length (take n items) ≡ min n (length items) = length-take n items in
+    distinct i j d below (omega (arith, inside, count))
+    (sym (ap (λ (i : Item). i.key) (get_or-take n items i d (omega (arith, below, inside, count)))) ∙ same ∙ ap (λ (i : Item). i.key) (get_or-take n items j d (omega (arith, inside, count))))
+
+-- the table of the first items gets the place of the next one
+pub indexed-next : (items : List Item) (place : ℕ) (item : Item) (old new : Labels → Option Places) → HasDistinctKeys items → place < length items
+    → get_or items place item ≡ item → IsIndexed (take place items) old
+    → ((k : Key) → place_in new k ≡ cond (same_key item.key k) (Some place) (place_in old k)) → IsIndexed (take (place + 1) items) new
+indexed-next items place item old new distinct within here indexed after =
+    let first : List Item = take place items in
+    let next : take (suc place) items ≡ first ++ item ∷ [] = take-suc items place item within ∙ ap (λ x. first ++ x ∷ []) here in
+    let count : length first ≡ place = length-take-le place items (omega (arith, within)) in
+    let one_more : place + 1 ≡ suc place = omega arith in
+    let none = last-no_place first item (subst HasDistinctKeys next (distinct-take items (suc place) distinct)) in
+    subst (λ n. IsIndexed (take n items) new) (sym one_more)
+    (subst (λ xs. IsIndexed xs new) (sym next)
+    (indexed-push first item old new indexed none (λ k. after k ∙ ap (λ n. cond (same_key item.key k) (Some n) (place_in old k)) (sym count))))
+
+-- evidence without items, whatever the table has
+pub evidence-empty : (table : Labels → Option Places) → IsEvidence [] table
+evidence-empty table = record { distinct = indexed-empty.distinct; indexed = λ many. absurd (omega (arith, many)) }
+
+-- one item more, where they are still few
+pub evidence-few : (items : List Item) (item : Item) (table : Labels → Option Places) → HasDistinctKeys items → place_of items item.key ≡ None → length items < 8 → IsEvidence (items ++ item ∷ []) table
+evidence-few items item table distinct none few = record {
+  distinct = distinct-push items item distinct none;
+  indexed = λ many. absurd (omega (arith, many, few, length-append items (item ∷ [])));
+}
+
+-- one item more, where the table gets its place
+pub evidence-push : (items : List Item) (item : Item) (old new : Labels → Option Places) → IsIndexed items old → place_of items item.key ≡ None
+    → ((k : Key) → place_in new k ≡ cond (same_key item.key k) (Some (length items)) (place_in old k)) → IsEvidence (items ++ item ∷ []) new
+evidence-push items item old new indexed none after =
+    let pushed = indexed-push items item old new indexed none after in
+    record { distinct = pushed.distinct; indexed = λ _. pushed }
+
+-- one item less, where the table loses its place
+pub evidence-pop : (items : List Item) (item : Item) (old new : Labels → Option Places) → IsEvidence (items ++ item ∷ []) old
+    → ((k : Key) → place_in new k ≡ cond (same_key item.key k) None (place_in old k)) → IsEvidence items new
+evidence-pop items item old new evidence after = record {
+  distinct = distinct-pop items item evidence.distinct;
+  indexed = λ many. indexed-pop items item old new (evidence.indexed (omega (arith, many, length-append items (item ∷ [])))) after;
+}
 
 is_some-later : (o : Option ℕ) → is_some (option_map (λ n. suc n) o) ≡ is_some o
 is_some-later None = refl

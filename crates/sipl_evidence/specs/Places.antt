@@ -1,5 +1,5 @@
 -- The places of items, by the names and the kinds of their keys.
-use Rattle.std.specs.Prelude.{◌≡◌, ℕ, List, Option, None, Some, position}
+use Rattle.std.specs.Prelude.{◌≡◌, ℕ, ◌<◌, List, length, Option, None, Some, position}
 use Rattle.sipl_names.specs.Labels.{Labels}
 use Rattle.sipl_records.specs.declared.kind.Kind.{Kind}
 use Rattle.sipl_records.specs.declared.kind.Kind.TheVariants.{Address4, Address6, Alias, Service, Pointer}
@@ -33,3 +33,9 @@ place_of items k = position (λ item. same_key item.key k) items
 pub record IsIndexed (items : List Item) (table : Labels → Option Places) : Type 0 where
   pub distinct : HasDistinctKeys items
   pub places : (k : Key) → place_in table k ≡ place_of items k
+
+-- no key is read twice, and the table has the place of each key's item, where they are more than
+-- eight; fewer are searched one by one
+pub record IsEvidence (items : List Item) (table : Labels → Option Places) : Type 0 where
+  pub distinct : HasDistinctKeys items
+  pub indexed : 8 < length items → IsIndexed items table

@@ -1,22 +1,24 @@
-ghost use Rattle.std.specs.Prelude.{◌≡◌, ◌↔◌, ◌+◌, ◌≤◌, [], ◌∷◌, ◌++◌, false, true, length, if◌then◌else◌, None, Some, vec_len, vec_capacity, IsTrue, IfOk, IfErr, IfSome, OnOk, OnErr};
+ghost use Rattle.std.specs.Prelude.{◌≡◌, ◌↔◌, ◌+◌, ◌≤◌, [], ◌∷◌, ◌++◌, false, true, length, None, vec_len, vec_capacity, IsTrue, IfOk, IfErr, IfSome, OnOk, OnErr};
 ghost use Rattle.std.specs.Option.{option_copied};
-ghost use Rattle.indexmap.specs.IndexMap.{get, IsUnchanged};
+ghost use Rattle.indexmap.specs.IndexMap.{get};
 ghost use Rattle.sipl_names.specs.Labels.{same_name};
 ghost use Rattle.sipl_records.specs.declared.record.Key.{Key};
-ghost use Rattle.sipl_records.specs.Sets.{same_key};
-ghost use Rattle.sipl_evidence.specs.Items.{HasDistinctKeys};
+ghost use Rattle.sipl_evidence.specs.Items.{HasDistinctKeys, Item};
 ghost use Rattle.sipl_evidence.specs.Known.{known, is_unknown};
 ghost use Rattle.sipl_evidence.specs.Looks.{key};
-ghost use Rattle.sipl_evidence.specs.Places.{place_in, place_of};
+ghost use Rattle.sipl_evidence.specs.Places.{IsEvidence, place_of};
 
 use crate::fault::EvidenceFault;
 use crate::item::Item;
-use crate::places::{Places, insert_place, remove_place};
+use crate::places::{Places, index_items, insert_place, place_among_few, remove_place};
 use indexmap::IndexMap;
 use sipl_names::Name;
 use sipl_records::{Data, Key, Kind};
 use std::alloc::{AllocError, Global};
 use std::marker::Model;
+
+// How many items are searched one by one. More of them have a table of places.
+const MAX_SEARCHED: usize = 8;
 
 /// The record sets that a lookup read, in the order of reading, no key twice. Contracts see it as
 /// the list of its items.
@@ -35,11 +37,11 @@ impl Model for Evidence {
 
     ghost use Rattle.indexmap.specs.IndexMap.{get};
     ghost use Rattle.sipl_names.specs.Labels.{same_name};
-    ghost use Rattle.sipl_evidence.specs.Places.{IsIndexed};
+    ghost use Rattle.sipl_evidence.specs.Places.{IsEvidence};
 
     ghost view = { λ e. e.items.items };
 
-    ghost invariant = { λ e. IsIndexed e.items.items (get same_name e.places) };
+    ghost invariant = { λ e. IsEvidence e.items.items (get same_name e.places) };
 }
 
 /// An item that was not appended, and why.
@@ -117,6 +119,9 @@ impl Evidence {
         ensures place { result ≡ place_of self.now (key name.now kind) }
         ensures distinct { HasDistinctKeys self.now }
     {
+        if self.items.len() <= MAX_SEARCHED {
+            return place_among_few(&self.items, name, kind);
+        }
         self.places.get(name)?.get(kind)
     }
 
@@ -170,20 +175,29 @@ impl Evidence {
     }
 }
 
-// Reserves space for an item of this key, and sets its place to the next one.
+// Reserves space for an item of this key. Where there will be too many to search, the table gets its
+// place, which is the next one.
 fn reserve_item(
     items: &mut Vec<Item>,
     places: &mut IndexMap<Name, Places>,
     alloc: Global,
     key: &Key,
 ) -> Result<(), AllocError>
+    requires evidence { IsEvidence items.old.items (get same_name places.old) }
+    requires new { place_of items.old.items key.now ≡ None }
     ensures items { items.new.items ≡ items.old.items }
     ensures space { OnOk result (vec_len items.new + 1 ≤ vec_capacity items.new) }
-    ensures ok { OnOk result ((other : Key) → place_in (get same_name places.new) other
-        ≡ (if same_key key.now other then Some (length items.old.items)
-        else place_in (get same_name places.old) other)) }
-    ensures err { OnErr result (IsUnchanged places.old places.new) }
+    ensures ok { OnOk result ((item : Item) → item.key ≡ key.now
+        → IsEvidence (items.old.items ++ item ∷ []) (get same_name places.new)) }
+    ensures err { OnErr result (IsEvidence items.old.items (get same_name places.new)) }
 {
     items.reserve(1)?;
-    insert_place(places, alloc, key, items.len())
+    let len = items.len();
+    if len < MAX_SEARCHED {
+        return Ok(());
+    }
+    if len == MAX_SEARCHED {
+        index_items(places, alloc, items)?;
+    }
+    insert_place(places, alloc, key, len)
 }

@@ -4,8 +4,11 @@ ghost use Rattle.sipl_names.specs.Labels.{Labels, same_name};
 ghost use Rattle.sipl_records.specs.declared.kind.Kind.{Kind};
 ghost use Rattle.sipl_records.specs.declared.record.Key.{Key};
 ghost use Rattle.sipl_records.specs.Sets.{same_key, same_kind};
-ghost use Rattle.sipl_evidence.specs.Places.{place_at, place_in};
+ghost use Rattle.sipl_evidence.specs.Items.{HasDistinctKeys};
+ghost use Rattle.sipl_evidence.specs.Looks.{key};
+ghost use Rattle.sipl_evidence.specs.Places.{IsIndexed, place_at, place_in, place_of};
 
+use crate::item::Item;
 use indexmap::IndexMap;
 use sipl_names::Name;
 use sipl_records::{Key, Kind};
@@ -61,6 +64,31 @@ impl Places {
             Kind::Pointer => self.pointer = place,
         }
     }
+}
+
+// The place of the item of a name and a kind, by a search from the first item on.
+pub(crate) fn place_among_few(items: &[Item], name: &Name, kind: Kind) -> Option<usize>
+    ensures { result ≡ place_of items.now (key name.now kind) }
+{
+    items
+        .iter()
+        .position(|item| item.key().kind == kind && item.key().name == *name)
+}
+
+// Gives a table by names the places of these items alone.
+pub(crate) fn index_items(
+    table: &mut IndexMap<Name, Places>,
+    alloc: Global,
+    items: &[Item],
+) -> Result<(), AllocError>
+    requires { HasDistinctKeys items.now }
+    ensures { OnOk result (IsIndexed items.now (get same_name table.new)) }
+{
+    table.clear();
+    for (place, item) in items.iter().enumerate() {
+        insert_place(table, alloc, item.key(), place)?;
+    }
+    Ok(())
 }
 
 // Sets the place of a key's item in a table by names.

@@ -1,8 +1,8 @@
-ghost use Rattle.std.specs.Prelude.{◌≡◌, MatchResult, option_map, OnOk, OnErr, IsSome};
+ghost use Rattle.std.specs.Prelude.{◌≡◌, MatchResult, find, option_map, OnOk, OnErr, IsSome};
 ghost use Rattle.std.specs.Option.{option_copied};
-ghost use Rattle.sipl_evidence.specs.Looks.{done, key};
+ghost use Rattle.sipl_evidence.specs.Looks.{Look, asked, done, key};
 ghost use Rattle.sipl_evidence.specs.Answers.{asking, first_target};
-ghost use Rattle.sipl_evidence.specs.Known.{advance, first_unknown, known_result};
+ghost use Rattle.sipl_evidence.specs.Known.{Agrees, advance, first_unknown, is_unknown, known_result};
 ghost use Rattle.sipl_evidence.specs.Walks.{asking_from, walk_asking};
 
 use crate::evidence::Evidence;
@@ -60,11 +60,15 @@ impl Walk {
         }
     }
 
-    /// The name and the kind of the first set that the answer asks for and that the evidence lacks;
-    /// `None` where the evidence has all of them. Does not allocate.
+    /// The name and the kind of the first set that the answer asks for and that the evidence lacks,
+    /// whatever records there are that agree with the evidence; `None` where it has all of them. Does
+    /// not allocate.
     pub fn wants<'a>(&'a self, evidence: &'a Evidence) -> Option<(&'a Name, Kind)>
-        ensures { option_map (λ k. key k.0.now k.1) result
+        ensures wanted { option_map (λ k. key k.0.now k.1) result
             ≡ first_unknown evidence.now (walk_asking self.now) }
+        ensures next { (look : Look) → Agrees look evidence.now
+            → option_map (λ k. key k.0.now k.1) result
+            ≡ find (is_unknown evidence.now) (asked look (walk_asking self.now)) }
     {
         match self.reach(evidence) {
             Ok(_) => None,

@@ -32,7 +32,7 @@ loop-set-preserved c =
 
 pub unreachable-requires : goal.unreachable-requires
 unreachable-requires c =
-    result_or_unknown c.args.evidence.now (walk_asking c.loop-set.walk) (sym c.in_default.ensures) (sym c.in_default-wants.ensures)
+    result_or_unknown c.args.evidence.now (walk_asking c.loop-set.walk) (sym c.in_default.ensures) (sym c.in_default-wants.ensures.wanted)
 
 pub returns : goal.returns
 returns c =
@@ -41,7 +41,7 @@ returns c =
     let next = follows domain c.loop-set.purpose in
     let walk = walk_asking c.loop-set.walk in
     let kind = c.in-Some-wants.kind in
-    let wanted : first_unknown items walk ≡ Some (key c.in_ok-name.name kind) = sym c.in-Some-wants.ensures ∙ ap (λ name. Some (key name kind)) (sym c.in_ok-name.ensures.value) in (
+    let wanted : first_unknown items walk ≡ Some (key c.in_ok-name.name kind) = sym c.in-Some-wants.ensures.wanted ∙ ap (λ name. Some (key name kind)) (sym c.in_ok-name.ensures.value) in (
       first_unknown-alike items _ _ (sym c.loop-set.invariant) ∙ first_unknown-and_then items next walk (key c.in_ok-name.name kind) wanted,
       advance-onward items next (walk_asking c.step.new.self) walk c.in_ok-step.ensures.same ∙ c.loop-set.invariant,
     )

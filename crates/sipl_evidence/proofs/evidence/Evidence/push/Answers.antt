@@ -1,9 +1,6 @@
-use Rattle.std.proofs.Common.{◌≡◌, true, false, not, cond, length, Some, is_some, ap, sym, refl, ◌∙◌}
-use Rattle.indexmap.specs.IndexMap.{get}
-use Rattle.sipl_names.specs.Labels.{same_name}
-use Rattle.sipl_records.specs.Sets.{same_key}
-use Rattle.sipl_evidence.specs.Places.{place_in, place_of}
-use Rattle.sipl_evidence.proofs.Placing.{is_unknown-place, no_place, indexed-push}
+use Rattle.std.proofs.Common.{◌≡◌, true, false, not, is_some, ap, sym, refl, ◌∙◌}
+use Rattle.sipl_evidence.specs.Places.{place_of}
+use Rattle.sipl_evidence.proofs.Placing.{is_unknown-place, no_place}
 use Rattle.sipl_evidence.proofs.evidence.Evidence.push.Goals as goal
 
 pub returns-then-is_some-clause-already : goal.returns-then-is_some-clause-already
@@ -18,13 +15,16 @@ returns-in-Err-clause-already c =
     let memory = c.from-fault.ensures in
     (λ e. cc, λ e. let never : true ≡ false = sym unknown ∙ e in cc)
 
-pub invariant_of-self-2 : goal.invariant_of-self-2
-invariant_of-self-2 c =
+pub reserve_item-requires : goal.reserve_item-requires
+reserve_item-requires c =
     let items = c.self.inside.items.items in
     let found = ap (place_of items) (sym c.key.ensures.key) ∙ ap (λ xs. place_of xs c.key.result.now) c.self.view_is ∙ sym c.find.ensures.place in
     let none = found ∙ no_place c.find.result (sym c.is_some.ensures ∙ c.if-is_some.false) in
-    rw (c.push_reserved.ensures.items, c.in_default.ensures.items)
-    (indexed-push items c.args.item _ _ c.self.invariant none (λ k. c.in_default.ensures.ok k ∙ ap (λ own. cond (same_key own k) (Some (length items)) (place_in (get same_name c.self.inside.places) k)) c.key-key.ensures.key))
+    record { evidence = c.self.invariant; new = ap (place_of items) c.key-key.ensures.key ∙ none }
+
+pub invariant_of-self-2 : goal.invariant_of-self-2
+invariant_of-self-2 c =
+    rw (c.push_reserved.ensures.items, c.in_default.ensures.items) (c.in_default.ensures.ok c.args.item (sym c.key-key.ensures.key))
 
 pub returns-clause-accepted : goal.returns-clause-accepted
 returns-clause-accepted c =
