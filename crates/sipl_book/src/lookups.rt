@@ -93,7 +93,7 @@ impl Book {
         let mut run = Run::start(alloc, question, self.abilities())?;
         while let Some(key) = run.wants() {
             let (number, content) = self.read(key)?;
-            run.give(alloc, number, content.as_slice())?;
+            run.give(alloc, number, content)?;
         }
         Ok(run.finish().ok().unwrap())
     }

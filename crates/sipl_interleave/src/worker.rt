@@ -8,7 +8,7 @@ ghost use Rattle.sipl_interleave.specs.Jobs.{fault_of, lease_of, run_of, wanted_
 use crate::act::Act;
 use crate::fault::WorldFault;
 use sipl_plans::{Finding, Run};
-use sipl_records::{Data, Key};
+use sipl_records::{Data, Key, Sequence};
 use sipl_repair::Lease;
 use std::alloc::{AllocError, Global};
 use std::marker::Model;
@@ -105,11 +105,11 @@ impl Worker {
         &mut self,
         alloc: Global,
         number: u64,
-        content: &[Data],
+        content: Sequence<Data>,
     ) -> Result<(), AllocError>
-        requires { IsWanted (wanted_by self.old) number content.now }
+        requires { IsWanted (wanted_by self.old) number content }
         ensures ok { OnOk result (option_map
-            (λ k. with_item (record { key = k; number = number; content = content.now }) self.old)
+            (λ k. with_item (record { key = k; number = number; content = content }) self.old)
             (wanted_by self.old) ≡ Some self.new) }
         ensures err { OnErr result (self.new ≡ self.old) }
     {

@@ -11,7 +11,7 @@ use crate::fault::WorldFault;
 use crate::worker::Worker;
 use sipl_book::Book;
 use sipl_plans::{Finding, Run};
-use sipl_records::{Data, Key};
+use sipl_records::{Data, Key, Sequence};
 use sipl_repair::Lease;
 use std::alloc::{AllocError, Global};
 use std::marker::Model;
@@ -86,13 +86,13 @@ impl Workers {
         number: usize,
         alloc: Global,
         set_number: u64,
-        content: &[Data],
+        content: Sequence<Data>,
     ) -> Result<(), AllocError>
         requires allowed { refusal_of number Act.Read self.old ≡ None }
-        requires wanted { IsWanted (wanted_by (job_at self.old number)) set_number content.now }
+        requires wanted { IsWanted (wanted_by (job_at self.old number)) set_number content }
         ensures ok { OnOk result (option_map
             (λ k. set self.old number (with_item
-            (record { key = k; number = set_number; content = content.now })
+            (record { key = k; number = set_number; content = content })
             (job_at self.old number)))
             (wanted_by (job_at self.old number)) ≡ Some self.new) }
         ensures err { OnErr result (self.new ≡ self.old) }

@@ -11,7 +11,7 @@ ghost use Rattle.sipl_plans.specs.Unfinished.{code_of};
 use crate::finding::Finding;
 use crate::stage::{Progress, Stage, advance};
 use sipl_choice::Abilities;
-use sipl_evidence::{Evidence, Item, dup_data};
+use sipl_evidence::{Evidence, Item};
 use sipl_records::{Data, Key, Sequence};
 use sipl_uri::Question;
 use std::alloc::{AllocError, Global};
@@ -83,15 +83,21 @@ impl Run {
 
     /// Takes the set of the key that the run wants, and the number of the set. The only error is an
     /// allocation failure; the run is then as it was.
-    pub fn give(&mut self, alloc: Global, number: u64, content: &[Data]) -> Result<(), AllocError>
-        requires set { IsWanted (wanted self.old) number content.now }
-        ensures ok { OnOk result (IsGiven self.old self.new number content.now) }
+    pub fn give(
+        &mut self,
+        alloc: Global,
+        number: u64,
+        content: Sequence<Data>,
+    ) -> Result<(), AllocError>
+        requires set { IsWanted (wanted self.old) number content }
+        ensures ok { OnOk result (IsGiven self.old self.new number content) }
         ensures err { OnErr result (self.new ≡ self.old) }
     {
         let Progress::Wanting(key, stage) = &mut self.progress else {
             unreachable!()
         };
-        let item = item_of(alloc, key, number, content)?;
+        let own_key = key.dup(alloc)?;
+        let item = Item::new(own_key, number, content);
         if self.evidence.push(item).is_err() {
             return Err(AllocError);
         }
@@ -140,17 +146,6 @@ impl Run {
             }
         }
     }
-}
-
-// The set of a key: a copy of its data, and its number.
-fn item_of(alloc: Global, key: &Key, number: u64, content: &[Data]) -> Result<Item, AllocError>
-    requires { (number ≡ 0) ↔ (content.now ≡ []) }
-    ensures { IfOk result (λ item. item
-        ≡ record { key = key.now; number = number; content = content.now }) }
-{
-    let key = key.dup(alloc)?;
-    let content = dup_data(alloc, content)?;
-    Ok(Item::new(key, number, Sequence::from_vec(content)))
 }
 
 /// A run that still wants a set (P1).

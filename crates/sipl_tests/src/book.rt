@@ -188,8 +188,7 @@ fn complete(rt: &impl Abort, alloc: Global, book: &mut Book, run: Run) -> Findin
     let mut run = run;
     while let Some(key) = run.wants() {
         let (number, content) = book.read(key).expect(rt, "out of memory");
-        run.give(alloc, number, content.as_slice())
-            .expect(rt, "out of memory");
+        run.give(alloc, number, content).expect(rt, "out of memory");
     }
     run.finish().ok().unwrap()
 }

@@ -7,5 +7,5 @@ use Rattle.sipl_book.proofs.book.Book.locate.Goals as goal
 pub loop-key-preserved : goal.loop-key-preserved
 loop-key-preserved c =
     let want : wanted c.loop-key.run ≡ Some c.in-Some.key.now = sym c.wants.ensures.wanted ∙ ap option_copied c.in-Some.is in
-    goes_on c.args.self.now c.loop-key.self c.read.new.self c.args.question c.loop-key.run c.give.new.self c.in-Some.key.now c.in_ok-number.number c.as_slice.result.now c.loop-key.invariant
-    c.read.ensures.looked want c.in_ok-number.ensures.number (c.as_slice.ensures ∙ c.in_ok-number.ensures.value) c.in_ok-give.ensures.ok
+    goes_on c.args.self.now c.loop-key.self c.read.new.self c.args.question c.loop-key.run c.give.new.self c.in-Some.key.now c.in_ok-number.number c.in_ok-number.content c.loop-key.invariant
+    c.read.ensures.looked want c.in_ok-number.ensures.number c.in_ok-number.ensures.value c.in_ok-give.ensures.ok
