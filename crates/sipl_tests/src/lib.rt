@@ -1,17 +1,13 @@
-//! The tests of the libraries, by their public calls alone. They are in a crate of their own, since a
-//! crate that has tests is proved a second time for them.
+//! The tests of the libraries below the book, by their public calls alone. They are in a crate of their
+//! own, since a crate that has tests is proved a second time for them.
 #![tactic(auto)]
 
-#[cfg(test)]
-mod book;
 #[cfg(test)]
 mod choice;
 #[cfg(test)]
 mod evidence;
 #[cfg(test)]
 mod failover;
-#[cfg(test)]
-mod interleave;
 #[cfg(test)]
 mod masterfile;
 #[cfg(test)]
@@ -20,8 +16,6 @@ mod names;
 mod outages;
 #[cfg(test)]
 mod plans;
-#[cfg(test)]
-mod readme;
 #[cfg(test)]
 mod records;
 #[cfg(test)]

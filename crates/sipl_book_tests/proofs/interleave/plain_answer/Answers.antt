@@ -1,7 +1,7 @@
 use Rattle.std.proofs.Common.{◌≡◌, ◌≤◌, length, subst, sym}
 use Rattle.sipl_records.specs.Sets.{set_of}
 use Rattle.sipl_book.proofs.Public.{set_is_set}
-use Rattle.sipl_tests.proofs.interleave.plain_answer.Goals as goal
+use Rattle.sipl_book_tests.proofs.interleave.plain_answer.Goals as goal
 
 pub plan_of-requires : goal.plan_of-requires
 plan_of-requires g c =
