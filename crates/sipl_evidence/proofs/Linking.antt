@@ -5,7 +5,7 @@ use Rattle.std.proofs.lemmas.Bool.Decides.{same_from_decides, Decides-like}
 use Rattle.sipl_evidence.specs.declared.spot.Spot.{Spot}
 use Rattle.sipl_evidence.specs.declared.lists.Lists.{Lists}
 use Rattle.sipl_evidence.specs.Spots.{spot, same_spot}
-use Rattle.sipl_evidence.specs.Lists.{at, len_of, AreDense}
+use Rattle.sipl_evidence.specs.Lists.{at, len_of, AreDense, HasSpace}
 use Rattle.sipl_evidence.specs.Dependents.{depends}
 use Rattle.sipl_evidence.specs.Linked.{Table, LeadsBack, IsOnce, ArePaired, AreLast, IsNew, pairs_of}
 use Rattle.sipl_evidence.proofs.Spots.{same_spot-true, same_spot-refl, LeadsBack-link, IsOnce-link, LeadsBack-unlink, IsOnce-unlink, was_there, is_left}
@@ -217,3 +217,20 @@ depends-gone A B id paired none code = elim (cases_Bool (depends (pairs_of A) co
       let h = (Decides-pairs A paired.codes code id).0 some in
       absurd (omega (arith, within_len B paired.ids h.1 h.0 (paired.there h.0 h.1 h.2), ap (len_of B) h.4))
 ]
+
+-- there is space for fewer spots
+pub HasSpace-fewer : (lists : Lists) (more room : ℕ) → room ≤ more → HasSpace lists more → HasSpace lists room
+HasSpace-fewer lists more room fewer space = record { spots = omega (arith, space.spots); lens = omega (arith, space.lens) }
+
+-- one item more adds its pair
+pub one_item_more : (x i h d : Bool) → ((x && i) || ((i && h) || d)) ≡ ((i && (h || x)) || d)
+one_item_more true true true d = refl
+one_item_more true true false d = refl
+one_item_more true false h d = refl
+one_item_more false true true d = refl
+one_item_more false true false d = refl
+one_item_more false false h d = refl
+
+pub no_item : (i d : Bool) → d ≡ ((i && false) || d)
+no_item true d = refl
+no_item false d = refl
