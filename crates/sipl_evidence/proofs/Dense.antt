@@ -1,6 +1,6 @@
 -- Lists without gaps after a spot is appended, removed or replaced.
-use Rattle.std.proofs.Common.{◌≡◌, ℕ, ◌+◌, ◌-◌, ◌<◌, ◌≤◌, Bool, true, false, cond, ◌&&◌, eqb, ltb, Option, None, Some, is_some, refl, sym, ap, ◌∙◌, ◌⊎◌, inl, inr, arith, true≢false}
-use Rattle.std.proofs.lemmas.Bool.{cases_Bool, cond-true, cond-false, and_parts, and_from, and_left, and_right, eqb-true, eqb-false, eq-eqb, ne_eqb, lt-ltb, le-ltb, cases_lt}
+use Rattle.std.proofs.Common.{◌≡◌, ℕ, ◌+◌, ◌-◌, ◌<◌, ◌≤◌, true, cond, eqb, ltb, None, Some, is_some, sym, ap, ◌∙◌, inl, inr, arith}
+use Rattle.std.proofs.lemmas.Bool.{cases_Bool, cond-true, cond-false, and_from, and_left, and_right, eqb-true, eqb-false, lt-ltb, le-ltb, cases_lt}
 use Rattle.sipl_evidence.specs.declared.spot.Spot.{Spot}
 use Rattle.sipl_evidence.specs.Spots.{spot, same_spot}
 use Rattle.sipl_evidence.specs.Linked.{Table}

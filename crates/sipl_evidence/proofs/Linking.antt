@@ -1,13 +1,13 @@
 -- The lists of pairs after a pair is added or removed.
-use Rattle.std.proofs.Common.{◌≡◌, ℕ, zero, suc, ◌+◌, ◌-◌, ◌<◌, ◌≤◌, Bool, true, false, cond, not, ◌&&◌, ◌||◌, eqb, ltb, List, [], ◌∷◌, ◌++◌, Option, None, Some, is_some, length, map, refl, sym, ap, ◌∙◌, ◌⊎◌, inl, inr, arith, true≢false, Decides}
-use Rattle.std.proofs.lemmas.Bool.{cases_Bool, cond-true, cond-false, and_parts, and_from, eqb-true, eq-eqb, ltb-true, lt-ltb, le-ltb, ne_eqb}
+use Rattle.std.proofs.Common.{◌≡◌, ℕ, ◌+◌, ◌-◌, ◌<◌, ◌≤◌, Bool, true, false, cond, ◌&&◌, ◌||◌, eqb, Option, None, Some, is_some, refl, sym, ap, ◌∙◌, ◌⊎◌, inl, inr, arith, true≢false, Decides}
+use Rattle.std.proofs.lemmas.Bool.{cases_Bool, cond-true, cond-false, and_parts, eqb-true, eq-eqb, ltb-true, lt-ltb, le-ltb, ne_eqb}
 use Rattle.std.proofs.lemmas.Bool.Decides.{same_from_decides, Decides-like}
 use Rattle.sipl_evidence.specs.declared.spot.Spot.{Spot}
 use Rattle.sipl_evidence.specs.declared.lists.Lists.{Lists}
 use Rattle.sipl_evidence.specs.Spots.{spot, same_spot}
 use Rattle.sipl_evidence.specs.Lists.{at, len_of, AreDense, HasSpace}
 use Rattle.sipl_evidence.specs.Dependents.{depends}
-use Rattle.sipl_evidence.specs.Linked.{Table, LeadsBack, IsOnce, ArePaired, AreLast, IsNew, pairs_of}
+use Rattle.sipl_evidence.specs.Linked.{ArePaired, AreLast, IsNew, pairs_of}
 use Rattle.sipl_evidence.proofs.Spots.{same_spot-true, same_spot-refl, LeadsBack-link, IsOnce-link, LeadsBack-unlink, IsOnce-unlink, was_there, is_left}
 use Rattle.sipl_evidence.proofs.Pairs.{HasPair, Decides-depends, or_there}
 

@@ -1,5 +1,5 @@
 -- The ids of the first pairs of a code.
-use Rattle.std.proofs.Common.{◌≡◌, ℕ, zero, suc, ◌+◌, ◌-◌, ◌<◌, ◌≤◌, Bool, true, false, cond, not, ◌&&◌, ◌||◌, eqb, ltb, List, [], ◌∷◌, ◌++◌, Option, None, Some, is_some, length, map, refl, sym, ap, ◌∙◌, ◌⊎◌, inl, inr, arith, true≢false, Decides, add-one, length-append}
+use Rattle.std.proofs.Common.{◌≡◌, ℕ, zero, suc, ◌<◌, ◌≤◌, true, false, ◌||◌, eqb, ltb, List, [], ◌∷◌, ◌++◌, Option, None, Some, is_some, length, refl, sym, ap, ◌∙◌, ◌⊎◌, inl, inr, arith, true≢false, Decides, length-append}
 use Rattle.std.specs.List.{list_any, IsDistinct}
 use Rattle.std.specs.Cmp.{nat_eq_equiv}
 use Rattle.std.proofs.lemmas.Bool.{cases_Bool, or_cases, or_left, or_right, eqb-true, eq-eqb, ltb-true, ltb-false}
@@ -10,9 +10,9 @@ use Rattle.sipl_evidence.specs.declared.spot.Spot.{Spot}
 use Rattle.sipl_evidence.specs.declared.lists.Lists.{Lists}
 use Rattle.sipl_evidence.specs.Spots.{spot}
 use Rattle.sipl_evidence.specs.Lists.{at, len_of, AreDense}
-use Rattle.sipl_evidence.specs.Dependents.{AreIdsOf, pairs_with}
+use Rattle.sipl_evidence.specs.Dependents.{AreIdsOf, ids_of}
 use Rattle.sipl_evidence.specs.Linked.{Table, IsOnce, pairs_of}
-use Rattle.sipl_evidence.proofs.Pairs.{HasPair, len-le-pairs}
+use Rattle.sipl_evidence.proofs.Pairs.{HasPair, len-le-ids}
 use Rattle.sipl_evidence.proofs.Linking.{Decides-pairs, within_len, some_within}
 
 abbrev pub id_at : Option Spot → ℕ
@@ -98,5 +98,5 @@ module _ (lists : Lists) (dense : AreDense lists) (once : IsOnce (at lists)) (co
           let here : h.0 ≡ spot code h.0.index = λ i. spot (h.3 i) h.0.index in
           (h.0.index, h.1, omega (arith, within_len lists dense h.0 h.1 h.2, ap (len_of lists) h.3), ap (at lists) (sym here) ∙ h.2, h.4)
 
-  pub len-le-count : len_of lists code ≤ length (pairs_with (pairs_of lists) code)
-  len-le-count = len-le-pairs code (len_of lists code) lists.spots.entries (some_within lists dense code)
+  pub len-le-count : len_of lists code ≤ length (ids_of (pairs_of lists) code)
+  len-le-count = len-le-ids code (len_of lists code) lists.spots.entries (some_within lists dense code)

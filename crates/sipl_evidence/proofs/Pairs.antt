@@ -1,18 +1,20 @@
 -- Which pairs a table of spots has.
-use Rattle.std.proofs.Common.{◌≡◌, ℕ, zero, suc, ◌+◌, ◌-◌, ◌<◌, ◌≤◌, Bool, true, false, cond, not, ◌&&◌, ◌||◌, eqb, ltb, List, [], ◌∷◌, ◌++◌, Option, None, Some, is_some, length, map, filter, refl, sym, ap, ◌∙◌, ◌⊎◌, inl, inr, arith, true≢false, Decides, Contains, add-one, length-append}
-use Rattle.std.specs.List.{list_any, IsDistinct}
+use Rattle.std.proofs.Common.{◌≡◌, ℕ, suc, ◌<◌, ◌≤◌, Bool, true, false, cond, not, ◌&&◌, ◌||◌, eqb, List, [], ◌∷◌, ◌++◌, None, Some, is_some, length, map, filter, refl, sym, ap, ◌∙◌, inl, inr, arith, true≢false, Decides, Contains}
+use Rattle.std.specs.List.{list_any, IsDistinct, AllByRecursion}
 use Rattle.std.specs.Map.{lookup, keys_of}
-use Rattle.std.proofs.lemmas.Bool.{cases_Bool, cond-true, cond-false, and_parts, and_from, eqb-true, eq-eqb, or_cases, or_left, or_right, ltb-true, lt-ltb, le-ltb}
+use Rattle.std.proofs.lemmas.Bool.{cases_Bool, cond-true, cond-false, and_parts, and_from, eqb-true, eq-eqb, or_cases, or_left, or_right, or_parts}
 use Rattle.std.proofs.lemmas.List.{map-append, length-map}
 use Rattle.std.proofs.lemmas.List.Filters.{length-filter_both}
 use Rattle.std.proofs.lemmas.List.Elements.{Contains-get_or, Contains-append_right}
 use Rattle.std.proofs.lemmas.List.Folds.{list_any-append}
+use Rattle.std.specs.Cmp.{nat_eq_equiv}
+use Rattle.std.proofs.lemmas.Map.Keys.{IsDistinct-head, IsDistinct-tail, IsDistinct-cons}
 use Rattle.std.proofs.lemmas.Map.Views.{lookup-from_Contains}
 use Rattle.std.proofs.lemmas.Map.Steps.{le-length_from_below}
 use Rattle.sipl_evidence.specs.declared.spot.Spot.{Spot}
 use Rattle.sipl_evidence.specs.Spots.{spot, same_spot}
-use Rattle.sipl_evidence.specs.Dependents.{Dependent, depends, pairs_with}
-use Rattle.sipl_evidence.specs.Linked.{Table, pair_of}
+use Rattle.sipl_evidence.specs.Dependents.{Dependent, depends, ids_of}
+use Rattle.sipl_evidence.specs.Linked.{Table, IsOnce, pair_of}
 use Rattle.sipl_evidence.proofs.Spots.{same_spot-true, same_spot-refl, spot_equiv}
 
 abbrev pub Entries : Type 0
@@ -81,26 +83,27 @@ index_there code q (entry ∷ es) e =
       | inr apart ↦ or_right _ _ (index_there code q es (ap is_some (sym (cond-false _ (Some entry.1) (lookup (same_spot (spot code q)) es) apart)) ∙ e))
     ]
 
-length-cond : {X Y : Type 0} (b : Bool) (x : X) (xs : List X) (y : Y) (ys : List Y) → length xs ≡ length ys → length (cond b (x ∷ xs) xs) ≡ length (cond b (y ∷ ys) ys)
-length-cond true x xs y ys e = ap (λ n. suc n) e
-length-cond false x xs y ys e = e
+-- the ids of a code with one entry more
+ids-cond : {X : Type 0} (b : Bool) (p : Dependent) (ps : List Dependent) (x : X) (xs : List X) → length (map (λ (p : Dependent). p.id) ps) ≡ length xs → length (map (λ (p : Dependent). p.id) (cond b (p ∷ ps) ps)) ≡ length (cond b (x ∷ xs) xs)
+ids-cond true p ps x xs e = ap (λ n. suc n) e
+ids-cond false p ps x xs e = e
 
-length-pairs_with : (code : ℕ) (es : Entries) → length (pairs_with (map pair_of es) code) ≡ length (filter (λ (e : Spot × Spot). eqb e.0.list code) es)
-length-pairs_with code [] = refl
-length-pairs_with code (e ∷ es) = length-cond (eqb e.0.list code) (pair_of e) (pairs_with (map pair_of es) code) e (filter (λ (e : Spot × Spot). eqb e.0.list code) es) (length-pairs_with code es)
+length-ids_of : (code : ℕ) (es : Entries) → length (ids_of (map pair_of es) code) ≡ length (filter (λ (e : Spot × Spot). eqb e.0.list code) es)
+length-ids_of code [] = refl
+length-ids_of code (e ∷ es) = ids-cond (eqb e.0.list code) (pair_of e) (filter (λ (p : Dependent). eqb p.code code) (map pair_of es)) e (filter (λ (e : Spot × Spot). eqb e.0.list code) es) (length-ids_of code es)
 
 -- a list is at most as long as its code has pairs
-pub len-le-pairs : (code n : ℕ) (es : Entries) → ((q : ℕ) → q < n → is_some (lookup (same_spot (spot code q)) es) ≡ true) → n ≤ length (pairs_with (map pair_of es) code)
-len-le-pairs code n es there =
+pub len-le-ids : (code n : ℕ) (es : Entries) → ((q : ℕ) → q < n → is_some (lookup (same_spot (spot code q)) es) ≡ true) → n ≤ length (ids_of (map pair_of es) code)
+len-le-ids code n es there =
     let all = le-length_from_below (indexes code es) n (λ q below. index_there code q es (there q below)) in
-    omega (arith, all, length-pairs_with code es, length-map (filter (λ (e : Spot × Spot). eqb e.0.list code) es) (λ (e : Spot × Spot). e.0.index))
+    omega (arith, all, length-ids_of code es, length-map (filter (λ (e : Spot × Spot). eqb e.0.list code) es) (λ (e : Spot × Spot). e.0.index))
 
 -- and than the table
 pub len-le-entries : (code n : ℕ) (es : Entries) → ((q : ℕ) → q < n → is_some (lookup (same_spot (spot code q)) es) ≡ true) → n ≤ length es
 len-le-entries code n es there =
-    let all = len-le-pairs code n es there in
+    let all = len-le-ids code n es there in
     let some = length-filter_both (λ (e : Spot × Spot). eqb e.0.list code) (λ (e : Spot × Spot). not (eqb e.0.list code)) (λ _. refl) es in
-    omega (arith, all, some, length-pairs_with code es)
+    omega (arith, all, some, length-ids_of code es)
 
 swapped : (a b : Bool) → (a || (b || false)) ≡ (b || a)
 swapped true true = refl
@@ -120,3 +123,58 @@ depends-push es new x y is code id =
 pub or_there : (a b : Bool) → (a ≡ true → b ≡ true) → b ≡ (a || b)
 or_there true b e = e refl
 or_there false b e = refl
+
+any_ids_cond : (b : Bool) (id : ℕ) (p : Dependent) (ps : List Dependent) → list_any (eqb id) (map (λ (p : Dependent). p.id) (cond b (p ∷ ps) ps)) ≡ ((b && eqb id p.id) || list_any (eqb id) (map (λ (p : Dependent). p.id) ps))
+any_ids_cond true id p ps = refl
+any_ids_cond false id p ps = refl
+
+-- an id is among those of a code exactly if the pair is there
+any_ids : (code id : ℕ) (ps : List Dependent) → list_any (eqb id) (ids_of ps code) ≡ depends ps code id
+any_ids code id [] = refl
+any_ids code id (p ∷ ps) =
+    any_ids_cond (eqb p.code code) id p (filter (λ (p : Dependent). eqb p.code code) ps)
+    ∙ (λ i. (eqb p.code code && nat_eq_equiv.symm id p.id i) || any_ids code id ps i)
+
+-- a key that differs from each key of the entries differs from one that a look-up finds
+apart_from_found : (x place p : Spot) (es : Entries) → AllByRecursion (λ y. same_spot x y ≡ false) (keys_of es) → lookup (same_spot place) es ≡ Some p → same_spot x place ≡ false
+apart_from_found x place p [] all e = let never : None ≡ Some p = e in cc
+apart_from_found x place p (entry ∷ es) all e = elim (cases_Bool (same_spot place entry.0)) [
+  | inl same ↦ ap (same_spot x) (same_spot-true place entry.0 same) ∙ all.0
+  | inr apart ↦ apart_from_found x place p es all.1 (sym (cond-false _ (Some entry.1) (lookup (same_spot place) es) apart) ∙ e)
+]
+
+each_apart : (id : ℕ) (ids : List ℕ) → list_any (eqb id) ids ≡ false → AllByRecursion (λ y. eqb id y ≡ false) ids
+each_apart id [] none = tt
+each_apart id (x ∷ xs) none = let parts = or_parts (eqb id x) (list_any (eqb id) xs) none in (parts.0, each_apart id xs parts.1)
+
+distinct-cond : (b : Bool) (p : Dependent) (ps : List Dependent) → (b ≡ true → list_any (eqb p.id) (map (λ (p : Dependent). p.id) ps) ≡ false) → IsDistinct eqb (map (λ (p : Dependent). p.id) ps) → IsDistinct eqb (map (λ (p : Dependent). p.id) (cond b (p ∷ ps) ps))
+distinct-cond true p ps new distinct = IsDistinct-cons eqb p.id (map (λ (p : Dependent). p.id) ps) (each_apart p.id (map (λ (p : Dependent). p.id) ps) (new refl)) distinct
+distinct-cond false p ps new distinct = distinct
+
+-- no id is twice among those of a code
+pub ids_are_distinct : (a : Table) → IsOnce a → (code : ℕ) (es : Entries) → IsDistinct same_spot (keys_of es) → ((place p : Spot) → lookup (same_spot place) es ≡ Some p → a place ≡ Some p) → IsDistinct eqb (ids_of (map pair_of es) code)
+unfolding IsDistinct
+ids_are_distinct a once code [] distinct there = tt
+ids_are_distinct a once code (e ∷ es) distinct there =
+    distinct-cond (eqb e.0.list code) (pair_of e) (filter (λ (p : Dependent). eqb p.code code) (map pair_of es)) new
+    (ids_are_distinct a once code es (IsDistinct-tail same_spot e.0 (keys_of es) distinct) later)
+  where
+    other : (place p : Spot) → lookup (same_spot place) es ≡ Some p → same_spot e.0 place ≡ false
+    other place p found = apart_from_found e.0 place p es (IsDistinct-head same_spot e.0 (keys_of es) distinct) found
+
+    later : (place p : Spot) → lookup (same_spot place) es ≡ Some p → a place ≡ Some p
+    later place p found =
+        there place p (elim (cases_Bool (same_spot place e.0)) [
+          | inl same ↦ absurd (true≢false (sym (same_spot-refl place) ∙ ap (λ t. same_spot t place) (same_spot-true place e.0 same) ∙ other place p found))
+          | inr apart ↦ cond-false _ (Some e.1) (lookup (same_spot place) es) apart ∙ found
+        ])
+
+    new : eqb e.0.list code ≡ true → list_any (eqb e.1.list) (ids_of (map pair_of es) code) ≡ false
+    new own = elim (cases_Bool (list_any (eqb e.1.list) (ids_of (map pair_of es) code))) [
+      | inr none ↦ none
+      | inl any ↦
+          let h = (Decides-depends es (IsDistinct-tail same_spot e.0 (keys_of es) distinct) code e.1.list).0 (sym (any_ids code e.1.list (map pair_of es)) ∙ any) in
+          let first : a e.0 ≡ Some e.1 = there e.0 e.1 (cond-true _ (Some e.1) (lookup (same_spot e.0) es) (same_spot-refl e.0)) in
+          let one : e.0 ≡ h.0 = once e.0 h.0 e.1 h.1 first (later h.0 h.1 h.2) (eqb-true _ _ own ∙ sym h.3) (sym h.4) in
+          absurd (true≢false (sym (same_spot-refl e.0) ∙ ap (same_spot e.0) one ∙ other h.0 h.1 h.2))
+    ]

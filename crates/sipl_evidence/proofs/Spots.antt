@@ -1,5 +1,5 @@
 -- Tables of spots after a pair is added or removed.
-use Rattle.std.proofs.Common.{◌≡◌, ℕ, ◌+◌, ◌-◌, ◌<◌, ◌≤◌, Bool, true, false, cond, not, ◌&&◌, ◌||◌, eqb, ltb, List, [], ◌∷◌, ◌++◌, Option, None, Some, is_some, length, map, refl, sym, ap, ◌∙◌, ◌⊎◌, inl, inr, arith, true≢false, Decides}
+use Rattle.std.proofs.Common.{◌≡◌, true, false, cond, eqb, None, Some, refl, sym, ap, ◌∙◌, inl, inr, true≢false}
 use Rattle.std.specs.Cmp.{IsEquivalence}
 use Rattle.std.specs.Cmp.Rules.{comparing}
 use Rattle.std.proofs.Common.{rules}

@@ -28,11 +28,11 @@ depends pairs code id = list_any (λ p. p.code == code && p.id == id) pairs
 abbrev pub has_code : List Item → ℕ → Bool
 has_code items code = list_any (λ item. code_of_key item.key == code) items
 
--- the pairs of a code
-abbrev pub pairs_with : List Dependent → ℕ → List Dependent
-pairs_with pairs code = filter (λ p. p.code == code) pairs
+-- the ids of the pairs of a code
+abbrev pub ids_of : List Dependent → ℕ → List ℕ
+ids_of pairs code = map (λ p. p.id) (filter (λ p. p.code == code) pairs)
 
--- the ids of the entries that depend on a set of a key with the code, each once
+-- these are the ids of the entries that depend on a set of a key with the code, each once
 pub record AreIdsOf (pairs : List Dependent) (code : ℕ) (ids : List ℕ) : Type 0 where
   pub distinct : IsDistinct nat_eq ids
   pub members : (id : ℕ) → list_any (nat_eq id) ids ≡ depends pairs code id

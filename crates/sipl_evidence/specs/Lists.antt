@@ -1,5 +1,5 @@
 -- Lists of spots, each list numbered, in one table.
-use Rattle.std.specs.Prelude.{◌≡◌, ℕ, ◌+◌, ◌≤◌, nat_eq, nat_lt, Option}
+use Rattle.std.specs.Prelude.{◌≡◌, ℕ, ◌≤◌, nat_eq, nat_lt, Option}
 use Rattle.std.specs.Option.{is_some, unwrap_or}
 use Rattle.indexmap.specs.IndexMap.{IndexMap, get, spare, IsUnique}
 use Rattle.sipl_evidence.specs.declared.spot.Spot.{Spot}

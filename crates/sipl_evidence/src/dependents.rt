@@ -1,5 +1,6 @@
-ghost use Rattle.std.specs.Prelude.{◌≡◌, ℕ, ◌+◌, ◌≤◌, ◌&&◌, ◌||◌, ◌++◌, [], false, not, ◌==◌, max, List, length, IsOk, OnOk, OnErr, vec_capacity};
-ghost use Rattle.sipl_evidence.specs.Dependents.{code_of_key, depends, has_code, pairs_with, AreIdsOf};
+ghost use Rattle.std.specs.Prelude.{◌≡◌, ℕ, ◌+◌, ◌≤◌, ◌&&◌, ◌||◌, ◌++◌, [], false, not, nat_eq, ◌==◌, max, List, length, IsOk, OnOk, OnErr, vec_capacity};
+ghost use Rattle.std.specs.List.{IsDistinct};
+ghost use Rattle.sipl_evidence.specs.Dependents.{code_of_key, depends, has_code, ids_of, AreIdsOf};
 
 use crate::code::code_of_key;
 use crate::evidence::Evidence;
@@ -46,6 +47,14 @@ impl Dependents {
         }
     }
 
+    /// For how many more pairs there is room. No entry is twice among those of a code.
+    pub fn room(&self) -> usize
+        ensures room { result ≡ self.now.room }
+        ensures distinct { (code : ℕ) → IsDistinct nat_eq (ids_of self.now.pairs code) }
+    {
+        self.room
+    }
+
     /// Makes room for so many pairs more. The only error is an allocation failure; then nothing
     /// changes.
     pub fn reserve(&mut self, room: usize) -> Result<(), AllocError>
@@ -87,7 +96,7 @@ impl Dependents {
     /// allocate. Linear in their number.
     pub fn append_ids(&self, key: &Key, ids: &mut Vec<u64>)
         requires space { length ids.old.items
-            + length (pairs_with self.now.pairs (code_of_key key.now)) ≤ vec_capacity ids.old }
+            + length (ids_of self.now.pairs (code_of_key key.now)) ≤ vec_capacity ids.old }
         ensures appended { (appended : List ℕ) × (ids.new.items ≡ ids.old.items ++ appended)
             × AreIdsOf self.now.pairs (code_of_key key.now) appended }
         ensures capacity { vec_capacity ids.new ≡ vec_capacity ids.old }

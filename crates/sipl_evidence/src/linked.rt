@@ -3,7 +3,7 @@
 // its code takes its place.
 ghost use Rattle.std.specs.Prelude.{[], ◌∷◌, List, not, ◌≡◌, ℕ, ◌+◌, ◌-◌, ◌<◌, ◌≤◌, ◌&&◌, ◌||◌, ◌++◌, true, false, nat_eq, ◌==◌, is_some, if◌then◌else◌, length, Some, vec_capacity, nat_lt};
 ghost use Rattle.sipl_evidence.specs.Lists.{at, len_of, AreDense, HasSpace, KeepsSpace};
-ghost use Rattle.sipl_evidence.specs.Dependents.{depends, has_code, pairs_with, AreIdsOf};
+ghost use Rattle.sipl_evidence.specs.Dependents.{depends, has_code, ids_of, AreIdsOf};
 ghost use Rattle.sipl_evidence.specs.Linked.{pairs_of, ArePaired, AreLast, IsNew, IsOnce};
 
 use crate::code::code_of_key;
@@ -113,7 +113,7 @@ fn unlink_last(by_code: &mut Lists, by_id: &mut Lists, id: u64) -> bool
 pub(crate) fn append_list(by_code: &Lists, code: u64, ids: &mut Vec<u64>)
     requires dense { AreDense by_code.now }
     requires once { IsOnce (at by_code.now) }
-    requires space { length ids.old.items + length (pairs_with (pairs_of by_code.now) code)
+    requires space { length ids.old.items + length (ids_of (pairs_of by_code.now) code)
         ≤ vec_capacity ids.old }
     ensures appended { (appended : List ℕ) × (ids.new.items ≡ ids.old.items ++ appended)
         × AreIdsOf (pairs_of by_code.now) code appended }

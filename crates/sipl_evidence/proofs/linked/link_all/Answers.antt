@@ -1,6 +1,5 @@
-use Rattle.std.proofs.Common.{◌≡◌, ◌+◌, ◌&&◌, ◌||◌, eqb, take, length, get_or, sym, ap, ◌∙◌, arith}
+use Rattle.std.proofs.Common.{◌+◌, ◌&&◌, ◌||◌, eqb, take, length, get_or, sym, ap, ◌∙◌, arith}
 use Rattle.std.proofs.lemmas.List.Folds.{list_any_more}
-use Rattle.sipl_records.specs.declared.record.Key.{Key}
 use Rattle.sipl_evidence.specs.Items.{Item}
 use Rattle.sipl_evidence.specs.Dependents.{code_of_key, depends, has_code}
 use Rattle.sipl_evidence.specs.Linked.{pairs_of}

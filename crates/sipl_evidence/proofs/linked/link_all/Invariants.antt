@@ -1,4 +1,4 @@
-use Rattle.std.proofs.Common.{◌≡◌, ℕ, ◌+◌, ◌-◌, ◌&&◌, ◌||◌, eqb, length, take}
+use Rattle.std.proofs.Common.{◌≡◌, ℕ, ◌+◌, ◌&&◌, ◌||◌, eqb, take}
 use Rattle.sipl_evidence.specs.Lists.{HasSpace}
 use Rattle.sipl_evidence.specs.Dependents.{depends, has_code}
 use Rattle.sipl_evidence.specs.Linked.{ArePaired, AreLast, pairs_of}

@@ -1,5 +1,4 @@
 use Rattle.std.proofs.Common.{◌≡◌, Some, sym, ap, ◌∙◌}
-use Rattle.std.proofs.lemmas.Bool.{eqb-true}
 use Rattle.sipl_evidence.specs.declared.spot.Spot.{Spot}
 use Rattle.sipl_evidence.proofs.Linking.{IsNew-last, depends-there}
 use Rattle.sipl_evidence.proofs.linked.link_if_new.Goals.{in_default-via-in-Some+else-last-id, in_default-via-in_default}

@@ -1,6 +1,5 @@
-use Rattle.std.proofs.Common.{◌≡◌, ◌-◌, Some, refl, sym, ap, ◌∙◌}
+use Rattle.std.proofs.Common.{refl, sym, ◌∙◌}
 use Rattle.std.proofs.lemmas.Bool.{cond-true, eq-eqb}
-use Rattle.sipl_evidence.specs.Lists.{len_of}
 use Rattle.sipl_evidence.proofs.Linking.{ArePaired-unlink, depends-unlink, at_A-moved, at_B-moved, at_A-unmoved, at_B-unmoved}
 use Rattle.sipl_evidence.proofs.linked.unlink_last.Goals as goal
 
