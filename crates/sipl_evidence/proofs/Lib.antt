@@ -9,4 +9,3 @@ mod Spots
 mod Pairs
 mod Linking
 mod Listing
-mod Dense

@@ -5,6 +5,7 @@ use Rattle.std.specs.Cmp.{nat_eq_equiv}
 use Rattle.std.proofs.lemmas.Bool.{cases_Bool, or_cases, or_left, or_right, eqb-true, eq-eqb, ltb-true, ltb-false}
 use Rattle.std.proofs.lemmas.Bool.Decides.{same_from_decides, Decides-like}
 use Rattle.std.proofs.lemmas.List.Folds.{list_any-append}
+use Rattle.std.proofs.lemmas.Map.Made.{length-le_from_is_member}
 use Rattle.std.proofs.lemmas.Map.Keys.{IsDistinct-push}
 use Rattle.sipl_evidence.specs.declared.spot.Spot.{Spot}
 use Rattle.sipl_evidence.specs.declared.lists.Lists.{Lists}
@@ -12,7 +13,7 @@ use Rattle.sipl_evidence.specs.Spots.{spot}
 use Rattle.sipl_evidence.specs.Lists.{at, len_of, AreDense}
 use Rattle.sipl_evidence.specs.Dependents.{AreIdsOf, ids_of}
 use Rattle.sipl_evidence.specs.Linked.{Table, IsOnce, pairs_of}
-use Rattle.sipl_evidence.proofs.Pairs.{HasPair, len-le-ids}
+use Rattle.sipl_evidence.proofs.Pairs.{HasPair, len-le-ids, any_ids, ids_are_distinct}
 use Rattle.sipl_evidence.proofs.Linking.{Decides-pairs, within_len, some_within}
 
 abbrev pub id_at : Option Spot → ℕ
@@ -80,6 +81,10 @@ distinct-first a code (suc n) once there =
         let same = once (spot code h.0) (spot code n) h.1 p h.3 is refl (h.4 ∙ ap id_at is) in
         absurd (omega (arith, h.2, ap (λ (t : Spot). t.index) same))
 
+-- no id is twice among those of a code
+pub distinct_ids : (lists : Lists) → AreDense lists → IsOnce (at lists) → (code : ℕ) → IsDistinct eqb (ids_of (pairs_of lists) code)
+distinct_ids lists dense once code = ids_are_distinct (at lists) once code lists.spots.entries dense.unique (λ place p found. found)
+
 -- the ids of all places of a code are those of its pairs
 module _ (lists : Lists) (dense : AreDense lists) (once : IsOnce (at lists)) (code : ℕ) where
   pub AreIdsOf-all : AreIdsOf (pairs_of lists) code (first_ids (at lists) code (len_of lists code))
@@ -100,3 +105,10 @@ module _ (lists : Lists) (dense : AreDense lists) (once : IsOnce (at lists)) (co
 
   pub len-le-count : len_of lists code ≤ length (ids_of (pairs_of lists) code)
   len-le-count = len-le-ids code (len_of lists code) lists.spots.entries (some_within lists dense code)
+
+  -- a list is as long as its code has pairs
+  pub len-is-count : len_of lists code ≡ length (ids_of (pairs_of lists) code)
+  len-is-count =
+      let most = length-le_from_is_member nat_eq_equiv (ids_of (pairs_of lists) code) (first_ids (at lists) code (len_of lists code)) (distinct_ids lists dense once code)
+      (λ id there. AreIdsOf-all.members id ∙ sym (any_ids code id (pairs_of lists)) ∙ there) in
+      omega (arith, most, len-le-count, length-first_ids (at lists) code (len_of lists code))

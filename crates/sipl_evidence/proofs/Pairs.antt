@@ -129,7 +129,7 @@ any_ids_cond true id p ps = refl
 any_ids_cond false id p ps = refl
 
 -- an id is among those of a code exactly if the pair is there
-any_ids : (code id : ℕ) (ps : List Dependent) → list_any (eqb id) (ids_of ps code) ≡ depends ps code id
+pub any_ids : (code id : ℕ) (ps : List Dependent) → list_any (eqb id) (ids_of ps code) ≡ depends ps code id
 any_ids code id [] = refl
 any_ids code id (p ∷ ps) =
     any_ids_cond (eqb p.code code) id p (filter (λ (p : Dependent). eqb p.code code) ps)

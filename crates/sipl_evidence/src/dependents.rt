@@ -92,6 +92,14 @@ impl Dependents {
         unlink_all(&mut self.by_code, &mut self.by_id, id);
     }
 
+    /// How many entries depend on a set of the key's code. Constant time but for hashing.
+    pub fn count(&self, key: &Key) -> usize
+        ensures count { result ≡ length (ids_of self.now.pairs (code_of_key key.now)) }
+        ensures distinct { (code : ℕ) → IsDistinct nat_eq (ids_of self.now.pairs code) }
+    {
+        self.by_code.len(code_of_key(key))
+    }
+
     /// Appends the ids of the entries that depend on a set of the key's code, each once. Does not
     /// allocate. Linear in their number.
     pub fn append_ids(&self, key: &Key, ids: &mut Vec<u64>)
