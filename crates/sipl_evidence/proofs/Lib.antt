@@ -5,3 +5,7 @@ mod Placing
 mod Traces
 mod Walking
 mod Composing
+mod Spots
+mod Pairs
+mod Linking
+mod Listing

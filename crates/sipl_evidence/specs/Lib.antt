@@ -5,3 +5,7 @@ pub mod Items
 pub mod Known
 pub mod Places
 pub mod Walks
+pub mod Spots
+pub mod Lists
+pub mod Dependents
+pub mod Linked

@@ -2,13 +2,19 @@
 //! time.
 #![tactic(auto)]
 
+mod code;
+mod dependents;
 mod evidence;
 mod fault;
 mod item;
 pub mod laws;
+mod linked;
+mod lists;
 mod places;
+mod spot;
 mod walk;
 
+pub use dependents::Dependents;
 pub use evidence::{Evidence, Refused};
 pub use fault::EvidenceFault;
 pub use item::{Item, dup_data};
