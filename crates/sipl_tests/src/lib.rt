@@ -7,6 +7,8 @@ mod book;
 #[cfg(test)]
 mod choice;
 #[cfg(test)]
+mod dependents;
+#[cfg(test)]
 mod evidence;
 #[cfg(test)]
 mod failover;
