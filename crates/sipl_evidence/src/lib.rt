@@ -1,5 +1,5 @@
 //! Evidence: the record sets that a lookup read, and walks over aliases that read them one at a
-//! time.
+//! time; and the index from record sets to the entries whose evidence has them.
 #![tactic(auto)]
 
 mod code;

@@ -9,7 +9,6 @@ ghost use Rattle.sipl_evidence.specs.Lists.{at, count_of, len_of, AreDense, HasS
 use crate::spot::Spot;
 use indexmap::IndexMap;
 use std::alloc::{AllocError, Global};
-use std::hash::Hash;
 
 #[derive(Drop)]
 pub(crate) struct Lists {
@@ -28,15 +27,16 @@ impl Lists {
         }
     }
 
-    // Makes space for so many spots more. An allocation failure leaves the lists as they were.
+    // Makes space for so many spots more. An allocation failure leaves the lists as they were. A
+    // table that grows at least doubles, and one that is at most half full is rehashed instead.
     pub(crate) fn reserve(&mut self, room: usize) -> Result<(), AllocError>
         ensures spots { IsUnchanged self.old.spots self.new.spots }
         ensures lens { IsUnchanged self.old.lens self.new.lens }
         ensures keeps { KeepsSpace self.old self.new }
         ensures ok { OnOk result (HasSpace self.new room) }
     {
-        reserve_double(&mut self.spots, room)?;
-        reserve_double(&mut self.lens, room)
+        self.spots.reserve(room)?;
+        self.lens.reserve(room)
     }
 
     // The length of a list.
@@ -76,6 +76,7 @@ impl Lists {
             ≡ (if list == other then len_of self.old list + 1 else len_of self.old other) }
         ensures space { (room : ℕ) → HasSpace self.old (room + 1) → HasSpace self.new room }
     {
+        // So is each list, which is no longer than the table.
         prove!(self.spots.len() < usize::MAX);
         let index = self.len(list);
         let _none = self.spots.insert(Spot { list, index }, value).unwrap();
@@ -113,21 +114,6 @@ impl Lists {
             *last = value;
         }
     }
-}
-
-// Makes room for so many entries more, and for at least as many as there are where it has to grow.
-fn reserve_double<K: Eq + Hash, V>(
-    table: &mut IndexMap<K, V>,
-    room: usize,
-) -> Result<(), AllocError>
-    ensures entries { IsUnchanged table.old table.new }
-    ensures keeps { spare table.old ≤ spare table.new }
-    ensures ok { OnOk result (room ≤ spare table.new) }
-{
-    if table.capacity() - table.len() < room {
-        table.reserve(room.max(table.len()))?;
-    }
-    Ok(())
 }
 
 // Counts one more in a list.

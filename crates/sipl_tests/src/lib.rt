@@ -5,6 +5,8 @@
 #[cfg(test)]
 mod choice;
 #[cfg(test)]
+mod dependents;
+#[cfg(test)]
 mod evidence;
 #[cfg(test)]
 mod failover;
