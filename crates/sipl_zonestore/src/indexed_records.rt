@@ -1,5 +1,5 @@
 //! Records with an index of their sets.
-ghost use Rattle.std.specs.Prelude.{◌≡◌, ◌≤◌, ◌^◌, ◌+◌, ◌&&◌, ◌||◌, not, [], ◌∷◌, ◌++◌, length, true, false, if◌then◌else◌, IfOk, OnOk, OnErr, vec_len, vec_capacity};
+ghost use Rattle.std.specs.Prelude.{◌≡◌, ◌≤◌, ◌^◌, ◌+◌, ◌&&◌, ◌||◌, not, [], ◌∷◌, ◌++◌, length, true, false, None, if◌then◌else◌, IfOk, IfErr, OnOk, OnErr, vec_len, vec_capacity};
 ghost use Rattle.std.specs.List.{count_by, list_all, list_any};
 ghost use Rattle.indexmap.specs.IndexSet.{IsUnchanged, contains};
 ghost use Rattle.sipl_names.specs.Labels.{Labels, is_within, same_name};
@@ -7,8 +7,9 @@ ghost use Rattle.sipl_records.specs.declared.record.Key.{Key};
 ghost use Rattle.sipl_records.specs.Sets.{conflicts, same_record, set_of, shares_set};
 ghost use Rattle.sipl_masterfile.specs.Zones.{has_repeats};
 ghost use Rattle.sipl_zonestore.specs.BareOwners.{is_bare_at};
-ghost use Rattle.sipl_zonestore.specs.Numbers.{number_of};
-ghost use Rattle.sipl_zonestore.specs.SetTable.{content_of, no_content};
+ghost use Rattle.sipl_zonestore.specs.Numbers.{number_of, number_refusal};
+ghost use Rattle.sipl_zonestore.specs.Content.{no_content};
+ghost use Rattle.sipl_zonestore.specs.SetTable.{content_of};
 ghost use Rattle.sipl_zonestore.specs.Store.{records_outside};
 ghost use Rattle.sipl_zonestore.specs.Edits.{records_without};
 ghost use Rattle.sipl_zonestore.specs.IndexedRecords.{IsReplaced};
@@ -18,7 +19,8 @@ use crate::compare::{changed_within, own_key};
 use crate::comparison::{Comparison, has_conflict, has_value};
 use crate::fault::StoreFault;
 use crate::set_numbers::{
-    check_numbers, count_numbered, number_sets, push_to_set, remove_from_set, sets_of,
+    added_count, check_numbers, count_numbered, number_sets, push_to_set, remove_from_set,
+    removed_count, sets_of,
 };
 use crate::sets::SetTable;
 use indexmap::IndexSet;
@@ -83,50 +85,47 @@ impl IndexedRecords {
         ensures number { result.0 ≡ number_of self.now.numbers key.now }
         ensures values { result.1.now ≡ set_of self.now.records key.now }
     {
-        self.sets.get(key)
+        self.sets.get(&key.name, key.kind)
     }
 
     // The number of the key's set.
     pub(crate) fn number(&self, key: &Key) -> u64
         ensures { result ≡ number_of self.now.numbers key.now }
     {
-        self.sets.number(key)
+        self.sets.number(&key.name, key.kind)
     }
 
     // Whether the record that is sought is among these. Constant time but for hashing and the data of
-    // its set.
-    pub(crate) fn contains(&self, sought: &Record) -> Result<bool, AllocError>
-        ensures { IfOk result
-            (λ found. found ≡ list_any (same_record sought.now) self.now.records) }
+    // its set. Does not allocate.
+    pub(crate) fn contains(&self, sought: &Record) -> bool
+        ensures { result ≡ list_any (same_record sought.now) self.now.records }
     {
-        let Some(key) = sought.key(self.alloc)? else {
-            return Ok(self.bare.contains(&sought.owner));
+        let Some(kind) = sought.value.kind() else {
+            return self.bare.contains(&sought.owner);
         };
-        Ok(has_value(self.sets.values(&key), &sought.value))
+        has_value(self.sets.values(&sought.owner, kind), &sought.value)
     }
 
-    // Compares a new record with these. Constant time but for hashing and the data of its set.
-    pub(crate) fn compare(&self, new: &Record) -> Result<Comparison, AllocError>
-        ensures repeated { IfOk result
-            (λ found. found.is_repeated ≡ list_any (same_record new.now) self.now.records) }
-        ensures conflicts { IfOk result
-            (λ found. found.conflicts ≡ list_any (conflicts new.now) self.now.records) }
-        ensures set_len { IfOk result
-            (λ found. found.set_len ≡ count_by (shares_set new.now) self.now.records) }
+    // Compares a new record with these. Constant time but for hashing and the data of its set. Does
+    // not allocate.
+    pub(crate) fn compare(&self, new: &Record) -> Comparison
+        ensures repeated { result.is_repeated ≡ list_any (same_record new.now) self.now.records }
+        ensures conflicts { result.conflicts ≡ list_any (conflicts new.now) self.now.records }
+        ensures set_len { result.set_len ≡ count_by (shares_set new.now) self.now.records }
     {
-        let Some(key) = new.key(self.alloc)? else {
-            return Ok(Comparison {
+        let Some(kind) = new.value.kind() else {
+            return Comparison {
                 is_repeated: self.bare.contains(&new.owner),
                 conflicts: false,
                 set_len: 0,
-            });
+            };
         };
-        let values = self.sets.values(&key);
-        Ok(Comparison {
+        let values = self.sets.values(&new.owner, kind);
+        Comparison {
             is_repeated: has_value(values, &new.value),
             set_len: values.len(),
-            conflicts: has_conflict(&self.sets, key),
-        })
+            conflicts: has_conflict(&self.sets, &new.owner, kind),
+        }
     }
 
     // Replaces the records within the apex by those of a text, which are last. Returns the keys of
@@ -155,33 +154,45 @@ impl IndexedRecords {
         Ok(Sequence::from_vec(keys))
     }
 
-    // Appends a record. Returns the key of its set, which changed.
+    // Appends a record. Returns the key of its set, which changed. Nothing is allocated where too few
+    // numbers are left.
     pub(crate) fn push(&mut self, new: &Record) -> Result<Sequence<Key>, StoreFault>
         requires { list_any (same_record new.now) self.old.records ≡ false }
-        ensures { IsReplaced (self.old.records ++ new.now ∷ []) self.old self.new result }
+        ensures replaced { IsReplaced (self.old.records ++ new.now ∷ []) self.old self.new result }
+        ensures memory { IfErr result (λ fault. fault ≡ StoreFault.Memory
+            → number_refusal self.old.records (self.old.records ++ new.now ∷ []) self.old.next
+            ≡ None) }
     {
+        let count = added_count(new);
+        check_numbers(self.next, count)?;
         let keys = own_key(self.alloc, new)?;
         let copy = new.dup(self.alloc)?;
         let owner = bare_owner(self.alloc, new)?;
         self.records.reserve(1)?;
         self.bare.reserve(usize::from(owner.is_some()))?;
-        let next = push_to_set(self.alloc, &mut self.sets, self.next, new)?;
+        push_to_set(self.alloc, &mut self.sets, self.next, new)?;
         insert_owner(&mut self.bare, owner);
         self.records.push_reserved(copy);
-        self.next = next;
+        self.next += count as u64;
         Ok(Sequence::from_vec(keys))
     }
 
-    // Removes a record. Returns the key of its set, which changed.
+    // Removes a record. Returns the key of its set, which changed. Nothing is allocated where too few
+    // numbers are left.
     pub(crate) fn remove(&mut self, old: &Record) -> Result<Sequence<Key>, StoreFault>
         requires { list_any (same_record old.now) self.old.records ≡ true }
-        ensures { IsReplaced (records_without old.now self.old.records) self.old self.new result }
+        ensures replaced { IsReplaced (records_without old.now self.old.records) self.old self.new result }
+        ensures memory { IfErr result (λ fault. fault ≡ StoreFault.Memory
+            → number_refusal self.old.records (records_without old.now self.old.records)
+            self.old.next ≡ None) }
     {
+        let count = removed_count(&self.sets, old);
+        check_numbers(self.next, count)?;
         let keys = own_key(self.alloc, old)?;
-        let next = remove_from_set(self.alloc, &mut self.sets, self.next, old)?;
+        remove_from_set(&mut self.sets, self.next, old);
         remove_owner(&mut self.bare, old);
         self.records.retain(|record| *old != *record);
-        self.next = next;
+        self.next += count as u64;
         Ok(Sequence::from_vec(keys))
     }
 }

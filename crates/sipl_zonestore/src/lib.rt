@@ -9,6 +9,8 @@ mod comparison;
 mod fault;
 mod indexed_records;
 pub mod laws;
+mod owner_sets;
+mod record_set;
 mod set_numbers;
 mod sets;
 mod store;

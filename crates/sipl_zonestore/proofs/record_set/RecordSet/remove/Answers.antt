@@ -4,8 +4,8 @@ use Rattle.std.proofs.lemmas.Fn.{filter_same}
 use Rattle.sipl_records.specs.declared.data.Data.{Data}
 use Rattle.sipl_records.specs.Sets.{same_data}
 use Rattle.sipl_records.proofs.Public.{same_data_is}
-use Rattle.sipl_zonestore.specs.SetTable.{data_without}
-use Rattle.sipl_zonestore.proofs.sets.RecordSet.remove.Goals as goal
+use Rattle.sipl_zonestore.specs.Content.{data_without}
+use Rattle.sipl_zonestore.proofs.record_set.RecordSet.remove.Goals as goal
 
 pub returns : goal.returns
 returns c =
