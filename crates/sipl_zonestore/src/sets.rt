@@ -79,6 +79,7 @@ impl SetTable {
         kind: Kind,
         number: u64,
         value: Data,
+        ordinal: u64,
     ) -> Result<(), AllocError>
         ensures pushed { OnOk result ((key : Key) → content_of self.new key
             ≡ (if same_key (record { name = owner.now; kind = kind }) key
@@ -87,30 +88,31 @@ impl SetTable {
         ensures unchanged { OnErr result (self.new ≡ self.old) }
     {
         if let Some(sets) = self.owners.get_mut(owner) {
-            return sets.push(kind, number, value);
+            return sets.push(kind, number, value, ordinal);
         }
         let mut sets = OwnerSets::new(alloc);
-        sets.push(kind, number, value)?;
+        sets.push(kind, number, value, ordinal)?;
         let name = owner.dup(alloc)?;
         self.owners.insert(name, sets)?;
         Ok(())
     }
 
-    // Removes a datum from a set. Constant time but for hashing and the data of the set. Does not
-    // allocate.
-    pub(crate) fn remove(&mut self, owner: &Name, kind: Kind, value: &Data)
+    // Removes a datum from a set, and returns the ordinal of its record. Constant time but for hashing
+    // and the data of the set. Does not allocate.
+    pub(crate) fn remove(&mut self, owner: &Name, kind: Kind, value: &Data) -> Option<u64>
         ensures { (key : Key) → content_of self.new key
             ≡ (if same_key (record { name = owner.now; kind = kind }) key
             then without value.now (content_of self.old key)
             else content_of self.old key) }
     {
         let Some(sets) = self.owners.get_mut(owner) else {
-            return;
+            return None;
         };
-        sets.remove(kind, value);
+        let ordinal = sets.remove(kind, value);
         if sets.is_empty() {
             self.owners.swap_remove(owner);
         }
+        ordinal
     }
 
     // Numbers a set, unless it is empty, and returns whether it is not. Constant time but for
