@@ -15,7 +15,7 @@ use Rattle.sipl_records.specs.declared.record.Key.{Key}
 use Rattle.sipl_records.specs.Sets.{conflicts, has_key, has_kind, has_some_kind, key_of, kind_of, same_data, same_kind, same_record, set_of, shares_set}
 use Rattle.sipl_records.proofs.Public.{filter-none, has_key-key_of, has_key-name, is_key, key_of-name, same_key-refl, same_name-sym, same_record-Decides, shares_set-Some}
 use Rattle.sipl_zonestore.specs.Numbers.{is_empty}
-use Rattle.sipl_zonestore.specs.SetTable.{NumberedSet, HasSets, conflicts_in, content_of, has_kind_set, has_set}
+use Rattle.sipl_zonestore.specs.SetTable.{OwnerTable, HasSets, conflicts_in, content_of, has_kind_set, has_set}
 use Rattle.sipl_zonestore.specs.BareOwners.{HasBare, is_bare_at}
 use Rattle.sipl_zonestore.proofs.Elements.{count-same}
 use Rattle.sipl_zonestore.proofs.BareOwners.{any-agree, any-none}
@@ -28,7 +28,7 @@ not_empty (r ∷ records) key = elim (cases_Bool (has_key key r)) [
   | inr other ↦ rw other (not_empty records key)
 ]
 
-has_set-any : (sets : List NumberedSet) (records : List Record) (key : Key) → HasSets sets records → has_set sets key ≡ list_any (has_key key) records
+has_set-any : (sets : OwnerTable) (records : List Record) (key : Key) → HasSets sets records → has_set sets key ≡ list_any (has_key key) records
 has_set-any sets records key has = ap (λ set. not (is_empty set)) (has key) ∙ not_empty records key
 
 -- ---- a record of a set
@@ -49,7 +49,7 @@ repeated-in (r ∷ records) new key own = elim (cases_Bool (has_key key r)) [
       rw (other, apart) (repeated-in records new key own)
 ]
 
-pub repeated-is : (sets : List NumberedSet) (records : List Record) (new : Record) (key : Key) → HasSets sets records → key_of new ≡ Some key → list_any (same_data new.value) (content_of sets key).values ≡ list_any (same_record new) records
+pub repeated-is : (sets : OwnerTable) (records : List Record) (new : Record) (key : Key) → HasSets sets records → key_of new ≡ Some key → list_any (same_data new.value) (content_of sets key).values ≡ list_any (same_record new) records
 repeated-is sets records new key has own = ap (list_any (same_data new.value)) (has key) ∙ repeated-in records new key own
 
 length-set : (records : List Record) (key : Key) → length (set_of records key) ≡ length (filter (has_key key) records)
@@ -60,7 +60,7 @@ length-set (r ∷ records) key = elim (cases_Bool (has_key key r)) [
 ]
 
 -- its set has as many data as there are records in its set
-pub set_len-is : (sets : List NumberedSet) (records : List Record) (new : Record) (key : Key) → HasSets sets records → key_of new ≡ Some key → length (content_of sets key).values ≡ count_by (shares_set new) records
+pub set_len-is : (sets : OwnerTable) (records : List Record) (new : Record) (key : Key) → HasSets sets records → key_of new ≡ Some key → length (content_of sets key).values ≡ count_by (shares_set new) records
 set_len-is sets records new key has own =
     ap length (has key) ∙ length-set records key ∙ length-filter (has_key key) records ∙ sym (count-same (shares_set new) (has_key key) (shares_set-Some new key own) records)
 
@@ -108,7 +108,7 @@ conflicts-of new r key own =
     let owner : same_name new.owner r.owner ≡ same_name r.owner key.name = same_name-sym new.owner r.owner ∙ ap (same_name r.owner) (key_of-name new key own) in
     (λ i. owner i && is_some (kind i) && is_some (kind_of r.value) && (option_map_or (λ own. same_kind own Alias) (kind i) false || option_map_or (λ own. same_kind own Alias) (kind_of r.value) false))
 
-pub conflicts-is : (sets : List NumberedSet) (records : List Record) (new : Record) (key : Key) → HasSets sets records → key_of new ≡ Some key → conflicts_in sets key ≡ list_any (conflicts new) records
+pub conflicts-is : (sets : OwnerTable) (records : List Record) (new : Record) (key : Key) → HasSets sets records → key_of new ≡ Some key → conflicts_in sets key ≡ list_any (conflicts new) records
 conflicts-is sets records new key has own = by_case (same_kind key.kind Alias) refl where
   found : (kind : Kind) → has_kind_set sets key.name kind ≡ list_any (of_kind key.name kind) records
   found kind = has_set-any sets records (record { name = key.name; kind = kind }) has
@@ -127,6 +127,13 @@ conflicts-is sets records new key has own = by_case (same_kind key.kind Alias) r
   by_case false other =
       found Alias
       ∙ any-agree (of_kind key.name Alias) (conflicts new) (λ r. sym (conflicts-of new r key own ∙ ap (λ b. same_name r.owner key.name && true && is_some (kind_of r.value) && (b || option_map_or (λ own. same_kind own Alias) (kind_of r.value) false)) other ∙ beside-other (same_name r.owner key.name) (kind_of r.value))) records
+
+-- a record's key is its owner with its kind
+pub key-of_kind : (new : Record) (kind : Kind) → kind_of new.value ≡ Some kind → key_of new ≡ Some (record { name = new.owner; kind = kind })
+key-of_kind new kind own = ap (option_map {U = Key} (λ kind. record { name = new.owner; kind = kind })) own
+
+pub key-of_none : (new : Record) → kind_of new.value ≡ None → key_of new ≡ None
+key-of_none new none = ap (option_map {U = Key} (λ kind. record { name = new.owner; kind = kind })) none
 
 -- ---- a record of no set
 

@@ -1,20 +1,20 @@
 -- What an edit does to a store, from what it does to its records.
-use Rattle.std.proofs.Common.{◌≡◌, ◌≢◌, ℕ, Bool, true, false, not, if◌then◌else◌, List, Option, None, Some, Result, Ok, Err, refl, ap, subst, sym, ◌∙◌}
-use Rattle.std.specs.Prelude.{OnOk, OnErr}
+use Rattle.std.proofs.Common.{◌≡◌, ◌≢◌, ℕ, Bool, true, false, not, if◌then◌else◌, List, Option, None, Some, Result, Ok, Err, length, nat_le, nat_lt, refl, ap, subst, sym, ◌∙◌}
+use Rattle.std.specs.Prelude.{OnOk, OnErr, IfErr}
 use Rattle.std.specs.Option.{option_or}
-use Rattle.std.specs.List.{list_any}
+use Rattle.std.specs.List.{count_by, list_any}
 use Rattle.sipl_names.specs.Labels.{same_name}
-use Rattle.sipl_records.specs.Sets.{same_record, same_key}
+use Rattle.sipl_records.specs.Sets.{conflicts, same_record, same_key, shares_set}
 use Rattle.sipl_records.specs.declared.record.Record.{Record}
 use Rattle.sipl_records.specs.declared.record.Key.{Key}
 use Rattle.sipl_zonestore.specs.declared.fault.StoreFault.{StoreFault}
-use Rattle.sipl_zonestore.specs.declared.fault.StoreFault.TheVariants.{NoZone, Absent, Memory}
-use Rattle.sipl_zonestore.specs.Store.{Zones, Store, number_in, is_covered}
-use Rattle.sipl_zonestore.specs.Edits.{Edit, unload, remove, after, refusal_of}
+use Rattle.sipl_zonestore.specs.declared.fault.StoreFault.TheVariants.{Overlap, NoZone, Duplicate, Absent, AliasBesideData, SetFull, StoreFull, Memory}
+use Rattle.sipl_zonestore.specs.Store.{Zones, Store, number_in, overlaps, is_covered, records_after_load}
+use Rattle.sipl_zonestore.specs.Edits.{Edit, load, unload, add, remove, after, refusal_of}
 use Rattle.sipl_zonestore.specs.Changes.{changed_keys}
 use Rattle.sipl_zonestore.specs.Numbers.{number_after, next_after, number_refusal}
 use Rattle.sipl_zonestore.specs.IndexedRecords.{IndexedState, IsReplaced}
-use Rattle.sipl_zonestore.specs.Edited.{IsEdited}
+use Rattle.sipl_zonestore.specs.Edited.{IsEdited, store_refusal, early_refusal}
 use Rattle.sipl_zonestore.specs.Consistent.{IsConsistent}
 use Rattle.sipl_zonestore.proofs.Numbering.{kept-after}
 use Rattle.sipl_zonestore.proofs.Consistency.{IsGood, consistent-edited}
@@ -36,8 +36,8 @@ first_some None other fault is = cc
 first_some (Some first) other fault is = is
 
 -- an edit that the zones accept is what the records say
-pub edited : (edit : Edit) (old new : Store) (result : Result (List Key) StoreFault) → IsGood edit → IsConsistent old → refusal_of old.max_records edit old.zones ≡ None → IsReplaced (after edit old.zones).records (part old) (part new) result → OnOk result (new.zones.apexes ≡ (after edit old.zones).apexes) → OnErr result (new.zones.apexes ≡ old.zones.apexes) → new.max_records ≡ old.max_records → new.looks ≡ old.looks → IsEdited edit old new result
-edited edit old new (Ok keys) good held accepted is apexes _ limit looks = record {
+pub edited : (edit : Edit) (old new : Store) (result : Result (List Key) StoreFault) → IsGood edit → IsConsistent old → refusal_of old.max_records edit old.zones ≡ None → IsReplaced (after edit old.zones).records (part old) (part new) result → IfErr result (λ fault. fault ≡ Memory → early_refusal edit old ≡ None) → OnOk result (new.zones.apexes ≡ (after edit old.zones).apexes) → OnErr result (new.zones.apexes ≡ old.zones.apexes) → new.max_records ≡ old.max_records → new.looks ≡ old.looks → IsEdited edit old new result
+edited edit old new (Ok keys) good held accepted is _ apexes _ limit looks = record {
   accepted = second_none (refusal_of old.max_records edit old.zones) (number_refusal old.zones.records (after edit old.zones).records old.next) accepted is.accepted;
   after = λ i. record { apexes = apexes i; records = is.after i };
   changed = is.changed ∙ ap (changed_keys old.zones.records) (sym is.after);
@@ -47,12 +47,13 @@ edited edit old new (Ok keys) good held accepted is apexes _ limit looks = recor
       (same.0, is.numbers key ∙ ap (λ records. number_after old.zones.records records old.next (number_in old) key) (sym is.after) ∙ same.1);
   next = is.next ∙ ap (λ records. next_after old.zones.records records old.next) (sym is.after);
   refused = tt;
+  memory = tt;
   unchanged = tt;
   limit = limit;
   looks = looks;
   consistent = consistent-edited edit old new good held accepted is.accepted (λ i. record { apexes = apexes i; records = is.after i }) limit is.next is.numbers;
 }
-edited edit old new (Err fault) good held accepted is _ apexes limit looks =
+edited edit old new (Err fault) good held accepted is memory _ apexes limit looks =
     let same : new ≡ old = λ i. record { zones = record { apexes = apexes i; records = (is.unchanged i).records }; max_records = limit i; numbers = (is.unchanged i).numbers; next = (is.unchanged i).next; looks = looks i } in
     record {
       accepted = tt;
@@ -62,14 +63,66 @@ edited edit old new (Err fault) good held accepted is _ apexes limit looks =
       kept = tt;
       next = tt;
       refused = λ some. second (refusal_of old.max_records edit old.zones) (number_refusal old.zones.records (after edit old.zones).records old.next) fault accepted (is.refused some);
+      memory = memory;
       unchanged = same;
       limit = limit;
       looks = looks;
       consistent = subst IsConsistent (sym same) held;
     }
 
+-- zones are never refused for memory
+unless : (b : Bool) (fault : StoreFault) (rest : Option StoreFault) → fault ≢ Memory → rest ≢ Some Memory → (if b then Some fault else rest) ≢ Some Memory
+unless true fault rest other past = λ is. other (some_fault is) where
+  some_fault : {fault other : StoreFault} → Some fault ≡ Some other → fault ≡ other
+  some_fault is = cc
+unless false fault rest other past = past
+
+none_memory : None ≢ Some Memory
+none_memory = λ is. cc
+
+no_memory : (max_records : ℕ) (edit : Edit) (zones : Zones) → refusal_of max_records edit zones ≢ Some Memory
+no_memory max_records (load zone) zones =
+    unless (list_any (overlaps zone.apex) zones.apexes) Overlap _ (λ is. cc) (unless (nat_lt max_records (length (records_after_load zone zones.records))) StoreFull None (λ is. cc) none_memory)
+no_memory max_records (unload apex) zones = by_case (list_any (same_name apex) zones.apexes) where
+  by_case : (b : Bool) → (if b then None else Some NoZone) ≢ Some Memory
+  by_case true = λ is. cc
+  by_case false = λ is. cc
+no_memory max_records (add r) zones =
+    unless (not (is_covered zones.apexes r.owner)) NoZone _ (λ is. cc) (unless (list_any (same_record r) zones.records) Duplicate _ (λ is. cc) (unless (list_any (conflicts r) zones.records) AliasBesideData _ (λ is. cc) (unless (nat_le 32 (count_by (shares_set r) zones.records)) SetFull _ (λ is. cc) (unless (nat_le max_records (length zones.records)) StoreFull None (λ is. cc) none_memory))))
+no_memory max_records (remove r) zones = unless (not (is_covered zones.apexes r.owner)) NoZone _ (λ is. cc) (by_case (list_any (same_record r) zones.records)) where
+  by_case : (b : Bool) → (if b then None else Some Absent) ≢ Some Memory
+  by_case true = λ is. cc
+  by_case false = λ is. cc
+
+-- nor are there too few numbers where an allocation failed
+pub memory-edit : (edit : Edit) (store : Store) (result : Result (List Key) StoreFault) → refusal_of store.max_records edit store.zones ≡ None → IfErr result (λ fault. fault ≡ Memory → number_refusal store.zones.records (after edit store.zones).records store.next ≡ None) → IfErr result (λ fault. fault ≡ Memory → store_refusal edit store ≡ None)
+memory-edit edit store (Ok keys) accepted none = tt
+memory-edit edit store (Err fault) accepted none = λ memory. second_none (refusal_of store.max_records edit store.zones) (number_refusal store.zones.records (after edit store.zones).records store.next) accepted (none memory)
+
+-- a fact, where the result is out of memory
+pub if_memory : {T P : Type 0} (result : Result T StoreFault) → P → IfErr result (λ fault. fault ≡ Memory → P)
+if_memory (Ok done) p = tt
+if_memory (Err fault) p = λ memory. p
+
+-- an edit that the zones accept, and fails for memory
+pub out_of_memory : (edit : Edit) (store : Store) → IsConsistent store → early_refusal edit store ≡ None → IsEdited edit store store (Err Memory)
+out_of_memory edit store held early = record {
+  accepted = tt;
+  after = tt;
+  changed = tt;
+  numbers = tt;
+  kept = tt;
+  next = tt;
+  refused = λ some. absurd (some refl);
+  memory = λ memory. early;
+  unchanged = refl;
+  limit = refl;
+  looks = refl;
+  consistent = held;
+}
+
 -- one that the zones refuse
-pub refused-edit : (edit : Edit) (store : Store) (fault : StoreFault) → IsConsistent store → (fault ≢ Memory → refusal_of store.max_records edit store.zones ≡ Some fault) → IsEdited edit store store (Err fault)
+pub refused-edit : (edit : Edit) (store : Store) (fault : StoreFault) → IsConsistent store → refusal_of store.max_records edit store.zones ≡ Some fault → IsEdited edit store store (Err fault)
 refused-edit edit store fault held why = record {
   accepted = tt;
   after = tt;
@@ -77,7 +130,8 @@ refused-edit edit store fault held why = record {
   numbers = tt;
   kept = tt;
   next = tt;
-  refused = λ some. first_some (refusal_of store.max_records edit store.zones) (number_refusal store.zones.records (after edit store.zones).records store.next) fault (why some);
+  refused = λ some. first_some (refusal_of store.max_records edit store.zones) (number_refusal store.zones.records (after edit store.zones).records store.next) fault why;
+  memory = λ memory. absurd (no_memory store.max_records edit store.zones (why ∙ ap (λ f. Some f) memory));
   unchanged = refl;
   limit = refl;
   looks = refl;
@@ -98,9 +152,9 @@ abbrev pub store_of : List (List (List ℕ)) → IndexedState → ℕ → ℕ �
 store_of apexes records max_records looks =
     record { zones = record { apexes = apexes; records = records.records }; max_records = max_records; numbers = records.numbers; next = records.next; looks = looks }
 
-pub edited-with : (edit : Edit) (apexes apexes' : List (List (List ℕ))) (records records' : IndexedState) (max_records looks : ℕ) (result : Result (List Key) StoreFault) → IsGood edit → IsConsistent (store_of apexes records max_records looks) → refusal_of max_records edit (record { apexes = apexes; records = records.records }) ≡ None → IsReplaced (after edit (record { apexes = apexes; records = records.records })).records records records' result → OnOk result (apexes' ≡ (after edit (record { apexes = apexes; records = records.records })).apexes) → OnErr result (apexes' ≡ apexes) → IsEdited edit (store_of apexes records max_records looks) (store_of apexes' records' max_records looks) result
-edited-with edit apexes apexes' records records' max_records looks result good held accepted is done kept =
-    edited edit (store_of apexes records max_records looks) (store_of apexes' records' max_records looks) result good held accepted is done kept refl refl
+pub edited-with : (edit : Edit) (apexes apexes' : List (List (List ℕ))) (records records' : IndexedState) (max_records looks : ℕ) (result : Result (List Key) StoreFault) → IsGood edit → IsConsistent (store_of apexes records max_records looks) → refusal_of max_records edit (record { apexes = apexes; records = records.records }) ≡ None → IsReplaced (after edit (record { apexes = apexes; records = records.records })).records records records' result → IfErr result (λ fault. fault ≡ Memory → early_refusal edit (store_of apexes records max_records looks) ≡ None) → OnOk result (apexes' ≡ (after edit (record { apexes = apexes; records = records.records })).apexes) → OnErr result (apexes' ≡ apexes) → IsEdited edit (store_of apexes records max_records looks) (store_of apexes' records' max_records looks) result
+edited-with edit apexes apexes' records records' max_records looks result good held accepted is memory done kept =
+    edited edit (store_of apexes records max_records looks) (store_of apexes' records' max_records looks) result good held accepted is memory done kept refl refl
 
 -- a record that may be removed is there
 pub not_absent : (max_records : ℕ) (r : Record) (zones : Zones) → refusal_of max_records (remove r) zones ≡ None → list_any (same_record r) zones.records ≡ true

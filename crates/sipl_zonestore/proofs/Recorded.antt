@@ -1,5 +1,5 @@
 -- Records whose sets are numbered, once records have changed.
-use Rattle.std.proofs.Common.{◌≡◌, ◌≢◌, ℕ, ◌+◌, ◌^◌, ◌<◌, ◌≤◌, Bool, true, false, not, ◌&&◌, List, [], ◌∷◌, ◌++◌, length, Option, None, Some, Ok, Err, if◌then◌else◌, cond, refl, ap, sym, ◌∙◌, arith, append-nil}
+use Rattle.std.proofs.Common.{◌≡◌, ◌≢◌, ℕ, ◌+◌, ◌^◌, ◌<◌, ◌≤◌, Bool, true, false, not, ◌&&◌, List, [], ◌∷◌, ◌++◌, length, Option, None, Some, Ok, Err, if◌then◌else◌, cond, refl, ap, subst, sym, ◌∙◌, arith, append-nil}
 use Rattle.std.specs.List.{filter, filter_map, list_any, list_all, position_from}
 use Rattle.std.specs.Option.{option_to_list, unwrap_or}
 use Rattle.sipl_names.specs.Labels.{is_within}
@@ -14,7 +14,8 @@ use Rattle.sipl_zonestore.specs.Store.{records_outside}
 use Rattle.sipl_zonestore.specs.Edits.{records_without}
 use Rattle.sipl_zonestore.specs.Changes.{is_changed, changed_keys}
 use Rattle.sipl_zonestore.specs.Numbers.{is_empty, number_of, numbered_keys, number_after, next_after, number_refusal}
-use Rattle.sipl_zonestore.specs.SetTable.{NumberedSet, Content, carried, content_of, numbers_of, pushed, without, renumbered, keys_left, has_set, HasSets}
+use Rattle.sipl_zonestore.specs.Content.{Content, carried, pushed, without, renumbered}
+use Rattle.sipl_zonestore.specs.SetTable.{OwnerTable, content_of, numbers_of, keys_left, has_set, HasSets}
 use Rattle.sipl_zonestore.specs.IndexedRecords.{IndexedState, IsReplaced}
 use Rattle.sipl_zonestore.proofs.ChangedKeys.{changed-add, changed-remove, set-inside, set_of-without, set_of-others, stays}
 use Rattle.sipl_zonestore.proofs.Elements.{chosen-first, chosen-second}
@@ -22,7 +23,7 @@ use Rattle.sipl_zonestore.proofs.SetTables.{number_of-numbers_of, is_empty-push}
 use Rattle.sipl_zonestore.proofs.Replacing.{IsReplacement, empty-number, accepted-numbers, refused-numbers, replaced-number, filter-numbered}
 
 -- the number of a set that stays
-kept-number : (old new : List Record) (sets : List NumberedSet) (key : Key) → HasSets sets old → set_of new key ≡ set_of old key → (content_of sets key).number ≡ (if is_empty (set_of new key) then 0 else number_of (numbers_of sets) key)
+kept-number : (old new : List Record) (sets : OwnerTable) (key : Key) → HasSets sets old → set_of new key ≡ set_of old key → (content_of sets key).number ≡ (if is_empty (set_of new key) then 0 else number_of (numbers_of sets) key)
 kept-number old new sets key has same = empty_case (is_empty (set_of new key)) refl where
   empty_case : (b : Bool) → is_empty (set_of new key) ≡ b → (content_of sets key).number ≡ (if b then 0 else number_of (numbers_of sets) key)
   empty_case true gone = empty-number sets key (ap is_empty (has key ∙ sym same) ∙ gone)
@@ -51,7 +52,7 @@ numbered-add old r = ap (filter (λ key. not (is_empty (set_of (old ++ r ∷ [])
       rw (set_of-pushed old r key true there, is_empty-push (set_of old key) r.value) refl
 
 -- a table with one datum more has the sets
-pub pushed-sets : (old : List Record) (r : Record) (next : ℕ) (sets sets' : List NumberedSet) → HasSets sets old → ((key : Key) → content_of sets' key ≡ (if has_key key r then pushed next r.value (content_of sets key) else content_of sets key)) → HasSets sets' (old ++ r ∷ [])
+pub pushed-sets : (old : List Record) (r : Record) (next : ℕ) (sets sets' : OwnerTable) → HasSets sets old → ((key : Key) → content_of sets' key ≡ (if has_key key r then pushed next r.value (content_of sets key) else content_of sets key)) → HasSets sets' (old ++ r ∷ [])
 pushed-sets old r next sets sets' has put key = own_case (has_key key r) refl where
   own_case : (b : Bool) → has_key key r ≡ b → (content_of sets' key).values ≡ set_of (old ++ r ∷ []) key
   own_case true own =
@@ -60,7 +61,7 @@ pushed-sets old r next sets sets' has put key = own_case (has_key key r) refl wh
       ap (λ (c : Content). c.values) (chosen-second _ _ _ _ (put key) other) ∙ has key ∙ sym (set_of-pushed old r key false other ∙ append-nil (set_of old key))
 
 -- and the numbers
-pub pushed-number : (old : List Record) (r : Record) (next : ℕ) (sets sets' : List NumberedSet) → HasSets sets old → ((key : Key) → content_of sets' key ≡ (if has_key key r then pushed next r.value (content_of sets key) else content_of sets key)) → (key : Key) → number_of (numbers_of sets') key ≡ number_after old (old ++ r ∷ []) next (number_of (numbers_of sets)) key
+pub pushed-number : (old : List Record) (r : Record) (next : ℕ) (sets sets' : OwnerTable) → HasSets sets old → ((key : Key) → content_of sets' key ≡ (if has_key key r then pushed next r.value (content_of sets key) else content_of sets key)) → (key : Key) → number_of (numbers_of sets') key ≡ number_after old (old ++ r ∷ []) next (number_of (numbers_of sets)) key
 pushed-number old r next sets sets' has put key =
     number_of-numbers_of sets' key ∙ ap (λ (c : Content). c.number) (put key) ∙ own_case (key_of r) (has_key key r) refl refl (has_key-key_of key r)
     ∙ ap (λ keys. unwrap_or (position_from (λ other. same_key other key) next keys) (if is_empty (set_of (old ++ r ∷ []) key) then 0 else number_of (numbers_of sets) key)) (sym (numbered-add old r)) where
@@ -76,13 +77,13 @@ pushed-number old r next sets sets' has put key =
           let apart : same_key own key ≡ false = sym (sym other ∙ same ∙ ap (is_key key) is) in rw (other, apart) (stays other)
 
 -- a record was added
-pub added : (old records : List Record) (r : Record) (next after : ℕ) (sets sets' : List NumberedSet) (keys : List Key) → HasSets sets old → ((key : Key) → content_of sets' key ≡ (if has_key key r then pushed next r.value (content_of sets key) else content_of sets key)) → records ≡ old ++ r ∷ [] → keys ≡ option_to_list (key_of r) → after ≡ next + length (option_to_list (key_of r)) → after ≤ 2 ^ 52 + 1 → IsReplaced (old ++ r ∷ []) (record { records = old; numbers = numbers_of sets; next = next }) (record { records = records; numbers = numbers_of sets'; next = after }) (Ok keys)
+pub added : (old records : List Record) (r : Record) (next after : ℕ) (sets sets' : OwnerTable) (keys : List Key) → HasSets sets old → ((key : Key) → content_of sets' key ≡ (if has_key key r then pushed next r.value (content_of sets key) else content_of sets key)) → records ≡ old ++ r ∷ [] → keys ≡ option_to_list (key_of r) → after ≡ next + length (option_to_list (key_of r)) → after ≤ 2 ^ 52 + 1 → IsReplaced (old ++ r ∷ []) (record { records = old; numbers = numbers_of sets; next = next }) (record { records = records; numbers = numbers_of sets'; next = after }) (Ok keys)
 added old records r next after sets sets' keys has put records_are keys_are after_is few =
     let counted : length (option_to_list (key_of r)) ≡ length (numbered_keys old (old ++ r ∷ [])) = ap length (sym (numbered-add old r)) in
     done (old ++ r ∷ []) (record { records = old; numbers = numbers_of sets; next = next }) (record { records = records; numbers = numbers_of sets'; next = after }) keys (accepted-numbers old (old ++ r ∷ []) next (length (option_to_list (key_of r))) counted (omega (arith, after_is, few))) records_are (keys_are ∙ sym (changed-add old r)) (pushed-number old r next sets sets' has put) (after_is ∙ ap (λ n. next + n) counted)
 
 -- the keys that take a number where a record is removed
-pub numbered-remove : (old : List Record) (r : Record) (sets : List NumberedSet) → HasSets sets old → list_any (same_record r) old ≡ true → numbered_keys old (records_without r old) ≡ keys_left sets r
+pub numbered-remove : (old : List Record) (r : Record) (sets : OwnerTable) → HasSets sets old → list_any (same_record r) old ≡ true → numbered_keys old (records_without r old) ≡ keys_left sets r
 numbered-remove old r sets has some = ap (filter (λ key. not (is_empty (set_of (records_without r old) key)))) (changed-remove old r some) ∙ own_case (key_of r) refl where
   own_case : (own : Option Key) → key_of r ≡ own → filter (λ key. not (is_empty (set_of (records_without r old) key))) (option_to_list own) ≡ filter (λ key. not (is_empty (without r.value (content_of sets key)).values)) (option_to_list own)
   own_case None is = refl
@@ -90,7 +91,7 @@ numbered-remove old r sets has some = ap (filter (λ key. not (is_empty (set_of 
       let there : has_key key r ≡ true = has_key-key_of key r ∙ rw is (same_key-refl key) in
       rw (set_of-without r old key there, has key) refl
 
-pub removed-sets : (old : List Record) (r : Record) (next : ℕ) (sets sets' : List NumberedSet) → HasSets sets old → ((key : Key) → content_of sets' key ≡ (if has_key key r then renumbered next (without r.value (content_of sets key)) else content_of sets key)) → HasSets sets' (records_without r old)
+pub removed-sets : (old : List Record) (r : Record) (next : ℕ) (sets sets' : OwnerTable) → HasSets sets old → ((key : Key) → content_of sets' key ≡ (if has_key key r then renumbered next (without r.value (content_of sets key)) else content_of sets key)) → HasSets sets' (records_without r old)
 removed-sets old r next sets sets' has put key = own_case (has_key key r) refl where
   own_case : (b : Bool) → has_key key r ≡ b → (content_of sets' key).values ≡ set_of (records_without r old) key
   own_case true own =
@@ -98,7 +99,7 @@ removed-sets old r next sets sets' has put key = own_case (has_key key r) refl w
   own_case false other =
       ap (λ (c : Content). c.values) (chosen-second _ _ _ _ (put key) other) ∙ has key ∙ sym (set_of-others r old key other)
 
-pub removed-number : (old : List Record) (r : Record) (next : ℕ) (sets sets' : List NumberedSet) → HasSets sets old → list_any (same_record r) old ≡ true → ((key : Key) → content_of sets' key ≡ (if has_key key r then renumbered next (without r.value (content_of sets key)) else content_of sets key)) → (key : Key) → number_of (numbers_of sets') key ≡ number_after old (records_without r old) next (number_of (numbers_of sets)) key
+pub removed-number : (old : List Record) (r : Record) (next : ℕ) (sets sets' : OwnerTable) → HasSets sets old → list_any (same_record r) old ≡ true → ((key : Key) → content_of sets' key ≡ (if has_key key r then renumbered next (without r.value (content_of sets key)) else content_of sets key)) → (key : Key) → number_of (numbers_of sets') key ≡ number_after old (records_without r old) next (number_of (numbers_of sets)) key
 removed-number old r next sets sets' has some put key =
     number_of-numbers_of sets' key ∙ ap (λ (c : Content). c.number) (put key) ∙ own_case (key_of r) (has_key key r) refl refl (has_key-key_of key r)
     ∙ ap (λ keys. unwrap_or (position_from (λ other. same_key other key) next keys) (if is_empty (set_of (records_without r old) key) then 0 else number_of (numbers_of sets) key)) (sym (ap (filter (λ key. not (is_empty (set_of (records_without r old) key)))) (changed-remove old r some))) where
@@ -134,32 +135,42 @@ removed-number old r next sets sets' has some put key =
           rw other (other_case own (left own) apart refl (stays other))
 
 -- a record was removed
-pub taken_out : (old records : List Record) (r : Record) (next after : ℕ) (sets sets' : List NumberedSet) (keys : List Key) → HasSets sets old → list_any (same_record r) old ≡ true → ((key : Key) → content_of sets' key ≡ (if has_key key r then renumbered next (without r.value (content_of sets key)) else content_of sets key)) → records ≡ records_without r old → keys ≡ option_to_list (key_of r) → after ≡ next + length (keys_left sets r) → after ≤ 2 ^ 52 + 1 → IsReplaced (records_without r old) (record { records = old; numbers = numbers_of sets; next = next }) (record { records = records; numbers = numbers_of sets'; next = after }) (Ok keys)
+pub taken_out : (old records : List Record) (r : Record) (next after : ℕ) (sets sets' : OwnerTable) (keys : List Key) → HasSets sets old → list_any (same_record r) old ≡ true → ((key : Key) → content_of sets' key ≡ (if has_key key r then renumbered next (without r.value (content_of sets key)) else content_of sets key)) → records ≡ records_without r old → keys ≡ option_to_list (key_of r) → after ≡ next + length (keys_left sets r) → after ≤ 2 ^ 52 + 1 → IsReplaced (records_without r old) (record { records = old; numbers = numbers_of sets; next = next }) (record { records = records; numbers = numbers_of sets'; next = after }) (Ok keys)
 taken_out old records r next after sets sets' keys has some put records_are keys_are after_is few =
     let counted : length (keys_left sets r) ≡ length (numbered_keys old (records_without r old)) = ap length (sym (numbered-remove old r sets has some)) in
     done (records_without r old) (record { records = old; numbers = numbers_of sets; next = next }) (record { records = records; numbers = numbers_of sets'; next = after }) keys (accepted-numbers old (records_without r old) next (length (keys_left sets r)) counted (omega (arith, after_is, few))) records_are (keys_are ∙ sym (changed-remove old r some)) (removed-number old r next sets sets' has some put) (after_is ∙ ap (λ n. next + n) counted)
 
 -- records were replaced
-pub replaced : (apex : List (List ℕ)) (old text records : List Record) (next after count : ℕ) (sets text_sets numbered put : List NumberedSet) (keys : List Key) → IsReplacement apex old text next sets text_sets numbered put keys → records ≡ records_outside apex old ++ text → count ≡ length (filter (has_set text_sets) keys) → after ≡ next + count → next + count ≤ 2 ^ 52 + 1 → IsReplaced (records_outside apex old ++ text) (record { records = old; numbers = numbers_of sets; next = next }) (record { records = records; numbers = numbers_of put; next = after }) (Ok keys)
+pub replaced : (apex : List (List ℕ)) (old text records : List Record) (next after count : ℕ) (sets text_sets numbered put : OwnerTable) (keys : List Key) → IsReplacement apex old text next sets text_sets numbered put keys → records ≡ records_outside apex old ++ text → count ≡ length (filter (has_set text_sets) keys) → after ≡ next + count → next + count ≤ 2 ^ 52 + 1 → IsReplaced (records_outside apex old ++ text) (record { records = old; numbers = numbers_of sets; next = next }) (record { records = records; numbers = numbers_of put; next = after }) (Ok keys)
 replaced apex old text records next after count sets text_sets numbered put keys is records_are count_is after_is few =
     let counted : count ≡ length (numbered_keys old (records_outside apex old ++ text)) = count_is ∙ ap (λ ks. length (filter (has_set text_sets) ks)) is.changed ∙ ap length (filter-numbered apex old text sets text_sets is.within is.made) in
     done (records_outside apex old ++ text) (record { records = old; numbers = numbers_of sets; next = next }) (record { records = records; numbers = numbers_of put; next = after }) keys (accepted-numbers old (records_outside apex old ++ text) next count counted few) records_are is.changed (λ key. number_of-numbers_of put key ∙ replaced-number apex old text next sets text_sets numbered put keys is key) (after_is ∙ ap (λ n. next + n) counted)
 
 -- too few numbers are left to replace records
-pub refused-replace : (apex : List (List ℕ)) (old text : List Record) (next count : ℕ) (sets text_sets : List NumberedSet) (keys : List Key) (fault : StoreFault) → list_all (λ r. is_within r.owner apex) text ≡ true → ((key : Key) → content_of text_sets key ≡ carried (content_of sets key).number (set_of text key)) → keys ≡ changed_keys old (records_outside apex old ++ text) → count ≡ length (filter (has_set text_sets) keys) → 2 ^ 52 + 1 < next + count → fault ≡ NumberSpent → number_refusal old (records_outside apex old ++ text) next ≡ Some fault
+pub refused-replace : (apex : List (List ℕ)) (old text : List Record) (next count : ℕ) (sets text_sets : OwnerTable) (keys : List Key) (fault : StoreFault) → list_all (λ r. is_within r.owner apex) text ≡ true → ((key : Key) → content_of text_sets key ≡ carried (content_of sets key).number (set_of text key)) → keys ≡ changed_keys old (records_outside apex old ++ text) → count ≡ length (filter (has_set text_sets) keys) → 2 ^ 52 + 1 < next + count → fault ≡ NumberSpent → number_refusal old (records_outside apex old ++ text) next ≡ Some fault
 refused-replace apex old text next count sets text_sets keys fault all made changed count_is many fault_is =
     let counted : count ≡ length (numbered_keys old (records_outside apex old ++ text)) = count_is ∙ ap (λ ks. length (filter (has_set text_sets) ks)) changed ∙ ap length (filter-numbered apex old text sets text_sets all made) in
     refused-numbers old (records_outside apex old ++ text) next count counted many ∙ ap (λ f. Some f) (sym fault_is)
 
 -- or to add one
-pub refused-add : (old : List Record) (r : Record) (next : ℕ) (fault : StoreFault) → (2 ^ 52 + 1 < next + length (option_to_list (key_of r))) × (fault ≡ NumberSpent) → number_refusal old (old ++ r ∷ []) next ≡ Some fault
-refused-add old r next fault why =
-    refused-numbers old (old ++ r ∷ []) next (length (option_to_list (key_of r))) (ap length (sym (numbered-add old r))) why.0 ∙ ap (λ f. Some f) (sym why.1)
+pub refused-add : (old : List Record) (r : Record) (next count : ℕ) (fault : StoreFault) → count ≡ length (option_to_list (key_of r)) → 2 ^ 52 + 1 < next + count → fault ≡ NumberSpent → number_refusal old (old ++ r ∷ []) next ≡ Some fault
+refused-add old r next count fault counted many is =
+    refused-numbers old (old ++ r ∷ []) next count (counted ∙ ap length (sym (numbered-add old r))) many ∙ ap (λ f. Some f) (sym is)
 
 -- or to remove one
-pub refused-remove : (old : List Record) (r : Record) (next : ℕ) (sets : List NumberedSet) (fault : StoreFault) → HasSets sets old → list_any (same_record r) old ≡ true → (2 ^ 52 + 1 < next + length (keys_left sets r)) × (fault ≡ NumberSpent) → number_refusal old (records_without r old) next ≡ Some fault
-refused-remove old r next sets fault has some why =
-    refused-numbers old (records_without r old) next (length (keys_left sets r)) (ap length (sym (numbered-remove old r sets has some))) why.0 ∙ ap (λ f. Some f) (sym why.1)
+pub refused-remove : (old : List Record) (r : Record) (next count : ℕ) (sets : OwnerTable) (fault : StoreFault) → HasSets sets old → list_any (same_record r) old ≡ true → count ≡ length (keys_left sets r) → 2 ^ 52 + 1 < next + count → fault ≡ NumberSpent → number_refusal old (records_without r old) next ≡ Some fault
+refused-remove old r next count sets fault has some counted many is =
+    refused-numbers old (records_without r old) next count (counted ∙ ap length (sym (numbered-remove old r sets has some))) many ∙ ap (λ f. Some f) (sym is)
+
+-- enough are left to add a record
+pub enough-add : (old : List Record) (r : Record) (next count : ℕ) → count ≡ length (option_to_list (key_of r)) → next + count ≤ 2 ^ 52 + 1 → number_refusal old (old ++ r ∷ []) next ≡ None
+enough-add old r next count counted few =
+    accepted-numbers old (old ++ r ∷ []) next count (counted ∙ ap length (sym (numbered-add old r))) few
+
+-- or to remove one
+pub enough-remove : (old : List Record) (r : Record) (next count : ℕ) (sets : OwnerTable) → HasSets sets old → list_any (same_record r) old ≡ true → count ≡ length (keys_left sets r) → next + count ≤ 2 ^ 52 + 1 → number_refusal old (records_without r old) next ≡ None
+enough-remove old r next count sets has some counted few =
+    accepted-numbers old (records_without r old) next count (counted ∙ ap length (sym (numbered-remove old r sets has some))) few
 
 -- where records are only left out, no set takes a number
 numbered-outside : (apex : List (List ℕ)) (old : List Record) → numbered_keys old (records_outside apex old ++ []) ≡ []
@@ -175,9 +186,17 @@ numbered-outside apex old =
           ap (λ set. is_changed old (records_outside apex old ++ []) key && not (is_empty set)) (set-inside apex old [] key inside) ∙ nothing (is_changed old (records_outside apex old ++ []) key)
       by_case key false outside = ap (λ differs. differs && not (is_empty (set_of (records_outside apex old ++ []) key))) (stays apex old [] key refl outside)
 
--- so the numbers never run out
+-- so numbers are left for that
+enough-outside : (apex : List (List ℕ)) (old : List Record) (next : ℕ) → next ≤ 2 ^ 52 + 1 → number_refusal old (records_outside apex old ++ []) next ≡ None
+enough-outside apex old next few = accepted-numbers old (records_outside apex old ++ []) next 0 (sym (ap length (numbered-outside apex old))) (omega (arith, few))
+
+pub enough-unload : (apex : List (List ℕ)) (old : List Record) (next : ℕ) → next ≤ 2 ^ 52 + 1 → number_refusal old (records_outside apex old) next ≡ None
+enough-unload apex old next few =
+    subst (λ records. number_refusal old records next ≡ None) (append-nil (records_outside apex old)) (enough-outside apex old next few)
+
+-- and never run out
 pub never_spent : (apex : List (List ℕ)) (old : List Record) (next : ℕ) (fault : StoreFault) → next ≤ 2 ^ 52 + 1 → (fault ≢ Memory → number_refusal old (records_outside apex old ++ []) next ≡ Some fault) → fault ≢ NumberSpent
 never_spent apex old next fault few why spent =
     let some : fault ≢ Memory = λ memory. let never : NumberSpent ≡ Memory = sym spent ∙ memory in cc in
-    let never : None ≡ Some fault = sym (accepted-numbers old (records_outside apex old ++ []) next 0 (sym (ap length (numbered-outside apex old))) (omega (arith, few))) ∙ why some in
+    let never : None ≡ Some fault = sym (enough-outside apex old next few) ∙ why some in
     cc

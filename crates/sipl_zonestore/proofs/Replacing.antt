@@ -5,7 +5,7 @@ use Rattle.std.specs.Option.{unwrap_or}
 use Rattle.std.proofs.lemmas.Bool.{cases_Bool}
 use Rattle.std.proofs.lemmas.Bool.Decides.{nat_tests}
 use Rattle.std.proofs.lemmas.List.Elements.{filter_agree}
-use Rattle.sipl_names.specs.Labels.{is_within}
+use Rattle.sipl_names.specs.Labels.{is_within, same_name}
 use Rattle.sipl_records.specs.declared.record.Record.{Record}
 use Rattle.sipl_records.specs.declared.record.Key.{Key}
 use Rattle.sipl_records.specs.Sets.{set_of, same_key, key_of}
@@ -15,22 +15,23 @@ use Rattle.sipl_zonestore.specs.declared.fault.StoreFault.TheVariants.{NumberSpe
 use Rattle.sipl_zonestore.specs.Store.{records_outside}
 use Rattle.sipl_zonestore.specs.Changes.{is_changed, changed_keys}
 use Rattle.sipl_zonestore.specs.Numbers.{is_empty, number_of, numbered_keys, number_after, number_refusal}
-use Rattle.sipl_zonestore.specs.SetTable.{NumberedSet, Content, no_content, carried, content_of, numbers_of, has_set, numbered_content, HasSets}
+use Rattle.sipl_zonestore.specs.Content.{Content, no_content, carried}
+use Rattle.sipl_zonestore.specs.SetTable.{OwnerTable, set_at, content_of, numbers_of, has_set, numbered_content, HasSets}
 use Rattle.sipl_zonestore.proofs.ChangedKeys.{set-outside, set-inside, stays, text-none}
 use Rattle.sipl_zonestore.proofs.Numbering.{numbered-none_same, numbered-none_empty}
 use Rattle.sipl_zonestore.proofs.Elements.{chosen-first, chosen-second}
 use Rattle.sipl_zonestore.proofs.Positions.{from-none}
 use Rattle.sipl_zonestore.proofs.SetTables.{number_of-numbers_of}
 
-pub empty-number : (sets : List NumberedSet) (key : Key) → is_empty (content_of sets key).values ≡ true → (content_of sets key).number ≡ 0
+pub empty-number : (sets : OwnerTable) (key : Key) → is_empty (content_of sets key).values ≡ true → (content_of sets key).number ≡ 0
 empty-number [] key empty = refl
-empty-number (s ∷ sets) key empty = elim (cases_Bool (same_key s.key key)) [
-  | inl here ↦ rw here (let own : is_empty s.values ≡ true = rw here at empty in rw own refl)
-  | inr other ↦ rw other (empty-number sets key (rw other at empty))
+empty-number (owner ∷ owners) key empty = elim (cases_Bool (same_name owner.0 key.name)) [
+  | inl here ↦ rw here (let own : is_empty (set_at key.kind owner.1).values ≡ true = rw here at empty in rw own refl)
+  | inr other ↦ rw other (empty-number owners key (rw other at empty))
 ]
 
 -- the contents of a table after a text has replaced what is within an apex
-pub record IsReplacement (apex : List (List ℕ)) (old text : List Record) (next : ℕ) (sets text_sets numbered replaced : List NumberedSet) (keys : List Key) : Type 0 where
+pub record IsReplacement (apex : List (List ℕ)) (old text : List Record) (next : ℕ) (sets text_sets numbered replaced : OwnerTable) (keys : List Key) : Type 0 where
   pub within : list_all (λ r. is_within r.owner apex) text ≡ true
   pub has_sets : HasSets sets old
   pub made : (key : Key) → content_of text_sets key ≡ carried (content_of sets key).number (set_of text key)
@@ -39,7 +40,7 @@ pub record IsReplacement (apex : List (List ℕ)) (old text : List Record) (next
   pub put : (key : Key) → content_of replaced key ≡ (if is_within key.name apex then content_of numbered key else content_of sets key)
 
 -- where the table of the text has a set, the new records have
-pub filter-numbered : (apex : List (List ℕ)) (old text : List Record) (sets text_sets : List NumberedSet) → list_all (λ r. is_within r.owner apex) text ≡ true → ((key : Key) → content_of text_sets key ≡ carried (content_of sets key).number (set_of text key)) → filter (has_set text_sets) (changed_keys old (records_outside apex old ++ text)) ≡ numbered_keys old (records_outside apex old ++ text)
+pub filter-numbered : (apex : List (List ℕ)) (old text : List Record) (sets text_sets : OwnerTable) → list_all (λ r. is_within r.owner apex) text ≡ true → ((key : Key) → content_of text_sets key ≡ carried (content_of sets key).number (set_of text key)) → filter (has_set text_sets) (changed_keys old (records_outside apex old ++ text)) ≡ numbered_keys old (records_outside apex old ++ text)
 filter-numbered apex old text sets text_sets all made =
     filter-filter (has_set text_sets) (is_changed old (records_outside apex old ++ text)) (unique same_key (filter_map key_of (old ++ (records_outside apex old ++ text))))
     ∙ filter_agree (λ key. is_changed old (records_outside apex old ++ text) key && has_set text_sets key) (λ key. is_changed old (records_outside apex old ++ text) key && not (is_empty (set_of (records_outside apex old ++ text) key))) (λ key. agree key (is_changed old (records_outside apex old ++ text) key) refl) (unique same_key (filter_map key_of (old ++ (records_outside apex old ++ text))))
@@ -53,7 +54,7 @@ filter-numbered apex old text sets text_sets all made =
       agree key false same = rw same refl
 
 -- the table has the sets of the new records
-pub replaced-sets : (apex : List (List ℕ)) (old text : List Record) (next : ℕ) (sets text_sets numbered replaced : List NumberedSet) (keys : List Key) → IsReplacement apex old text next sets text_sets numbered replaced keys → HasSets replaced (records_outside apex old ++ text)
+pub replaced-sets : (apex : List (List ℕ)) (old text : List Record) (next : ℕ) (sets text_sets numbered replaced : OwnerTable) (keys : List Key) → IsReplacement apex old text next sets text_sets numbered replaced keys → HasSets replaced (records_outside apex old ++ text)
 replaced-sets apex old text next sets text_sets numbered replaced keys is key = within_case (is_within key.name apex) refl where
   within_case : (b : Bool) → is_within key.name apex ≡ b → (content_of replaced key).values ≡ set_of (records_outside apex old ++ text) key
   within_case true inside =
@@ -62,7 +63,7 @@ replaced-sets apex old text next sets text_sets numbered replaced keys is key = 
       ap (λ (c : Content). c.values) (chosen-second _ _ _ _ (is.put key) outside) ∙ is.has_sets key ∙ sym (set-outside apex old text key is.within outside)
 
 -- and the numbers that they take
-pub replaced-number : (apex : List (List ℕ)) (old text : List Record) (next : ℕ) (sets text_sets numbered replaced : List NumberedSet) (keys : List Key) → IsReplacement apex old text next sets text_sets numbered replaced keys → (key : Key) → (content_of replaced key).number ≡ number_after old (records_outside apex old ++ text) next (number_of (numbers_of sets)) key
+pub replaced-number : (apex : List (List ℕ)) (old text : List Record) (next : ℕ) (sets text_sets numbered replaced : OwnerTable) (keys : List Key) → IsReplacement apex old text next sets text_sets numbered replaced keys → (key : Key) → (content_of replaced key).number ≡ number_after old (records_outside apex old ++ text) next (number_of (numbers_of sets)) key
 replaced-number apex old text next sets text_sets numbered replaced keys is key = within_case (is_within key.name apex) refl where
   new : List Record
   new = records_outside apex old ++ text
@@ -99,7 +100,7 @@ accepted-numbers old new next count counted few =
       is_enough next count n counted few = grind (arith, nat_tests)
 
 -- the numbered sets of a text are within the zone too
-pub numbered-none : (apex : List (List ℕ)) (text : List Record) (sets text_sets numbered : List NumberedSet) (keys : List Key) (next : ℕ) → list_all (λ r. is_within r.owner apex) text ≡ true → ((key : Key) → content_of text_sets key ≡ carried (content_of sets key).number (set_of text key)) → ((key : Key) → content_of numbered key ≡ numbered_content text_sets keys next key) → (key : Key) → is_within key.name apex ≡ false → content_of numbered key ≡ no_content
+pub numbered-none : (apex : List (List ℕ)) (text : List Record) (sets text_sets numbered : OwnerTable) (keys : List Key) (next : ℕ) → list_all (λ r. is_within r.owner apex) text ≡ true → ((key : Key) → content_of text_sets key ≡ carried (content_of sets key).number (set_of text key)) → ((key : Key) → content_of numbered key ≡ numbered_content text_sets keys next key) → (key : Key) → is_within key.name apex ≡ false → content_of numbered key ≡ no_content
 numbered-none apex text sets text_sets numbered keys next all made taken key outside =
     let none : (content_of text_sets key).values ≡ [] = ap (λ (c : Content). c.values) (made key) ∙ text-none apex text key all outside in
     taken key ∙ ap (carried (unwrap_or (position_from (λ other. same_key other key) next (filter (has_set text_sets) keys)) (content_of text_sets key).number)) none

@@ -16,7 +16,7 @@ use Rattle.sipl_masterfile.specs.Zones.{has_repeats}
 use Rattle.sipl_zonestore.specs.Numbers.{is_empty}
 use Rattle.sipl_zonestore.specs.Store.{records_within}
 use Rattle.sipl_zonestore.specs.Changes.{is_changed, changed_among}
-use Rattle.sipl_zonestore.specs.SetTable.{NumberedSet, content_of, HasSets, is_first, changed_in, added_in}
+use Rattle.sipl_zonestore.specs.SetTable.{OwnerTable, content_of, HasSets, is_first, changed_in, added_in}
 use Rattle.sipl_zonestore.proofs.Elements.{or_left, or_right, or_first, or_second, any-filter, none-at, all-at}
 use Rattle.sipl_zonestore.proofs.Keys.{same_key-trans, list_any-filter_map}
 use Rattle.sipl_zonestore.proofs.SameSets.{same_set-true}
@@ -90,7 +90,7 @@ any-within apex records key inside =
 within-key : (apex : List (List ℕ)) (r : Record) (key : Key) → key_of r ≡ Some key → is_within r.owner apex ≡ true → is_within key.name apex ≡ true
 within-key apex r key own inside = ap (λ name. is_within name apex) (sym (key_of-name r key own)) ∙ inside
 
-pub step-changed : (old text : List Record) (sets new : List NumberedSet) (apex : List (List ℕ)) (i : ℕ) (r : Record) → has_repeats old ≡ false → HasSets sets old → HasSets new text → i < length old → r ≡ get_or old i r → is_within r.owner apex ≡ true → changed_among old text (records_within apex (take i old)) ++ changed_in sets new r ≡ changed_among old text (records_within apex (take (i + 1) old))
+pub step-changed : (old text : List Record) (sets new : OwnerTable) (apex : List (List ℕ)) (i : ℕ) (r : Record) → has_repeats old ≡ false → HasSets sets old → HasSets new text → i < length old → r ≡ get_or old i r → is_within r.owner apex ≡ true → changed_among old text (records_within apex (take i old)) ++ changed_in sets new r ≡ changed_among old text (records_within apex (take (i + 1) old))
 step-changed old text sets new apex i r distinct has has' inside here within =
     own_case (key_of r) refl ∙ ap (changed_among old text) (sym (within-more apex [] old i r inside here within)) where
       own_case : (own : Option Key) → key_of r ≡ own → changed_among old text (records_within apex (take i old)) ++ filter (λ key. is_first r.value (content_of sets key).values && not (pointwise same_data (content_of sets key).values (content_of new key).values)) (option_to_list own) ≡ changed_among old text (records_within apex (take i old) ++ r ∷ [])
@@ -116,7 +116,7 @@ any-at p [] i x inside here passes = absurd (omega arith)
 any-at p (y ∷ xs) zero x inside here passes = or_first (p y) (list_any p xs) (ap p (sym here) ∙ passes)
 any-at p (y ∷ xs) (suc i) x inside here passes = or_second (p y) (list_any p xs) (any-at p xs i x (omega arith) here passes)
 
-pub step-added : (old text : List Record) (sets new : List NumberedSet) (apex : List (List ℕ)) (i : ℕ) (r : Record) → has_repeats text ≡ false → HasSets sets old → HasSets new text → list_all (λ r. is_within r.owner apex) text ≡ true → i < length text → r ≡ get_or text i r → changed_among old text (records_within apex old ++ take i text) ++ added_in sets new r ≡ changed_among old text (records_within apex old ++ take (i + 1) text)
+pub step-added : (old text : List Record) (sets new : OwnerTable) (apex : List (List ℕ)) (i : ℕ) (r : Record) → has_repeats text ≡ false → HasSets sets old → HasSets new text → list_all (λ r. is_within r.owner apex) text ≡ true → i < length text → r ≡ get_or text i r → changed_among old text (records_within apex old ++ take i text) ++ added_in sets new r ≡ changed_among old text (records_within apex old ++ take (i + 1) text)
 step-added old text sets new apex i r distinct has has' all inside here =
     own_case (key_of r) refl ∙ ap (changed_among old text) (append_assoc (records_within apex old) (take i text) (r ∷ []) ∙ ap (λ rs. records_within apex old ++ rs) (sym more)) where
       more : take (i + 1) text ≡ take i text ++ r ∷ []
@@ -141,5 +141,5 @@ step-added old text sets new apex i r distinct has has' all inside here =
           rw (has key, has' key, test) (among-step old text (records_within apex old ++ take i text) r key (list_any (has_key key) old || list_any (has_key key) (take i text)) own before)
 
 -- what one record's key adds
-pub changed_in-some : (old new : List NumberedSet) (r : Record) (key : Key) (b : Bool) → key_of r ≡ Some key → (is_first r.value (content_of old key).values && not (pointwise same_data (content_of old key).values (content_of new key).values)) ≡ b → changed_in old new r ≡ cond b (key ∷ []) []
+pub changed_in-some : (old new : OwnerTable) (r : Record) (key : Key) (b : Bool) → key_of r ≡ Some key → (is_first r.value (content_of old key).values && not (pointwise same_data (content_of old key).values (content_of new key).values)) ≡ b → changed_in old new r ≡ cond b (key ∷ []) []
 changed_in-some old new r key b own test = rw (own, test) refl

@@ -1,191 +1,290 @@
 -- Look-ups in tables of record sets.
-use Rattle.std.proofs.Common.{◌≡◌, ℕ, Bool, true, false, not, cond, List, [], ◌∷◌, ◌++◌, Option, None, Some, Result, Ok, Err, if◌then◌else◌, refl, ap, subst, sym, ◌∙◌, inl, inr}
+use Rattle.std.proofs.Common.{◌≡◌, ℕ, Bool, true, false, not, ◌&&◌, cond, List, [], ◌∷◌, ◌++◌, Option, None, Some, Result, Ok, Err, if◌then◌else◌, refl, ap, subst, sym, ◌∙◌, inl, inr}
 use Rattle.std.specs.Prelude.{IfSome, OnOk, OnErr}
-use Rattle.std.specs.Cmp.{IsEquivalence}
 use Rattle.std.specs.List.{filter, IsDistinct}
 use Rattle.std.specs.Map.{keys_of, lookup, set_value, update_all}
 use Rattle.std.specs.Option.{option_or}
 use Rattle.std.proofs.lemmas.Bool.{cases_Bool}
 use Rattle.std.proofs.lemmas.Map.Entries.{lookup-filter-keys}
 use Rattle.std.proofs.lemmas.Map.Made.{update_all_distinct}
-use Rattle.sipl_names.specs.Labels.{Labels, is_within}
+use Rattle.sipl_names.specs.Labels.{Labels, is_within, same_name}
+use Rattle.sipl_names.proofs.Public.{same_name_decides}
 use Rattle.sipl_records.specs.declared.data.Data.{Data}
 use Rattle.sipl_records.specs.declared.record.Key.{Key}
-use Rattle.sipl_records.specs.contracts.record.KeyPartialEq.TheImpl.{eq-value}
-use Rattle.sipl_records.specs.Sets.{same_key}
-use Rattle.sipl_records.proofs.Public.{equivalence_from_decides, same_key-Decides, same_key-sym, same_key_decides}
+use Rattle.sipl_records.specs.declared.kind.Kind.{Kind}
+use Rattle.sipl_records.specs.declared.kind.Kind.TheVariants.{Address4, Address6, Alias, Service, Pointer}
+use Rattle.sipl_records.specs.Sets.{same_data, same_key, same_kind}
+use Rattle.sipl_records.proofs.Public.{equivalence_from_decides, same_key-Decides, same_name-sym}
 use Rattle.sipl_zonestore.specs.Numbers.{number_of, is_empty}
-use Rattle.sipl_zonestore.specs.SetTable.{NumberedSet, Content, HaveData, no_content, carried, content_of, data_without, numbers_of, pushed, renumbered, sets_in, without}
-use Rattle.sipl_zonestore.proofs.Keys.{derived}
+use Rattle.sipl_zonestore.specs.Content.{Content, no_content, carried, pushed, without}
+use Rattle.sipl_zonestore.specs.SetTable.{OwnerTable, HaveData, content_of, has_no_data, held, no_sets, numbers_of, set_at, with_set}
+use Rattle.sipl_zonestore.specs.declared.owner_sets.OwnerSets.{OwnerSets}
 
 pub is_empty-push : (values : List Data) (value : Data) → is_empty (values ++ value ∷ []) ≡ false
 is_empty-push [] value = refl
 is_empty-push (first ∷ values) value = refl
 
--- the sets of a table by their keys
-abbrev pub Entries : Type 0
-Entries = List (Key × Content)
-
 -- the content that a look-up found
-abbrev pub content_at : Option Content → Content
-content_at None = no_content
-content_at (Some set) = carried set.number set.values
+abbrev pub content_at : Option OwnerSets → Kind → Content
+content_at None kind = no_content
+content_at (Some sets) kind = held kind sets
 
--- whether a set that a look-up found has data
-abbrev pub HasData : Option Content → Type 0
-HasData found = IfSome found (λ set. is_empty set.values ≡ false)
-
-eq-laws : IsEquivalence eq-value.it
-eq-laws = equivalence_from_decides eq-value.it same_key_decides
-
--- a look-up by `==`
-pub lookup-same : (es : Entries) (key : Key) → lookup (eq-value.it key) es ≡ lookup (same_key key) es
-lookup-same es key = ap (λ (test : Key → Bool). lookup test es) (λ i other. derived key other i)
-
-content-lookup : (es : Entries) (key : Key) → content_of (sets_in es) key ≡ content_at (lookup (same_key key) es)
-content-lookup [] key = refl
-content-lookup (e ∷ es) key = elim (cases_Bool (same_key key e.0)) [
-  | inl here ↦ rw (same_key-sym e.0 key, here) refl
-  | inr other ↦ rw (same_key-sym e.0 key, other) (content-lookup es key)
-]
+-- whether an owner that a look-up found has data
+abbrev pub HasData : Option OwnerSets → Type 0
+HasData found = IfSome found (λ sets. has_no_data sets ≡ false)
 
 -- the content of a key is what a look-up finds
-pub content-found : (es : Entries) (key : Key) → content_of (sets_in es) key ≡ content_at (lookup (eq-value.it key) es)
-content-found es key = content-lookup es key ∙ ap content_at (sym (lookup-same es key))
+pub content-found : (es : OwnerTable) (key : Key) → content_of es key ≡ content_at (lookup (same_name key.name) es) key.kind
+content-found [] key = refl
+content-found (e ∷ es) key = elim (cases_Bool (same_name e.0 key.name)) [
+  | inl here ↦ rw (same_name-sym key.name e.0, here) refl
+  | inr other ↦ rw (same_name-sym key.name e.0, other) (content-found es key)
+]
 
-pub content-none : (es : Entries) (key : Key) → None ≡ lookup (eq-value.it key) es → content_of (sets_in es) key ≡ no_content
-content-none es key none = content-found es key ∙ ap content_at (sym none)
+pub content-none : (es : OwnerTable) (name : Labels) (kind : Kind) → None ≡ lookup (same_name name) es → content_of es (record { name = name; kind = kind }) ≡ no_content
+content-none es name kind none = content-found es (record { name = name; kind = kind }) ∙ ap (λ found. content_at found kind) (sym none)
 
--- a set that a look-up found has data
-pub data-found : (es : Entries) (key : Key) (set : Content) → HaveData es → Some set ≡ lookup (eq-value.it key) es → is_empty set.values ≡ false
-data-found es key set have found = subst HasData (sym (found ∙ lookup-same es key)) (have key)
+pub content-is : (es : OwnerTable) (name : Labels) (kind : Kind) (sets : OwnerSets) → Some sets ≡ lookup (same_name name) es → content_of es (record { name = name; kind = kind }) ≡ held kind sets
+content-is es name kind sets found = content-found es (record { name = name; kind = kind }) ∙ ap (λ found. content_at found kind) (sym found)
 
-carried-filled : (set : Content) → is_empty set.values ≡ false → carried set.number set.values ≡ set
-carried-filled set filled = rw filled refl
+-- an owner that a look-up found has data
+pub data-found : (es : OwnerTable) (name : Labels) (sets : OwnerSets) → HaveData es → Some sets ≡ lookup (same_name name) es → has_no_data sets ≡ false
+data-found es name sets have found = subst HasData (sym found) (have name)
 
-pub content-is : (es : Entries) (key : Key) (set : Content) → HaveData es → Some set ≡ lookup (eq-value.it key) es → content_of (sets_in es) key ≡ set
-content-is es key set have found = content-found es key ∙ ap content_at (sym found) ∙ carried-filled set (data-found es key set have found)
+-- a table has these sets at an owner, and at each other owner those that another table has
+abbrev pub IsUpdated : OwnerTable → OwnerTable → Labels → Option OwnerSets → Type 0
+IsUpdated old new name sets =
+    (other : Labels) → lookup (same_name other) new ≡ cond (same_name name other) sets (lookup (same_name other) old)
 
--- a table has this set at a key, and at each other key the one that another table has
-abbrev pub IsUpdated : Entries → Entries → Key → Option Content → Type 0
-IsUpdated old new key set =
-    (other : Key) → lookup (eq-value.it other) new ≡ cond (eq-value.it key other) set (lookup (eq-value.it other) old)
+-- the sets of an owner become these, where that of one kind changes
+abbrev pub Becomes : (Content → Content) → OwnerTable → Labels → Kind → Option OwnerSets → Type 0
+Becomes f old name kind sets =
+    (other : Kind) → content_at sets other ≡ (if same_kind kind other then f (content_of old (record { name = name; kind = other })) else content_of old (record { name = name; kind = other }))
 
 -- the content of that key changes, and of no other one
-pub content-updated : (f : Content → Content) (old new : Entries) (key : Key) (set : Option Content) → IsUpdated old new key set → content_at set ≡ f (content_of (sets_in old) key) → (other : Key) → content_of (sets_in new) other ≡ (if same_key key other then f (content_of (sets_in old) other) else content_of (sets_in old) other)
-content-updated f old new key set updated becomes other =
-    content-found new other ∙ ap content_at (updated other) ∙ by_case (same_key key other) refl where
-      by_case : (b : Bool) → same_key key other ≡ b → content_at (cond (eq-value.it key other) set (lookup (eq-value.it other) old)) ≡ (if b then f (content_of (sets_in old) other) else content_of (sets_in old) other)
+pub content-updated : (f : Content → Content) (old new : OwnerTable) (name : Labels) (kind : Kind) (sets : Option OwnerSets) → IsUpdated old new name sets → Becomes f old name kind sets → (key : Key) → content_of new key ≡ (if same_key (record { name = name; kind = kind }) key then f (content_of old key) else content_of old key)
+content-updated f old new name kind sets updated becomes key =
+    content-found new key ∙ ap (λ found. content_at found key.kind) (updated key.name) ∙ by_case (same_name name key.name) refl where
+      by_case : (b : Bool) → same_name name key.name ≡ b → content_at (cond b sets (lookup (same_name key.name) old)) key.kind ≡ (if b && same_kind kind key.kind then f (content_of old key) else content_of old key)
       by_case true same =
-          ap (λ b. content_at (cond b set (lookup (eq-value.it other) old))) (derived key other ∙ same) ∙ becomes ∙ ap (λ k. f (content_of (sets_in old) k)) ((same_key-Decides key other).0 same)
-      by_case false apart =
-          ap (λ b. content_at (cond b set (lookup (eq-value.it other) old))) (derived key other ∙ apart) ∙ sym (content-found old other)
+          becomes key.kind ∙ ap (λ n. if same_kind kind key.kind then f (content_of old (record { name = n; kind = key.kind })) else content_of old (record { name = n; kind = key.kind })) ((same_name_decides name key.name).0 same)
+      by_case false apart = sym (content-found old key)
 
--- nothing changes where the key has no set
-pub content-stays : (f : Content → Content) (sets : List NumberedSet) (key : Key) → content_of sets key ≡ no_content → f no_content ≡ no_content → (other : Key) → content_of sets other ≡ (if same_key key other then f (content_of sets other) else content_of sets other)
-content-stays f sets key none stays other = by_case (same_key key other) refl where
-  by_case : (b : Bool) → same_key key other ≡ b → content_of sets other ≡ (if b then f (content_of sets other) else content_of sets other)
+-- nothing changes where the owner has no set
+pub content-stays : (f : Content → Content) (sets : OwnerTable) (name : Labels) (kind : Kind) → content_of sets (record { name = name; kind = kind }) ≡ no_content → f no_content ≡ no_content → (key : Key) → content_of sets key ≡ (if same_key (record { name = name; kind = kind }) key then f (content_of sets key) else content_of sets key)
+content-stays f sets name kind none stays key = by_case (same_key (record { name = name; kind = kind }) key) refl where
+  by_case : (b : Bool) → same_key (record { name = name; kind = kind }) key ≡ b → content_of sets key ≡ (if b then f (content_of sets key) else content_of sets key)
   by_case true same =
-      let nothing : content_of sets other ≡ no_content = ap (content_of sets) (sym ((same_key-Decides key other).0 same)) ∙ none in
+      let nothing : content_of sets key ≡ no_content = ap (content_of sets) (sym ((same_key-Decides (record { name = name; kind = kind }) key).0 same)) ∙ none in
       nothing ∙ sym stays ∙ ap f (sym nothing)
   by_case false apart = refl
 
--- the sets have data as before
-pub data-updated : (old new : Entries) (key : Key) (set : Option Content) → IsUpdated old new key set → HaveData old → HasData set → HaveData new
-data-updated old new key set updated have own other =
-    subst HasData (sym (sym (lookup-same new other) ∙ updated other)) (by_case (eq-value.it key other)) where
-      by_case : (b : Bool) → HasData (cond b set (lookup (eq-value.it other) old))
+-- the owners have data as before
+pub data-updated : (old new : OwnerTable) (name : Labels) (sets : Option OwnerSets) → IsUpdated old new name sets → HaveData old → HasData sets → HaveData new
+data-updated old new name sets updated have own other =
+    subst HasData (sym (updated other)) (by_case (same_name name other)) where
+      by_case : (b : Bool) → HasData (cond b sets (lookup (same_name other) old))
       by_case true = own
-      by_case false = subst HasData (sym (lookup-same old other)) (have other)
+      by_case false = have other
 
--- a set that was written is removed
-pub updated-gone : (old between new : Entries) (key : Key) (set : Option Content) → IsUpdated old between key set → IsUpdated between new key None → IsUpdated old new key None
-updated-gone old between new key set first second other =
-    second other ∙ by_case (eq-value.it key other) (first other) where
-      by_case : (b : Bool) → lookup (eq-value.it other) between ≡ cond b set (lookup (eq-value.it other) old) → cond b None (lookup (eq-value.it other) between) ≡ cond b None (lookup (eq-value.it other) old)
+-- sets that were written are removed
+pub updated-gone : (old between new : OwnerTable) (name : Labels) (sets : Option OwnerSets) → IsUpdated old between name sets → IsUpdated between new name None → IsUpdated old new name None
+updated-gone old between new name sets first second other =
+    second other ∙ by_case (same_name name other) (first other) where
+      by_case : (b : Bool) → lookup (same_name other) between ≡ cond b sets (lookup (same_name other) old) → cond b None (lookup (same_name other) between) ≡ cond b None (lookup (same_name other) old)
       by_case true is = refl
       by_case false is = is
 
--- a set that is written as it was
-pub set_value-same : (test : Key → Bool) (es : Entries) (set : Content) → Some set ≡ lookup test es → set_value test es set ≡ es
-set_value-same test [] set found = refl
-set_value-same test (e ∷ es) set found = elim (cases_Bool (test e.0)) [
+-- sets that are written as they were
+pub set_value-same : (test : Labels → Bool) (es : OwnerTable) (sets : OwnerSets) → Some sets ≡ lookup test es → set_value test es sets ≡ es
+set_value-same test [] sets found = refl
+set_value-same test (e ∷ es) sets found = elim (cases_Bool (test e.0)) [
   | inl here ↦
-      let first : Some set ≡ Some e.1 = rw here at found in
-      let same : set ≡ e.1 = cc in
+      let first : Some sets ≡ Some e.1 = rw here at found in
+      let same : sets ≡ e.1 = cc in
       rw here (λ i. (e.0, same i) ∷ es)
-  | inr other ↦ rw other (ap (λ rest. e ∷ rest) (set_value-same test es set (rw other at found)))
+  | inr other ↦ rw other (ap (λ rest. e ∷ rest) (set_value-same test es sets (rw other at found)))
 ]
 
--- what an edit makes of the set that a look-up found, or where it found none
-pub renumbered-at : (es : Entries) (key : Key) (set : Content) (number : ℕ) → HaveData es → Some set ≡ lookup (eq-value.it key) es → carried number set.values ≡ renumbered number (content_of (sets_in es) key)
-renumbered-at es key set number have found = ap (renumbered number) (sym (content-is es key set have found))
+-- the sets of a kind, and of each other one
+pub at_kind : (f g : Content → Content) (sets : OwnerSets) (kind other : Kind) → ((set : Content) → carried (g set).number (g set).values ≡ f (carried set.number set.values)) → held other (with_set kind (g (set_at kind sets)) sets) ≡ (if same_kind kind other then f (held other sets) else held other sets)
+at_kind f g sets Address4 Address4 is = is sets.address4
+at_kind f g sets Address6 Address6 is = is sets.address6
+at_kind f g sets Alias Alias is = is sets.alias
+at_kind f g sets Service Service is = is sets.service
+at_kind f g sets Pointer Pointer is = is sets.pointer
+at_kind f g sets Address4 Address6 is = refl
+at_kind f g sets Address4 Alias is = refl
+at_kind f g sets Address4 Service is = refl
+at_kind f g sets Address4 Pointer is = refl
+at_kind f g sets Address6 Address4 is = refl
+at_kind f g sets Address6 Alias is = refl
+at_kind f g sets Address6 Service is = refl
+at_kind f g sets Address6 Pointer is = refl
+at_kind f g sets Alias Address4 is = refl
+at_kind f g sets Alias Address6 is = refl
+at_kind f g sets Alias Service is = refl
+at_kind f g sets Alias Pointer is = refl
+at_kind f g sets Service Address4 is = refl
+at_kind f g sets Service Address6 is = refl
+at_kind f g sets Service Alias is = refl
+at_kind f g sets Service Pointer is = refl
+at_kind f g sets Pointer Address4 is = refl
+at_kind f g sets Pointer Address6 is = refl
+at_kind f g sets Pointer Alias is = refl
+at_kind f g sets Pointer Service is = refl
 
-pub pushed-at : (es : Entries) (key : Key) (set : Content) (number : ℕ) (value : Data) → HaveData es → Some set ≡ lookup (eq-value.it key) es → content_at (Some (pushed number value set)) ≡ pushed number value (content_of (sets_in es) key)
-pushed-at es key set number value have found = rw (is_empty-push set.values value) (ap (pushed number value) (sym (content-is es key set have found)))
+pub set_at-with_set : (kind : Kind) (set : Content) (sets : OwnerSets) → set_at kind (with_set kind set sets) ≡ set
+set_at-with_set Address4 set sets = refl
+set_at-with_set Address6 set sets = refl
+set_at-with_set Alias set sets = refl
+set_at-with_set Service set sets = refl
+set_at-with_set Pointer set sets = refl
 
-pub pushed-new : (es : Entries) (key : Key) (number : ℕ) (value : Data) → None ≡ lookup (eq-value.it key) es → pushed number value no_content ≡ pushed number value (content_of (sets_in es) key)
-pushed-new es key number value none = ap (pushed number value) (sym (content-none es key none))
+-- where a look-up found the owner, and one of its sets was written
+pub becomes-found : (f g : Content → Content) (es : OwnerTable) (name : Labels) (kind : Kind) (sets : OwnerSets) → ((set : Content) → carried (g set).number (g set).values ≡ f (carried set.number set.values)) → Some sets ≡ lookup (same_name name) es → Becomes f es name kind (Some (with_set kind (g (set_at kind sets)) sets))
+becomes-found f g es name kind sets is found other =
+    at_kind f g sets kind other is ∙ ap (λ content. if same_kind kind other then f content else content) (sym (content-is es name other sets found))
 
-pub without-at : (es : Entries) (key : Key) (set : Content) (value : Data) → HaveData es → Some set ≡ lookup (eq-value.it key) es → without value set ≡ without value (content_of (sets_in es) key)
-without-at es key set value have found = ap (without value) (sym (content-is es key set have found))
+-- where it found none
+pub becomes-new : (f g : Content → Content) (es : OwnerTable) (name : Labels) (kind : Kind) → ((set : Content) → carried (g set).number (g set).values ≡ f (carried set.number set.values)) → None ≡ lookup (same_name name) es → Becomes f es name kind (Some (with_set kind (g (set_at kind no_sets)) no_sets))
+becomes-new f g es name kind is none other =
+    at_kind f g no_sets kind other is ∙ ap (λ content. if same_kind kind other then f content else content) (nothing other ∙ sym (content-none es name other none)) where
+      nothing : (kind : Kind) → held kind no_sets ≡ no_content
+      nothing Address4 = refl
+      nothing Address6 = refl
+      nothing Alias = refl
+      nothing Service = refl
+      nothing Pointer = refl
 
-pub without-gone : (es : Entries) (key : Key) (set : Content) (value : Data) → HaveData es → Some set ≡ lookup (eq-value.it key) es → is_empty (data_without value set).values ≡ true → no_content ≡ without value (content_of (sets_in es) key)
-without-gone es key set value have found empty = nothing (data_without value set).values empty ∙ without-at es key set value have found where
-  nothing : (values : List Data) → is_empty values ≡ true → no_content ≡ carried set.number values
-  nothing [] empty = refl
-  nothing (first ∷ values) empty = cc
+-- what edits make of the content
+pub carried-pushed : (number : ℕ) (value : Data) (set : Content) → carried number (set.values ++ value ∷ []) ≡ pushed number value (carried set.number set.values)
+carried-pushed number value set = rw (is_empty-push set.values value) refl
 
--- a set has data after an attempt to append to it
-pub filled-push : {T E : Type 0} (result : Result T E) (old new : Content) (number : ℕ) (value : Data) → OnOk result (new ≡ pushed number value old) → OnErr result (new ≡ old) → is_empty old.values ≡ false → is_empty new.values ≡ false
-filled-push (Ok done) old new number value is _ filled = ap (λ (set : Content). is_empty set.values) is ∙ is_empty-push old.values value
-filled-push (Err fault) old new number value _ is filled = ap (λ (set : Content). is_empty set.values) is ∙ filled
+pub carried-without : (value : Data) (set : Content) → carried set.number (filter (λ other. not (same_data value other)) set.values) ≡ without value (carried set.number set.values)
+carried-without value set = by_case set.number set.values where
+  by_case : (number : ℕ) (values : List Data) → carried number (filter (λ other. not (same_data value other)) values) ≡ without value (carried number values)
+  by_case number [] = refl
+  by_case number (first ∷ values) = refl
+
+-- all sets of an owner are empty
+all_empty : (sets : OwnerSets) → has_no_data sets ≡ true → (kind : Kind) → is_empty (set_at kind sets).values ≡ true
+all_empty sets none kind = at kind where
+  first : (a b : Bool) → (a && b) ≡ true → a ≡ true
+  first true b both = refl
+  first false b both = cc
+
+  second : (a b : Bool) → (a && b) ≡ true → b ≡ true
+  second true b both = both
+  second false b both = cc
+
+  four : (is_empty sets.address4.values && is_empty sets.address6.values && is_empty sets.alias.values && is_empty sets.service.values) ≡ true
+  four = first (is_empty sets.address4.values && is_empty sets.address6.values && is_empty sets.alias.values && is_empty sets.service.values) (is_empty sets.pointer.values) none
+
+  three : (is_empty sets.address4.values && is_empty sets.address6.values && is_empty sets.alias.values) ≡ true
+  three = first (is_empty sets.address4.values && is_empty sets.address6.values && is_empty sets.alias.values) (is_empty sets.service.values) four
+
+  two : (is_empty sets.address4.values && is_empty sets.address6.values) ≡ true
+  two = first (is_empty sets.address4.values && is_empty sets.address6.values) (is_empty sets.alias.values) three
+
+  at : (kind : Kind) → is_empty (set_at kind sets).values ≡ true
+  at Address4 = first (is_empty sets.address4.values) (is_empty sets.address6.values) two
+  at Address6 = second (is_empty sets.address4.values) (is_empty sets.address6.values) two
+  at Alias = second (is_empty sets.address4.values && is_empty sets.address6.values) (is_empty sets.alias.values) three
+  at Service = second (is_empty sets.address4.values && is_empty sets.address6.values && is_empty sets.alias.values) (is_empty sets.service.values) four
+  at Pointer = second (is_empty sets.address4.values && is_empty sets.address6.values && is_empty sets.alias.values && is_empty sets.service.values) (is_empty sets.pointer.values) none
+
+carried-none : (number : ℕ) (values : List Data) → is_empty values ≡ true → no_content ≡ carried number values
+carried-none number [] empty = refl
+carried-none number (first ∷ values) empty = cc
+
+-- so that the owner may be removed
+pub becomes-gone : (f g : Content → Content) (es : OwnerTable) (name : Labels) (kind : Kind) (sets : OwnerSets) → ((set : Content) → carried (g set).number (g set).values ≡ f (carried set.number set.values)) → Some sets ≡ lookup (same_name name) es → has_no_data (with_set kind (g (set_at kind sets)) sets) ≡ true → Becomes f es name kind None
+becomes-gone f g es name kind sets is found none other =
+    carried-none (set_at other (with_set kind (g (set_at kind sets)) sets)).number (set_at other (with_set kind (g (set_at kind sets)) sets)).values (all_empty (with_set kind (g (set_at kind sets)) sets) none other)
+    ∙ becomes-found f g es name kind sets is found other
+
+-- an owner has data where one of its sets does
+and_false : (a : Bool) → (a && false) ≡ false
+and_false true = refl
+and_false false = refl
+
+pub data-with_set : (kind : Kind) (set : Content) (sets : OwnerSets) → is_empty set.values ≡ false → has_no_data (with_set kind set sets) ≡ false
+data-with_set Address4 set sets filled = rw filled refl
+data-with_set Address6 set sets filled = rw (filled, and_false (is_empty sets.address4.values)) refl
+data-with_set Alias set sets filled =
+    rw (filled, and_false (is_empty sets.address4.values && is_empty sets.address6.values)) refl
+data-with_set Service set sets filled =
+    rw (filled, and_false (is_empty sets.address4.values && is_empty sets.address6.values && is_empty sets.alias.values)) refl
+data-with_set Pointer set sets filled =
+    rw filled (and_false (is_empty sets.address4.values && is_empty sets.address6.values && is_empty sets.alias.values && is_empty sets.service.values))
+
+-- and a set with the same data
+pub data-same : (kind : Kind) (set : Content) (sets : OwnerSets) → is_empty set.values ≡ is_empty (set_at kind sets).values → has_no_data (with_set kind set sets) ≡ has_no_data sets
+data-same Address4 set sets same = rw same refl
+data-same Address6 set sets same = rw same refl
+data-same Alias set sets same = rw same refl
+data-same Service set sets same = rw same refl
+data-same Pointer set sets same = rw same refl
+
+-- an owner has data after an attempt to append to one of its sets
+pub filled-push : {T E : Type 0} (result : Result T E) (kind : Kind) (old new : OwnerSets) (number : ℕ) (value : Data) → OnOk result (new ≡ with_set kind (pushed number value (set_at kind old)) old) → OnErr result (new ≡ old) → has_no_data old ≡ false → has_no_data new ≡ false
+filled-push (Ok done) kind old new number value is _ filled = ap has_no_data is ∙ data-with_set kind (pushed number value (set_at kind old)) old (is_empty-push (set_at kind old).values value)
+filled-push (Err fault) kind old new number value _ is filled = ap has_no_data is ∙ filled
 
 pub OnErr-map : {T E : Type 0} (result : Result T E) (P Q : Type 0) → (P → Q) → OnErr result P → OnErr result Q
 OnErr-map (Ok done) P Q f p = tt
 OnErr-map (Err fault) P Q f p = f p
 
 -- the sets within an apex are replaced by others
-pub record AreReplaced (apex : Labels) (old text new : Entries) : Type 0 where
-  pub distinct : IsDistinct eq-value.it (keys_of text)
-  pub found : (key : Key) → lookup (eq-value.it key) new
-      ≡ update_all eq-value.it (λ k. lookup (eq-value.it k) (filter (λ e. not (is_within e.0.name apex)) old)) text key
+pub record AreReplaced (apex : Labels) (old text new : OwnerTable) : Type 0 where
+  pub distinct : IsDistinct same_name (keys_of text)
+  pub found : (name : Labels) → lookup (same_name name) new
+      ≡ update_all same_name (λ n. lookup (same_name n) (filter (λ e. not (is_within e.0 apex)) old)) text name
 
-lookup-replaced : (apex : Labels) (old text new : Entries) → AreReplaced apex old text new → (key : Key) → lookup (eq-value.it key) new ≡ option_or (lookup (eq-value.it key) text) (cond (not (is_within key.name apex)) (lookup (eq-value.it key) old) None)
-lookup-replaced apex old text new is key =
-    is.found key
-    ∙ update_all_distinct eq-laws eq-value.it (λ a b. refl) (λ k. lookup (eq-value.it k) (filter (λ e. not (is_within e.0.name apex)) old)) text key is.distinct
-    ∙ ap (option_or (lookup (eq-value.it key) text)) (lookup-filter-keys (eq-value.it key) (λ k. not (is_within k.name apex)) (not (is_within key.name apex)) (λ k same. ap (λ (k' : Key). not (is_within k'.name apex)) (sym ((same_key_decides key k).0 same))) old)
+lookup-replaced : (apex : Labels) (old text new : OwnerTable) → AreReplaced apex old text new → (name : Labels) → lookup (same_name name) new ≡ option_or (lookup (same_name name) text) (cond (not (is_within name apex)) (lookup (same_name name) old) None)
+lookup-replaced apex old text new is name =
+    is.found name
+    ∙ update_all_distinct (equivalence_from_decides same_name same_name_decides) same_name (λ a b. refl) (λ n. lookup (same_name n) (filter (λ e. not (is_within e.0 apex)) old)) text name is.distinct
+    ∙ ap (option_or (lookup (same_name name) text)) (lookup-filter-keys (same_name name) (λ n. not (is_within n apex)) (not (is_within name apex)) (λ n same. ap (λ (n' : Labels). not (is_within n' apex)) (sym ((same_name_decides name n).0 same))) old)
 
-or_none : (found : Option Content) → option_or found None ≡ found
+or_none : (found : Option OwnerSets) → option_or found None ≡ found
 or_none None = refl
-or_none (Some set) = refl
+or_none (Some sets) = refl
 
-none-empty : (found : Option Content) → HasData found → content_at found ≡ no_content → found ≡ None
+none-empty : (found : Option OwnerSets) → HasData found → ((kind : Kind) → content_at found kind ≡ no_content) → found ≡ None
 none-empty None have empty = refl
-none-empty (Some set) have empty = let never : false ≡ true = sym have ∙ ap (λ (content : Content). is_empty content.values) empty in cc
+none-empty (Some sets) have empty =
+    let none : (kind : Kind) → is_empty (set_at kind sets).values ≡ true = λ kind. ap (λ (content : Content). is_empty content.values) (empty kind) in
+    let never : false ≡ true = sym have ∙ (λ i. none Address4 i && none Address6 i && none Alias i && none Service i && none Pointer i) in cc
 
-pub content-replaced : (apex : Labels) (old text new : Entries) → AreReplaced apex old text new → HaveData text → ((key : Key) → is_within key.name apex ≡ false → content_of (sets_in text) key ≡ no_content) → (key : Key) → content_of (sets_in new) key ≡ (if is_within key.name apex then content_of (sets_in text) key else content_of (sets_in old) key)
+pub content-replaced : (apex : Labels) (old text new : OwnerTable) → AreReplaced apex old text new → HaveData text → ((key : Key) → is_within key.name apex ≡ false → content_of text key ≡ no_content) → (key : Key) → content_of new key ≡ (if is_within key.name apex then content_of text key else content_of old key)
 content-replaced apex old text new is have none key =
-    content-found new key ∙ ap content_at (lookup-replaced apex old text new is key) ∙ by_case (is_within key.name apex) refl where
-      by_case : (b : Bool) → is_within key.name apex ≡ b → content_at (option_or (lookup (eq-value.it key) text) (cond (not b) (lookup (eq-value.it key) old) None)) ≡ (if b then content_of (sets_in text) key else content_of (sets_in old) key)
-      by_case true inside = ap content_at (or_none (lookup (eq-value.it key) text)) ∙ sym (content-found text key)
+    content-found new key ∙ ap (λ found. content_at found key.kind) (lookup-replaced apex old text new is key.name) ∙ by_case (is_within key.name apex) refl where
+      by_case : (b : Bool) → is_within key.name apex ≡ b → content_at (option_or (lookup (same_name key.name) text) (cond (not b) (lookup (same_name key.name) old) None)) key.kind ≡ (if b then content_of text key else content_of old key)
+      by_case true inside = ap (λ found. content_at found key.kind) (or_none (lookup (same_name key.name) text)) ∙ sym (content-found text key)
       by_case false outside =
-          let nothing : lookup (eq-value.it key) text ≡ None = none-empty (lookup (eq-value.it key) text) (subst HasData (sym (lookup-same text key)) (have key)) (sym (content-found text key) ∙ none key outside) in
-          ap (λ found. content_at (option_or found (lookup (eq-value.it key) old))) nothing ∙ sym (content-found old key)
+          let nothing : lookup (same_name key.name) text ≡ None = none-empty (lookup (same_name key.name) text) (have key.name) (λ kind. sym (content-found text (record { name = key.name; kind = kind })) ∙ none (record { name = key.name; kind = kind }) outside) in
+          ap (λ found. content_at (option_or found (lookup (same_name key.name) old)) key.kind) nothing ∙ sym (content-found old key)
 
-pub data-replaced : (apex : Labels) (old text new : Entries) → AreReplaced apex old text new → HaveData old → HaveData text → HaveData new
-data-replaced apex old text new is have text_data key =
-    subst HasData (sym (sym (lookup-same new key) ∙ lookup-replaced apex old text new is key)) (by_case (lookup (eq-value.it key) text) (not (is_within key.name apex)) (subst HasData (sym (lookup-same text key)) (text_data key))) where
-      by_case : (found : Option Content) (b : Bool) → HasData found → HasData (option_or found (cond b (lookup (eq-value.it key) old) None))
-      by_case (Some set) b own = own
-      by_case None true own = subst HasData (sym (lookup-same old key)) (have key)
+pub data-replaced : (apex : Labels) (old text new : OwnerTable) → AreReplaced apex old text new → HaveData old → HaveData text → HaveData new
+data-replaced apex old text new is have text_data name =
+    subst HasData (sym (lookup-replaced apex old text new is name)) (by_case (lookup (same_name name) text) (not (is_within name apex)) (text_data name)) where
+      by_case : (found : Option OwnerSets) (b : Bool) → HasData found → HasData (option_or found (cond b (lookup (same_name name) old) None))
+      by_case (Some sets) b own = own
+      by_case None true own = have name
       by_case None false own = tt
 
 -- the number that callers see is that of the content
-pub number_of-numbers_of : (sets : List NumberedSet) (key : Key) → number_of (numbers_of sets) key ≡ (content_of sets key).number
+pub number_of-numbers_of : (owners : OwnerTable) (key : Key) → number_of (numbers_of owners) key ≡ (content_of owners key).number
 number_of-numbers_of [] key = refl
-number_of-numbers_of (s ∷ sets) key = elim (cases_Bool (same_key s.key key)) [
-  | inl here ↦ rw here refl
-  | inr other ↦ rw other (number_of-numbers_of sets key)
-]
+number_of-numbers_of (owner ∷ owners) key = elim (cases_Bool (same_name owner.0 key.name)) [
+  | inl here ↦ rw here (own key.kind)
+  | inr other ↦ rw other (number_of-numbers_of owners key)
+] where
+  own : (kind : Kind) → (if same_kind Address4 kind then (held Address4 owner.1).number else (if same_kind Address6 kind then (held Address6 owner.1).number else (if same_kind Alias kind then (held Alias owner.1).number else (if same_kind Service kind then (held Service owner.1).number else (if same_kind Pointer kind then (held Pointer owner.1).number else number_of (numbers_of owners) key))))) ≡ (held kind owner.1).number
+  own Address4 = refl
+  own Address6 = refl
+  own Alias = refl
+  own Service = refl
+  own Pointer = refl

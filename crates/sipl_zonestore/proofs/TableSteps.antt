@@ -7,13 +7,15 @@ use Rattle.std.proofs.lemmas.Bool.{cases_Bool}
 use Rattle.std.proofs.lemmas.List.{take_more}
 use Rattle.std.proofs.lemmas.List.Elements.{filter_more}
 use Rattle.std.proofs.lemmas.Map.Keys.{apart_from_distinct}
+use Rattle.sipl_names.specs.Labels.{same_name}
 use Rattle.sipl_records.specs.declared.data.Data.{Data}
 use Rattle.sipl_records.specs.declared.record.Record.{Record}
 use Rattle.sipl_records.specs.declared.record.Key.{Key}
 use Rattle.sipl_records.specs.Sets.{set_of, same_data, same_key, key_of}
 use Rattle.sipl_records.proofs.Public.{same_key-Decides, has_key-key_of, is_key, set_of-append}
 use Rattle.sipl_zonestore.specs.Numbers.{is_empty}
-use Rattle.sipl_zonestore.specs.SetTable.{NumberedSet, Content, carried, content_of, pushed, renumbered, has_set, keys_left, numbered_content}
+use Rattle.sipl_zonestore.specs.Content.{Content, carried, pushed, renumbered}
+use Rattle.sipl_zonestore.specs.SetTable.{OwnerTable, set_at, content_of, has_set, keys_left, numbered_content}
 use Rattle.sipl_zonestore.proofs.Elements.{any-filter}
 use Rattle.sipl_zonestore.proofs.Positions.{from-append, from-none}
 use Rattle.sipl_zonestore.proofs.SetTables.{is_empty-push}
@@ -26,12 +28,12 @@ set_of-more records i r own key inside here is =
     ∙ ap (λ b. set_of (take i records) key ++ cond b (r.value ∷ []) []) (has_key-key_of key r ∙ ap (is_key key) is)
 
 -- a record that is in no set
-pub made-none : (sets old : List NumberedSet) (records : List Record) (i : ℕ) (r : Record) → i < length records → r ≡ get_or records i r → key_of r ≡ None → ((key : Key) → content_of sets key ≡ carried (content_of old key).number (set_of (take i records) key)) → (key : Key) → content_of sets key ≡ carried (content_of old key).number (set_of (take (i + 1) records) key)
+pub made-none : (sets old : OwnerTable) (records : List Record) (i : ℕ) (r : Record) → i < length records → r ≡ get_or records i r → key_of r ≡ None → ((key : Key) → content_of sets key ≡ carried (content_of old key).number (set_of (take i records) key)) → (key : Key) → content_of sets key ≡ carried (content_of old key).number (set_of (take (i + 1) records) key)
 made-none sets old records i r inside here none made key =
     made key ∙ ap (carried (content_of old key).number) (sym (set_of-more records i r None key inside here none ∙ append-nil (set_of (take i records) key)))
 
 -- a record of a set
-pub made-some : (sets sets' old : List NumberedSet) (records : List Record) (i : ℕ) (r : Record) (own : Key) (number : ℕ) (value : Data) → i < length records → r ≡ get_or records i r → key_of r ≡ Some own → number ≡ (content_of old own).number → value ≡ r.value → ((key : Key) → content_of sets key ≡ carried (content_of old key).number (set_of (take i records) key)) → ((key : Key) → content_of sets' key ≡ (if same_key own key then pushed number value (content_of sets key) else content_of sets key)) → (key : Key) → content_of sets' key ≡ carried (content_of old key).number (set_of (take (i + 1) records) key)
+pub made-some : (sets sets' old : OwnerTable) (records : List Record) (i : ℕ) (r : Record) (own : Key) (number : ℕ) (value : Data) → i < length records → r ≡ get_or records i r → key_of r ≡ Some own → number ≡ (content_of old own).number → value ≡ r.value → ((key : Key) → content_of sets key ≡ carried (content_of old key).number (set_of (take i records) key)) → ((key : Key) → content_of sets' key ≡ (if same_key own key then pushed number value (content_of sets key) else content_of sets key)) → (key : Key) → content_of sets' key ≡ carried (content_of old key).number (set_of (take (i + 1) records) key)
 made-some sets sets' old records i r own number value inside here is number_is value_is made more key =
     more key ∙ own_case (same_key own key) refl where
       own_case : (b : Bool) → same_key own key ≡ b → (if b then pushed number value (content_of sets key) else content_of sets key) ≡ carried (content_of old key).number (set_of (take (i + 1) records) key)
@@ -58,7 +60,7 @@ carried-empty : (m n : ℕ) (values : List Data) → is_empty values ≡ true �
 carried-empty m n values empty = rw empty refl
 
 -- whether the next key has a set, as before the others were numbered
-pub has_set-same : (sets now : List NumberedSet) (keys : List Key) (next : ℕ) (key : Key) → content_of now key ≡ numbered_content sets keys next key → has_set now key ≡ has_set sets key
+pub has_set-same : (sets now : OwnerTable) (keys : List Key) (next : ℕ) (key : Key) → content_of now key ≡ numbered_content sets keys next key → has_set now key ≡ has_set sets key
 has_set-same sets now keys next key held = ap (λ (c : Content). not (is_empty c.values)) held
 
 pub filter-next : (p : Key → Bool) (keys : List Key) (i : ℕ) (key : Key) → i < length keys → key ≡ get_or keys i key → filter p (take (i + 1) keys) ≡ filter p (take i keys) ++ cond (p key) (key ∷ []) []
@@ -66,7 +68,7 @@ filter-next p keys i key inside here =
     filter_more p keys i key inside ∙ ap (λ k. filter p (take i keys) ++ cond (p k) (k ∷ []) []) (sym here)
 
 -- the next key is numbered, where it has a set
-pub numbered-step : (sets : List NumberedSet) (keys : List Key) (i next : ℕ) (key other : Key) → IsDistinct same_key keys → i < length keys → key ≡ get_or keys i key → (if same_key key other then renumbered (next + length (filter (has_set sets) (take i keys))) (numbered_content sets (take i keys) next other) else numbered_content sets (take i keys) next other) ≡ numbered_content sets (take (i + 1) keys) next other
+pub numbered-step : (sets : OwnerTable) (keys : List Key) (i next : ℕ) (key other : Key) → IsDistinct same_key keys → i < length keys → key ≡ get_or keys i key → (if same_key key other then renumbered (next + length (filter (has_set sets) (take i keys))) (numbered_content sets (take i keys) next other) else numbered_content sets (take i keys) next other) ≡ numbered_content sets (take (i + 1) keys) next other
 numbered-step sets keys i next key other distinct inside here = elim (cases_Bool (has_set sets key)) [
   | inl there ↦ rw (filter-next (has_set sets) keys i key inside here, there, from-append (λ k. same_key k other) next (filter (has_set sets) (take i keys)) key) (numbered_case (same_key key other) refl)
   | inr none ↦ rw (filter-next (has_set sets) keys i key inside here, none, append-nil (filter (has_set sets) (take i keys))) (empty_case (same_key key other) refl none)
@@ -98,15 +100,15 @@ taken-le p (key ∷ keys) (suc i) = elim (cases_Bool (p key)) [
 ]
 
 -- before the first key is numbered
-pub numbered-start : (sets : List NumberedSet) (next : ℕ) (key : Key) → content_of sets key ≡ numbered_content sets [] next key
+pub numbered-start : (sets : OwnerTable) (next : ℕ) (key : Key) → content_of sets key ≡ numbered_content sets [] next key
 numbered-start [] next key = refl
-numbered-start (s ∷ sets) next key = elim (cases_Bool (same_key s.key key)) [
-  | inl here ↦ rw here (kept (is_empty s.values) refl)
-  | inr other ↦ rw other (numbered-start sets next key)
+numbered-start (owner ∷ owners) next key = elim (cases_Bool (same_name owner.0 key.name)) [
+  | inl here ↦ rw here (twice (set_at key.kind owner.1).number (set_at key.kind owner.1).values)
+  | inr other ↦ rw other (numbered-start owners next key)
 ] where
-  kept : (b : Bool) → is_empty s.values ≡ b → carried s.number s.values ≡ carried (carried s.number s.values).number s.values
-  kept true empty = rw empty refl
-  kept false filled = rw filled refl
+  twice : (number : ℕ) (values : List Data) → carried number values ≡ carried (carried number values).number values
+  twice number [] = refl
+  twice number (first ∷ values) = refl
 
 -- how many keys were numbered
 pub counted-next : (p : Key → Bool) (keys : List Key) (i : ℕ) (key : Key) (b : Bool) → i < length keys → key ≡ get_or keys i key → p key ≡ b → length (filter p (take (i + 1) keys)) ≡ length (filter p (take i keys)) + cond b 1 0
@@ -121,11 +123,14 @@ is_empty-filter p (value ∷ values) = elim (cases_Bool (p value)) [
 ]
 
 -- whether a set has data beside one
-pub keys_left-length : (sets : List NumberedSet) (r : Record) (key : Key) (b : Bool) → key_of r ≡ Some key → list_any (λ other. not (same_data r.value other)) (content_of sets key).values ≡ b → length (keys_left sets r) ≡ cond b 1 0
+pub keys_left-length : (sets : OwnerTable) (r : Record) (key : Key) (b : Bool) → key_of r ≡ Some key → list_any (λ other. not (same_data r.value other)) (content_of sets key).values ≡ b → length (keys_left sets r) ≡ cond b 1 0
 keys_left-length sets r key b own test = rw (own, is_empty-filter (λ other. not (same_data r.value other)) (content_of sets key).values, test) (one b) where
   one : (b : Bool) → length (cond b (key ∷ []) []) ≡ cond b 1 0
   one true = refl
   one false = refl
+
+pub keys_left-none : (sets : OwnerTable) (r : Record) → key_of r ≡ None → length (keys_left sets r) ≡ 0
+keys_left-none sets r none = rw none refl
 
 -- a truth value as a number
 pub bool_byte-is : (b : Bool) → bool_byte b ≡ cond b 1 0

@@ -5,7 +5,7 @@ use Rattle.std.specs.Option.{option_or}
 use Rattle.sipl_records.specs.Sets.{set_of, same_key}
 use Rattle.sipl_records.specs.declared.record.Key.{Key}
 use Rattle.sipl_zonestore.specs.Store.{Store, number_in}
-use Rattle.sipl_zonestore.specs.Edits.{Edit, after, refusal_of}
+use Rattle.sipl_zonestore.specs.Edits.{Edit, load, unload, add, remove, after, refusal_of}
 use Rattle.sipl_zonestore.specs.Changes.{changed_keys}
 use Rattle.sipl_zonestore.specs.Consistent.{IsConsistent}
 use Rattle.sipl_zonestore.specs.Numbers.{number_after, next_after, number_refusal}
@@ -18,6 +18,14 @@ store_refusal edit store =
     option_or (refusal_of store.max_records edit store.zones)
     (number_refusal store.zones.records (after edit store.zones).records store.next)
 
+-- the refusal that is found before anything is allocated: each one, but for too few numbers for a
+-- zone's text, whose sets have to be made to be counted
+abbrev pub early_refusal : Edit → Store → Option StoreFault
+early_refusal (load zone) store = refusal_of store.max_records (load zone) store.zones
+early_refusal (unload apex) store = store_refusal (unload apex) store
+early_refusal (add r) store = store_refusal (add r) store
+early_refusal (remove r) store = store_refusal (remove r) store
+
 -- the key's set and its number are as they were
 abbrev pub IsKept : Store → Store → Key → Type 0
 IsKept old new key =
@@ -26,7 +34,8 @@ IsKept old new key =
 
 -- An accepted edit changes the zones, returns the keys whose sets differ, gives those of them that
 -- are not empty the next numbers, and keeps all other sets with their numbers. A refused one
--- changes nothing. What always holds of a store holds after either.
+-- changes nothing, and an edit fails for memory only where no early refusal comes before. What always
+-- holds of a store holds after either.
 pub record IsEdited (edit : Edit) (old new : Store) (result : Result (List Key) StoreFault) : Type 0 where
   pub accepted : OnOk result (store_refusal edit old ≡ None)
   pub after : OnOk result (new.zones ≡ after edit old.zones)
@@ -37,6 +46,7 @@ pub record IsEdited (edit : Edit) (old new : Store) (result : Result (List Key) 
       → IsKept old new key)
   pub next : OnOk result (new.next ≡ next_after old.zones.records new.zones.records old.next)
   pub refused : IfErr result (λ fault. fault ≢ Memory → store_refusal edit old ≡ Some fault)
+  pub memory : IfErr result (λ fault. fault ≡ Memory → early_refusal edit old ≡ None)
   pub unchanged : OnErr result (new ≡ old)
   pub limit : new.max_records ≡ old.max_records
   pub looks : new.looks ≡ old.looks

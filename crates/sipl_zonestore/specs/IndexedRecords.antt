@@ -6,7 +6,7 @@ use Rattle.sipl_records.specs.declared.record.Key.{Key}
 use Rattle.sipl_zonestore.specs.BareOwners.{HasBare}
 use Rattle.sipl_zonestore.specs.Changes.{changed_keys}
 use Rattle.sipl_zonestore.specs.Numbers.{SetNumber, number_of, number_after, next_after, number_refusal}
-use Rattle.sipl_zonestore.specs.SetTable.{NumberedSet, HasSets}
+use Rattle.sipl_zonestore.specs.SetTable.{OwnerTable, HasSets}
 use Rattle.sipl_zonestore.specs.declared.fault.StoreFault.{StoreFault}
 use Rattle.sipl_zonestore.specs.declared.fault.StoreFault.TheVariants.{Memory}
 
@@ -18,7 +18,7 @@ pub record IndexedState : Type 0 where
 
 -- what always holds: the one table has the sets of the records, the other the owners of those of
 -- which nothing is kept, and no number is above 2^52
-pub record IsIndexed (records : List Record) (sets : List NumberedSet) (bare : Labels → Bool)
+pub record IsIndexed (records : List Record) (sets : OwnerTable) (bare : Labels → Bool)
     (next : ℕ) : Type 0 where
   pub has_sets : HasSets sets records
   pub has_bare : HasBare bare records

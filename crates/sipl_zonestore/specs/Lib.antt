@@ -8,7 +8,10 @@ pub mod Consistent
 pub mod Edited
 pub mod ZoneStore
 pub mod Machine
+pub mod Content
 pub mod SetTable
+pub mod Lending
 pub mod BareOwners
 pub mod IndexedRecords
+pub mod RemovedRecords
 pub use Rattle.sipl_masterfile.specs.Zones

@@ -1,5 +1,5 @@
 //! The faults of edits.
-ghost use Rattle.std.specs.Prelude.{◌≡◌, ◌≢◌, ◌≤◌, ℕ, true, false, length, Some, None, MatchResult};
+ghost use Rattle.std.specs.Prelude.{◌≡◌, ◌≤◌, ℕ, true, false, length, Some, None, MatchResult};
 ghost use Rattle.std.specs.List.{list_any};
 ghost use Rattle.sipl_names.specs.Labels.{same_name};
 ghost use Rattle.sipl_zonestore.specs.Edits.{refusal_of, load, unload, add, remove};
@@ -49,7 +49,8 @@ pub(crate) fn check_unload(apex: &Name, apexes: &[Name]) -> Result<(), StoreFaul
     Ok(())
 }
 
-// The fault of removing the record from these, if there is one. Linear in the number of apexes.
+// The fault of removing the record from these, if there is one. Linear in the number of apexes. Does
+// not allocate.
 pub(crate) fn check_remove(
     old: &Record,
     apexes: &[Name],
@@ -58,20 +59,20 @@ pub(crate) fn check_remove(
     ensures { (max_records : ℕ) → MatchResult result
         (λ _. refusal_of max_records (remove old.now)
         (record { apexes = apexes.now; records = records.now.records }) ≡ None)
-        (λ fault. fault ≢ StoreFault.Memory → refusal_of max_records (remove old.now)
+        (λ fault. refusal_of max_records (remove old.now)
         (record { apexes = apexes.now; records = records.now.records }) ≡ Some fault) }
 {
     if !is_covered(apexes, &old.owner) {
         return Err(StoreFault::NoZone);
     }
-    if !records.contains(old)? {
+    if !records.contains(old) {
         return Err(StoreFault::Absent);
     }
     Ok(())
 }
 
 // The fault of adding the record beside these apexes and records, if there is one. Linear in the
-// number of apexes.
+// number of apexes. Does not allocate.
 pub(crate) fn check_add(
     max_records: usize,
     new: &Record,
@@ -81,13 +82,13 @@ pub(crate) fn check_add(
     ensures { MatchResult result
         (λ _. refusal_of max_records (add new.now)
         (record { apexes = apexes.now; records = records.now.records }) ≡ None)
-        (λ fault. fault ≢ StoreFault.Memory → refusal_of max_records (add new.now)
+        (λ fault. refusal_of max_records (add new.now)
         (record { apexes = apexes.now; records = records.now.records }) ≡ Some fault) }
 {
     if !is_covered(apexes, &new.owner) {
         return Err(StoreFault::NoZone);
     }
-    let found = records.compare(new)?;
+    let found = records.compare(new);
     if found.is_repeated {
         return Err(StoreFault::Duplicate);
     }

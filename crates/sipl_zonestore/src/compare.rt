@@ -108,8 +108,8 @@ fn push_if_changed(
         (keys.new.items ≡ keys.old.items ++ changed_in old.now new.now next.now) }
 {
     if let Some(key) = next.key(alloc)? {
-        let values = old.values(&key);
-        if is_first(&next.value, values) && is_other_set(values, new.values(&key)) {
+        let values = old.values(&key.name, key.kind);
+        if is_first(&next.value, values) && is_other_set(values, new.values(&key.name, key.kind)) {
             keys.push(key)?;
         }
     }
@@ -128,7 +128,8 @@ fn push_if_added(
         (keys.new.items ≡ keys.old.items ++ added_in old.now new.now next.now) }
 {
     if let Some(key) = next.key(alloc)? {
-        if old.values(&key).is_empty() && is_first(&next.value, new.values(&key)) {
+        let values = new.values(&key.name, key.kind);
+        if old.values(&key.name, key.kind).is_empty() && is_first(&next.value, values) {
             keys.push(key)?;
         }
     }

@@ -1,12 +1,12 @@
 //! A record compared with those of its owner, by the tables of sets and owners.
 ghost use Rattle.std.specs.Prelude.{◌≡◌, ◌||◌};
 ghost use Rattle.std.specs.List.{list_any};
-ghost use Rattle.sipl_records.specs.declared.record.Key.{Key};
 ghost use Rattle.sipl_records.specs.Sets.{same_data};
 ghost use Rattle.sipl_zonestore.specs.SetTable.{conflicts_in, has_kind_set};
 
 use crate::sets::SetTable;
-use sipl_records::{Data, Key, Kind};
+use sipl_names::Name;
+use sipl_records::{Data, Kind};
 
 // What records are to a new one.
 #[derive(Clone, Copy)]
@@ -26,39 +26,37 @@ pub(crate) fn has_value(values: &[Data], value: &Data) -> bool
     values.iter().any(|other| *value == *other)
 }
 
-// Whether a record of this key conflicts with one of the sets of its owner. At most five look-ups.
-// Does not allocate.
-pub(crate) fn has_conflict(sets: &SetTable, mut key: Key) -> bool
-    ensures { result ≡ conflicts_in sets.now key }
+// Whether a record of this owner and kind conflicts with one of the sets of its owner. At most five
+// look-ups. Does not allocate.
+pub(crate) fn has_conflict(sets: &SetTable, owner: &Name, kind: Kind) -> bool
+    ensures { result ≡ conflicts_in sets.now (record { name = owner.now; kind = kind }) }
 {
-    match key.kind {
-        Kind::Alias => has_any_kind(sets, &mut key),
+    match kind {
+        Kind::Alias => has_any_kind(sets, owner),
         Kind::Address4 | Kind::Address6 | Kind::Service | Kind::Pointer => {
-            has_kind(sets, &mut key, Kind::Alias)
+            has_kind(sets, owner, Kind::Alias)
         }
     }
 }
 
-// Whether the key's owner has a set of some kind.
-fn has_any_kind(sets: &SetTable, key: &mut Key) -> bool
-    ensures { result ≡ (has_kind_set sets.now key.old.name Kind.Address4
-        || has_kind_set sets.now key.old.name Kind.Address6
-        || has_kind_set sets.now key.old.name Kind.Alias
-        || has_kind_set sets.now key.old.name Kind.Service
-        || has_kind_set sets.now key.old.name Kind.Pointer) }
+// Whether the owner has a set of some kind.
+fn has_any_kind(sets: &SetTable, owner: &Name) -> bool
+    ensures { result ≡ (has_kind_set sets.now owner.now Kind.Address4
+        || has_kind_set sets.now owner.now Kind.Address6
+        || has_kind_set sets.now owner.now Kind.Alias
+        || has_kind_set sets.now owner.now Kind.Service
+        || has_kind_set sets.now owner.now Kind.Pointer) }
 {
-    has_kind(sets, key, Kind::Address4)
-        || has_kind(sets, key, Kind::Address6)
-        || has_kind(sets, key, Kind::Alias)
-        || has_kind(sets, key, Kind::Service)
-        || has_kind(sets, key, Kind::Pointer)
+    has_kind(sets, owner, Kind::Address4)
+        || has_kind(sets, owner, Kind::Address6)
+        || has_kind(sets, owner, Kind::Alias)
+        || has_kind(sets, owner, Kind::Service)
+        || has_kind(sets, owner, Kind::Pointer)
 }
 
-// Whether the key's owner has a set of this kind, which the key is given.
-fn has_kind(sets: &SetTable, key: &mut Key, kind: Kind) -> bool
-    ensures found { result ≡ has_kind_set sets.now key.old.name kind }
-    ensures name { key.new.name ≡ key.old.name }
+// Whether the owner has a set of this kind.
+fn has_kind(sets: &SetTable, owner: &Name, kind: Kind) -> bool
+    ensures { result ≡ has_kind_set sets.now owner.now kind }
 {
-    key.kind = kind;
-    !sets.values(key).is_empty()
+    !sets.values(owner, kind).is_empty()
 }

@@ -1,5 +1,5 @@
 //! Records with an index of their sets.
-ghost use Rattle.std.specs.Prelude.{◌≡◌, ◌≤◌, ◌^◌, ◌+◌, ◌&&◌, ◌||◌, not, [], ◌∷◌, ◌++◌, length, true, false, if◌then◌else◌, IfOk, OnOk, OnErr, vec_len, vec_capacity};
+ghost use Rattle.std.specs.Prelude.{◌≡◌, ◌≤◌, ◌^◌, ◌+◌, ◌&&◌, ◌||◌, not, [], ◌∷◌, ◌++◌, length, true, false, None, if◌then◌else◌, IfOk, IfErr, OnOk, OnErr, vec_len, vec_capacity};
 ghost use Rattle.std.specs.List.{count_by, list_all, list_any};
 ghost use Rattle.indexmap.specs.IndexSet.{IsUnchanged, contains};
 ghost use Rattle.sipl_names.specs.Labels.{Labels, is_within, same_name};
@@ -7,8 +7,9 @@ ghost use Rattle.sipl_records.specs.declared.record.Key.{Key};
 ghost use Rattle.sipl_records.specs.Sets.{conflicts, same_record, set_of, shares_set};
 ghost use Rattle.sipl_masterfile.specs.Zones.{has_repeats};
 ghost use Rattle.sipl_zonestore.specs.BareOwners.{is_bare_at};
-ghost use Rattle.sipl_zonestore.specs.Numbers.{number_of};
-ghost use Rattle.sipl_zonestore.specs.SetTable.{content_of, no_content};
+ghost use Rattle.sipl_zonestore.specs.Numbers.{number_of, number_refusal};
+ghost use Rattle.sipl_zonestore.specs.Content.{no_content};
+ghost use Rattle.sipl_zonestore.specs.SetTable.{content_of};
 ghost use Rattle.sipl_zonestore.specs.Store.{records_outside};
 ghost use Rattle.sipl_zonestore.specs.Edits.{records_without};
 ghost use Rattle.sipl_zonestore.specs.IndexedRecords.{IsReplaced};
@@ -17,8 +18,11 @@ use crate::bare_owners::{bare_owner, bare_owners, insert_owner, remove_owner, re
 use crate::compare::{changed_within, own_key};
 use crate::comparison::{Comparison, has_conflict, has_value};
 use crate::fault::StoreFault;
+use crate::ordinals::Ordinals;
+use crate::removal::remove_record;
 use crate::set_numbers::{
-    check_numbers, count_numbered, number_sets, push_to_set, remove_from_set, sets_of,
+    added_count, check_numbers, count_numbered, number_sets, push_to_set, remove_from_set,
+    removed_count, sets_of,
 };
 use crate::sets::SetTable;
 use indexmap::IndexSet;
@@ -27,13 +31,14 @@ use sipl_records::{Data, Key, Record, Sequence};
 use std::alloc::{AllocError, Global};
 use std::marker::Model;
 
-// Records in the order of addition, a table of their sets by their keys, each set with its number,
+// Records in the order of addition, with their ordinals, a table of their sets, each with its number,
 // and a table of the owners of those of which nothing is kept, which are in no set. A set takes the
 // next number whenever it changes.
 #[derive(Drop)]
 pub(crate) struct IndexedRecords {
     alloc: Global,
     records: Vec<Record>,
+    ordinals: Ordinals,
     sets: SetTable,
     bare: IndexSet<Name>,
     next: u64,
@@ -65,6 +70,7 @@ impl IndexedRecords {
         IndexedRecords {
             alloc,
             records: Vec::new(alloc),
+            ordinals: Ordinals::new(alloc),
             sets: SetTable::new(alloc),
             bare: IndexSet::new(alloc),
             next,
@@ -83,50 +89,47 @@ impl IndexedRecords {
         ensures number { result.0 ≡ number_of self.now.numbers key.now }
         ensures values { result.1.now ≡ set_of self.now.records key.now }
     {
-        self.sets.get(key)
+        self.sets.get(&key.name, key.kind)
     }
 
     // The number of the key's set.
     pub(crate) fn number(&self, key: &Key) -> u64
         ensures { result ≡ number_of self.now.numbers key.now }
     {
-        self.sets.number(key)
+        self.sets.number(&key.name, key.kind)
     }
 
     // Whether the record that is sought is among these. Constant time but for hashing and the data of
-    // its set.
-    pub(crate) fn contains(&self, sought: &Record) -> Result<bool, AllocError>
-        ensures { IfOk result
-            (λ found. found ≡ list_any (same_record sought.now) self.now.records) }
+    // its set. Does not allocate.
+    pub(crate) fn contains(&self, sought: &Record) -> bool
+        ensures { result ≡ list_any (same_record sought.now) self.now.records }
     {
-        let Some(key) = sought.key(self.alloc)? else {
-            return Ok(self.bare.contains(&sought.owner));
+        let Some(kind) = sought.value.kind() else {
+            return self.bare.contains(&sought.owner);
         };
-        Ok(has_value(self.sets.values(&key), &sought.value))
+        has_value(self.sets.values(&sought.owner, kind), &sought.value)
     }
 
-    // Compares a new record with these. Constant time but for hashing and the data of its set.
-    pub(crate) fn compare(&self, new: &Record) -> Result<Comparison, AllocError>
-        ensures repeated { IfOk result
-            (λ found. found.is_repeated ≡ list_any (same_record new.now) self.now.records) }
-        ensures conflicts { IfOk result
-            (λ found. found.conflicts ≡ list_any (conflicts new.now) self.now.records) }
-        ensures set_len { IfOk result
-            (λ found. found.set_len ≡ count_by (shares_set new.now) self.now.records) }
+    // Compares a new record with these. Constant time but for hashing and the data of its set. Does
+    // not allocate.
+    pub(crate) fn compare(&self, new: &Record) -> Comparison
+        ensures repeated { result.is_repeated ≡ list_any (same_record new.now) self.now.records }
+        ensures conflicts { result.conflicts ≡ list_any (conflicts new.now) self.now.records }
+        ensures set_len { result.set_len ≡ count_by (shares_set new.now) self.now.records }
     {
-        let Some(key) = new.key(self.alloc)? else {
-            return Ok(Comparison {
+        let Some(kind) = new.value.kind() else {
+            return Comparison {
                 is_repeated: self.bare.contains(&new.owner),
                 conflicts: false,
                 set_len: 0,
-            });
+            };
         };
-        let values = self.sets.values(&key);
-        Ok(Comparison {
+        let values = self.sets.values(&new.owner, kind);
+        Comparison {
             is_repeated: has_value(values, &new.value),
             set_len: values.len(),
-            conflicts: has_conflict(&self.sets, key),
-        })
+            conflicts: has_conflict(&self.sets, &new.owner, kind),
+        }
     }
 
     // Replaces the records within the apex by those of a text, which are last. Returns the keys of
@@ -142,46 +145,70 @@ impl IndexedRecords {
         ensures { IsReplaced (records_outside apex.now self.old.records ++ text.now)
             self.old self.new result }
     {
-        let mut sets = sets_of(self.alloc, text, &self.sets)?;
+        let mut sets = sets_of(self.alloc, text, &self.sets, self.ordinals.next())?;
         let keys = changed_within(self.alloc, apex, &self.records, text, &self.sets, &sets)?;
         let count = count_numbered(&keys, &sets);
         check_numbers(self.next, count)?;
         number_sets(&mut sets, &keys, self.next);
         let copies = copy_records(self.alloc, text)?;
         self.records.reserve(copies.len())?;
+        self.ordinals.reserve(copies.len())?;
         replace_tables(self.alloc, &mut self.sets, &mut self.bare, apex, text, sets)?;
+        self.ordinals.retain_outside(apex, &self.records);
+        self.ordinals.append(copies.len());
         replace_records(&mut self.records, apex, copies);
         self.next += count as u64;
         Ok(Sequence::from_vec(keys))
     }
 
-    // Appends a record. Returns the key of its set, which changed.
+    // Appends a record. Returns the key of its set, which changed. Nothing is allocated where too few
+    // numbers are left.
     pub(crate) fn push(&mut self, new: &Record) -> Result<Sequence<Key>, StoreFault>
         requires { list_any (same_record new.now) self.old.records ≡ false }
-        ensures { IsReplaced (self.old.records ++ new.now ∷ []) self.old self.new result }
+        ensures replaced { IsReplaced (self.old.records ++ new.now ∷ []) self.old self.new result }
+        ensures memory { IfErr result (λ fault. fault ≡ StoreFault.Memory
+            → number_refusal self.old.records (self.old.records ++ new.now ∷ []) self.old.next
+            ≡ None) }
     {
+        let count = added_count(new);
+        check_numbers(self.next, count)?;
         let keys = own_key(self.alloc, new)?;
         let copy = new.dup(self.alloc)?;
         let owner = bare_owner(self.alloc, new)?;
         self.records.reserve(1)?;
+        self.ordinals.reserve(1)?;
         self.bare.reserve(usize::from(owner.is_some()))?;
-        let next = push_to_set(self.alloc, &mut self.sets, self.next, new)?;
+        push_to_set(
+            self.alloc,
+            &mut self.sets,
+            self.next,
+            new,
+            self.ordinals.next(),
+        )?;
         insert_owner(&mut self.bare, owner);
         self.records.push_reserved(copy);
-        self.next = next;
+        self.ordinals.append(1);
+        self.next += count as u64;
         Ok(Sequence::from_vec(keys))
     }
 
-    // Removes a record. Returns the key of its set, which changed.
+    // Removes a record. Returns the key of its set, which changed. Nothing is allocated where too few
+    // numbers are left.
     pub(crate) fn remove(&mut self, old: &Record) -> Result<Sequence<Key>, StoreFault>
-        requires { list_any (same_record old.now) self.old.records ≡ true }
-        ensures { IsReplaced (records_without old.now self.old.records) self.old self.new result }
+        requires distinct { has_repeats self.old.records ≡ false }
+        requires present { list_any (same_record old.now) self.old.records ≡ true }
+        ensures replaced { IsReplaced (records_without old.now self.old.records) self.old self.new result }
+        ensures memory { IfErr result (λ fault. fault ≡ StoreFault.Memory
+            → number_refusal self.old.records (records_without old.now self.old.records)
+            self.old.next ≡ None) }
     {
+        let count = removed_count(&self.sets, old);
+        check_numbers(self.next, count)?;
         let keys = own_key(self.alloc, old)?;
-        let next = remove_from_set(self.alloc, &mut self.sets, self.next, old)?;
+        let ordinal = remove_from_set(&mut self.sets, self.next, old);
         remove_owner(&mut self.bare, old);
-        self.records.retain(|record| *old != *record);
-        self.next = next;
+        remove_record(&mut self.records, &mut self.ordinals, old, ordinal);
+        self.next += count as u64;
         Ok(Sequence::from_vec(keys))
     }
 }

@@ -1,10 +1,11 @@
 //! The numbers that sets take in an edit.
-ghost use Rattle.std.specs.Prelude.{◌≡◌, ◌≢◌, ◌≤◌, ◌<◌, ◌+◌, ◌^◌, not, length, filter, if◌then◌else◌, IfOk, IfErr, OnOk, OnErr, MatchResult};
+ghost use Rattle.std.specs.Prelude.{◌≡◌, ◌≤◌, ◌<◌, ◌+◌, ◌^◌, not, length, filter, if◌then◌else◌, IfOk, OnOk, OnErr, MatchResult};
 ghost use Rattle.std.specs.List.{IsDistinct, list_any};
 ghost use Rattle.std.specs.Option.{option_to_list};
 ghost use Rattle.sipl_records.specs.declared.record.Key.{Key};
 ghost use Rattle.sipl_records.specs.Sets.{has_key, key_of, same_data, same_key, set_of};
-ghost use Rattle.sipl_zonestore.specs.SetTable.{content_of, carried, has_set, keys_left, numbered_content, pushed, renumbered, without};
+ghost use Rattle.sipl_zonestore.specs.Content.{carried, pushed, renumbered, without};
+ghost use Rattle.sipl_zonestore.specs.SetTable.{content_of, has_set, keys_left, numbered_content};
 
 use crate::MAX_NUMBER;
 use crate::fault::StoreFault;
@@ -24,22 +25,25 @@ pub(crate) fn check_numbers(next: u64, count: usize) -> Result<(), StoreFault>
     Ok(())
 }
 
-// The sets of the records, with the numbers that their keys have in another table.
+// The sets of the records, with the numbers that their keys have in another table. The records have
+// ordinals from this one on.
 pub(crate) fn sets_of(
     alloc: Global,
     records: &[Record],
     old: &SetTable,
+    mut ordinal: u64,
 ) -> Result<SetTable, AllocError>
     ensures { IfOk result (λ sets. (key : Key) → content_of sets key
         ≡ carried (content_of old.now key).number (set_of records.now key)) }
 {
     let mut sets = SetTable::new(alloc);
     for record in records {
-        if let Some(key) = record.key(alloc)? {
-            let number = old.number(&key);
+        if let Some(kind) = record.value.kind() {
+            let number = old.number(&record.owner, kind);
             let value = record.value.dup(alloc)?;
-            sets.push(alloc, key, number, value)?;
+            sets.push(alloc, &record.owner, kind, number, value, ordinal)?;
         }
+        ordinal = ordinal.saturating_add(1);
     }
     Ok(sets)
 }
@@ -49,7 +53,7 @@ pub(crate) fn count_numbered(keys: &[Key], sets: &SetTable) -> usize
     ensures { result ≡ length (filter (has_set sets.now) keys.now) }
 {
     keys.iter()
-        .filter(|key| !sets.values(key).is_empty())
+        .filter(|key| !sets.values(&key.name, key.kind).is_empty())
         .count()
 }
 
@@ -61,70 +65,63 @@ pub(crate) fn number_sets(sets: &mut SetTable, keys: &[Key], mut next: u64)
         ≡ numbered_content sets.old keys.now next key }
 {
     for key in keys {
-        if sets.set_number(key, next) {
+        if sets.set_number(&key.name, key.kind, next) {
             next += 1;
         }
     }
 }
 
-// Appends the record's datum to its set, if it is in one, which takes the next number. Returns the
-// number after it.
+// How many sets take a number where this record is added. Does not allocate.
+pub(crate) fn added_count(new: &Record) -> usize
+    ensures { result ≡ length (option_to_list (key_of new.now)) }
+{
+    usize::from(new.value.kind().is_some())
+}
+
+// How many sets take a number where this record is removed. Does not allocate.
+pub(crate) fn removed_count(sets: &SetTable, old: &Record) -> usize
+    ensures { result ≡ length (keys_left sets.now old.now) }
+{
+    let Some(kind) = old.value.kind() else {
+        return 0;
+    };
+    usize::from(has_other(sets.values(&old.owner, kind), &old.value))
+}
+
+// Appends the record's datum to its set, if it is in one, which gets this number.
 pub(crate) fn push_to_set(
     alloc: Global,
     sets: &mut SetTable,
-    next: u64,
+    number: u64,
     new: &Record,
-) -> Result<u64, StoreFault>
-    requires { next ≤ 2 ^ 52 + 1 }
+    ordinal: u64,
+) -> Result<(), AllocError>
     ensures content { OnOk result ((key : Key) → content_of sets.new key
-        ≡ (if has_key key new.now then pushed next new.now.value (content_of sets.old key)
+        ≡ (if has_key key new.now then pushed number new.now.value (content_of sets.old key)
         else content_of sets.old key)) }
-    ensures next { IfOk result
-        (λ after. after ≡ next + length (option_to_list (key_of new.now))) }
-    ensures last { IfOk result (λ after. after ≤ 2 ^ 52 + 1) }
-    ensures refused { IfErr result (λ fault. fault ≢ StoreFault.Memory
-        → (2 ^ 52 + 1 < next + length (option_to_list (key_of new.now)))
-        × (fault ≡ StoreFault.NumberSpent)) }
     ensures unchanged { OnErr result (sets.new ≡ sets.old) }
 {
-    let Some(key) = new.key(alloc)? else {
-        return Ok(next);
+    let Some(kind) = new.value.kind() else {
+        return Ok(());
     };
-    check_numbers(next, 1)?;
     let value = new.value.dup(alloc)?;
-    sets.push(alloc, key, next, value)?;
-    Ok(next + 1)
+    sets.push(alloc, &new.owner, kind, number, value, ordinal)
 }
 
-// Removes the record's datum from its set, if it is in one, which takes the next number where it
-// has other data. Returns the number after those that were taken.
-pub(crate) fn remove_from_set(
-    alloc: Global,
-    sets: &mut SetTable,
-    next: u64,
-    old: &Record,
-) -> Result<u64, StoreFault>
-    requires { next ≤ 2 ^ 52 + 1 }
-    ensures content { OnOk result ((key : Key) → content_of sets.new key
+// Removes the record's datum from its set, if it is in one, which gets this number where it has other
+// data. Returns the record's ordinal. Does not allocate.
+pub(crate) fn remove_from_set(sets: &mut SetTable, number: u64, old: &Record) -> Option<u64>
+    ensures { (key : Key) → content_of sets.new key
         ≡ (if has_key key old.now
-        then renumbered next (without old.now.value (content_of sets.old key))
-        else content_of sets.old key)) }
-    ensures next { IfOk result (λ after. after
-        ≡ next + length (keys_left sets.old old.now)) }
-    ensures last { IfOk result (λ after. after ≤ 2 ^ 52 + 1) }
-    ensures refused { IfErr result (λ fault. fault ≢ StoreFault.Memory
-        → (2 ^ 52 + 1 < next + length (keys_left sets.old old.now))
-        × (fault ≡ StoreFault.NumberSpent)) }
-    ensures unchanged { OnErr result (sets.new ≡ sets.old) }
+        then renumbered number (without old.now.value (content_of sets.old key))
+        else content_of sets.old key) }
 {
-    let Some(key) = old.key(alloc)? else {
-        return Ok(next);
+    let Some(kind) = old.value.kind() else {
+        return None;
     };
-    let is_shared = has_other(sets.values(&key), &old.value);
-    check_numbers(next, usize::from(is_shared))?;
-    sets.remove(&key, &old.value);
-    sets.set_number(&key, next);
-    Ok(next + u64::from(is_shared))
+    let ordinal = sets.remove(&old.owner, kind, &old.value);
+    sets.set_number(&old.owner, kind, number);
+    ordinal
 }
 
 // Whether the set has a datum that is not this one.

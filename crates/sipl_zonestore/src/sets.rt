@@ -1,84 +1,34 @@
-//! The record sets of a store (RFC 2181, 5) by their keys, with their numbers.
-ghost use Rattle.std.specs.Prelude.{◌≡◌, [], ◌∷◌, false, IfOk, OnOk, OnErr, if◌then◌else◌};
+//! The record sets of a store (RFC 2181, 5) by their owners and kinds, with their numbers.
+ghost use Rattle.std.specs.Prelude.{◌≡◌, [], false, OnOk, OnErr, if◌then◌else◌};
 ghost use Rattle.sipl_names.specs.Labels.{is_within};
 ghost use Rattle.sipl_records.specs.declared.record.Key.{Key};
 ghost use Rattle.sipl_records.specs.Sets.{same_key};
-ghost use Rattle.sipl_zonestore.specs.Numbers.{is_empty};
-ghost use Rattle.sipl_zonestore.specs.SetTable.{content_of, no_content, data_without, has_set, pushed, without, renumbered};
+ghost use Rattle.sipl_zonestore.specs.Content.{no_content, pushed, without, renumbered};
+ghost use Rattle.sipl_zonestore.specs.SetTable.{content_of, has_set};
 
+use crate::owner_sets::OwnerSets;
 use indexmap::IndexMap;
 use sipl_names::Name;
-use sipl_records::{Data, Key};
+use sipl_records::{Data, Kind};
 use std::alloc::{AllocError, Global};
 use std::marker::Model;
 
-// The number and the data of a record set.
-#[derive(Drop)]
-struct RecordSet {
-    number: u64,
-    values: Vec<Data>,
-}
-
-impl Model for RecordSet {
-    ghost use Rattle.sipl_zonestore.specs.SetTable.{Content};
-
-    ghost Value = { Content };
-
-    ghost view = { λ s. record { number = s.number; values = s.values.items } };
-}
-
-impl RecordSet {
-    // The set of one datum.
-    fn new(alloc: Global, number: u64, value: Data) -> Result<Self, AllocError>
-        ensures { IfOk result
-            (λ set. set ≡ record { number = number; values = value ∷ [] }) }
-    {
-        let mut values = Vec::new(alloc);
-        values.push(value)?;
-        Ok(RecordSet { number, values })
-    }
-
-    // Appends a datum to the set, which gets this number.
-    fn push(&mut self, number: u64, value: Data) -> Result<(), AllocError>
-        ensures pushed { OnOk result (self.new ≡ pushed number value self.old) }
-        ensures unchanged { OnErr result (self.new ≡ self.old) }
-    {
-        self.values.push(value)?;
-        self.number = number;
-        Ok(())
-    }
-
-    // Removes a datum from the set.
-    fn remove(&mut self, value: &Data)
-        ensures { self.new ≡ data_without value.now self.old }
-    {
-        self.values.retain(|other| *value != *other);
-    }
-
-    // Whether no datum is left.
-    fn is_empty(&self) -> bool
-        ensures { result ≡ is_empty self.now.values }
-    {
-        self.values.is_empty()
-    }
-}
-
-// Record sets with their numbers, by their keys; each has data. Contracts see a list of the sets,
-// and of a call that changes the table what it has for each key: their order is not kept.
+// Record sets with their numbers, by their owners and kinds: so a look-up needs no copy of a name.
+// Each owner has data. Contracts see a list of the owners with their sets, and of a call that
+// changes the table what it has for each key: the order of the owners is not kept.
 #[derive(Drop)]
 pub(crate) struct SetTable {
-    sets: IndexMap<Key, RecordSet>,
+    owners: IndexMap<Name, OwnerSets>,
 }
 
 impl Model for SetTable {
-    ghost use Rattle.std.specs.Prelude.{List};
-    ghost use Rattle.sipl_zonestore.specs.SetTable.{NumberedSet, HaveData, sets_in};
+    ghost use Rattle.sipl_zonestore.specs.SetTable.{OwnerTable, HaveData};
 
-    ghost Value = { List NumberedSet };
+    ghost Value = { OwnerTable };
 
-    ghost view = { λ t. sets_in t.sets.entries };
+    ghost view = { λ t. t.owners.entries };
 
-    ghost invariant = { λ t. HaveData t.sets.entries };
+    ghost invariant = { λ t. HaveData t.owners.entries };
 }
 
 impl SetTable {
@@ -87,90 +37,103 @@ impl SetTable {
         ensures { result ≡ [] }
     {
         SetTable {
-            sets: IndexMap::new(alloc),
+            owners: IndexMap::new(alloc),
         }
     }
 
-    // The number of the key's set and its data, 0 and none where it has no set. Constant time but
-    // for hashing.
-    pub(crate) fn get(&self, key: &Key) -> (u64, &[Data])
-        ensures number { result.0 ≡ (content_of self.now key.now).number }
-        ensures values { result.1.now ≡ (content_of self.now key.now).values }
+    // The number of a set and its data, 0 and none where it is empty. Constant time but for hashing.
+    // Does not allocate.
+    pub(crate) fn get(&self, owner: &Name, kind: Kind) -> (u64, &[Data])
+        ensures number { result.0
+            ≡ (content_of self.now (record { name = owner.now; kind = kind })).number }
+        ensures values { result.1.now
+            ≡ (content_of self.now (record { name = owner.now; kind = kind })).values }
     {
-        match self.sets.get(key) {
-            Some(set) => (set.number, &set.values),
+        match self.owners.get(owner) {
+            Some(sets) => sets.set(kind).get(),
             None => (0, &[]),
         }
     }
 
-    // The data of the key's set, none where it has no set.
-    pub(crate) fn values(&self, key: &Key) -> &[Data]
-        ensures { result.now ≡ (content_of self.now key.now).values }
+    // The data of a set.
+    pub(crate) fn values(&self, owner: &Name, kind: Kind) -> &[Data]
+        ensures { result.now
+            ≡ (content_of self.now (record { name = owner.now; kind = kind })).values }
     {
-        self.get(key).1
+        self.get(owner, kind).1
     }
 
-    // The number of the key's set, 0 where it has no set.
-    pub(crate) fn number(&self, key: &Key) -> u64
-        ensures { result ≡ (content_of self.now key.now).number }
+    // The number of a set, 0 where it is empty.
+    pub(crate) fn number(&self, owner: &Name, kind: Kind) -> u64
+        ensures { result
+            ≡ (content_of self.now (record { name = owner.now; kind = kind })).number }
     {
-        self.get(key).0
+        self.get(owner, kind).0
     }
 
-    // Appends a datum to the key's set, which gets this number. Constant time but for hashing.
+    // Appends a datum to a set, which gets this number. Constant time but for hashing.
     pub(crate) fn push(
         &mut self,
         alloc: Global,
-        key: Key,
+        owner: &Name,
+        kind: Kind,
         number: u64,
         value: Data,
+        ordinal: u64,
     ) -> Result<(), AllocError>
-        ensures pushed { OnOk result ((other : Key) → content_of self.new other
-            ≡ (if same_key key other then pushed number value (content_of self.old other)
-            else content_of self.old other)) }
+        ensures pushed { OnOk result ((key : Key) → content_of self.new key
+            ≡ (if same_key (record { name = owner.now; kind = kind }) key
+            then pushed number value (content_of self.old key)
+            else content_of self.old key)) }
         ensures unchanged { OnErr result (self.new ≡ self.old) }
     {
-        if let Some(set) = self.sets.get_mut(&key) {
-            return set.push(number, value);
+        if let Some(sets) = self.owners.get_mut(owner) {
+            return sets.push(kind, number, value, ordinal);
         }
-        let set = RecordSet::new(alloc, number, value)?;
-        self.sets.insert(key, set)?;
+        let mut sets = OwnerSets::new(alloc);
+        sets.push(kind, number, value, ordinal)?;
+        let name = owner.dup(alloc)?;
+        self.owners.insert(name, sets)?;
         Ok(())
     }
 
-    // Removes a datum from the key's set. Constant time but for hashing and the data of the set.
-    // Does not allocate.
-    pub(crate) fn remove(&mut self, key: &Key, value: &Data)
-        ensures { (other : Key) → content_of self.new other
-            ≡ (if same_key key.now other then without value.now (content_of self.old other)
-            else content_of self.old other) }
+    // Removes a datum from a set, and returns the ordinal of its record. Constant time but for hashing
+    // and the data of the set. Does not allocate.
+    pub(crate) fn remove(&mut self, owner: &Name, kind: Kind, value: &Data) -> Option<u64>
+        ensures { (key : Key) → content_of self.new key
+            ≡ (if same_key (record { name = owner.now; kind = kind }) key
+            then without value.now (content_of self.old key)
+            else content_of self.old key) }
     {
-        let Some(set) = self.sets.get_mut(key) else {
-            return;
+        let Some(sets) = self.owners.get_mut(owner) else {
+            return None;
         };
-        set.remove(value);
-        if set.is_empty() {
-            self.sets.swap_remove(key);
+        let ordinal = sets.remove(kind, value);
+        if sets.is_empty() {
+            self.owners.swap_remove(owner);
         }
+        ordinal
     }
 
-    // Numbers the key's set, if it has one, and returns whether it does. Constant time but for
+    // Numbers a set, unless it is empty, and returns whether it is not. Constant time but for
     // hashing. Does not allocate.
-    pub(crate) fn set_number(&mut self, key: &Key, number: u64) -> bool
-        ensures found { result ≡ has_set self.old key.now }
-        ensures numbered { (other : Key) → content_of self.new other
-            ≡ (if same_key key.now other then renumbered number (content_of self.old other)
-            else content_of self.old other) }
+    pub(crate) fn set_number(&mut self, owner: &Name, kind: Kind, number: u64) -> bool
+        ensures found { result
+            ≡ has_set self.old (record { name = owner.now; kind = kind }) }
+        ensures numbered { (key : Key) → content_of self.new key
+            ≡ (if same_key (record { name = owner.now; kind = kind }) key
+            then renumbered number (content_of self.old key)
+            else content_of self.old key) }
     {
-        let Some(set) = self.sets.get_mut(key) else {
+        let Some(sets) = self.owners.get_mut(owner) else {
             return false;
         };
-        set.number = number;
-        true
+        sets.set_number(kind, number);
+        !sets.set(kind).is_empty()
     }
 
     // Replaces the sets whose owners are within the apex by these, whose owners are within it too.
-    // Linear in the number of sets.
+    // Linear in the number of owners.
     pub(crate) fn replace_within(
         &mut self,
         apex: &Name,
@@ -183,9 +146,9 @@ impl SetTable {
             else content_of self.old key)) }
         ensures unchanged { OnErr result (self.new ≡ self.old) }
     {
-        self.sets.reserve(text.sets.len())?;
-        self.sets.retain(|key, _| !key.name.is_within(apex));
-        self.sets.append(&mut text.sets).unwrap();
+        self.owners.reserve(text.owners.len())?;
+        self.owners.retain(|owner, _| !owner.is_within(apex));
+        self.owners.append(&mut text.owners).unwrap();
         Ok(())
     }
 }

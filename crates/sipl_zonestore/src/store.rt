@@ -95,7 +95,8 @@ impl ZoneStore {
     /// time but for hashing.
     ///
     /// The fault is the first one: a loaded zone strictly above or below the apex (S1), more
-    /// records than the store's maximum (S7), too few numbers (S8).
+    /// records than the store's maximum (S7), too few numbers (S8). Memory is reported only where
+    /// neither S1 nor S7 is the fault.
     pub fn load(&mut self, zone: &ZoneText) -> Result<Sequence<Key>, StoreFault>
         ensures { IsEdited (load zone.now) self.old self.new result }
     {
@@ -111,7 +112,8 @@ impl ZoneStore {
     /// Unloads the zone of this apex: the apex and all records within it are gone. Returns the keys
     /// of the sets that changed, as `load` does. The cost is that of `load`.
     ///
-    /// The fault is that the apex is not loaded (S2). No set takes a number, so none is spent.
+    /// The fault is that the apex is not loaded (S2). No set takes a number, so none is spent. Memory is
+    /// reported only where the apex is loaded.
     pub fn unload(&mut self, apex: &Name) -> Result<Sequence<Key>, StoreFault>
         ensures edited { IsEdited (unload apex.now) self.old self.new result }
         ensures numbers { result ≢ Err StoreFault.NumberSpent }
@@ -128,7 +130,8 @@ impl ZoneStore {
     ///
     /// The fault is the first one: an owner in no loaded zone (S2), a record that is in the store
     /// already (S3), an alias beside other data (S5), a set of 32 records (S6), as many records as
-    /// the store's maximum (S7), no number (S8).
+    /// the store's maximum (S7), no number (S8). Memory is reported only where none of them is the
+    /// fault.
     pub fn add(&mut self, new: &Record) -> Result<Sequence<Key>, StoreFault>
         ensures { IsEdited (add new.now) self.old self.new result }
     {
@@ -137,10 +140,11 @@ impl ZoneStore {
     }
 
     /// Removes the record that is equal to this one. Returns the key of its set, if it is in one,
-    /// which takes the next number unless it is now empty. Linear in the number of all records.
+    /// which takes the next number unless it is now empty. A bisection and one move of the records
+    /// after it, but for hashing; for a record of which nothing is kept, linear in the number of all.
     ///
     /// The fault is the first one: an owner in no loaded zone (S2), a record that is not in the
-    /// store (S4), no number (S8).
+    /// store (S4), no number (S8). Memory is reported only where none of them is the fault.
     pub fn remove(&mut self, old: &Record) -> Result<Sequence<Key>, StoreFault>
         ensures { IsEdited (remove old.now) self.old self.new result }
     {

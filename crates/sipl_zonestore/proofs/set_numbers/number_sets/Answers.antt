@@ -1,6 +1,7 @@
 use Rattle.std.proofs.Common.{◌≡◌, true, false, take, if◌then◌else◌, sym, ◌∙◌, arith}
 use Rattle.sipl_records.specs.Sets.{same_key}
-use Rattle.sipl_zonestore.specs.SetTable.{has_set, renumbered}
+use Rattle.sipl_zonestore.specs.Content.{renumbered}
+use Rattle.sipl_zonestore.specs.SetTable.{has_set}
 use Rattle.sipl_zonestore.proofs.TableSteps.{numbered-start, numbered-step, counted-next, taken-le, has_set-same}
 use Rattle.sipl_zonestore.proofs.set_numbers.number_sets.Goals as goal
 use Rattle.sipl_zonestore.proofs.set_numbers.number_sets.Goals.{then-set_number, else-set_number}

@@ -1,7 +1,8 @@
 use Rattle.std.proofs.Common.{◌≡◌, take}
 use Rattle.sipl_records.specs.declared.record.Key.{Key}
 use Rattle.sipl_records.specs.Sets.{set_of}
-use Rattle.sipl_zonestore.specs.SetTable.{content_of, carried}
+use Rattle.sipl_zonestore.specs.Content.{carried}
+use Rattle.sipl_zonestore.specs.SetTable.{content_of}
 use Rattle.sipl_zonestore.proofs.set_numbers.sets_of.Given as goal
 
 abbrev pub invariant-loop-record : goal.invariant-loop-record

@@ -1,51 +1,54 @@
-use Rattle.std.proofs.Common.{◌≡◌, IsSome, cond, if◌then◌else◌, List, Some, refl, ap, subst, ◌∙◌}
+use Rattle.std.proofs.Common.{◌≡◌, IsSome, cond, if◌then◌else◌, Some, refl, ap, sym, subst, ◌∙◌}
 use Rattle.std.specs.Map.{lookup}
 use Rattle.indexmap.proofs.MapLemmas.{OnOk-map}
+use Rattle.sipl_names.specs.Labels.{same_name}
 use Rattle.sipl_records.specs.declared.record.Key.{Key}
-use Rattle.sipl_records.specs.contracts.record.KeyPartialEq.TheImpl.{eq-value}
 use Rattle.sipl_records.specs.Sets.{same_key}
-use Rattle.sipl_zonestore.specs.Numbers.{is_empty}
-use Rattle.sipl_zonestore.specs.SetTable.{Content, NumberedSet, content_of, pushed, sets_in}
-use Rattle.sipl_zonestore.proofs.SetTables.{OnErr-map, content-updated, data-found, data-updated, filled-push, content_at, pushed-at, pushed-new, set_value-same}
+use Rattle.sipl_zonestore.specs.Content.{pushed}
+use Rattle.sipl_zonestore.specs.SetTable.{OwnerTable, content_of, has_no_data, no_sets, set_at, with_set}
+use Rattle.sipl_zonestore.specs.declared.owner_sets.OwnerSets.{OwnerSets}
+use Rattle.sipl_zonestore.proofs.SetTables.{Becomes, OnErr-map, becomes-found, becomes-new, carried-pushed, content-updated, data-found, data-updated, data-with_set, filled-push, is_empty-push, set_value-same}
 use Rattle.sipl_zonestore.proofs.sets.SetTable.push.Goals as goal
 
 pub invariant_of-self : goal.invariant_of-self
 invariant_of-self c =
     let written = c.push.new.self in
-    data-updated c.self.inside.sets.entries (c.get_mut.follows.lender written).entries c.args.key (Some written)
+    data-updated c.self.inside.owners.entries (c.get_mut.follows.lender written).entries c.args.owner.now (Some written)
     ((c.get_mut.follows.holds written).3 (subst IsSome c.in-Some.ensures.value refl)).0 c.self.invariant
-    (filled-push c.push.result c.in-Some.set.now written c.args.number c.args.value c.push.ensures.pushed c.push.ensures.unchanged (data-found c.self.inside.sets.entries c.args.key c.in-Some.set.now c.self.invariant c.in-Some.ensures.value))
+    (filled-push c.push.result c.args.kind c.in-Some.sets.now written c.args.number c.args.value c.push.ensures.pushed c.push.ensures.unchanged (data-found c.self.inside.owners.entries c.args.owner.now c.in-Some.sets.now c.self.invariant c.in-Some.ensures.value))
 
 pub returns-in-Some-clause-pushed : goal.returns-in-Some-clause-pushed
 returns-in-Some-clause-pushed c =
     let written = c.push.new.self in
     let new = (c.get_mut.follows.lender written).entries in
     OnOk-map c.push.result _ _ (λ is.
-    subst (λ (sets : List NumberedSet). (other : Key) → content_of (sets_in new) other ≡ (if same_key c.args.key other then pushed c.args.number c.args.value (content_of sets other) else content_of sets other)) c.self.view_is
-    (content-updated (pushed c.args.number c.args.value) c.self.inside.sets.entries new c.args.key (Some written)
+    subst (λ (owners : OwnerTable). (key : Key) → content_of new key ≡ (if same_key (record { name = c.args.owner.now; kind = c.args.kind }) key then pushed c.args.number c.args.value (content_of owners key) else content_of owners key)) c.self.view_is
+    (content-updated (pushed c.args.number c.args.value) c.self.inside.owners.entries new c.args.owner.now c.args.kind (Some written)
     ((c.get_mut.follows.holds written).3 (subst IsSome c.in-Some.ensures.value refl)).0
-    (ap (λ (set : Content). content_at (Some set)) is ∙ pushed-at c.self.inside.sets.entries c.args.key c.in-Some.set.now c.args.number c.args.value c.self.invariant c.in-Some.ensures.value)))
+    (subst (λ sets. Becomes (pushed c.args.number c.args.value) c.self.inside.owners.entries c.args.owner.now c.args.kind (Some sets)) (sym is) (becomes-found (pushed c.args.number c.args.value) (pushed c.args.number c.args.value) c.self.inside.owners.entries c.args.owner.now c.args.kind c.in-Some.sets.now (carried-pushed c.args.number c.args.value) c.in-Some.ensures.value))))
     c.push.ensures.pushed
 
 pub returns-in-Some-clause-unchanged : goal.returns-in-Some-clause-unchanged
 returns-in-Some-clause-unchanged c =
     let written = c.push.new.self in
     OnErr-map c.push.result _ _ (λ is.
-    ap sets_in ((c.get_mut.follows.holds written).0 ∙ set_value-same (eq-value.it c.args.key) c.self.inside.sets.entries written (ap (λ (set : Content). Some set) is ∙ c.in-Some.ensures.value)) ∙ c.self.view_is)
+    (c.get_mut.follows.holds written).0 ∙ set_value-same (same_name c.args.owner.now) c.self.inside.owners.entries written (ap (λ (sets : OwnerSets). Some sets) is ∙ c.in-Some.ensures.value) ∙ c.self.view_is)
     c.push.ensures.unchanged
 
 pub invariant_of-self-2 : goal.invariant_of-self-2
 invariant_of-self-2 c =
-    let stored : c.get_mut.follows.lender-at-none.entries ≡ c.self.inside.sets.entries = ap (λ m. m.entries) c.get_mut.follows.holds-at-none in
-    data-updated c.self.inside.sets.entries c.insert.new.self.entries c.args.key (Some c.in_ok-set.set)
-    (λ other. c.in_ok-insert.ensures.updates.0 other ∙ ap (λ es. cond (eq-value.it c.args.key other) (Some c.in_ok-set.set) (lookup (eq-value.it other) es)) stored) c.self.invariant
-    (ap (λ (set : Content). is_empty set.values) c.in_ok-set.ensures)
+    let stored : c.get_mut.follows.lender-at-none.entries ≡ c.self.inside.owners.entries = ap (λ m. m.entries) c.get_mut.follows.holds-at-none in
+    let made : c.push-2.new.self ≡ with_set c.args.kind (pushed c.args.number c.args.value (set_at c.args.kind no_sets)) no_sets = c.in_ok-push.ensures.pushed ∙ ap (λ sets. with_set c.args.kind (pushed c.args.number c.args.value (set_at c.args.kind sets)) sets) c.new-sets.ensures in
+    data-updated c.self.inside.owners.entries c.insert.new.self.entries c.args.owner.now (Some c.push-2.new.self)
+    (λ other. c.in_ok-insert.ensures.updates.0 other ∙ (λ i. cond (same_name (c.in_ok-name.ensures.value i) other) (Some c.push-2.new.self) (lookup (same_name other) (stored i)))) c.self.invariant
+    (ap has_no_data made ∙ data-with_set c.args.kind (pushed c.args.number c.args.value (set_at c.args.kind no_sets)) no_sets (is_empty-push (set_at c.args.kind no_sets).values c.args.value))
 
 pub returns-clause-pushed : goal.returns-clause-pushed
 returns-clause-pushed c =
-    let stored : c.get_mut.follows.lender-at-none.entries ≡ c.self.inside.sets.entries = ap (λ m. m.entries) c.get_mut.follows.holds-at-none in
+    let stored : c.get_mut.follows.lender-at-none.entries ≡ c.self.inside.owners.entries = ap (λ m. m.entries) c.get_mut.follows.holds-at-none in
+    let made : c.push-2.new.self ≡ with_set c.args.kind (pushed c.args.number c.args.value (set_at c.args.kind no_sets)) no_sets = c.in_ok-push.ensures.pushed ∙ ap (λ sets. with_set c.args.kind (pushed c.args.number c.args.value (set_at c.args.kind sets)) sets) c.new-sets.ensures in
     let new = c.insert.new.self.entries in
-    subst (λ (sets : List NumberedSet). (other : Key) → content_of (sets_in new) other ≡ (if same_key c.args.key other then pushed c.args.number c.args.value (content_of sets other) else content_of sets other)) c.self.view_is
-    (content-updated (pushed c.args.number c.args.value) c.self.inside.sets.entries new c.args.key (Some c.in_ok-set.set)
-    (λ other. c.in_ok-insert.ensures.updates.0 other ∙ ap (λ es. cond (eq-value.it c.args.key other) (Some c.in_ok-set.set) (lookup (eq-value.it other) es)) stored)
-    (ap (λ (set : Content). content_at (Some set)) c.in_ok-set.ensures ∙ pushed-new c.self.inside.sets.entries c.args.key c.args.number c.args.value c.in_default.ensures.value))
+    subst (λ (owners : OwnerTable). (key : Key) → content_of new key ≡ (if same_key (record { name = c.args.owner.now; kind = c.args.kind }) key then pushed c.args.number c.args.value (content_of owners key) else content_of owners key)) c.self.view_is
+    (content-updated (pushed c.args.number c.args.value) c.self.inside.owners.entries new c.args.owner.now c.args.kind (Some c.push-2.new.self)
+    (λ other. c.in_ok-insert.ensures.updates.0 other ∙ (λ i. cond (same_name (c.in_ok-name.ensures.value i) other) (Some c.push-2.new.self) (lookup (same_name other) (stored i))))
+    (subst (λ sets. Becomes (pushed c.args.number c.args.value) c.self.inside.owners.entries c.args.owner.now c.args.kind (Some sets)) (sym made) (becomes-new (pushed c.args.number c.args.value) (pushed c.args.number c.args.value) c.self.inside.owners.entries c.args.owner.now c.args.kind (carried-pushed c.args.number c.args.value) c.in_default.ensures.value)))

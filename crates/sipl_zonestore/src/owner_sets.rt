@@ -1,0 +1,103 @@
+//! The record sets of one owner.
+ghost use Rattle.std.specs.Prelude.{◌≡◌, OnOk, OnErr};
+ghost use Rattle.std.specs.Borrow.{sem};
+ghost use Rattle.sipl_zonestore.specs.Content.{data_without, pushed, with_number};
+ghost use Rattle.sipl_zonestore.specs.SetTable.{has_no_data, no_sets, set_at, with_set};
+ghost use Rattle.sipl_zonestore.specs.Lending.{LendsSet};
+
+use crate::record_set::RecordSet;
+use sipl_records::{Data, Kind};
+use std::alloc::{AllocError, Global};
+
+// A set for each kind, most of them empty.
+#[derive(Drop)]
+pub(crate) struct OwnerSets {
+    address4: RecordSet,
+    address6: RecordSet,
+    alias: RecordSet,
+    service: RecordSet,
+    pointer: RecordSet,
+}
+
+impl OwnerSets {
+    // Empty sets. Does not allocate.
+    pub(crate) fn new(alloc: Global) -> Self
+        ensures { result ≡ no_sets }
+    {
+        OwnerSets {
+            address4: RecordSet::new(alloc),
+            address6: RecordSet::new(alloc),
+            alias: RecordSet::new(alloc),
+            service: RecordSet::new(alloc),
+            pointer: RecordSet::new(alloc),
+        }
+    }
+
+    // The set of this kind.
+    pub(crate) fn set(&self, kind: Kind) -> &RecordSet
+        ensures { result.now ≡ set_at kind self.now }
+    {
+        match kind {
+            Kind::Address4 => &self.address4,
+            Kind::Address6 => &self.address6,
+            Kind::Alias => &self.alias,
+            Kind::Service => &self.service,
+            Kind::Pointer => &self.pointer,
+        }
+    }
+
+    // The set of this kind, to be changed.
+    fn set_mut(&mut self, kind: Kind) -> &mut RecordSet
+        ensures value { result.now ≡ set_at kind self.old }
+        ensures* writes_back { sem 𝓛 (LendsSet self.entry kind result) }
+    {
+        match kind {
+            Kind::Address4 => &mut self.address4,
+            Kind::Address6 => &mut self.address6,
+            Kind::Alias => &mut self.alias,
+            Kind::Service => &mut self.service,
+            Kind::Pointer => &mut self.pointer,
+        }
+    }
+
+    // Appends a datum to the set of this kind, which gets this number.
+    pub(crate) fn push(
+        &mut self,
+        kind: Kind,
+        number: u64,
+        value: Data,
+        ordinal: u64,
+    ) -> Result<(), AllocError>
+        ensures pushed { OnOk result
+            (self.new ≡ with_set kind (pushed number value (set_at kind self.old)) self.old) }
+        ensures unchanged { OnErr result (self.new ≡ self.old) }
+    {
+        self.set_mut(kind).push(number, value, ordinal)
+    }
+
+    // Removes a datum from the set of this kind, and returns the ordinal of its record.
+    pub(crate) fn remove(&mut self, kind: Kind, value: &Data) -> Option<u64>
+        ensures { self.new
+            ≡ with_set kind (data_without value.now (set_at kind self.old)) self.old }
+    {
+        self.set_mut(kind).remove(value)
+    }
+
+    // Numbers the set of this kind.
+    pub(crate) fn set_number(&mut self, kind: Kind, number: u64)
+        ensures { self.new ≡ with_set kind (with_number number (set_at kind self.old)) self.old }
+    {
+        self.set_mut(kind).set_number(number);
+    }
+
+    // Whether all sets are empty.
+    pub(crate) fn is_empty(&self) -> bool
+        ensures { result ≡ has_no_data self.now }
+    {
+        self.address4.is_empty()
+            && self.address6.is_empty()
+            && self.alias.is_empty()
+            && self.service.is_empty()
+            && self.pointer.is_empty()
+    }
+}

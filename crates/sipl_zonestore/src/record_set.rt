@@ -1,0 +1,91 @@
+//! The data of a record set (RFC 2181, 5), with its number.
+ghost use Rattle.std.specs.Prelude.{◌≡◌, OnOk, OnErr};
+ghost use Rattle.sipl_zonestore.specs.Numbers.{is_empty};
+ghost use Rattle.sipl_zonestore.specs.Content.{data_without, no_content, pushed, with_number, carried};
+
+use sipl_records::Data;
+use std::alloc::{AllocError, Global};
+use std::marker::Model;
+
+// The number and the data of a record set, and the ordinal of each datum's record, which contracts do
+// not see. The number of an empty set says nothing.
+#[derive(Drop)]
+pub(crate) struct RecordSet {
+    number: u64,
+    values: Vec<Data>,
+    ordinals: Vec<u64>,
+}
+
+impl Model for RecordSet {
+    ghost use Rattle.sipl_zonestore.specs.Content.{Content};
+
+    ghost Value = { Content };
+
+    ghost view = { λ s. record { number = s.number; values = s.values.items } };
+}
+
+impl RecordSet {
+    // The empty set. Does not allocate.
+    pub(crate) fn new(alloc: Global) -> Self
+        ensures { result ≡ no_content }
+    {
+        RecordSet {
+            number: 0,
+            values: Vec::new(alloc),
+            ordinals: Vec::new(alloc),
+        }
+    }
+
+    // The number, 0 where the set is empty, and the data.
+    pub(crate) fn get(&self) -> (u64, &[Data])
+        ensures number { result.0 ≡ (carried self.now.number self.now.values).number }
+        ensures values { result.1.now ≡ self.now.values }
+    {
+        let number = if self.values.is_empty() {
+            0
+        } else {
+            self.number
+        };
+        (number, &self.values)
+    }
+
+    // Appends a datum to the set, which gets this number.
+    pub(crate) fn push(&mut self, number: u64, value: Data, ordinal: u64) -> Result<(), AllocError>
+        ensures pushed { OnOk result (self.new ≡ pushed number value self.old) }
+        ensures unchanged { OnErr result (self.new ≡ self.old) }
+    {
+        self.ordinals.reserve(1)?;
+        self.values.push(value)?;
+        self.ordinals.push_reserved(ordinal);
+        self.number = number;
+        Ok(())
+    }
+
+    // Removes a datum from the set, and returns the ordinal of its record.
+    pub(crate) fn remove(&mut self, value: &Data) -> Option<u64>
+        ensures { self.new ≡ data_without value.now self.old }
+    {
+        let place = self.values.iter().position(|other| *value == *other);
+        self.values.retain(|other| *value != *other);
+        let place = place?;
+        if place < self.ordinals.len() {
+            Some(self.ordinals.remove(place))
+        } else {
+            None
+        }
+    }
+
+    // Numbers the set.
+    pub(crate) fn set_number(&mut self, number: u64)
+        ensures { self.new ≡ with_number number self.old }
+    {
+        self.number = number;
+    }
+
+    // Whether there is no datum.
+    pub(crate) fn is_empty(&self) -> bool
+        ensures { result ≡ is_empty self.now.values }
+    {
+        self.values.is_empty()
+    }
+}
