@@ -1,5 +1,5 @@
 -- The lists of pairs after a pair is added or removed.
-use Rattle.std.proofs.Common.{◌≡◌, ℕ, ◌+◌, ◌-◌, ◌<◌, ◌≤◌, Bool, true, false, cond, ◌&&◌, ◌||◌, eqb, Option, None, Some, is_some, refl, sym, ap, ◌∙◌, ◌⊎◌, inl, inr, arith, true≢false, Decides}
+use Rattle.std.proofs.Common.{◌≡◌, ℕ, ◌+◌, ◌-◌, ◌<◌, ◌≤◌, Bool, true, false, cond, ◌&&◌, ◌||◌, eqb, Option, None, Some, is_some, refl, sym, ap, ◌∙◌, inl, inr, arith, true≢false, Decides}
 use Rattle.std.proofs.lemmas.Bool.{cases_Bool, cond-true, cond-false, and_parts, eqb-true, eq-eqb, ltb-true, lt-ltb, le-ltb, ne_eqb}
 use Rattle.std.proofs.lemmas.Bool.Decides.{same_from_decides, Decides-like}
 use Rattle.sipl_evidence.specs.declared.spot.Spot.{Spot}
@@ -8,7 +8,7 @@ use Rattle.sipl_evidence.specs.Spots.{spot, same_spot}
 use Rattle.sipl_evidence.specs.Lists.{at, len_of, AreDense, HasSpace}
 use Rattle.sipl_evidence.specs.Dependents.{depends}
 use Rattle.sipl_evidence.specs.Linked.{ArePaired, AreLast, IsNew, pairs_of}
-use Rattle.sipl_evidence.proofs.Spots.{same_spot-true, same_spot-refl, LeadsBack-link, IsOnce-link, LeadsBack-unlink, IsOnce-unlink, was_there, is_left}
+use Rattle.sipl_evidence.proofs.Spots.{same_spot-true, LeadsBack-link, IsOnce-link, LeadsBack-unlink, IsOnce-unlink, was_there, is_left}
 use Rattle.sipl_evidence.proofs.Pairs.{HasPair, Decides-depends, or_there}
 
 pub nothing : {X : Type 0} (o : Option X) → is_some o ≡ false → o ≡ None
@@ -171,11 +171,18 @@ module _ (A B A1 B1 : Lists) (id : ℕ) (place last : Spot) (paired : ArePaired 
         let both : Some (spot id (len_of B id - 1)) ≡ Some last = sym back_place ∙ ap (at A) place_end ∙ last_is in
         cc
 
-    pub at_A-unmoved : (q : Spot) → at A1 q ≡ cond (same_spot (spot place.list (len_of A place.list - 1)) q) None (cond (same_spot place q) (Some last) (at A q))
+    at_A-unmoved : (q : Spot) → at A1 q ≡ cond (same_spot (spot place.list (len_of A place.list - 1)) q) None (cond (same_spot place q) (Some last) (at A q))
     at_A-unmoved q = at_A1 q ∙ covered (spot place.list (len_of A place.list - 1)) place q None (Some last) (at A q) (sym place_end)
 
-    pub at_B-unmoved : (q : Spot) → at B1 q ≡ cond (same_spot (spot id (len_of B id - 1)) q) None (cond (same_spot last q) (Some place) (at B q))
+    at_B-unmoved : (q : Spot) → at B1 q ≡ cond (same_spot (spot id (len_of B id - 1)) q) None (cond (same_spot last q) (Some place) (at B q))
     at_B-unmoved q = at_B1 q ∙ covered (spot id (len_of B id - 1)) last q None (Some place) (at B q) last_mine
+
+    module _ (codes : AreDense A1) (ids : AreDense B1) where
+      pub ArePaired-unmoved : ArePaired A1 B1
+      ArePaired-unmoved = ArePaired-unlink A B A1 B1 id place last paired place_is last_is codes ids at_A-unmoved at_B-unmoved
+
+      pub depends-unmoved : (code other : ℕ) → eqb id other ≡ false → depends (pairs_of A1) code other ≡ depends (pairs_of A) code other
+      depends-unmoved = depends-unlink A B A1 B1 id place last paired place_is last_is codes ids at_A-unmoved at_B-unmoved
 
   module _ (A' B' : Lists) (index_apart : place.index ≡ len_of A place.list - 1 → ⊥)
       (at_A2 : (q : Spot) → at A' q ≡ cond (same_spot place q) (Some last) (at A1 q))
@@ -195,19 +202,18 @@ module _ (A B A1 B1 : Lists) (id : ℕ) (place last : Spot) (paired : ArePaired 
       | inr none ↦ none
     ]
 
-    pub at_A-moved : (q : Spot) → at A' q ≡ cond (same_spot (spot place.list (len_of A place.list - 1)) q) None (cond (same_spot place q) (Some last) (at A q))
+    at_A-moved : (q : Spot) → at A' q ≡ cond (same_spot (spot place.list (len_of A place.list - 1)) q) None (cond (same_spot place q) (Some last) (at A q))
     at_A-moved q = at_A2 q ∙ ap (λ o. cond (same_spot place q) (Some last) o) (at_A1 q) ∙ commuted place (spot place.list (len_of A place.list - 1)) q (Some last) None (at A q) apart_end
 
-    pub at_B-moved : (q : Spot) → at B' q ≡ cond (same_spot (spot id (len_of B id - 1)) q) None (cond (same_spot last q) (Some place) (at B q))
+    at_B-moved : (q : Spot) → at B' q ≡ cond (same_spot (spot id (len_of B id - 1)) q) None (cond (same_spot last q) (Some place) (at B q))
     at_B-moved q = at_B2 q ∙ ap (λ o. cond (same_spot last q) (Some place) o) (at_B1 q) ∙ commuted last (spot id (len_of B id - 1)) q (Some place) None (at B q) apart_mine
 
-    -- the place of the moved partner is still there
-    pub last_stays : is_some (at B1 last) ≡ true
-    last_stays = ap is_some (at_B1 last ∙ cond-false _ _ _ (other (cases_Bool (same_spot (spot id (len_of B id - 1)) last))) ∙ back_last)
-      where
-        other : (same_spot (spot id (len_of B id - 1)) last ≡ true) ⊎ (same_spot (spot id (len_of B id - 1)) last ≡ false) → same_spot (spot id (len_of B id - 1)) last ≡ false
-        other (inl same) = absurd (true≢false (sym (same_spot-refl last) ∙ ap (same_spot last) (sym (same_spot-true (spot id (len_of B id - 1)) last same)) ∙ apart_mine))
-        other (inr apart) = apart
+    module _ (codes : AreDense A') (ids : AreDense B') where
+      pub ArePaired-moved : ArePaired A' B'
+      ArePaired-moved = ArePaired-unlink A B A' B' id place last paired place_is last_is codes ids at_A-moved at_B-moved
+
+      pub depends-moved : (code other : ℕ) → eqb id other ≡ false → depends (pairs_of A') code other ≡ depends (pairs_of A) code other
+      depends-moved = depends-unlink A B A' B' id place last paired place_is last_is codes ids at_A-moved at_B-moved
 
 -- an id without a place has no pair
 pub depends-gone : (A B : Lists) (id : ℕ) → ArePaired A B → len_of B id ≡ 0 → (code : ℕ) → depends (pairs_of A) code id ≡ false

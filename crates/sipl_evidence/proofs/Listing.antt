@@ -13,7 +13,7 @@ use Rattle.sipl_evidence.specs.Spots.{spot}
 use Rattle.sipl_evidence.specs.Lists.{at, len_of, AreDense}
 use Rattle.sipl_evidence.specs.Dependents.{AreIdsOf, ids_of}
 use Rattle.sipl_evidence.specs.Linked.{Table, IsOnce, pairs_of}
-use Rattle.sipl_evidence.proofs.Pairs.{HasPair, len-le-ids, any_ids, ids_are_distinct}
+use Rattle.sipl_evidence.proofs.Pairs.{HasPair, len-le-ids, list_any-ids_of, ids_are_distinct}
 use Rattle.sipl_evidence.proofs.Linking.{Decides-pairs, within_len, some_within}
 
 abbrev pub id_at : Option Spot → ℕ
@@ -110,5 +110,5 @@ module _ (lists : Lists) (dense : AreDense lists) (once : IsOnce (at lists)) (co
   pub len-is-count : len_of lists code ≡ length (ids_of (pairs_of lists) code)
   len-is-count =
       let most = length-le_from_is_member nat_eq_equiv (ids_of (pairs_of lists) code) (first_ids (at lists) code (len_of lists code)) (distinct_ids lists dense once code)
-      (λ id there. AreIdsOf-all.members id ∙ sym (any_ids code id (pairs_of lists)) ∙ there) in
+      (λ id there. AreIdsOf-all.members id ∙ sym (list_any-ids_of code id (pairs_of lists)) ∙ there) in
       omega (arith, most, len-le-count, length-first_ids (at lists) code (len_of lists code))

@@ -129,11 +129,11 @@ any_ids_cond true id p ps = refl
 any_ids_cond false id p ps = refl
 
 -- an id is among those of a code exactly if the pair is there
-pub any_ids : (code id : ℕ) (ps : List Dependent) → list_any (eqb id) (ids_of ps code) ≡ depends ps code id
-any_ids code id [] = refl
-any_ids code id (p ∷ ps) =
+pub list_any-ids_of : (code id : ℕ) (ps : List Dependent) → list_any (eqb id) (ids_of ps code) ≡ depends ps code id
+list_any-ids_of code id [] = refl
+list_any-ids_of code id (p ∷ ps) =
     any_ids_cond (eqb p.code code) id p (filter (λ (p : Dependent). eqb p.code code) ps)
-    ∙ (λ i. (eqb p.code code && nat_eq_equiv.symm id p.id i) || any_ids code id ps i)
+    ∙ (λ i. (eqb p.code code && nat_eq_equiv.symm id p.id i) || list_any-ids_of code id ps i)
 
 -- a key that differs from each key of the entries differs from one that a look-up finds
 apart_from_found : (x place p : Spot) (es : Entries) → AllByRecursion (λ y. same_spot x y ≡ false) (keys_of es) → lookup (same_spot place) es ≡ Some p → same_spot x place ≡ false
@@ -173,7 +173,7 @@ ids_are_distinct a once code (e ∷ es) distinct there =
     new own = elim (cases_Bool (list_any (eqb e.1.list) (ids_of (map pair_of es) code))) [
       | inr none ↦ none
       | inl any ↦
-          let h = (Decides-depends es (IsDistinct-tail same_spot e.0 (keys_of es) distinct) code e.1.list).0 (sym (any_ids code e.1.list (map pair_of es)) ∙ any) in
+          let h = (Decides-depends es (IsDistinct-tail same_spot e.0 (keys_of es) distinct) code e.1.list).0 (sym (list_any-ids_of code e.1.list (map pair_of es)) ∙ any) in
           let first : a e.0 ≡ Some e.1 = there e.0 e.1 (cond-true _ (Some e.1) (lookup (same_spot e.0) es) (same_spot-refl e.0)) in
           let one : e.0 ≡ h.0 = once e.0 h.0 e.1 h.1 first (later h.0 h.1 h.2) (eqb-true _ _ own ∙ sym h.3) (sym h.4) in
           absurd (true≢false (sym (same_spot-refl e.0) ∙ ap (same_spot e.0) one ∙ other h.0 h.1 h.2))

@@ -38,11 +38,14 @@ pairs_of lists = map pair_of lists.spots.entries
 
 -- each pair with the id is the last one of its code
 abbrev pub AreLast : Lists → ℕ → Type 0
-AreLast lists id = (place p : Spot) → at lists place ≡ Some p → p.list ≡ id → place.index + 1 ≡ len_of lists place.list
+AreLast lists id =
+    (place p : Spot) → at lists place ≡ Some p → p.list ≡ id
+    → place.index + 1 ≡ len_of lists place.list
 
 -- no pair has the code and the id
 abbrev pub IsNew : Lists → ℕ → ℕ → Type 0
-IsNew lists code id = (place p : Spot) → at lists place ≡ Some p → place.list ≡ code → p.list ≡ id → ⊥
+IsNew lists code id =
+    (place p : Spot) → at lists place ≡ Some p → place.list ≡ code → p.list ≡ id → ⊥
 
 -- the state that the fields represent
 abbrev pub state_of : Inside → DependentsState

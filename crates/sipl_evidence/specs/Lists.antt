@@ -18,10 +18,12 @@ count_of lens list = unwrap_or (get nat_eq lens list) 0
 abbrev pub len_of : Lists → ℕ → ℕ
 len_of lists list = count_of lists.lens list
 
--- exactly the places within the length of their list have something, and no place is twice in the table
+-- exactly the places within the length of their list have something, and no place is twice in the
+-- table
 pub record AreDense (lists : Lists) : Type 0 where
   pub unique : IsUnique same_spot lists.spots
-  pub within : (place : Spot) → is_some (at lists place) ≡ nat_lt place.index (len_of lists place.list)
+  pub within : (place : Spot)
+      → is_some (at lists place) ≡ nat_lt place.index (len_of lists place.list)
 
 -- there is space for so many spots more
 pub record HasSpace (lists : Lists) (room : ℕ) : Type 0 where

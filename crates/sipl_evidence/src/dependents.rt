@@ -70,7 +70,8 @@ impl Dependents {
         Ok(())
     }
 
-    /// Adds an entry with the sets of its evidence. Does not allocate. Linear in the evidence.
+    /// Adds an entry with the sets of its evidence; it has no pairs yet. Does not allocate. Linear in
+    /// the evidence.
     pub fn add(&mut self, id: u64, evidence: &Evidence)
         requires room { length evidence.now ≤ self.old.room }
         requires new { (code : ℕ) → depends self.old.pairs code id ≡ false }

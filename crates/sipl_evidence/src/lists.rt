@@ -1,5 +1,5 @@
-// Lists of spots in other lists, one list for each number, all in one table. A list of which
-// nothing is known is empty. Only `reserve` allocates.
+// Lists of spots in other lists, one list for each number, all in one table, so that no list
+// allocates for itself. A list without a length is empty. Only `reserve` allocates.
 ghost use Rattle.std.specs.Prelude.{true, [], ◌∷◌, ◌++◌, ◌≡◌, ℕ, ◌+◌, ◌-◌, ◌^◌, ◌<◌, ◌≤◌, None, Some, nat_eq, ◌==◌, is_some, if◌then◌else◌, length, OnOk, IsTrue};
 ghost use Rattle.indexmap.specs.IndexMap.{IsUnchanged, spare};
 ghost use Rattle.sipl_evidence.specs.declared.spot.Spot.{Spot};
@@ -76,7 +76,7 @@ impl Lists {
             ≡ (if list == other then len_of self.old list + 1 else len_of self.old other) }
         ensures space { (room : ℕ) → HasSpace self.old (room + 1) → HasSpace self.new room }
     {
-        // So is each list, which is no longer than the table.
+        // No list is longer than the table, so its new length fits.
         prove!(self.spots.len() < usize::MAX);
         let index = self.len(list);
         let _none = self.spots.insert(Spot { list, index }, value).unwrap();
