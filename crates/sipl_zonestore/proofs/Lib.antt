@@ -13,7 +13,6 @@ pub mod Numbering
 pub mod Replacing
 pub mod Recorded
 pub mod Limits
-pub mod RemovedRecords
 pub mod Consistency
 pub mod Runs
 pub mod Editing

@@ -13,5 +13,4 @@ pub mod SetTable
 pub mod Lending
 pub mod BareOwners
 pub mod IndexedRecords
-pub mod RemovedRecords
 pub use Rattle.sipl_masterfile.specs.Zones

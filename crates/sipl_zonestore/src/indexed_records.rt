@@ -18,8 +18,6 @@ use crate::bare_owners::{bare_owner, bare_owners, insert_owner, remove_owner, re
 use crate::compare::{changed_within, own_key};
 use crate::comparison::{Comparison, has_conflict, has_value};
 use crate::fault::StoreFault;
-use crate::ordinals::Ordinals;
-use crate::removal::remove_record;
 use crate::set_numbers::{
     added_count, check_numbers, count_numbered, number_sets, push_to_set, remove_from_set,
     removed_count, sets_of,
@@ -31,14 +29,13 @@ use sipl_records::{Data, Key, Record, Sequence};
 use std::alloc::{AllocError, Global};
 use std::marker::Model;
 
-// Records in the order of addition, with their ordinals, a table of their sets, each with its number,
+// Records in the order of addition, a table of their sets by their keys, each set with its number,
 // and a table of the owners of those of which nothing is kept, which are in no set. A set takes the
 // next number whenever it changes.
 #[derive(Drop)]
 pub(crate) struct IndexedRecords {
     alloc: Global,
     records: Vec<Record>,
-    ordinals: Ordinals,
     sets: SetTable,
     bare: IndexSet<Name>,
     next: u64,
@@ -70,7 +67,6 @@ impl IndexedRecords {
         IndexedRecords {
             alloc,
             records: Vec::new(alloc),
-            ordinals: Ordinals::new(alloc),
             sets: SetTable::new(alloc),
             bare: IndexSet::new(alloc),
             next,
@@ -145,17 +141,14 @@ impl IndexedRecords {
         ensures { IsReplaced (records_outside apex.now self.old.records ++ text.now)
             self.old self.new result }
     {
-        let mut sets = sets_of(self.alloc, text, &self.sets, self.ordinals.next())?;
+        let mut sets = sets_of(self.alloc, text, &self.sets)?;
         let keys = changed_within(self.alloc, apex, &self.records, text, &self.sets, &sets)?;
         let count = count_numbered(&keys, &sets);
         check_numbers(self.next, count)?;
         number_sets(&mut sets, &keys, self.next);
         let copies = copy_records(self.alloc, text)?;
         self.records.reserve(copies.len())?;
-        self.ordinals.reserve(copies.len())?;
         replace_tables(self.alloc, &mut self.sets, &mut self.bare, apex, text, sets)?;
-        self.ordinals.retain_outside(apex, &self.records);
-        self.ordinals.append(copies.len());
         replace_records(&mut self.records, apex, copies);
         self.next += count as u64;
         Ok(Sequence::from_vec(keys))
@@ -176,18 +169,10 @@ impl IndexedRecords {
         let copy = new.dup(self.alloc)?;
         let owner = bare_owner(self.alloc, new)?;
         self.records.reserve(1)?;
-        self.ordinals.reserve(1)?;
         self.bare.reserve(usize::from(owner.is_some()))?;
-        push_to_set(
-            self.alloc,
-            &mut self.sets,
-            self.next,
-            new,
-            self.ordinals.next(),
-        )?;
+        push_to_set(self.alloc, &mut self.sets, self.next, new)?;
         insert_owner(&mut self.bare, owner);
         self.records.push_reserved(copy);
-        self.ordinals.append(1);
         self.next += count as u64;
         Ok(Sequence::from_vec(keys))
     }
@@ -195,8 +180,7 @@ impl IndexedRecords {
     // Removes a record. Returns the key of its set, which changed. Nothing is allocated where too few
     // numbers are left.
     pub(crate) fn remove(&mut self, old: &Record) -> Result<Sequence<Key>, StoreFault>
-        requires distinct { has_repeats self.old.records ≡ false }
-        requires present { list_any (same_record old.now) self.old.records ≡ true }
+        requires { list_any (same_record old.now) self.old.records ≡ true }
         ensures replaced { IsReplaced (records_without old.now self.old.records) self.old self.new result }
         ensures memory { IfErr result (λ fault. fault ≡ StoreFault.Memory
             → number_refusal self.old.records (records_without old.now self.old.records)
@@ -205,9 +189,9 @@ impl IndexedRecords {
         let count = removed_count(&self.sets, old);
         check_numbers(self.next, count)?;
         let keys = own_key(self.alloc, old)?;
-        let ordinal = remove_from_set(&mut self.sets, self.next, old);
+        remove_from_set(&mut self.sets, self.next, old);
         remove_owner(&mut self.bare, old);
-        remove_record(&mut self.records, &mut self.ordinals, old, ordinal);
+        self.records.retain(|record| *old != *record);
         self.next += count as u64;
         Ok(Sequence::from_vec(keys))
     }

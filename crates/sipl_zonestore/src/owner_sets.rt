@@ -61,26 +61,20 @@ impl OwnerSets {
     }
 
     // Appends a datum to the set of this kind, which gets this number.
-    pub(crate) fn push(
-        &mut self,
-        kind: Kind,
-        number: u64,
-        value: Data,
-        ordinal: u64,
-    ) -> Result<(), AllocError>
+    pub(crate) fn push(&mut self, kind: Kind, number: u64, value: Data) -> Result<(), AllocError>
         ensures pushed { OnOk result
             (self.new ≡ with_set kind (pushed number value (set_at kind self.old)) self.old) }
         ensures unchanged { OnErr result (self.new ≡ self.old) }
     {
-        self.set_mut(kind).push(number, value, ordinal)
+        self.set_mut(kind).push(number, value)
     }
 
-    // Removes a datum from the set of this kind, and returns the ordinal of its record.
-    pub(crate) fn remove(&mut self, kind: Kind, value: &Data) -> Option<u64>
+    // Removes a datum from the set of this kind.
+    pub(crate) fn remove(&mut self, kind: Kind, value: &Data)
         ensures { self.new
             ≡ with_set kind (data_without value.now (set_at kind self.old)) self.old }
     {
-        self.set_mut(kind).remove(value)
+        self.set_mut(kind).remove(value);
     }
 
     // Numbers the set of this kind.

@@ -7,13 +7,11 @@ use sipl_records::Data;
 use std::alloc::{AllocError, Global};
 use std::marker::Model;
 
-// The number and the data of a record set, and the ordinal of each datum's record, which contracts do
-// not see. The number of an empty set says nothing.
+// The number and the data of a record set. The number of an empty set says nothing.
 #[derive(Drop)]
 pub(crate) struct RecordSet {
     number: u64,
     values: Vec<Data>,
-    ordinals: Vec<u64>,
 }
 
 impl Model for RecordSet {
@@ -32,7 +30,6 @@ impl RecordSet {
         RecordSet {
             number: 0,
             values: Vec::new(alloc),
-            ordinals: Vec::new(alloc),
         }
     }
 
@@ -50,29 +47,20 @@ impl RecordSet {
     }
 
     // Appends a datum to the set, which gets this number.
-    pub(crate) fn push(&mut self, number: u64, value: Data, ordinal: u64) -> Result<(), AllocError>
+    pub(crate) fn push(&mut self, number: u64, value: Data) -> Result<(), AllocError>
         ensures pushed { OnOk result (self.new ≡ pushed number value self.old) }
         ensures unchanged { OnErr result (self.new ≡ self.old) }
     {
-        self.ordinals.reserve(1)?;
         self.values.push(value)?;
-        self.ordinals.push_reserved(ordinal);
         self.number = number;
         Ok(())
     }
 
-    // Removes a datum from the set, and returns the ordinal of its record.
-    pub(crate) fn remove(&mut self, value: &Data) -> Option<u64>
+    // Removes a datum from the set.
+    pub(crate) fn remove(&mut self, value: &Data)
         ensures { self.new ≡ data_without value.now self.old }
     {
-        let place = self.values.iter().position(|other| *value == *other);
         self.values.retain(|other| *value != *other);
-        let place = place?;
-        if place < self.ordinals.len() {
-            Some(self.ordinals.remove(place))
-        } else {
-            None
-        }
     }
 
     // Numbers the set.

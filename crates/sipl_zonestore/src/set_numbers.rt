@@ -25,13 +25,11 @@ pub(crate) fn check_numbers(next: u64, count: usize) -> Result<(), StoreFault>
     Ok(())
 }
 
-// The sets of the records, with the numbers that their keys have in another table. The records have
-// ordinals from this one on.
+// The sets of the records, with the numbers that their keys have in another table.
 pub(crate) fn sets_of(
     alloc: Global,
     records: &[Record],
     old: &SetTable,
-    mut ordinal: u64,
 ) -> Result<SetTable, AllocError>
     ensures { IfOk result (λ sets. (key : Key) → content_of sets key
         ≡ carried (content_of old.now key).number (set_of records.now key)) }
@@ -41,9 +39,8 @@ pub(crate) fn sets_of(
         if let Some(kind) = record.value.kind() {
             let number = old.number(&record.owner, kind);
             let value = record.value.dup(alloc)?;
-            sets.push(alloc, &record.owner, kind, number, value, ordinal)?;
+            sets.push(alloc, &record.owner, kind, number, value)?;
         }
-        ordinal = ordinal.saturating_add(1);
     }
     Ok(sets)
 }
@@ -94,7 +91,6 @@ pub(crate) fn push_to_set(
     sets: &mut SetTable,
     number: u64,
     new: &Record,
-    ordinal: u64,
 ) -> Result<(), AllocError>
     ensures content { OnOk result ((key : Key) → content_of sets.new key
         ≡ (if has_key key new.now then pushed number new.now.value (content_of sets.old key)
@@ -105,23 +101,22 @@ pub(crate) fn push_to_set(
         return Ok(());
     };
     let value = new.value.dup(alloc)?;
-    sets.push(alloc, &new.owner, kind, number, value, ordinal)
+    sets.push(alloc, &new.owner, kind, number, value)
 }
 
 // Removes the record's datum from its set, if it is in one, which gets this number where it has other
-// data. Returns the record's ordinal. Does not allocate.
-pub(crate) fn remove_from_set(sets: &mut SetTable, number: u64, old: &Record) -> Option<u64>
+// data. Does not allocate.
+pub(crate) fn remove_from_set(sets: &mut SetTable, number: u64, old: &Record)
     ensures { (key : Key) → content_of sets.new key
         ≡ (if has_key key old.now
         then renumbered number (without old.now.value (content_of sets.old key))
         else content_of sets.old key) }
 {
     let Some(kind) = old.value.kind() else {
-        return None;
+        return;
     };
-    let ordinal = sets.remove(&old.owner, kind, &old.value);
+    sets.remove(&old.owner, kind, &old.value);
     sets.set_number(&old.owner, kind, number);
-    ordinal
 }
 
 // Whether the set has a datum that is not this one.

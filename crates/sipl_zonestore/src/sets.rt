@@ -79,7 +79,6 @@ impl SetTable {
         kind: Kind,
         number: u64,
         value: Data,
-        ordinal: u64,
     ) -> Result<(), AllocError>
         ensures pushed { OnOk result ((key : Key) → content_of self.new key
             ≡ (if same_key (record { name = owner.now; kind = kind }) key
@@ -88,31 +87,30 @@ impl SetTable {
         ensures unchanged { OnErr result (self.new ≡ self.old) }
     {
         if let Some(sets) = self.owners.get_mut(owner) {
-            return sets.push(kind, number, value, ordinal);
+            return sets.push(kind, number, value);
         }
         let mut sets = OwnerSets::new(alloc);
-        sets.push(kind, number, value, ordinal)?;
+        sets.push(kind, number, value)?;
         let name = owner.dup(alloc)?;
         self.owners.insert(name, sets)?;
         Ok(())
     }
 
-    // Removes a datum from a set, and returns the ordinal of its record. Constant time but for hashing
-    // and the data of the set. Does not allocate.
-    pub(crate) fn remove(&mut self, owner: &Name, kind: Kind, value: &Data) -> Option<u64>
+    // Removes a datum from a set. Constant time but for hashing and the data of the set. Does not
+    // allocate.
+    pub(crate) fn remove(&mut self, owner: &Name, kind: Kind, value: &Data)
         ensures { (key : Key) → content_of self.new key
             ≡ (if same_key (record { name = owner.now; kind = kind }) key
             then without value.now (content_of self.old key)
             else content_of self.old key) }
     {
         let Some(sets) = self.owners.get_mut(owner) else {
-            return None;
+            return;
         };
-        let ordinal = sets.remove(kind, value);
+        sets.remove(kind, value);
         if sets.is_empty() {
             self.owners.swap_remove(owner);
         }
-        ordinal
     }
 
     // Numbers a set, unless it is empty, and returns whether it is not. Constant time but for

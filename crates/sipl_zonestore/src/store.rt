@@ -140,8 +140,7 @@ impl ZoneStore {
     }
 
     /// Removes the record that is equal to this one. Returns the key of its set, if it is in one,
-    /// which takes the next number unless it is now empty. A bisection and one move of the records
-    /// after it, but for hashing; for a record of which nothing is kept, linear in the number of all.
+    /// which takes the next number unless it is now empty. Linear in the number of all records.
     ///
     /// The fault is the first one: an owner in no loaded zone (S2), a record that is not in the
     /// store (S4), no number (S8). Memory is reported only where none of them is the fault.

@@ -15,13 +15,13 @@ use Rattle.sipl_zonestore.proofs.indexed_records.IndexedRecords.push.Goals as go
 
 pub insert_owner-requires : goal.insert_owner-requires
 insert_owner-requires c =
-    owner-fits c.in_ok-owner.owner c.from.result _ (c.from.ensures ∙ ap bool_byte c.is_some.ensures) c.in_ok-reserve-3.ensures.ok
+    owner-fits c.in_ok-owner.owner c.from.result _ (c.from.ensures ∙ ap bool_byte c.is_some.ensures) c.in_ok-reserve-2.ensures.ok
 
 pub invariant_of-self-2 : goal.invariant_of-self-2
 invariant_of-self-2 c = record {
   has_sets = λ key. pushed-sets c.self.inside.records.items c.args.new.now c.self.inside.next c.self.inside.sets c.push_to_set.new.sets c.self.invariant.has_sets c.in_ok-push_to_set.ensures.content key ∙ ap (λ rs. set_of rs key) (sym (c.push_reserved.ensures.items ∙ (λ i. c.in_ok-reserve.ensures.items i ++ c.in_ok-copy.ensures i ∷ [])));
   has_bare = λ name.
-      bare-added c.self.inside.records.items c.args.new.now c.in_ok-owner.owner (contains same_name c.self.inside.bare) (contains same_name c.insert_owner.new.owners) c.in_ok-owner.ensures c.self.invariant.has_bare (λ name. c.insert_owner.ensures name ∙ ap (λ keys. is_name name c.in_ok-owner.owner || list_any (same_name name) keys) c.in_ok-reserve-3.ensures.keys) name
+      bare-added c.self.inside.records.items c.args.new.now c.in_ok-owner.owner (contains same_name c.self.inside.bare) (contains same_name c.insert_owner.new.owners) c.in_ok-owner.ensures c.self.invariant.has_bare (λ name. c.insert_owner.ensures name ∙ ap (λ keys. is_name name c.in_ok-owner.owner || list_any (same_name name) keys) c.in_ok-reserve-2.ensures.keys) name
       ∙ ap (λ rs. list_any (is_bare_at name) rs) (sym (c.push_reserved.ensures.items ∙ (λ i. c.in_ok-reserve.ensures.items i ++ c.in_ok-copy.ensures i ∷ [])));
   last = c.in_ok-check_numbers.ensures;
 }
@@ -58,20 +58,6 @@ returns-in_err-reserve-2-clause-memory c =
 pub returns-in_err-push_to_set-clause-memory : goal.returns-in_err-push_to_set-clause-memory
 returns-in_err-push_to_set-clause-memory c =
     if_memory _ (rw (← c.self.view_is) (enough-add c.self.inside.records.items c.args.new.now c.self.inside.next c.added_count-count.result c.added_count-count.ensures c.in_ok-check_numbers.ensures))
-
-pub returns-in_err-reserve-3-clause-replaced : goal.returns-in_err-reserve-3-clause-replaced
-returns-in_err-reserve-3-clause-replaced c =
-    let p = err_from_is_err_and c.from_residual-in_err-reserve-3.result c.from_residual-in_err-reserve-3.ensures.1 in
-    rw (p.1, p.2, ← c.self.view_is) (refused (c.self.inside.records.items ++ c.args.new.now ∷ []) _ _ Memory (λ some. absurd (some refl)) (λ i. record { records = c.in_ok-reserve.ensures.items i; numbers = numbers_of c.self.inside.sets; next = c.self.inside.next }))
-
-pub returns-in_err-reserve-3-clause-memory : goal.returns-in_err-reserve-3-clause-memory
-returns-in_err-reserve-3-clause-memory c =
-    if_memory _ (rw (← c.self.view_is) (enough-add c.self.inside.records.items c.args.new.now c.self.inside.next c.added_count-count.result c.added_count-count.ensures c.in_ok-check_numbers.ensures))
-
-pub returns-in_err-push_to_set-clause-replaced : goal.returns-in_err-push_to_set-clause-replaced
-returns-in_err-push_to_set-clause-replaced c =
-    let p = err_from_is_err_and c.from_residual-in_err-push_to_set.result c.from_residual-in_err-push_to_set.ensures.1 in
-    rw (p.1, p.2, ← c.self.view_is) (refused (c.self.inside.records.items ++ c.args.new.now ∷ []) _ _ Memory (λ some. absurd (some refl)) (λ i. record { records = c.in_ok-reserve.ensures.items i; numbers = numbers_of (c.in_err-push_to_set.ensures.unchanged i); next = c.self.inside.next }))
 
 pub returns-in_err-reserve-2-clause-replaced : goal.returns-in_err-reserve-2-clause-replaced
 returns-in_err-reserve-2-clause-replaced c =

@@ -7,17 +7,7 @@ use Rattle.sipl_records.proofs.Public.{same_data_is}
 use Rattle.sipl_zonestore.specs.Content.{data_without}
 use Rattle.sipl_zonestore.proofs.record_set.RecordSet.remove.Goals as goal
 
-pub returns-in_err-place : goal.returns-in_err-place
-returns-in_err-place c =
-    let kept : c.retain.new.self.items ≡ filter (λ (other : Data). not (same_data c.args.value.now other)) c.self.inside.values.items = filter_same _ (λ (other : Data). not (same_data c.args.value.now other)) _ (λ x b f k. search (rules, same_data_is)) _ _ c.retain.ensures.filtered in
-    (λ i. record { number = c.self.inside.number; values = kept i }) ∙ ap (data_without c.args.value.now) c.self.view_is
-
-pub returns-then-place-len : goal.returns-then-place-len
-returns-then-place-len c =
-    let kept : c.retain.new.self.items ≡ filter (λ (other : Data). not (same_data c.args.value.now other)) c.self.inside.values.items = filter_same _ (λ (other : Data). not (same_data c.args.value.now other)) _ (λ x b f k. search (rules, same_data_is)) _ _ c.retain.ensures.filtered in
-    (λ i. record { number = c.self.inside.number; values = kept i }) ∙ ap (data_without c.args.value.now) c.self.view_is
-
-pub returns-else-place-len : goal.returns-else-place-len
-returns-else-place-len c =
+pub returns : goal.returns
+returns c =
     let kept : c.retain.new.self.items ≡ filter (λ (other : Data). not (same_data c.args.value.now other)) c.self.inside.values.items = filter_same _ (λ (other : Data). not (same_data c.args.value.now other)) _ (λ x b f k. search (rules, same_data_is)) _ _ c.retain.ensures.filtered in
     (λ i. record { number = c.self.inside.number; values = kept i }) ∙ ap (data_without c.args.value.now) c.self.view_is

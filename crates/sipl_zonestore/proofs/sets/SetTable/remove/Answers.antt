@@ -14,7 +14,7 @@ returns-in_default c = λ key.
 
 pub invariant_of-self-then-is_empty : goal.invariant_of-self-then-is_empty
 invariant_of-self-then-is_empty c =
-    let written = c.remove-ordinal.new.self in
+    let written = c.remove.new.self in
     let es = c.self.inside.owners.entries in
     let between = (c.get_mut.follows.lender written).entries in
     data-updated es c.swap_remove.new.self.entries c.args.owner.now None
@@ -23,17 +23,17 @@ invariant_of-self-then-is_empty c =
 
 pub invariant_of-self-else-is_empty : goal.invariant_of-self-else-is_empty
 invariant_of-self-else-is_empty c =
-    let written = c.remove-ordinal.new.self in
+    let written = c.remove.new.self in
     data-updated c.self.inside.owners.entries (c.get_mut.follows.lender written).entries c.args.owner.now (Some written)
     ((c.get_mut.follows.holds written).3 (subst IsSome c.in-Some.ensures.value refl)).0 c.self.invariant (sym c.is_empty.ensures ∙ c.if-is_empty.false)
 
 pub returns-then-is_empty : goal.returns-then-is_empty
 returns-then-is_empty c =
-    let written = c.remove-ordinal.new.self in
+    let written = c.remove.new.self in
     let es = c.self.inside.owners.entries in
     let between = (c.get_mut.follows.lender written).entries in
     let new = c.swap_remove.new.self.entries in
-    let empty : has_no_data (with_set c.args.kind (data_without c.args.value.now (set_at c.args.kind c.in-Some.sets.now)) c.in-Some.sets.now) ≡ true = ap has_no_data (sym c.remove-ordinal.ensures) ∙ sym c.is_empty.ensures ∙ c.if-is_empty.true in
+    let empty : has_no_data (with_set c.args.kind (data_without c.args.value.now (set_at c.args.kind c.in-Some.sets.now)) c.in-Some.sets.now) ≡ true = ap has_no_data (sym c.remove.ensures) ∙ sym c.is_empty.ensures ∙ c.if-is_empty.true in
     let gone : (key : Key) → content_of new key ≡ (if same_key (record { name = c.args.owner.now; kind = c.args.kind }) key then without c.args.value.now (content_of c.args.self.now key) else content_of c.args.self.now key) =
     subst (λ (owners : OwnerTable). (key : Key) → content_of new key ≡ (if same_key (record { name = c.args.owner.now; kind = c.args.kind }) key then without c.args.value.now (content_of owners key) else content_of owners key)) c.self.view_is
     (content-updated (without c.args.value.now) es new c.args.owner.now c.args.kind None
@@ -46,9 +46,9 @@ returns-then-is_empty c =
 
 pub returns-else-is_empty : goal.returns-else-is_empty
 returns-else-is_empty c =
-    let written = c.remove-ordinal.new.self in
+    let written = c.remove.new.self in
     let new = (c.get_mut.follows.lender written).entries in
     subst (λ (owners : OwnerTable). (key : Key) → content_of new key ≡ (if same_key (record { name = c.args.owner.now; kind = c.args.kind }) key then without c.args.value.now (content_of owners key) else content_of owners key)) c.self.view_is
     (content-updated (without c.args.value.now) c.self.inside.owners.entries new c.args.owner.now c.args.kind (Some written)
     ((c.get_mut.follows.holds written).3 (subst IsSome c.in-Some.ensures.value refl)).0
-    (subst (λ sets. Becomes (without c.args.value.now) c.self.inside.owners.entries c.args.owner.now c.args.kind (Some sets)) (sym c.remove-ordinal.ensures) (becomes-found (without c.args.value.now) (data_without c.args.value.now) c.self.inside.owners.entries c.args.owner.now c.args.kind c.in-Some.sets.now (carried-without c.args.value.now) c.in-Some.ensures.value)))
+    (subst (λ sets. Becomes (without c.args.value.now) c.self.inside.owners.entries c.args.owner.now c.args.kind (Some sets)) (sym c.remove.ensures) (becomes-found (without c.args.value.now) (data_without c.args.value.now) c.self.inside.owners.entries c.args.owner.now c.args.kind c.in-Some.sets.now (carried-without c.args.value.now) c.in-Some.ensures.value)))

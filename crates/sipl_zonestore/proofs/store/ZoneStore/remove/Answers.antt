@@ -13,10 +13,8 @@ returns c =
     rw (← c.self.view_is) (edited-with (remove c.args.old.now) c.self.inside.apexes.items c.self.inside.apexes.items c.self.inside.records c.remove.new.self c.self.inside.max_records c.self.inside.looks c.remove.result tt c.self.invariant (rw c.deref.ensures.value at (c.in_ok-check_remove.ensures c.self.inside.max_records)) c.remove.ensures.replaced (memory-edit (remove c.args.old.now) (store_of c.self.inside.apexes.items c.self.inside.records c.self.inside.max_records c.self.inside.looks) c.remove.result (rw c.deref.ensures.value at (c.in_ok-check_remove.ensures c.self.inside.max_records)) c.remove.ensures.memory) (always-ok c.remove.result refl) (always-err c.remove.result refl))
 
 pub remove-requires : goal.remove-requires
-remove-requires c = record {
-  distinct = c.self.invariant.records_distinct;
-  present = not_absent c.self.inside.max_records c.args.old.now (record { apexes = c.self.inside.apexes.items; records = c.self.inside.records.records }) (rw c.deref.ensures.value at (c.in_ok-check_remove.ensures c.self.inside.max_records));
-}
+remove-requires c =
+    not_absent c.self.inside.max_records c.args.old.now (record { apexes = c.self.inside.apexes.items; records = c.self.inside.records.records }) (rw c.deref.ensures.value at (c.in_ok-check_remove.ensures c.self.inside.max_records))
 
 pub returns-in_err-check_remove : goal.returns-in_err-check_remove
 returns-in_err-check_remove c =
