@@ -111,7 +111,7 @@ module _ (es : List EntryState) (q : QueueState) (order : InOrder es) (so : IsCa
       (cond_both (is_leased q id) _ q (λ (w : QueueState). w.capacity ≡ q.capacity) (λ _. refl) (λ _. refl))
 
 -- an entry of a question has the id of the one that is found
-own_ids : (question : Question) (es : List EntryState) (own : EntryState) → AllPairs (λ a b. a.found.question ≢ b.found.question) es
+pub own_ids : (question : Question) (es : List EntryState) (own : EntryState) → AllPairs (λ a b. a.found.question ≢ b.found.question) es
     → entry_of es question ≡ Some own → All (λ e. e.found.question ≡ question → e.id ≡ own.id) es
 own_ids question [] own apart is = All-nil (λ e. e.found.question ≡ question → e.id ≡ own.id)
 own_ids question (x ∷ es) own apart is =
@@ -125,7 +125,7 @@ own_ids question (x ∷ es) own apart is =
           All-cons Own x es (λ same. absurd (true≢false (sym ((is_of_decides question x).1 same) ∙ other))) (own_ids question es own rest later)
     ] refl is
 
-was_false : (b : Bool) → not b ≡ true → b ≡ false
+pub was_false : (b : Bool) → not b ≡ true → b ≡ false
 was_false true is = absurd (true≢false (sym is))
 was_false false is = refl
 
