@@ -11,9 +11,10 @@ use Rattle.std.proofs.lemmas.List.Sorted.{sum_by-IsPermutation}
 use Rattle.sipl_records.specs.declared.record.Key.{Key}
 use Rattle.sipl_repair.specs.QueueState.{QueueState, after_mark}
 use Rattle.sipl_book.specs.Cache.{AreMarkable, InOrder}
-use Rattle.sipl_book.specs.Entries.{EntryState, depends_on}
+use Rattle.sipl_book.specs.Entries.{EntryState, after_change, depends_on}
+use Rattle.sipl_book.specs.Indexed.{AreAdded, current_count}
 use Rattle.sipl_book.specs.Repairs.{IsQueueAmong, dependents}
-use Rattle.sipl_book.proofs.Becoming.{count-cons, one}
+use Rattle.sipl_book.proofs.Becoming.{count-cons, dependents-count, one}
 use Rattle.sipl_book.proofs.Ids.{is_id}
 use Rattle.sipl_book.proofs.Queues.{IsQueueAmong-mark, capacity-mark, has_space}
 
@@ -101,3 +102,13 @@ markable es (id ∷ ids) q order so space own =
 -- the dependents may be marked
 pub dependents-markable : (keys : List Key) (es : List EntryState) (q : QueueState) → InOrder es → IsQueueAmong es q → length es ≤ q.capacity → AreMarkable q (dependents keys es)
 dependents-markable keys es q order so space = markable es (dependents keys es) q order so space (dependent_ids keys es)
+
+-- the sorted ids of the entries that a change made outdated are those of the dependents
+pub sorted_dependents : (keys : List Key) (es new : List EntryState) (none ids sorted : List ℕ) → InOrder es → none ≡ [] → new ≡ map (after_change keys) es
+    → AreAdded es new none ids → IsPermutation ids sorted → Ascends sorted → sorted ≡ dependents keys es
+sorted_dependents keys es new none ids sorted order empty changed added moved up =
+    sorted_is ids sorted (dependents keys es) moved up (dependents-ascend keys es order) (λ test.
+    let before = ap (λ (xs : List ℕ). count_by test xs) empty in
+    let nothing : count_by test [] ≡ 0 = refl in
+    let now = ap (λ (xs : List EntryState). current_count test xs) changed in
+    omega (arith, added.each test, before, nothing, now, dependents-count test keys es))

@@ -1,9 +1,10 @@
 use Rattle.std.proofs.Common.{◌≡◌, ◌≤◌, ◌*◌, true, false, ◌&&◌, eqb, List, length, map, Option, Some, None, refl, sym, ap, subst, ◌∙◌, arith, true≢false}
+use Rattle.std.specs.Prelude.{vec_capacity}
 use Rattle.std.proofs.Math.ListN.{length-map}
 use Rattle.std.proofs.lemmas.Bool.{and_parts}
 use Rattle.std.proofs.lemmas.Map.Views.{exact_unsigned_eq}
 use Rattle.sipl_repair.specs.QueueState.{QueueState, is_leased, after_settle}
-use Rattle.sipl_book.specs.Cache.{CacheState, InOrder, IsIndexedCache}
+use Rattle.sipl_book.specs.Cache.{CacheState, InOrder, IsCache, IsIndexedCache}
 use Rattle.sipl_book.specs.Entries.{EntryState, entry_of, renewed}
 use Rattle.sipl_book.specs.Repairs.{is_leased_for}
 use Rattle.sipl_book.proofs.Caches.{IsCache-settled}
@@ -35,6 +36,22 @@ invariant_of-self c =
   where
     by : (o : Option EntryState) → entry_of c.self.inside.entries.entries c.args.finding.question ≡ o
         → elim o [ Some e ↦ eqb e.id c.args.lease && is_leased c.self.inside.queue c.args.lease | None ↦ false ] ≡ true
-        → goal.invariant_of-self.at c
-    by (Some own) is leased = ?
+        → IsIndexedCache c.renew.new.self.entries c.settle.new.self c.renew.new.self.room (vec_capacity c.self.inside.candidates) (vec_capacity c.self.inside.ids)
+    by (Some own) is leased =
+        let es = c.self.inside.entries.entries in
+        let q = c.self.inside.queue in
+        let found = c.args.finding in
+        let order = subst (λ (cache : CacheState). InOrder cache.entries) (sym c.self.view_is) c.requires.order in
+        let same : own.id ≡ c.args.lease = exact_unsigned_eq own.id c.args.lease (and_parts _ _ leased).0 in
+        let is_one = (and_parts _ _ leased).1 in
+        let few = leased-settled q c.args.lease is_one in
+        let now = ap leased_count c.settle.ensures in
+        let kept = ap (λ (xs : List EntryState). length xs) c.renew.ensures.after in
+        record {
+          cache = subst (λ (p : List EntryState × QueueState). IsCache p.0 p.1) (λ i. (sym c.renew.ensures.after i, sym (c.settle.ensures ∙ ap (after_settle q) (sym same)) i))
+              (IsCache-settled found es q own order c.renew.ensures.questions c.self.invariant.cache (ap (is_leased q) same ∙ is_one) is);
+          leases = omega (arith, few, now, c.renew.ensures.room, c.requires.few, c.self.invariant.leases);
+          candidates = omega (arith, kept, length-map es (renewed found), c.self.invariant.candidates);
+          ids = omega (arith, kept, length-map es (renewed found), c.self.invariant.ids);
+        }
     by None is leased = absurd (true≢false (sym leased))
