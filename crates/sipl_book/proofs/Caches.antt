@@ -111,7 +111,7 @@ module _ (es : List EntryState) (q : QueueState) (order : InOrder es) (so : IsCa
       (cond_both (is_leased q id) _ q (λ (w : QueueState). w.capacity ≡ q.capacity) (λ _. refl) (λ _. refl))
 
 -- an entry of a question has the id of the one that is found
-own_ids : (question : Question) (es : List EntryState) (own : EntryState) → AllPairs (λ a b. a.found.question ≢ b.found.question) es
+pub own_ids : (question : Question) (es : List EntryState) (own : EntryState) → AllPairs (λ a b. a.found.question ≢ b.found.question) es
     → entry_of es question ≡ Some own → All (λ e. e.found.question ≡ question → e.id ≡ own.id) es
 own_ids question [] own apart is = All-nil (λ e. e.found.question ≡ question → e.id ≡ own.id)
 own_ids question (x ∷ es) own apart is =
@@ -125,7 +125,7 @@ own_ids question (x ∷ es) own apart is =
           All-cons Own x es (λ same. absurd (true≢false (sym ((is_of_decides question x).1 same) ∙ other))) (own_ids question es own rest later)
     ] refl is
 
-was_false : (b : Bool) → not b ≡ true → b ≡ false
+pub was_false : (b : Bool) → not b ≡ true → b ≡ false
 was_false true is = absurd (true≢false (sym is))
 was_false false is = refl
 
@@ -280,6 +280,13 @@ is_id-without question (e ∷ es) k others =
     by true mine other rest = rest ∙ ap (λ b. b || is_id es k) (sym (other (mine refl)))
     by false mine other rest = ap (λ b. eqb e.id k || b) rest
 
+not_not : (b : Bool) → b ≡ not (not b)
+not_not true = refl
+not_not false = refl
+
+pub length-without : (question : Question) (es : List EntryState) → length (without question es) ≤ length es
+length-without question es = omega (arith, length-filter_both (λ e. not (is_of question e)) (is_of question) (λ e. not_not (is_of question e)) es)
+
 pub IsCache-removed : (question : Question) (es : List EntryState) (q : QueueState) (own : EntryState) → InOrder es
     → AllPairs (λ a b. a.found.question ≢ b.found.question) es → IsCache es q → entry_of es question ≡ Some own
     → IsCache (without question es) (after_forget q own.id)
@@ -307,12 +314,8 @@ IsCache-removed question es q own order apart so is =
             is_held-after_forget q own.id e.id ∙ (λ i. not (other i) && facts.1 out_of_date i))
             es (λ i d within. (others i d within, so.waits.waiting i d within));
       };
-      space = omega (arith, so.space, length-filter_both (λ e. not (is_of question e)) (is_of question) (λ e. not_not (is_of question e)) es);
+      space = omega (arith, so.space, length-without question es);
     }
-  where
-    not_not : (b : Bool) → b ≡ not (not b)
-    not_not true = refl
-    not_not false = refl
 
 -- where the question has no entry, nothing is removed
 pub IsCache-absent : (question : Question) (es : List EntryState) (q : QueueState) → IsCache es q → entry_of es question ≡ None → IsCache (without question es) q

@@ -183,7 +183,7 @@ searched_none es id i order parted =
 -- ---- the question of an id
 
 -- what holds of each entry holds of the one with an id, and that has the id
-All-entry_with : (P : EntryState → Type 0) (es : List EntryState) (id : ℕ) (e : EntryState) → All P es → entry_with es id ≡ Some e → P e × (e.id ≡ id)
+pub All-entry_with : (P : EntryState → Type 0) (es : List EntryState) (id : ℕ) (e : EntryState) → All P es → entry_with es id ≡ Some e → P e × (e.id ≡ id)
 All-entry_with P [] id e all found = absurd (none-some e found)
 All-entry_with P (x ∷ es) id e all found =
     elim (eqb x.id id) as (λ b. eqb x.id id ≡ b → cond b (Some x) (entry_with es id) ≡ Some e → P e × (e.id ≡ id)) [

@@ -1,8 +1,8 @@
 -- The entries of a book with their queue.
-use Rattle.std.specs.Prelude.{ℕ, ◌≤◌, ◌<◌, List, [], length}
+use Rattle.std.specs.Prelude.{ℕ, ◌*◌, ◌≤◌, ◌<◌, List, [], ◌∷◌, length, IsTrue}
 use Rattle.std.specs.FinSet as set
 use Rattle.std.specs.List.{AllPairs}
-use Rattle.sipl_repair.specs.QueueState.{QueueState}
+use Rattle.sipl_repair.specs.QueueState.{QueueState, has_capacity_for, after_mark}
 use Rattle.sipl_book.specs.Entries.{EntryState}
 use Rattle.sipl_book.specs.Repairs.{IsQueueOf}
 
@@ -28,3 +28,16 @@ InOrder entries = AllPairs (λ a b. a.id < b.id) entries
 pub record IsCache (entries : List EntryState) (queue : QueueState) : Type 0 where
   pub waits : IsQueueOf entries queue
   pub space : length entries ≤ queue.capacity
+
+-- each id may be marked after those before it
+abbrev pub AreMarkable : QueueState → List ℕ → Type 0
+AreMarkable queue [] = Unit {0}
+AreMarkable queue (id ∷ ids) = IsTrue (has_capacity_for queue id) × AreMarkable (after_mark queue id) ids
+
+-- and each lease has room in the index for the pairs of a finding, and each vector of ids space for
+-- those of all entries
+pub record IsIndexedCache (entries : List EntryState) (queue : QueueState) (room places more : ℕ) : Type 0 where
+  pub cache : IsCache entries queue
+  pub leases : set.len queue.leased * 1156 ≤ room
+  pub candidates : length entries ≤ places
+  pub ids : length entries ≤ more

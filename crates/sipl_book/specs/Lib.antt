@@ -9,5 +9,6 @@ pub mod EntryTable
 pub mod Questions
 pub mod Repairs
 pub mod Cache
+pub mod Indexed
 pub mod Codes
 pub mod Lookups

@@ -1,20 +1,21 @@
 //! The entries of a book, and the queue of those that are to be looked up again.
-ghost use Rattle.std.specs.Prelude.{◌≡◌, ◌≢◌, ◌==◌, false, true, [], length, map, filter, not, is_some, option_map, None, Some, Ok, IfOk, IfErr, IsTrue, OnOk, OnErr};
-ghost use Rattle.std.specs.List.{AllPairs};
+ghost use Rattle.std.specs.Prelude.{◌≡◌, ◌≢◌, ◌≤◌, ◌<◌, ◌==◌, false, true, [], length, map, filter, not, is_some, option_map, None, Some, Ok, IfOk, IfErr, IsTrue, OnOk, OnErr, vec_capacity};
+ghost use Rattle.std.specs.List.{All, AllPairs};
 ghost use Rattle.std.specs.Option.{option_copied};
 ghost use Rattle.sipl_repair.specs.QueueState.{after_lease, after_settle, first_of, is_leased};
 ghost use Rattle.sipl_book.specs.Cache.{InOrder, new_cache};
 ghost use Rattle.sipl_book.specs.Entries.{after_change, committed, entry_of, renewed};
 ghost use Rattle.sipl_book.specs.Repairs.{IsQueueOf, after_failure, after_marks, after_removal, after_renewal, after_return, dependents, entry_with, is_leased_for, is_outdated, without};
 
-use crate::entries::Entries;
 use crate::entry::Entry;
 use crate::fault::BookFault;
-use sipl_plans::Finding;
+use crate::indexed::Indexed;
+use crate::outdating::{mark_all, outdate_dependents};
+use sipl_plans::{Finding, MAX_SETS};
 use sipl_records::Key;
 use sipl_repair::{Lease, Queue, QueueFault};
 use sipl_uri::Question;
-use std::alloc::Global;
+use std::alloc::{AllocError, Global};
 use std::marker::Model;
 
 /// Entries, at most so many, and the queue of the outdated ones. Contracts see the queue with space
@@ -24,13 +25,17 @@ use std::marker::Model;
 #[derive(Drop)]
 pub(crate) struct Cache {
     alloc: Global,
-    entries: Entries,
+    entries: Indexed,
     queue: Queue,
     max_entries: usize,
+    // For the ids of an edit.
+    candidates: Vec<u64>,
+    ids: Vec<u64>,
 }
 
 impl Model for Cache {
-    ghost use Rattle.sipl_book.specs.Cache.{CacheState, IsCache};
+    ghost use Rattle.std.specs.Prelude.{vec_capacity};
+    ghost use Rattle.sipl_book.specs.Cache.{CacheState, IsIndexedCache};
 
     ghost Value = { CacheState };
 
@@ -39,12 +44,13 @@ impl Model for Cache {
     ghost coded = { cache_code };
 
     ghost view = { λ c. record {
-      entries = c.entries;
+      entries = c.entries.entries;
       queue = record c.queue { capacity = c.max_entries };
       max_entries = c.max_entries;
     } };
 
-    ghost invariant = { λ c. IsCache c.entries c.queue };
+    ghost invariant = { λ c. IsIndexedCache c.entries.entries c.queue c.entries.room
+        (vec_capacity c.candidates) (vec_capacity c.ids) };
 }
 
 impl Cache {
@@ -54,9 +60,11 @@ impl Cache {
     {
         Cache {
             alloc,
-            entries: Entries::new(alloc),
+            entries: Indexed::new(alloc),
             queue: Queue::new(alloc),
             max_entries,
+            candidates: Vec::new(alloc),
+            ids: Vec::new(alloc),
         }
     }
 
@@ -65,7 +73,7 @@ impl Cache {
         ensures entry { option_copied result ≡ entry_of self.now.entries question.now }
         ensures questions { AllPairs (λ a b. a.found.question ≢ b.found.question) self.now.entries }
     {
-        self.entries.get(question)
+        self.entries.entries().get(question)
     }
 
     /// How many entries are queued.
@@ -80,15 +88,15 @@ impl Cache {
     pub(crate) fn is_leased_for(&self, id: u64, question: &Question) -> bool
         ensures { result ≡ is_leased_for self.now.entries self.now.queue id question.now }
     {
-        match self.entries.get(question) {
+        match self.entries.entries().get(question) {
             Some(entry) => entry.id() == id && self.queue.is_leased(id),
             None => false,
         }
     }
 
     /// Makes the entries whose evidence has one of these keys, whose sets changed, outdated, and
-    /// marks those that are not leased in their order. Takes a look-up for each entry and each key.
-    /// Does not allocate.
+    /// marks those that are not leased in their order. Takes a search for each entry that depends on
+    /// one of the keys, and a sort of their ids. Does not allocate.
     pub(crate) fn outdate(&mut self, changed: &[Key])
         requires order { InOrder self.old.entries }
         ensures { self.new ≡ record self.old {
@@ -96,8 +104,10 @@ impl Cache {
           queue = after_marks self.old.queue (dependents changed.now self.old.entries);
         } }
     {
-        self.entries.outdate(changed);
-        self.entries.mark_outdated(&mut self.queue);
+        self.ids.clear();
+        outdate_dependents(&mut self.entries, changed, &mut self.candidates, &mut self.ids);
+        self.ids.sort_unstable();
+        mark_all(&mut self.queue, self.ids.as_slice());
     }
 
     /// Makes a finding the current one of its question, whose entry is not queued then: of the
@@ -106,6 +116,7 @@ impl Cache {
     /// returned, and nothing changes.
     pub(crate) fn commit(&mut self, finding: Finding, number: u64) -> Result<(), Finding>
         requires order { InOrder self.old.entries }
+        requires last { All (λ e. e.id < number) self.old.entries }
         ensures ok { OnOk result (self.new ≡ record self.old {
           entries = committed finding number self.old.max_entries self.old.entries;
           queue = after_renewal self.old.queue (entry_of self.old.entries finding.question);
@@ -113,11 +124,15 @@ impl Cache {
         ensures err { OnErr result (self.new ≡ self.old) }
         ensures finding { IfErr result (λ returned. returned ≡ finding) }
     {
-        let id = match self.entries.get(finding.question()) {
+        let id = match self.entries.entries().get(finding.question()) {
             Some(entry) => entry.id(),
             None => return self.add(finding, number),
         };
-        self.entries.renew(finding);
+        let pairs = finding.evidence().len();
+        let Ok(()) = self.entries.reserve(self.queue.leased_len(), pairs) else {
+            return Err(finding);
+        };
+        self.entries.renew(finding, id);
         unqueue(&mut self.queue, id);
         Ok(())
     }
@@ -126,6 +141,7 @@ impl Cache {
     // only error is an allocation failure: the finding is returned, and nothing changes.
     fn add(&mut self, finding: Finding, number: u64) -> Result<(), Finding>
         requires order { InOrder self.old.entries }
+        requires last { All (λ e. e.id < number) self.old.entries }
         requires new { entry_of self.old.entries finding.question ≡ None }
         ensures ok { OnOk result (self.new ≡ record self.old {
           entries = committed finding number self.old.max_entries self.old.entries;
@@ -133,11 +149,18 @@ impl Cache {
         ensures err { OnErr result (self.new ≡ self.old) }
         ensures finding { IfErr result (λ returned. returned ≡ finding) }
     {
-        let len = self.entries.len();
+        let len = self.entries.entries().len();
         if len >= self.max_entries {
             return Ok(());
         }
         let Ok(()) = self.queue.reserve(len + 1) else {
+            return Err(finding);
+        };
+        let Ok(()) = reserve_ids(&mut self.candidates, &mut self.ids, len + 1) else {
+            return Err(finding);
+        };
+        let pairs = finding.evidence().len();
+        let Ok(()) = self.entries.reserve(self.queue.leased_len(), pairs) else {
             return Err(finding);
         };
         self.entries.add(finding, number)
@@ -159,8 +182,12 @@ impl Cache {
             → (fault ≡ BookFault.Queue QueueFault.Empty) × (self.old.queue.queued ≡ [])) }
         ensures err { OnErr result (self.new ≡ self.old) }
     {
+        if self.queue.is_empty() {
+            return Err(BookFault::Queue(QueueFault::Empty));
+        }
+        self.entries.reserve(self.queue.leased_len(), MAX_SETS)?;
         let lease = self.queue.lease()?;
-        let question = match self.entries.get_by_id(lease.id()) {
+        let question = match self.entries.entries().get_by_id(lease.id()) {
             Some(entry) => entry.question().dup(self.alloc),
             None => unreachable!(),
         };
@@ -180,7 +207,7 @@ impl Cache {
           queue = after_return self.old.entries self.old.queue lease;
         } }
     {
-        if self.entries.is_outdated(lease.id()) {
+        if self.entries.entries().is_outdated(lease.id()) {
             self.queue.give_back(lease);
         } else {
             self.queue.settle(lease);
@@ -194,7 +221,7 @@ impl Cache {
           queue = after_failure self.old.entries self.old.queue lease;
         } }
     {
-        if self.entries.is_outdated(lease.id()) {
+        if self.entries.entries().is_outdated(lease.id()) {
             self.queue.requeue(lease);
         } else {
             self.queue.settle(lease);
@@ -206,12 +233,13 @@ impl Cache {
     pub(crate) fn settle(&mut self, lease: Lease, finding: Finding)
         requires order { InOrder self.old.entries }
         requires leased { IsTrue (is_leased_for self.old.entries self.old.queue lease finding.question) }
+        requires few { length finding.items ≤ 1156 }
         ensures { self.new ≡ record self.old {
           entries = map (renewed finding) self.old.entries;
           queue = after_settle self.old.queue lease;
         } }
     {
-        self.entries.renew(finding);
+        self.entries.renew(finding, lease.id());
         self.queue.settle(lease);
     }
 
@@ -233,6 +261,19 @@ impl Cache {
             None => false,
         }
     }
+}
+
+// Reserves space for so many ids in each of two vectors. The capacities never shrink.
+fn reserve_ids(candidates: &mut Vec<u64>, ids: &mut Vec<u64>, len: usize) -> Result<(), AllocError>
+    ensures candidates { vec_capacity candidates.old ≤ vec_capacity candidates.new }
+    ensures ids { vec_capacity ids.old ≤ vec_capacity ids.new }
+    ensures candidates_ok { OnOk result (len ≤ vec_capacity candidates.new) }
+    ensures ids_ok { OnOk result (len ≤ vec_capacity ids.new) }
+{
+    candidates.clear();
+    ids.clear();
+    candidates.reserve(len)?;
+    ids.reserve(len)
 }
 
 // Takes an id out of the queued ones. A leased id stays so.

@@ -1,16 +1,16 @@
 //! The entries of a book, by their questions.
-ghost use Rattle.std.specs.Prelude.{◌≡◌, ◌≢◌, ◌≤◌, [], ◌∷◌, ◌++◌, length, map, option_map, None, true, IfErr, OnOk, OnErr};
+ghost use Rattle.std.specs.Prelude.{◌≡◌, ◌≢◌, [], ◌∷◌, ◌++◌, length, map, option_map, None, true, IfErr, OnOk, OnErr};
 ghost use Rattle.std.specs.List.{AllPairs};
 ghost use Rattle.std.specs.Option.{option_copied};
 ghost use Rattle.sipl_book.specs.Cache.{InOrder};
-ghost use Rattle.sipl_book.specs.Entries.{after_change, entry_of, renewed};
-ghost use Rattle.sipl_book.specs.Repairs.{IsQueueAmong, after_marks, entry_with, is_outdated, outdated, without};
+ghost use Rattle.sipl_book.specs.Entries.{entry_of, renewed};
+ghost use Rattle.sipl_book.specs.Indexed.{has, needs, touched};
+ghost use Rattle.sipl_book.specs.Repairs.{entry_with, is_outdated, without};
 
 use crate::entry::Entry;
 use indexmap::IndexMap;
 use sipl_plans::Finding;
 use sipl_records::Key;
-use sipl_repair::Queue;
 use sipl_uri::Question;
 use std::alloc::Global;
 use std::marker::Model;
@@ -53,18 +53,6 @@ impl Entries {
         ensures questions { AllPairs (λ a b. a.found.question ≢ b.found.question) self.now }
     {
         self.table.get(question)
-    }
-
-    /// Makes the entries whose evidence has one of these keys, whose sets changed, outdated.
-    /// Takes a look-up for each entry and each key. Does not allocate.
-    pub(crate) fn outdate(&mut self, changed: &[Key])
-        ensures { self.new ≡ map (after_change changed.now) self.old }
-    {
-        // Keeps each entry, and writes to it.
-        self.table.retain(|_, entry| {
-            entry.outdate(changed);
-            true
-        });
     }
 
     /// Adds a current entry with this id for a question that has none. Constant time but for hashing.
@@ -116,17 +104,21 @@ impl Entries {
         }
     }
 
-    /// Marks the ids of the outdated entries in their order. Linear in the number of entries.
-    pub(crate) fn mark_outdated(&self, queue: &mut Queue)
-        requires order { InOrder self.now }
-        requires space { length self.now ≤ queue.old.capacity }
-        requires among { IsQueueAmong self.now queue.old }
-        ensures { queue.new ≡ after_marks queue.old (outdated self.now) }
+    /// Makes the entry with an id outdated where it is current and has the key, whose set changed, in
+    /// its evidence. Returns whether it did so. Logarithmic in the number of entries. Does not
+    /// allocate.
+    pub(crate) fn outdate(&mut self, id: u64, key: &Key) -> bool
+        requires order { InOrder self.old }
+        ensures needs { result ≡ has (needs key.now) self.old id }
+        ensures after { self.new ≡ map (touched id key.now) self.old }
     {
-        for entry in self.table.values().as_slice() {
-            if !entry.is_current() {
-                queue.mark(entry.id());
-            }
+        let entries = self.table.values().as_slice();
+        let Ok(index) = entries.binary_search_by_key(&id, |entry| entry.id()) else {
+            return false;
+        };
+        match self.table.get_index_mut(index) {
+            Some(entry) => entry.outdate(key),
+            None => false,
         }
     }
 

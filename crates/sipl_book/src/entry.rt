@@ -1,7 +1,8 @@
-ghost use Rattle.std.specs.Prelude.{◌≡◌, true};
+ghost use Rattle.std.specs.Prelude.{◌≡◌, true, [], ◌∷◌};
 ghost use Rattle.sipl_plans.specs.Findings.{IsSound};
 ghost use Rattle.sipl_plans.specs.Servers.{HasFewServers};
 ghost use Rattle.sipl_book.specs.Entries.{after_change, depends_on};
+ghost use Rattle.sipl_book.specs.Indexed.{needs};
 
 use sipl_evidence::Evidence;
 use sipl_plans::{Finding, Layout};
@@ -53,20 +54,29 @@ impl Entry {
         self.finding = finding;
     }
 
-    // Makes the entry outdated where one of these keys, whose sets changed, is in its evidence.
-    // Linear in the number of keys.
-    pub(crate) fn outdate(&mut self, changed: &[Key])
-        ensures { self.new ≡ after_change changed.now self.old }
+    // Makes a current entry outdated that has the key, whose set changed, in its evidence. Returns
+    // whether it did so. Constant time but for hashing.
+    pub(crate) fn outdate(&mut self, key: &Key) -> bool
+        ensures needs { result ≡ needs key.now self.old }
+        ensures after { self.new ≡ after_change (key.now ∷ []) self.old }
     {
-        self.is_current = self.is_current && !self.depends_on(changed);
+        let is_outdated = self.needs(key);
+        self.is_current = self.is_current && !is_outdated;
+        is_outdated
     }
 
-    // Whether one of these keys is in the evidence. Linear in the number of keys.
-    fn depends_on(&self, keys: &[Key]) -> bool
-        ensures { result ≡ depends_on keys.now self.now }
+    // Whether the entry is current and has the key in its evidence. Constant time but for hashing.
+    pub(crate) fn needs(&self, key: &Key) -> bool
+        ensures { result ≡ needs key.now self.now }
     {
-        let evidence = self.finding.evidence();
-        keys.iter().any(|key| evidence.find(key).is_some())
+        self.is_current && self.has_key(key)
+    }
+
+    // Whether the key is in the evidence. Constant time but for hashing.
+    fn has_key(&self, key: &Key) -> bool
+        ensures { result ≡ depends_on (key.now ∷ []) self.now }
+    {
+        self.finding.evidence().find(key).is_some()
     }
 
     /// The number of the event that made the entry.

@@ -13,10 +13,12 @@ mod entries;
 mod entry;
 mod event;
 mod fault;
+mod indexed;
 pub mod laws;
 mod limits;
 mod lookups;
 mod outcome;
+mod outdating;
 
 pub use book::Book;
 pub use edit::Edit;

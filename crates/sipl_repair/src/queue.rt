@@ -1,4 +1,5 @@
 ghost use Rattle.std.specs.Prelude.{◌≡◌, ◌≤◌, ◌↔◌, [], length, IsOk, IsTrue, OnOk, OnErr};
+ghost use Rattle.std.specs.FinSet as set;
 
 use crate::fault::QueueFault;
 use crate::id_set::IdSet;
@@ -86,6 +87,14 @@ impl Queue {
         ensures consistent { IsConsistent self.now }
     {
         self.queued.len()
+    }
+
+    /// How many ids are leased.
+    pub fn leased_len(&self) -> usize
+        ensures len { result ≡ set.len self.now.leased }
+        ensures consistent { IsConsistent self.now }
+    {
+        self.leased.len()
     }
 
     /// Whether no id is queued.

@@ -1,21 +1,34 @@
-use Rattle.std.proofs.Common.{sym, ap, subst, ◌∙◌}
+use Rattle.std.proofs.Common.{sym, ap, subst, ◌∙◌, arith}
 use Rattle.sipl_repair.specs.QueueState.{QueueState}
 use Rattle.sipl_book.specs.Cache.{CacheState, InOrder, IsCache}
 use Rattle.sipl_book.specs.Repairs.{is_outdated}
 use Rattle.sipl_book.proofs.Caches.{IsCache-requeue, IsCache-settle}
+use Rattle.sipl_book.proofs.Leases.{leased-requeue, leased-settle, leased_count}
 use Rattle.sipl_book.proofs.cache.Cache.requeue.Goals as goal
 
 pub invariant_of-self : goal.invariant_of-self
 invariant_of-self c =
-    let es = c.self.inside.entries in
+    let es = c.self.inside.entries.entries in
     let order = subst (λ (cache : CacheState). InOrder cache.entries) (sym c.self.view_is) c.requires.order in
-    subst (λ (q : QueueState). IsCache es q) (sym c.requeue.ensures) (IsCache-requeue es c.self.inside.queue order c.self.invariant c.args.lease
-    (ap (is_outdated es) (sym c.id.ensures) ∙ sym c.is_outdated.ensures ∙ c.if-is_outdated.true))
+    let same = ap leased_count c.requeue.ensures in
+    record {
+      cache = subst (λ (q : QueueState). IsCache es q) (sym c.requeue.ensures) (IsCache-requeue es c.self.inside.queue order c.self.invariant.cache c.args.lease
+          (ap (is_outdated es) (sym c.id.ensures) ∙ sym (c.is_outdated.ensures ∙ (λ i. is_outdated (c.entries.ensures i) c.id.result)) ∙ c.if-is_outdated.true));
+      leases = omega (arith, same, leased-requeue c.self.inside.queue c.args.lease, c.self.invariant.leases);
+      candidates = c.self.invariant.candidates;
+      ids = c.self.invariant.ids;
+    }
 
 pub invariant_of-self-else-is_outdated : goal.invariant_of-self-else-is_outdated
 invariant_of-self-else-is_outdated c =
-    let es = c.self.inside.entries in
+    let es = c.self.inside.entries.entries in
     let order = subst (λ (cache : CacheState). InOrder cache.entries) (sym c.self.view_is) c.requires.order in
-    subst (λ (q : QueueState). IsCache es q) (sym c.settle.ensures)
-    (IsCache-settle es c.self.inside.queue c.args.lease order c.self.invariant
-    (ap (is_outdated es) (sym c.id.ensures) ∙ sym c.is_outdated.ensures ∙ c.if-is_outdated.false))
+    let same = ap leased_count c.settle.ensures in
+    record {
+      cache = subst (λ (q : QueueState). IsCache es q) (sym c.settle.ensures)
+          (IsCache-settle es c.self.inside.queue c.args.lease order c.self.invariant.cache
+          (ap (is_outdated es) (sym c.id.ensures) ∙ sym (c.is_outdated.ensures ∙ (λ i. is_outdated (c.entries.ensures i) c.id.result)) ∙ c.if-is_outdated.false));
+      leases = omega (arith, same, leased-settle c.self.inside.queue c.args.lease, c.self.invariant.leases);
+      candidates = c.self.invariant.candidates;
+      ids = c.self.invariant.ids;
+    }

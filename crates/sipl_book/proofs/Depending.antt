@@ -33,7 +33,7 @@ is_some-position p xs =
       at true = refl
       at false = refl
 
-is_some-known : (items : List Item) (k : Key) → is_some (known items k) ≡ list_any (λ item. same_key item.key k) items
+pub is_some-known : (items : List Item) (k : Key) → is_some (known items k) ≡ list_any (λ item. same_key item.key k) items
 is_some-known [] k = refl
 is_some-known (item ∷ items) k = elim (cases_Bool (same_key item.key k)) [
   | inl same ↦ rw same refl
@@ -48,24 +48,3 @@ not_not false = refl
 pub is_some-place_of : (items : List Item) (k : Key) → is_some (place_of items k) ≡ not (is_unknown items k)
 is_some-place_of items k =
     is_some-position (λ item. same_key item.key k) items ∙ sym (is_some-known items k) ∙ sym (not_not (is_some (known items k)))
-
--- ---- the table
-
--- a table after a change of sets
-abbrev pub rows_after_change : List Key → Rows → Rows
-rows_after_change keys es = map (λ e. (e.0, after_change keys e.1)) es
-
-keys-after_change : (keys : List Key) (es : Rows) → keys_of (rows_after_change keys es) ≡ keys_of es
-keys-after_change keys [] = refl
-keys-after_change keys (e ∷ es) = λ i. e.0 ∷ keys-after_change keys es i
-
-pub values-after_change : (keys : List Key) (es : Rows) → values_of (rows_after_change keys es) ≡ map (after_change keys) (values_of es)
-values-after_change keys [] = refl
-values-after_change keys (e ∷ es) = λ i. after_change keys e.1 ∷ values-after_change keys es i
-
-pub IsTable-after_change : (keys : List Key) (es : Rows) → IsTable es → IsTable (rows_after_change keys es)
-IsTable-after_change keys es table =
-    record {
-      keyed = All-map (λ (e : Question × EntryState). e.1.found.question ≡ e.0) (λ e. (e.0, after_change keys e.1)) es table.keyed;
-      distinct = subst (IsDistinct same_question) (sym (keys-after_change keys es)) table.distinct;
-    }

@@ -1,0 +1,145 @@
+//! The entries of a book, with the index of the current ones by the record sets that they depend on.
+ghost use Rattle.std.specs.Prelude.{◌≡◌, ◌≢◌, ℕ, ◌+◌, ◌*◌, ◌≤◌, ◌<◌, [], ◌∷◌, ◌++◌, length, map, nat_eq, option_map, None, Some, true, IfErr, OnOk, OnErr, vec_capacity};
+ghost use Rattle.std.specs.List.{All, AllPairs, list_any};
+ghost use Rattle.sipl_book.specs.Cache.{InOrder};
+ghost use Rattle.sipl_book.specs.Entries.{entry_of, renewed};
+ghost use Rattle.sipl_book.specs.Indexed.{has, needs, touched};
+ghost use Rattle.sipl_book.specs.Repairs.{without};
+
+use crate::entries::Entries;
+use sipl_evidence::Dependents;
+use sipl_plans::{Finding, MAX_SETS};
+use sipl_records::Key;
+use sipl_uri::Question;
+use std::alloc::{AllocError, Global};
+use std::marker::Model;
+
+/// Entries, and which of the current ones depend on which record sets. Contracts see the entries, and
+/// for how many more pairs there is room in the index.
+#[derive(Drop)]
+pub(crate) struct Indexed {
+    entries: Entries,
+    dependents: Dependents,
+}
+
+impl Model for Indexed {
+    ghost use Rattle.sipl_book.specs.Indexed.{IndexedState, IsIndexOf};
+
+    ghost Value = { IndexedState };
+
+    ghost view = { λ i. record { entries = i.entries; room = i.dependents.room } };
+
+    ghost invariant = { λ i. IsIndexOf i.entries i.dependents.pairs };
+}
+
+impl Indexed {
+    /// No entries, and no room. Does not allocate.
+    pub(crate) fn new(alloc: Global) -> Self
+        ensures { result ≡ record { entries = []; room = 0 } }
+    {
+        Indexed {
+            entries: Entries::new(alloc),
+            dependents: Dependents::new(alloc),
+        }
+    }
+
+    /// The entries.
+    pub(crate) fn entries(&self) -> &Entries
+        ensures { result.now ≡ self.now.entries }
+    {
+        &self.entries
+    }
+
+    /// Makes room for the pairs of so many leases, and for so many more. The only error is an
+    /// allocation failure.
+    pub(crate) fn reserve(&mut self, leases: usize, pairs: usize) -> Result<(), AllocError>
+        ensures entries { self.new.entries ≡ self.old.entries }
+        ensures room { self.old.room ≤ self.new.room }
+        ensures ok { OnOk result (leases * 1156 + pairs ≤ self.new.room) }
+    {
+        let room = leases.checked_mul(MAX_SETS).and_then(|room| room.checked_add(pairs));
+        match room {
+            Some(room) => self.dependents.reserve(room),
+            None => Err(AllocError),
+        }
+    }
+
+    /// Adds a current entry with this id, which is after those of all entries, for a question that
+    /// has none. Linear in the evidence. The only error is an allocation failure: the finding is
+    /// returned, and the entries are unchanged.
+    pub(crate) fn add(&mut self, finding: Finding, id: u64) -> Result<(), Finding>
+        requires new { entry_of self.old.entries finding.question ≡ None }
+        requires last { All (λ e. e.id < id) self.old.entries }
+        requires room { length finding.items ≤ self.old.room }
+        ensures ok { OnOk result (self.new.entries
+            ≡ self.old.entries ++ record { id = id; is_current = true; found = finding } ∷ []) }
+        ensures err { OnErr result (self.new.entries ≡ self.old.entries) }
+        ensures finding { IfErr result (λ returned. returned ≡ finding) }
+        ensures room { self.new.room + length finding.items ≡ self.old.room }
+    {
+        self.dependents.add(id, finding.evidence());
+        let added = self.entries.add(finding, id);
+        if added.is_err() {
+            self.dependents.remove(id);
+        }
+        added
+    }
+
+    /// Gives a finding to the entry of its question, which has this id and is current then. Linear in
+    /// the evidence. Does not allocate.
+    pub(crate) fn renew(&mut self, finding: Finding, id: u64)
+        requires order { InOrder self.old.entries }
+        requires own { option_map (λ e. e.id) (entry_of self.old.entries finding.question) ≡ Some id }
+        requires room { length finding.items ≤ self.old.room }
+        ensures questions { AllPairs (λ a b. a.found.question ≢ b.found.question) self.old.entries }
+        ensures after { self.new.entries ≡ map (renewed finding) self.old.entries }
+        ensures room { self.new.room + length finding.items ≡ self.old.room }
+    {
+        self.dependents.remove(id);
+        self.dependents.add(id, finding.evidence());
+        self.entries.renew(finding);
+    }
+
+    /// Removes the entry of a question, and returns its id. Linear in the number of entries. Does not
+    /// allocate.
+    pub(crate) fn remove(&mut self, question: &Question) -> Option<u64>
+        requires order { InOrder self.old.entries }
+        ensures questions { AllPairs (λ a b. a.found.question ≢ b.found.question) self.old.entries }
+        ensures id { result ≡ option_map (λ e. e.id) (entry_of self.old.entries question.now) }
+        ensures after { self.new.entries ≡ without question.now self.old.entries }
+        ensures room { self.new.room ≡ self.old.room }
+    {
+        let id = self.entries.remove(question)?;
+        self.dependents.remove(id);
+        Some(id)
+    }
+
+    /// Makes the entry with an id outdated where it is current and has the key, whose set changed, in
+    /// its evidence. Returns whether it did so. Does not allocate.
+    pub(crate) fn outdate(&mut self, id: u64, key: &Key) -> bool
+        requires order { InOrder self.old.entries }
+        ensures needs { result ≡ has (needs key.now) self.old.entries id }
+        ensures after { self.new
+            ≡ record self.old { entries = map (touched id key.now) self.old.entries } }
+    {
+        let is_outdated = self.entries.outdate(id, key);
+        if is_outdated {
+            self.dependents.remove(id);
+        }
+        is_outdated
+    }
+
+    /// Sets `ids` to ids of entries, among them those of all current ones that have the key in their
+    /// evidence. Linear in their number. Does not allocate.
+    pub(crate) fn write_candidates(&self, key: &Key, ids: &mut Vec<u64>)
+        requires space { length self.now.entries ≤ vec_capacity ids.old }
+        ensures all { (id : ℕ) → has (needs key.now) self.now.entries id ≡ true
+            → list_any (nat_eq id) ids.new.items ≡ true }
+        ensures capacity { vec_capacity ids.new ≡ vec_capacity ids.old }
+    {
+        ids.clear();
+        if self.dependents.count(key) > 0 {
+            self.dependents.append_ids(key, ids);
+        }
+    }
+}
