@@ -4,7 +4,9 @@ use super::{
     play, question, remove, targets,
 };
 use sipl_book::{Book, BookFault, MAX_ENTRIES, MAX_EVENTS};
+use sipl_names::Name;
 use sipl_plans::Answer;
+use sipl_records::{Key, Kind};
 use std::alloc::Global;
 use std::process::Abort;
 
@@ -19,6 +21,19 @@ fn find(
         .map(|handed| handed.answer)
 }
 
+fn address4(rt: &impl Abort, alloc: Global, owner: &[u8]) -> Key {
+    Key {
+        name: Name::from_text(alloc, owner, &Name::root(alloc)).expect(rt, "a name"),
+        kind: Kind::Address4,
+    }
+}
+
+// So many current entries have the owner's IPv4 addresses in their evidence.
+fn has_dependents(rt: &impl Abort, alloc: Global, book: &Book, owner: &[u8], count: u64) {
+    let found = book.dependents(&address4(rt, alloc, owner));
+    assert_eq!(rt; found, count);
+}
+
 // The route of the question reads four sets: the NAPTR records, the SRV records and two addresses. A
 // server without an address may have an alias, which is a fifth set.
 pub(super) fn lookups(rt: &impl Abort, alloc: Global, book: &mut Book) {
@@ -26,10 +41,14 @@ pub(super) fn lookups(rt: &impl Abort, alloc: Global, book: &mut Book) {
     has_looks(rt, book, 4);
     targets(rt, find(rt, alloc, book, &[2, 0]), &[SERVER_2, SERVER_1]);
     has_looks(rt, book, 4);
+    has_dependents(rt, alloc, book, b"server2.example.com.", 1);
+    has_dependents(rt, alloc, book, b"other.example.com.", 0);
     remove(rt, alloc, book, ADDRESS_2);
+    has_dependents(rt, alloc, book, b"server2.example.com.", 0);
     is_entry(rt, entry(rt, alloc, book, BOB), Some((1, false)));
     book.repair().expect(rt, "out of memory");
     is_entry(rt, entry(rt, alloc, book, BOB), Some((1, true)));
+    has_dependents(rt, alloc, book, b"server2.example.com.", 1);
     has_looks(rt, book, 9);
     targets(rt, find(rt, alloc, book, &[2, 0]), &[SERVER_1]);
     has_looks(rt, book, 9);
