@@ -152,21 +152,30 @@ needs-touched id key es k need =
         has-alike (λ e. e ≡ e) (λ e. needs key (touched id key e)) (needs key) es k (λ i d within. refl)
         (λ e _ here. ap (needs key) (touched-other id key e (ap (λ n. eqb n id) here ∙ other)))
 
--- where no entry needs a key, its change leaves all
+-- where no entry needs a key, the first does not, and those after it do not
+first_needs : (key : Key) (e : EntryState) (es : List EntryState) → ((k : ℕ) → has (needs key) (e ∷ es) k ≡ false) → needs key e ≡ false
+first_needs key e es none = sym (ap (passes (needs key)) (cond-true (eqb e.id e.id) (Some e) (entry_with es e.id) (eq-eqb e.id e.id refl))) ∙ none e.id
+
+none_later : (key : Key) (e : EntryState) (es : List EntryState) → InOrder (e ∷ es) → ((k : ℕ) → has (needs key) (e ∷ es) k ≡ false) → (k : ℕ) → has (needs key) es k ≡ false
+none_later key e es order none k = elim (cases_Bool (eqb e.id k)) [
+  | inl own ↦
+      let above = above_own k e es order own in
+      has-alike (λ x. k < x.id) (needs key) (λ _. false) es k above (λ x less same. absurd (omega (arith, less, same)))
+      ∙ (elim (entry_with es k) as (λ o. passes (λ _. false) o ≡ false) [ Some x ↦ refl | None ↦ refl ])
+  | inr other ↦ sym (ap (passes (needs key)) (cond-false (eqb e.id k) (Some e) (entry_with es k) other)) ∙ none k
+]
+
+-- its change leaves all
 pub change-none : (key : Key) (es : List EntryState) → InOrder es → ((k : ℕ) → has (needs key) es k ≡ false) → map (after_change (key ∷ [])) es ≡ es
 change-none key [] order none = refl
 change-none key (e ∷ es) order none =
-    let here : needs key e ≡ false = sym (ap (passes (needs key)) (cond-true (eqb e.id e.id) (Some e) (entry_with es e.id) (eq-eqb e.id e.id refl))) ∙ none e.id in
-    λ i. after_change-same key e here i ∷ change-none key es (InOrder-tail e es order) (later e es order none) i
-  where
-    later : (e : EntryState) (es : List EntryState) → InOrder (e ∷ es) → ((k : ℕ) → has (needs key) (e ∷ es) k ≡ false) → (k : ℕ) → has (needs key) es k ≡ false
-    later e es order none k = elim (cases_Bool (eqb e.id k)) [
-      | inl own ↦
-          let above = above_own k e es order own in
-          has-alike (λ x. k < x.id) (needs key) (λ _. false) es k above (λ x less same. absurd (omega (arith, less, same)))
-          ∙ (elim (entry_with es k) as (λ o. passes (λ _. false) o ≡ false) [ Some x ↦ refl | None ↦ refl ])
-      | inr other ↦ sym (ap (passes (needs key)) (cond-false (eqb e.id k) (Some e) (entry_with es k) other)) ∙ none k
-    ]
+    λ i. after_change-same key e (first_needs key e es none) i ∷ change-none key es (InOrder-tail e es order) (none_later key e es order none) i
+
+-- then none is counted
+pub count-none : (key : Key) (es : List EntryState) → InOrder es → ((k : ℕ) → has (needs key) es k ≡ false) → count_by (needs key) es ≡ 0
+count-none key [] order none = refl
+count-none key (e ∷ es) order none =
+    omega (arith, ap one (first_needs key e es none), count-none key es (InOrder-tail e es order) (none_later key e es order none), count-cons (needs key) e es)
 
 -- ---- several keys
 

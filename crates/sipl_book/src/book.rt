@@ -1,5 +1,5 @@
-ghost use Rattle.std.specs.Prelude.{◌≡◌, ◌≢◌, ◌+◌, ◌^◌, ◌<◌, ◌≤◌, [], ◌∷◌, ◌++◌, true, length, option_map, Some, None, IsTrue, IfOk, IfErr, IfSome, OnOk, OnErr, vec_len, vec_capacity};
-ghost use Rattle.std.specs.List.{All};
+ghost use Rattle.std.specs.Prelude.{◌≡◌, ◌≢◌, ◌+◌, ◌^◌, ◌<◌, ◌≤◌, ◌&&◌, [], ◌∷◌, ◌++◌, true, length, option_map, Some, None, IsTrue, IfOk, IfErr, IfSome, OnOk, OnErr, vec_len, vec_capacity};
+ghost use Rattle.std.specs.List.{All, count_by};
 ghost use Rattle.std.specs.Option.{option_copied};
 ghost use Rattle.sipl_records.specs.Sets.{set_of};
 ghost use Rattle.sipl_zonestore.specs.Store.{number_in};
@@ -12,7 +12,7 @@ ghost use Rattle.sipl_plans.specs.Servers.{HasFewServers};
 ghost use Rattle.sipl_book.specs.Book.{HasRoute, IsGoodEntry, answer_now, new_book, next_event, state_of};
 ghost use Rattle.sipl_book.specs.Calls.{IsChanged, MovesBoard, IsHanded, IsCommitted, IsLeased, IsSettled, IsForgotten, after_check, after_commit, after_comparison, after_give_back, after_look, after_settlement, after_stale, is_renumbered, is_stale};
 ghost use Rattle.sipl_book.specs.Honesty.{AreCurrent, IsHonest};
-ghost use Rattle.sipl_book.specs.Entries.{entry_of};
+ghost use Rattle.sipl_book.specs.Entries.{depends_on, entry_of};
 ghost use Rattle.sipl_book.specs.Repairs.{IsQueueOf, is_leased_for, is_outdated};
 ghost use Rattle.sipl_book.specs.Machine.{IsLegal, replay, empty_state};
 
@@ -100,7 +100,7 @@ impl Book {
 
     /// Edits the zones. The entries whose evidence has the key of a set that changed are outdated
     /// then, and are marked in their order, but for those that are leased. The cost is that of the
-    /// edit, and a look-up for each entry and each key.
+    /// edit, a search for each entry that depends on a changed set, and a sort of their ids.
     ///
     /// The fault is the first one: a full journal (B3), a fault of the zones (S1 to S8).
     pub fn change(&mut self, edit: Edit) -> Result<Done, BookFault>
@@ -394,6 +394,14 @@ impl Book {
         ensures routes { All (HasRoute self.now) self.now.entries }
     {
         self.cache.get(question)
+    }
+
+    /// How many current entries have the key's set in their evidence. Does not allocate.
+    pub fn dependents(&self, key: &Key) -> u64
+        ensures { result
+            ≡ count_by (λ e. e.is_current && depends_on (key.now ∷ []) e) self.now.entries }
+    {
+        self.cache.dependents(key) as u64
     }
 
     /// The events, in their order. They are legal from the empty state and lead to the state as it is.

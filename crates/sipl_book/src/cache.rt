@@ -1,10 +1,11 @@
 //! The entries of a book, and the queue of those that are to be looked up again.
 ghost use Rattle.std.specs.Prelude.{◌≡◌, ◌≢◌, ◌≤◌, ◌<◌, ◌==◌, false, true, [], length, map, filter, not, is_some, option_map, None, Some, Ok, IfOk, IfErr, IsTrue, OnOk, OnErr, vec_capacity};
-ghost use Rattle.std.specs.List.{All, AllPairs};
+ghost use Rattle.std.specs.List.{All, AllPairs, count_by};
 ghost use Rattle.std.specs.Option.{option_copied};
 ghost use Rattle.sipl_repair.specs.QueueState.{after_lease, after_settle, first_of, is_leased};
 ghost use Rattle.sipl_book.specs.Cache.{InOrder, new_cache};
 ghost use Rattle.sipl_book.specs.Entries.{after_change, committed, entry_of, renewed};
+ghost use Rattle.sipl_book.specs.Indexed.{needs};
 ghost use Rattle.sipl_book.specs.Repairs.{IsQueueOf, after_failure, after_marks, after_removal, after_renewal, after_return, dependents, entry_with, is_leased_for, is_outdated, without};
 
 use crate::entry::Entry;
@@ -82,6 +83,14 @@ impl Cache {
         ensures queue { IsQueueOf self.now.entries self.now.queue }
     {
         self.queue.len()
+    }
+
+    /// How many current entries have the key in their evidence. Does not allocate.
+    pub(crate) fn dependents(&self, key: &Key) -> usize
+        requires order { InOrder self.now.entries }
+        ensures { result ≡ count_by (needs key.now) self.now.entries }
+    {
+        self.entries.dependents(key)
     }
 
     /// Whether an id is that of the question's entry, and is leased.

@@ -1,6 +1,6 @@
 //! The entries of a book, by their questions.
 ghost use Rattle.std.specs.Prelude.{◌≡◌, ◌≢◌, [], ◌∷◌, ◌++◌, length, map, option_map, None, true, IfErr, OnOk, OnErr};
-ghost use Rattle.std.specs.List.{AllPairs};
+ghost use Rattle.std.specs.List.{AllPairs, count_by};
 ghost use Rattle.std.specs.Option.{option_copied};
 ghost use Rattle.sipl_book.specs.Cache.{InOrder};
 ghost use Rattle.sipl_book.specs.Entries.{entry_of, renewed};
@@ -79,6 +79,15 @@ impl Entries {
         ensures { result ≡ length self.now }
     {
         self.table.len()
+    }
+
+    /// How many current entries have the key in their evidence. Linear in the number of entries. Does
+    /// not allocate.
+    pub(crate) fn dependents(&self, key: &Key) -> usize
+        ensures { result ≡ count_by (needs key.now) self.now }
+    {
+        let entries = self.table.values().as_slice();
+        entries.iter().filter(|entry| entry.needs(key)).count()
     }
 
     /// The entry with an id. Logarithmic in the number of entries.

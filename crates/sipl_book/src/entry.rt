@@ -73,7 +73,7 @@ impl Entry {
     }
 
     // Whether the key is in the evidence. Constant time but for hashing.
-    fn has_key(&self, key: &Key) -> bool
+    pub(crate) fn has_key(&self, key: &Key) -> bool
         ensures { result ≡ depends_on (key.now ∷ []) self.now }
     {
         self.finding.evidence().find(key).is_some()

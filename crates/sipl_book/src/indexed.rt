@@ -1,6 +1,6 @@
 //! The entries of a book, with the index of the current ones by the record sets that they depend on.
 ghost use Rattle.std.specs.Prelude.{◌≡◌, ◌≢◌, ℕ, ◌+◌, ◌*◌, ◌≤◌, ◌<◌, [], ◌∷◌, ◌++◌, length, map, nat_eq, option_map, None, Some, true, IfErr, OnOk, OnErr, vec_capacity};
-ghost use Rattle.std.specs.List.{All, AllPairs, list_any};
+ghost use Rattle.std.specs.List.{All, AllPairs, count_by, list_any};
 ghost use Rattle.sipl_book.specs.Cache.{InOrder};
 ghost use Rattle.sipl_book.specs.Entries.{entry_of, renewed};
 ghost use Rattle.sipl_book.specs.Indexed.{has, needs, touched};
@@ -87,16 +87,17 @@ impl Indexed {
 
     /// Gives a finding to the entry of its question, which has this id and is current then. Linear in
     /// the evidence. Does not allocate.
-    pub(crate) fn renew(&mut self, finding: Finding, id: u64)
+    pub(crate) fn renew(&mut self, finding: Finding, own_id: u64)
         requires order { InOrder self.old.entries }
-        requires own { option_map (λ e. e.id) (entry_of self.old.entries finding.question) ≡ Some id }
+        requires own { option_map (λ e. e.id) (entry_of self.old.entries finding.question)
+            ≡ Some own_id }
         requires room { length finding.items ≤ self.old.room }
         ensures questions { AllPairs (λ a b. a.found.question ≢ b.found.question) self.old.entries }
         ensures after { self.new.entries ≡ map (renewed finding) self.old.entries }
         ensures room { self.new.room + length finding.items ≡ self.old.room }
     {
-        self.dependents.remove(id);
-        self.dependents.add(id, finding.evidence());
+        self.dependents.remove(own_id);
+        self.dependents.add(own_id, finding.evidence());
         self.entries.renew(finding);
     }
 
@@ -127,6 +128,18 @@ impl Indexed {
             self.dependents.remove(id);
         }
         is_outdated
+    }
+
+    /// How many current entries have the key in their evidence. Constant time but for hashing where
+    /// none has a key of its code, or else linear in the number of entries. Does not allocate.
+    pub(crate) fn dependents(&self, key: &Key) -> usize
+        requires order { InOrder self.now.entries }
+        ensures { result ≡ count_by (needs key.now) self.now.entries }
+    {
+        if self.dependents.count(key) == 0 {
+            return 0;
+        }
+        self.entries.dependents(key)
     }
 
     /// Sets `ids` to ids of entries, among them those of all current ones that have the key in their
