@@ -1,9 +1,9 @@
 -- Lists of ids in ascending order.
-use Rattle.std.proofs.Common.{◌≡◌, ℕ, ◌+◌, ◌<◌, ◌≤◌, Bool, true, false, ◌&&◌, ◌||◌, cond, eqb, ltb, suc, List, [], ◌∷◌, map, length, filter, get_or, inl, inr, refl, sym, ap, subst, ◌∙◌, arith, true≢false}
-use Rattle.std.specs.List.{All, AllPairs, count_by}
+use Rattle.std.proofs.Common.{◌≡◌, ℕ, ◌<◌, ◌≤◌, Bool, true, false, ◌&&◌, cond, eqb, ltb, suc, List, [], ◌∷◌, map, length, filter, get_or, inl, inr, refl, sym, ap, ◌∙◌, arith}
+use Rattle.std.specs.List.{All, count_by}
 use Rattle.std.specs.List.Sorted.{IsNonDecreasingBy, IsPermutation}
 use Rattle.std.proofs.Math.ListN.{length-map}
-use Rattle.std.proofs.lemmas.Bool.{cases_Bool, eq-eqb, lt-ltb, ltb-true, ltb-false, or_left, or_right}
+use Rattle.std.proofs.lemmas.Bool.{cases_Bool, eq-eqb, ltb-true, ltb-false, or_left, or_right}
 use Rattle.std.proofs.lemmas.List.{get_or-map}
 use Rattle.std.proofs.lemmas.List.Elements.{All-nil, All-cons, All-head, All-tail, All-weaker}
 use Rattle.std.proofs.lemmas.List.Kept.{AllPairs-filter}
@@ -95,9 +95,10 @@ markable : (es : List EntryState) (ids : List ℕ) (q : QueueState) → InOrder 
 markable es [] q order so space own = tt
 markable es (id ∷ ids) q order so space own =
     let P : ℕ → Type 0 = λ k. is_id es k ≡ true in
-    let here = All-head P id ids own in
-    (has_space es q order so id here space,
-    markable es ids (after_mark q id) order (IsQueueAmong-mark es q id order so space here) (omega (arith, space, capacity-mark q id)) (All-tail P id ids own))
+    let here = All-head P id ids own in (
+      has_space es q order so id here space,
+      markable es ids (after_mark q id) order (IsQueueAmong-mark es q id order so space here) (omega (arith, space, capacity-mark q id)) (All-tail P id ids own),
+    )
 
 -- the dependents may be marked
 pub dependents-markable : (keys : List Key) (es : List EntryState) (q : QueueState) → InOrder es → IsQueueAmong es q → length es ≤ q.capacity → AreMarkable q (dependents keys es)

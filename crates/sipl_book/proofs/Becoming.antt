@@ -1,12 +1,10 @@
 -- The entries that become outdated, and the ids that are kept of them.
 use Rattle.std.proofs.Common.{◌≡◌, ℕ, ◌+◌, ◌<◌, ◌≤◌, Bool, true, false, not, ◌&&◌, ◌||◌, cond, eqb, suc, zero, List, [], ◌∷◌, ◌++◌, map, length, filter, drop, get_or, None, Some, inl, inr, refl, sym, ap, subst, ◌∙◌, arith, true≢false}
-use Rattle.std.specs.List.{All, list_any, count_by}
-use Rattle.std.specs.List.Sorted.{IsNonDecreasingBy, IsPermutation}
-use Rattle.std.proofs.lemmas.Bool.{cases_Bool, eq-eqb, cond-true, cond-false, or_left, or_right, or_cases}
+use Rattle.std.specs.List.{list_any, count_by}
+use Rattle.std.proofs.lemmas.Bool.{cases_Bool, eq-eqb, cond-true, cond-false}
 use Rattle.std.proofs.Math.ListN.{length-map}
 use Rattle.std.proofs.lemmas.List.{at_drop_all, at_drop_more}
 use Rattle.std.proofs.lemmas.List.Sums.{sum_by-cons}
-use Rattle.std.proofs.lemmas.List.Elements.{All-nil, All-cons, All-head, All-tail, All-weaker}
 use Rattle.std.proofs.lemmas.Map.Views.{exact_unsigned_eq}
 use Rattle.sipl_records.specs.declared.record.Key.{Key}
 use Rattle.sipl_evidence.specs.Known.{is_unknown}
@@ -17,7 +15,7 @@ use Rattle.sipl_book.specs.Repairs.{dependents, entry_with}
 use Rattle.sipl_book.proofs.Caches.{InOrder-after_change}
 use Rattle.sipl_book.proofs.Committed.{AllPairs-map}
 use Rattle.sipl_book.proofs.Ids.{InOrder-tail}
-use Rattle.sipl_book.proofs.Indexing.{above_own, after_change-outdated, after_change-same, has-alike, has-map, id-touched, or_false, passes, touched-absent, touched-other, touched-own, touched-same}
+use Rattle.sipl_book.proofs.Indexing.{above_own, after_change-outdated, after_change-same, has-alike, has-map, id-touched, passes, touched-absent, touched-other, touched-own, touched-same}
 
 -- ---- how many are current
 
@@ -62,10 +60,10 @@ touched-count test id key (e ∷ es) order is =
     first false b is = is
 
 pub AreAdded-refl : (es : List EntryState) (ids : List ℕ) → AreAdded es es ids ids
-AreAdded-refl es ids = record { each = λ test. refl; }
+AreAdded-refl es ids = record { each = λ test. refl }
 
 pub AreAdded-trans : (first then last : List EntryState) (old mid new : List ℕ) → AreAdded first then old mid → AreAdded then last mid new → AreAdded first last old new
-AreAdded-trans first then last old mid new a b = record { each = λ test. omega (arith, a.each test, b.each test); }
+AreAdded-trans first then last old mid new a b = record { each = λ test. omega (arith, a.each test, b.each test) }
 
 count-push : (test : ℕ → Bool) (ids : List ℕ) (id : ℕ) → count_by test (ids ++ id ∷ []) ≡ count_by test ids + cond (test id) 1 0
 count-push test [] id = omega (arith, count-cons test id [])
@@ -74,7 +72,7 @@ count-push test (x ∷ ids) id = omega (arith, count-push test ids id, count-con
 pub AreAdded-touched : (id : ℕ) (key : Key) (es : List EntryState) (ids : List ℕ) → InOrder es → has (needs key) es id ≡ true
     → AreAdded es (map (touched id key) es) ids (ids ++ id ∷ [])
 AreAdded-touched id key es ids order is =
-    record { each = λ test. omega (arith, touched-count test id key es order is, count-push test ids id); }
+    record { each = λ test. omega (arith, touched-count test id key es order is, count-push test ids id) }
 
 -- all ids are counted by a test that always passes
 count-all : (ids : List ℕ) → count_by (λ (id : ℕ). true) ids ≡ length ids

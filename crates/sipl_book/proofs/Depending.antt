@@ -1,20 +1,13 @@
 -- Entries whose evidence may have changed keys.
-use Rattle.std.proofs.Common.{◌≡◌, ℕ, suc, ◌+◌, Bool, true, false, not, cond, ltb, List, [], ◌∷◌, map, length, position, None, Some, is_some, refl, sym, subst, ◌∙◌, inl, inr, arith}
-use Rattle.std.specs.List.{IsDistinct, list_any, position_or_len}
-use Rattle.std.specs.Map.{keys_of, values_of}
+use Rattle.std.proofs.Common.{◌≡◌, ℕ, suc, ◌+◌, Bool, true, false, not, cond, ltb, List, [], ◌∷◌, length, position, None, Some, is_some, refl, sym, ◌∙◌, inl, inr, arith}
+use Rattle.std.specs.List.{list_any, position_or_len}
 use Rattle.std.proofs.lemmas.Bool.{cases_Bool, lt-ltb}
 use Rattle.std.proofs.lemmas.Bool.Decides.{nat_tests}
-use Rattle.std.proofs.lemmas.List.Elements.{All-map}
 use Rattle.sipl_records.specs.declared.record.Key.{Key}
 use Rattle.sipl_records.specs.Sets.{same_key}
-use Rattle.sipl_uri.specs.declared.question.Question.{Question}
 use Rattle.sipl_evidence.specs.Items.{Item}
 use Rattle.sipl_evidence.specs.Known.{known, is_unknown}
 use Rattle.sipl_evidence.specs.Places.{place_of}
-use Rattle.sipl_book.specs.Questions.{same_question}
-use Rattle.sipl_book.specs.Entries.{EntryState, after_change}
-use Rattle.sipl_book.specs.EntryTable.{IsTable}
-use Rattle.sipl_book.proofs.Table.{Rows}
 
 -- a list has a place that passes a test exactly where an element does
 place-before : {X : Type 0} (p : X → Bool) (xs : List X) → ltb (position_or_len p xs) (length xs) ≡ list_any p xs

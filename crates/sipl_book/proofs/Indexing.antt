@@ -1,10 +1,10 @@
 -- The index of the entries, after each change of them.
-use Rattle.std.proofs.Common.{◌≡◌, ◌≢◌, ℕ, ◌+◌, ◌<◌, ◌≤◌, Bool, true, false, not, ◌&&◌, ◌||◌, cond, eqb, suc, List, [], ◌∷◌, ◌++◌, map, length, filter, Option, None, Some, is_some, option_map, inl, inr, refl, sym, ap, subst, ◌∙◌, arith, true≢false}
+use Rattle.std.proofs.Common.{◌≡◌, ◌≢◌, ℕ, ◌<◌, ◌≤◌, Bool, true, false, not, ◌&&◌, ◌||◌, cond, eqb, List, [], ◌∷◌, ◌++◌, map, length, filter, Option, None, Some, is_some, option_map, inl, inr, refl, sym, ap, subst, ◌∙◌, arith, true≢false}
 use Rattle.std.specs.List.{All, AllPairs, IsDistinct, list_any}
 use Rattle.std.specs.Cmp.{nat_eq_equiv}
 use Rattle.std.proofs.Math.ListN.{length-map}
-use Rattle.std.proofs.lemmas.Bool.{cases_Bool, cond-true, cond-false, cond_both, eq-eqb, or_left, or_right, or_cases, and_parts, and_from}
-use Rattle.std.proofs.lemmas.List.Elements.{All-head, All-tail, All-weaker}
+use Rattle.std.proofs.lemmas.Bool.{cond-true, cond-false, cond_both, eq-eqb, or_left, or_right, or_cases, and_parts, and_from}
+use Rattle.std.proofs.lemmas.List.Elements.{All-head, All-tail}
 use Rattle.std.proofs.lemmas.Map.Made.{length-le_from_is_member}
 use Rattle.std.proofs.lemmas.Map.Views.{exact_unsigned_eq}
 use Rattle.std.proofs.lemmas.Option.{none-some, same_Some}
@@ -129,9 +129,11 @@ touched-same id key (e ∷ es) order none =
 pub IsIndexOf-touched : (id : ℕ) (key : Key) (es : List EntryState) (pairs new : List Dependent) → IsIndexOf es pairs → has (needs key) es id ≡ true
     → ((code other : ℕ) → depends new code other ≡ (not (eqb id other) && depends pairs code other)) → IsIndexOf (map (touched id key) es) new
 IsIndexOf-touched id key es pairs new so is clause =
-    record { same = λ code other.
-        clause code other ∙ ap (λ b. not (eqb id other) && b) (so.same code other) ∙ by code other (eqb id other) refl
-        ∙ sym (has-map (touched id key) (id-touched id key) (needs_code code) es other); }
+    record {
+      same = λ code other.
+          clause code other ∙ ap (λ b. not (eqb id other) && b) (so.same code other) ∙ by code other (eqb id other) refl
+          ∙ sym (has-map (touched id key) (id-touched id key) (needs_code code) es other);
+    }
   where
     by : (code other : ℕ) (b : Bool) → eqb id other ≡ b → (not b && has (needs_code code) es other) ≡ has (λ e. needs_code code (touched id key e)) es other
     by code other true same =
@@ -167,11 +169,13 @@ pub IsIndexOf-renewed : (found : Found) (es : List EntryState) (own : EntryState
     → ((code other : ℕ) → depends new code other ≡ ((eqb own.id other && has_code found.items code) || (not (eqb own.id other) && depends pairs code other)))
     → IsIndexOf (map (renewed found) es) new
 IsIndexOf-renewed found es own pairs new order apart is so clause =
-    record { same = λ code other.
-        clause code other
-        ∙ ap (λ b. (eqb own.id other && has_code found.items code) || (not (eqb own.id other) && b)) (so.same code other)
-        ∙ by code other (eqb own.id other) refl
-        ∙ sym (has-map (renewed found) (id-renewed found) (needs_code code) es other); }
+    record {
+      same = λ code other.
+          clause code other
+          ∙ ap (λ b. (eqb own.id other && has_code found.items code) || (not (eqb own.id other) && b)) (so.same code other)
+          ∙ by code other (eqb own.id other) refl
+          ∙ sym (has-map (renewed found) (id-renewed found) (needs_code code) es other);
+    }
   where
     by : (code other : ℕ) (b : Bool) → eqb own.id other ≡ b
         → ((b && has_code found.items code) || (not b && has (needs_code code) es other)) ≡ has (λ e. needs_code code (renewed found e)) es other
@@ -204,9 +208,11 @@ pub IsIndexOf-added : (found : Found) (number : ℕ) (es : List EntryState) (pai
     → ((code other : ℕ) → depends new code other ≡ ((eqb number other && has_code found.items code) || depends pairs code other))
     → IsIndexOf (es ++ current number found ∷ []) new
 IsIndexOf-added found number es pairs new below so clause =
-    record { same = λ code other.
-        clause code other ∙ ap (λ b. (eqb number other && has_code found.items code) || b) (so.same code other)
-        ∙ sym (has-added (needs_code code) es (current number found) other below); }
+    record {
+      same = λ code other.
+          clause code other ∙ ap (λ b. (eqb number other && has_code found.items code) || b) (so.same code other)
+          ∙ sym (has-added (needs_code code) es (current number found) other below);
+    }
 
 -- pairs that were added and removed again
 pub IsIndexOf-unchanged : (found : Found) (number : ℕ) (es : List EntryState) (pairs more new : List Dependent) → All (λ e. e.id < number) es → IsIndexOf es pairs
@@ -214,8 +220,10 @@ pub IsIndexOf-unchanged : (found : Found) (number : ℕ) (es : List EntryState) 
     → ((code other : ℕ) → depends new code other ≡ (not (eqb number other) && depends more code other))
     → IsIndexOf es new
 IsIndexOf-unchanged found number es pairs more new below so clause gone =
-    record { same = λ code other.
-        gone code other ∙ ap (λ b. not (eqb number other) && b) (clause code other) ∙ by code other (eqb number other) refl ∙ so.same code other; }
+    record {
+      same = λ code other.
+          gone code other ∙ ap (λ b. not (eqb number other) && b) (clause code other) ∙ by code other (eqb number other) refl ∙ so.same code other;
+    }
   where
     by : (code other : ℕ) (b : Bool) → eqb number other ≡ b → (not b && ((b && has_code found.items code) || depends pairs code other)) ≡ depends pairs code other
     by code other true same =
@@ -258,9 +266,11 @@ pub IsIndexOf-removed : (q : Question) (es : List EntryState) (own : EntryState)
     → AllPairs (λ a b. a.found.question ≢ b.found.question) es → entry_of es q ≡ Some own → IsIndexOf es pairs
     → ((code other : ℕ) → depends new code other ≡ (not (eqb own.id other) && depends pairs code other)) → IsIndexOf (without q es) new
 IsIndexOf-removed q es own pairs new order apart is so clause =
-    record { same = λ code other.
-        clause code other ∙ ap (λ b. not (eqb own.id other) && b) (so.same code other)
-        ∙ sym (has-without (needs_code code) q es own.id other (own_ids q es own apart is) (other_ids q es own order is)); }
+    record {
+      same = λ code other.
+          clause code other ∙ ap (λ b. not (eqb own.id other) && b) (so.same code other)
+          ∙ sym (has-without (needs_code code) q es own.id other (own_ids q es own apart is) (other_ids q es own order is));
+    }
 
 -- ---- the ids of a code
 

@@ -1,5 +1,5 @@
 -- How many ids are leased after each call.
-use Rattle.std.proofs.Common.{◌≡◌, ℕ, ◌+◌, ◌<◌, ◌≤◌, true, ◌∷◌, [], ◌++◌, List, refl, sym, ap, ◌∙◌, arith}
+use Rattle.std.proofs.Common.{◌≡◌, ℕ, ◌+◌, ◌<◌, ◌≤◌, true, ◌∷◌, [], ◌++◌, List, refl, ◌∙◌, arith}
 use Rattle.std.specs.FinSet as set
 use Rattle.std.proofs.lemmas.Bool.{cond_both}
 use Rattle.sipl_repair.specs.QueueState.{QueueState, is_held, is_leased, after_lease, after_mark, with_first_leased, after_settle, after_requeue, after_give_back, after_forget}

@@ -1,5 +1,5 @@
 -- The entries of a book with the index of the current ones.
-use Rattle.std.specs.Prelude.{◌≡◌, ℕ, ◌+◌, Bool, false, ◌&&◌, ◌==◌, if◌then◌else◌, List, [], ◌∷◌, Option, Some, None}
+use Rattle.std.specs.Prelude.{◌≡◌, ℕ, ◌+◌, Bool, false, ◌&&◌, ◌==◌, if◌then◌else◌, List, [], ◌∷◌, Some, None}
 use Rattle.std.specs.List.{count_by}
 use Rattle.sipl_records.specs.declared.record.Key.{Key}
 use Rattle.sipl_evidence.specs.Dependents.{Dependent, depends, has_code}

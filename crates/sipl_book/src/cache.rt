@@ -114,7 +114,12 @@ impl Cache {
         } }
     {
         self.ids.clear();
-        outdate_dependents(&mut self.entries, changed, &mut self.candidates, &mut self.ids);
+        outdate_dependents(
+            &mut self.entries,
+            changed,
+            &mut self.candidates,
+            &mut self.ids,
+        );
         self.ids.sort_unstable();
         mark_all(&mut self.queue, self.ids.as_slice());
     }

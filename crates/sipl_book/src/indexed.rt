@@ -57,7 +57,9 @@ impl Indexed {
         ensures room { self.old.room ≤ self.new.room }
         ensures ok { OnOk result (leases * 1156 + pairs ≤ self.new.room) }
     {
-        let room = leases.checked_mul(MAX_SETS).and_then(|room| room.checked_add(pairs));
+        let room = leases
+            .checked_mul(MAX_SETS)
+            .and_then(|room| room.checked_add(pairs));
         match room {
             Some(room) => self.dependents.reserve(room),
             None => Err(AllocError),

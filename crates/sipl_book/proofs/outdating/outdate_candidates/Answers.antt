@@ -1,7 +1,7 @@
-use Rattle.std.proofs.Common.{◌≡◌, ℕ, ◌+◌, ◌≤◌, true, List, map, get_or, refl, sym, ap, subst, ◌∙◌, arith}
+use Rattle.std.proofs.Common.{ℕ, ◌+◌, List, get_or, refl, sym, ap, subst, ◌∙◌, arith}
 use Rattle.std.specs.Prelude.{vec_capacity}
 use Rattle.sipl_book.specs.Entries.{EntryState}
-use Rattle.sipl_book.specs.Indexed.{IndexedState, has, needs}
+use Rattle.sipl_book.specs.Indexed.{IndexedState}
 use Rattle.sipl_book.proofs.Becoming.{AreAdded-refl, AreTouched, AreTouched-yes, AreTouched-no, added-length, any_default, some_current, touched-all}
 use Rattle.sipl_book.proofs.outdating.outdate_candidates.Goals as goal
 use Rattle.sipl_book.proofs.outdating.outdate_candidates.Goals.{then-outdate, else-outdate}
@@ -33,17 +33,19 @@ loop-id-preserved c =
     let room = ap (λ (s : IndexedState). s.room) c.outdate.ensures.after ∙ c.loop-id.invariant.1 in
     elim c.if-outdate.branch [
       | then-outdate w ↦ (
-          subst (λ (p : List EntryState × List ℕ). AreTouched candidates key first old (i + 1) p.0 p.1)
-          (λ j. (sym after j, sym (ap (λ v. v.items) w.ids-is ∙ w.push_reserved.ensures.items) j))
-          (AreTouched-yes candidates key first old i es ids id c.loop-id-test.true at so (sym c.outdate.ensures.needs ∙ w.if-outdate.true)),
-          room,
-          ap (λ v. vec_capacity v) w.ids-is ∙ w.push_reserved.ensures.capacity ∙ c.loop-id.invariant.2)
+        subst (λ (p : List EntryState × List ℕ). AreTouched candidates key first old (i + 1) p.0 p.1)
+            (λ j. (sym after j, sym (ap (λ v. v.items) w.ids-is ∙ w.push_reserved.ensures.items) j))
+            (AreTouched-yes candidates key first old i es ids id c.loop-id-test.true at so (sym c.outdate.ensures.needs ∙ w.if-outdate.true)),
+        room,
+        ap (λ v. vec_capacity v) w.ids-is ∙ w.push_reserved.ensures.capacity ∙ c.loop-id.invariant.2,
+      )
       | else-outdate w ↦ (
-          subst (λ (p : List EntryState × List ℕ). AreTouched candidates key first old (i + 1) p.0 p.1)
-          (λ j. (sym after j, sym (ap (λ v. v.items) w.ids-is) j))
-          (AreTouched-no candidates key first old i es ids id c.loop-id-test.true at so (sym c.outdate.ensures.needs ∙ w.if-outdate.false)),
-          room,
-          ap (λ v. vec_capacity v) w.ids-is ∙ c.loop-id.invariant.2)
+        subst (λ (p : List EntryState × List ℕ). AreTouched candidates key first old (i + 1) p.0 p.1)
+            (λ j. (sym after j, sym (ap (λ v. v.items) w.ids-is) j))
+            (AreTouched-no candidates key first old i es ids id c.loop-id-test.true at so (sym c.outdate.ensures.needs ∙ w.if-outdate.false)),
+        room,
+        ap (λ v. vec_capacity v) w.ids-is ∙ c.loop-id.invariant.2,
+      )
     ]
 
 pub returns-clause-after : goal.returns-clause-after

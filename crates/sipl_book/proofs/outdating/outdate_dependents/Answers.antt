@@ -1,5 +1,4 @@
-use Rattle.std.proofs.Common.{◌≡◌, ℕ, ◌+◌, ◌≤◌, true, List, map, refl, sym, ap, subst, ◌∙◌, arith}
-use Rattle.sipl_book.specs.Entries.{EntryState}
+use Rattle.std.proofs.Common.{refl, ap, ◌∙◌, arith}
 use Rattle.sipl_book.specs.Indexed.{IndexedState}
 use Rattle.sipl_book.proofs.Becoming.{AreAdded-refl, AreChanged-more, added-length, changed-all}
 use Rattle.sipl_book.proofs.outdating.outdate_dependents.Goals as goal
@@ -16,13 +15,14 @@ outdate_candidates-requires-clause-space c =
 pub loop-key-preserved : goal.loop-key-preserved
 loop-key-preserved c =
     let i = c.loop-key.key-index in
-    let after = c.outdate_candidates.ensures.after in
-    (AreChanged-more c.args.keys.now c.args.entries.now.entries c.args.ids.now.items i c.loop-key.entries.entries c.outdate_candidates.new.entries.entries
-    c.loop-key.ids.items c.outdate_candidates.new.ids.items c.key-item.result c.loop-key-test.true c.key-item.is c.loop-key.invariant.0
-    (ap (λ (s : IndexedState). s.entries) after) c.outdate_candidates.ensures.added,
-    ap (λ (s : IndexedState). s.room) after ∙ c.loop-key.invariant.1,
-    c.write_candidates.ensures.capacity ∙ c.loop-key.invariant.2,
-    c.outdate_candidates.ensures.capacity ∙ c.loop-key.invariant.3)
+    let after = c.outdate_candidates.ensures.after in (
+      AreChanged-more c.args.keys.now c.args.entries.now.entries c.args.ids.now.items i c.loop-key.entries.entries c.outdate_candidates.new.entries.entries
+          c.loop-key.ids.items c.outdate_candidates.new.ids.items c.key-item.result c.loop-key-test.true c.key-item.is c.loop-key.invariant.0
+          (ap (λ (s : IndexedState). s.entries) after) c.outdate_candidates.ensures.added,
+      ap (λ (s : IndexedState). s.room) after ∙ c.loop-key.invariant.1,
+      c.write_candidates.ensures.capacity ∙ c.loop-key.invariant.2,
+      c.outdate_candidates.ensures.capacity ∙ c.loop-key.invariant.3,
+    )
 
 pub returns-clause-after : goal.returns-clause-after
 returns-clause-after c =

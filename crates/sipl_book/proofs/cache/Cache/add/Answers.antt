@@ -4,7 +4,6 @@ use Rattle.sipl_book.specs.Cache.{IsCache}
 use Rattle.sipl_book.specs.Entries.{EntryState}
 use Rattle.sipl_book.proofs.Caches.{IsCache-reserve, IsCache-added}
 use Rattle.sipl_book.proofs.Committed.{current}
-use Rattle.sipl_book.proofs.Leases.{leased_count}
 use Rattle.sipl_book.proofs.cache.Cache.add.Goals as goal
 
 pub invariant_of-self-2 : goal.invariant_of-self-2
@@ -32,9 +31,10 @@ invariant_of-self-2 c =
         → OnOk r (c.add.new.self.entries ≡ c.reserve-2.new.self.entries ++ current c.args.number c.args.finding ∷ []) → OnErr r (c.add.new.self.entries ≡ c.reserve-2.new.self.entries)
         → IsCache c.add.new.self.entries c.reserve.new.self × (length c.add.new.self.entries ≤ length c.self.inside.entries.entries + 1)
     by so space (Ok u) is _ =
-        let new = is ∙ ap (λ (xs : List EntryState). xs ++ current c.args.number c.args.finding ∷ []) kept in
-        (subst (λ (es : List EntryState). IsCache es c.reserve.new.self) (sym new) (IsCache-added c.args.finding c.args.number c.self.inside.entries.entries c.reserve.new.self so space),
-        omega (arith, ap (λ (xs : List EntryState). length xs) new, length-append c.self.inside.entries.entries (current c.args.number c.args.finding ∷ [])))
+        let new = is ∙ ap (λ (xs : List EntryState). xs ++ current c.args.number c.args.finding ∷ []) kept in (
+          subst (λ (es : List EntryState). IsCache es c.reserve.new.self) (sym new) (IsCache-added c.args.finding c.args.number c.self.inside.entries.entries c.reserve.new.self so space),
+          omega (arith, ap (λ (xs : List EntryState). length xs) new, length-append c.self.inside.entries.entries (current c.args.number c.args.finding ∷ [])),
+        )
     by so space (Err e) _ is =
         let new = is ∙ kept in
         (subst (λ (es : List EntryState). IsCache es c.reserve.new.self) (sym new) so, omega (arith, ap (λ (xs : List EntryState). length xs) new))

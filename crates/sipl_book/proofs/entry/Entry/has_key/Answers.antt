@@ -1,4 +1,4 @@
-use Rattle.std.proofs.Common.{◌≡◌, is_some, not, sym, ap, ◌∙◌}
+use Rattle.std.proofs.Common.{is_some, not, sym, ap, ◌∙◌}
 use Rattle.sipl_evidence.specs.Known.{is_unknown}
 use Rattle.sipl_evidence.specs.Places.{place_of}
 use Rattle.sipl_book.specs.Entries.{EntryState}

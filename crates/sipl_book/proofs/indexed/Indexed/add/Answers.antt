@@ -1,4 +1,4 @@
-use Rattle.std.proofs.Common.{◌≡◌, ◌<◌, ◌&&◌, ◌||◌, ◌++◌, ◌∷◌, [], true, false, eqb, List, Result, Ok, Err, OnOk, OnErr, is_err, refl, sym, ap, subst, ◌∙◌, true≢false}
+use Rattle.std.proofs.Common.{◌≡◌, ◌<◌, ◌&&◌, ◌||◌, ◌++◌, ◌∷◌, [], true, false, eqb, List, Result, Ok, Err, OnOk, OnErr, is_err, sym, subst, ◌∙◌, true≢false}
 use Rattle.std.specs.List.{All}
 use Rattle.sipl_evidence.specs.Dependents.{depends, has_code}
 use Rattle.sipl_book.specs.Entries.{EntryState}

@@ -1,7 +1,7 @@
-use Rattle.std.proofs.Common.{◌≡◌, true, false, List, map, sym, ap, subst, ◌∙◌}
+use Rattle.std.proofs.Common.{List, sym, subst, ◌∙◌}
 use Rattle.sipl_book.specs.Cache.{InOrder}
 use Rattle.sipl_book.specs.Entries.{EntryState}
-use Rattle.sipl_book.specs.Indexed.{IndexedState, IsIndexOf, has, needs, touched}
+use Rattle.sipl_book.specs.Indexed.{IndexedState, IsIndexOf}
 use Rattle.sipl_book.proofs.Indexing.{IsIndexOf-touched, touched-same}
 use Rattle.sipl_book.proofs.indexed.Indexed.outdate.Goals as goal
 

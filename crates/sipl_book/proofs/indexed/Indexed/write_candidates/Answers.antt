@@ -1,7 +1,6 @@
-use Rattle.std.proofs.Common.{◌≡◌, ℕ, ◌≤◌, true, eqb, List, [], ◌++◌, length, sym, ap, subst, ◌∙◌, arith}
+use Rattle.std.proofs.Common.{◌≡◌, ℕ, eqb, List, ◌++◌, length, ap, ◌∙◌, arith}
 use Rattle.std.specs.List.{list_any}
-use Rattle.sipl_evidence.specs.Dependents.{code_of_key, depends, ids_of}
-use Rattle.sipl_book.specs.Entries.{EntryState}
+use Rattle.sipl_evidence.specs.Dependents.{code_of_key}
 use Rattle.sipl_book.specs.Indexed.{IndexedState, has, needs}
 use Rattle.sipl_book.proofs.Indexing.{candidate, few_ids, no_candidate}
 use Rattle.sipl_book.proofs.indexed.Indexed.write_candidates.Goals as goal
