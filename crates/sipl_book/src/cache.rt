@@ -23,13 +23,15 @@ use std::marker::Model;
 /// for the ids of as many entries as there may be.
 ///
 /// The queued and the leased ids are those of entries, and each outdated entry is queued or leased.
+/// For each lease the index of the entries has room for the pairs of a finding, so a settlement does
+/// not allocate; nor does an edit, whose ids find space in two vectors.
 #[derive(Drop)]
 pub(crate) struct Cache {
     alloc: Global,
     entries: Indexed,
     queue: Queue,
     max_entries: usize,
-    // For the ids of an edit.
+    // Scratch for an edit: the ids of one key, and those of the entries that became outdated.
     candidates: Vec<u64>,
     ids: Vec<u64>,
 }
@@ -125,9 +127,9 @@ impl Cache {
     }
 
     /// Makes a finding the current one of its question, whose entry is not queued then: of the
-    /// question's entry, or else of a new entry with this number, unless there are as many as may
-    /// be. Constant time but for hashing. The only error is an allocation failure: the finding is
-    /// returned, and nothing changes.
+    /// question's entry, or else of a new entry with this number, which is after those of all
+    /// entries, unless there are as many as may be. Linear in the evidence. The only error is an
+    /// allocation failure: the finding is returned, and nothing changes.
     pub(crate) fn commit(&mut self, finding: Finding, number: u64) -> Result<(), Finding>
         requires order { InOrder self.old.entries }
         requires last { All (λ e. e.id < number) self.old.entries }
@@ -180,8 +182,9 @@ impl Cache {
         self.entries.add(finding, number)
     }
 
-    /// Leases the first queued entry, and copies its question. Logarithmic in the number of entries.
-    /// Q1 where none is queued, or else an allocation failure; then nothing changes.
+    /// Leases the first queued entry, makes room in the index for its settlement, and copies its
+    /// question. Logarithmic in the number of entries. Q1 where none is queued, or else an allocation
+    /// failure; then nothing changes.
     pub(crate) fn lease(&mut self) -> Result<(Lease, Question), BookFault>
         requires order { InOrder self.old.entries }
         ensures id { IfOk result (λ leased. first_of self.old.queue.queued ≡ Ok leased.0) }
@@ -242,8 +245,8 @@ impl Cache {
         }
     }
 
-    /// Spends the lease of the question's entry, which gets the finding and is current. Constant
-    /// time but for hashing. Does not allocate.
+    /// Spends the lease of the question's entry, which gets the finding and is current. Linear in
+    /// the evidence. Does not allocate.
     pub(crate) fn settle(&mut self, lease: Lease, finding: Finding)
         requires order { InOrder self.old.entries }
         requires leased { IsTrue (is_leased_for self.old.entries self.old.queue lease finding.question) }
