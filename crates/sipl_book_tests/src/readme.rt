@@ -8,21 +8,20 @@ use sipl_srv::Draws;
 use sipl_uri::Uri;
 use std::alloc::Global;
 
-// Loads a zone, and adds a record to it.
-fn load(alloc: Global, book: &mut Book) -> anyhow::Result<()> {
+// Loads a zone, adds a record to it, and finds the targets of a URI.
+fn find(alloc: Global, book: &mut Book, uri: &[u8]) -> anyhow::Result<Answer> {
     let apex = Name::from_text(alloc, b"example.com.", &Name::root(alloc))?;
     let zone = read_zone(alloc, b"$TTL 1h\nserver1 A 192.0.2.1", &apex)?;
     book.change(Edit::Load(zone))?;
     book.change(Edit::Add(read_record(alloc, b"server1 A 192.0.2.2", &apex)?))?;
-    Ok(())
+    let handed = book.find(Uri::parse(alloc, uri)?, &Draws::from_seed(42))?;
+    Ok(handed.answer)
 }
 
 fn targets(alloc: Global, uri: &[u8]) -> anyhow::Result<Answer> {
     let abilities = Abilities::new(vec![in alloc; Transport::Udp]?, Families::V4)?;
     let mut book = Book::new(alloc, abilities, &Limits::greatest());
-    load(alloc, &mut book)?;
-    let handed = book.find(Uri::parse(alloc, uri)?, &Draws::from_seed(42))?;
-    Ok(handed.answer)
+    find(alloc, &mut book, uri)
 }
 
 #[test]
