@@ -268,7 +268,8 @@ impl Book {
     }
 
     /// Leases the first queued entry: its question is to be looked up again, and the finding to be
-    /// settled with the lease. The question is a copy. Logarithmic in the number of entries.
+    /// settled with the lease. The question is a copy. Makes room for the settlement, which takes no
+    /// memory. Logarithmic in the number of entries.
     ///
     /// The fault is that none is queued (Q1), or a failed allocation; then nothing changes.
     pub fn lease(&mut self) -> Result<(Lease, Question), BookFault>
@@ -396,7 +397,8 @@ impl Book {
         self.cache.get(question)
     }
 
-    /// How many current entries have the key's set in their evidence. Does not allocate.
+    /// How many current entries have the key's set in their evidence. Does not allocate. Linear in the
+    /// number of entries, unless none has a key of its code.
     pub fn dependents(&self, key: &Key) -> u64
         ensures { result
             ≡ count_by (λ e. e.is_current && depends_on (key.now ∷ []) e) self.now.entries }
