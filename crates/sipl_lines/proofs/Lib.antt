@@ -10,3 +10,5 @@ pub mod Words
 pub mod InOrder
 pub mod Listening
 pub mod Rows
+pub mod Seen
+pub mod Plain

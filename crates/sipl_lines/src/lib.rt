@@ -2,6 +2,7 @@
 //! the settings of the program.
 #![tactic(auto)]
 
+mod book;
 mod check;
 mod command;
 mod desk;
@@ -15,6 +16,7 @@ mod session;
 mod settings;
 mod tapped;
 
+pub use book::serve_book;
 pub use check::check_zone;
 pub use command::{MAX_LINE_LEN, MAX_ZONE_LINES};
 pub use desk::Desk;

@@ -2,7 +2,7 @@
 ghost use Rattle.sipl_lines.specs.Settings.{IsWithinLimits};
 
 use sipl_book::{Book, Limits};
-use sipl_lines::{Ended, ServeFault, Settings, SettingsFault, Tapped, check_zone, serve};
+use sipl_lines::{Ended, ServeFault, Settings, SettingsFault, Tapped, check_zone, serve_book};
 use sipl_names::{Name, NameFault};
 use std::alloc::Global;
 use std::io::{ErrorKind, Input};
@@ -138,10 +138,10 @@ fn serve_streams<R: Input + Print + AllocGlobal>(
         holds: settings.holds,
         next: 1,
     };
-    let mut desk = Book::new(alloc, settings.abilities, &limits);
+    let mut book = Book::new(alloc, settings.abilities, &limits);
     let mut reader = Tapped::new(rt.reader());
     let mut writer = Tapped::new(io::writer(rt));
-    serve(alloc, &mut reader, &mut writer, &mut desk)
+    serve_book(alloc, &mut reader, &mut writer, &mut book)
 }
 
 // Checks the zone on standard input, and reports on standard output. Returns whether it is a zone.

@@ -1,0 +1,302 @@
+-- A session at a desk whose states are seen as those of another desk: where each rule of the one
+-- implies that of the other, the same text is that of a session at the other.
+use Rattle.std.proofs.Common.{◌≡◌, ◌⊎◌, ℕ, List, [], ◌∷◌, Bool, true, false, Option, None, Some, Result, Ok, Err, OnOk, OnErr, ◌==◌, ◌++◌, ap, inl, inr, codes}
+use Rattle.std.specs.Bool.{OnTrue, OnFalse}
+use Rattle.sipl_names.specs.Labels.{Octets, Labels}
+use Rattle.sipl_names.specs.NameText.{name_of}
+use Rattle.sipl_names.specs.declared.fault.InvalidName.{InvalidName}
+use Rattle.sipl_records.specs.Addresses.{address_of}
+use Rattle.sipl_records.specs.declared.address.Address.{Address}
+use Rattle.sipl_records.specs.declared.record.Record.{Record}
+use Rattle.sipl_masterfile.specs.Zones.{Zone, zone_of}
+use Rattle.sipl_masterfile.specs.RecordText.{record_of}
+use Rattle.sipl_masterfile.specs.declared.fault.ZoneFault.{ZoneFault}
+use Rattle.sipl_choice.specs.declared.transport.Transport.{Transport}
+use Rattle.sipl_srv.specs.declared.fault.DrawsFault.{DrawsFault}
+use Rattle.sipl_uri.specs.Uris.{question_of}
+use Rattle.sipl_uri.specs.declared.fault.UriFault.{UriFault}
+use Rattle.sipl_uri.specs.declared.question.Question.{Question}
+use Rattle.sipl_evidence.specs.Items.{Item as Evidence}
+use Rattle.sipl_outages.specs.Holds.{BoardEvent}
+use Rattle.sipl_outages.specs.Holds.BoardEvent.{Hold, Release, Advance}
+use Rattle.sipl_book.specs.declared.edit.Edit.{Edit}
+use Rattle.sipl_book.specs.declared.edit.Edit.TheVariants.{Load, Unload}
+use Rattle.sipl_book.specs.declared.fault.BookFault.{BookFault}
+use Rattle.sipl_book.specs.declared.outcome.Done.{Done}
+use Rattle.sipl_book.specs.declared.outcome.Handed.{Handed}
+use Rattle.sipl_lines.specs.declared.desk_commands.RecordEdit.{RecordEdit}
+use Rattle.sipl_lines.specs.declared.desk_commands.RecordEdit.TheVariants.{Add as AddRecord, Remove as RemoveRecord}
+use Rattle.sipl_lines.specs.declared.gather.Gathered.{Gathered}
+use Rattle.sipl_lines.specs.declared.gather.Gathered.TheVariants.{Lines, BadApex, LongLine, Lost}
+use Rattle.sipl_lines.specs.declared.gather.Gathering.{Gathering}
+use Rattle.sipl_lines.specs.declared.server.Ended.{Ended}
+use Rattle.sipl_lines.specs.declared.server.ServeFault.{ServeFault}
+use Rattle.sipl_lines.specs.declared.server.ServeFault.TheVariants.{Read, Write, TooManyTurns, Memory}
+use Rattle.sipl_lines.specs.declared.tapped.Tapped.{Tapped}
+use Rattle.sipl_lines.specs.Tapped.{tapped_inner}
+use Rattle.sipl_lines.specs.Commands.{Keeps, Loads, Unloads, EditsRecord, record_edit, AnswersUri, ListsUri, Repairs, MovesTo, Holds, Releases, SetsClock}
+use Rattle.sipl_lines.specs.Desk.{DeskRules}
+use Rattle.sipl_lines.specs.Gathering.{gathering_of, after_line, at_end, lost}
+use Rattle.sipl_lines.specs.Items.{Item, line, end_of_input, items_of, complete_items}
+use Rattle.sipl_lines.specs.Replies.{Serves}
+use Rattle.sipl_lines.specs.ReplyText.{counts_line}
+use Rattle.sipl_lines.specs.Requests.{Request, nothing, unknown, too_long, zone, drop, add, del, find, deps, repair, hold, release, clock, quit, request_of}
+use Rattle.sipl_lines.specs.Serving.{ServesWithin, ServesDesk}
+use Rattle.sipl_lines.specs.ServeFault.{OnReadFault, OnTooManyTurns}
+use Rattle.sipl_lines.specs.Session.{SessionState, with_gathering, AtDesk, Commands, Gathers, GathersOrLoses, LoadsGathered, MayReply, Obeys, TakesEnd, TakesItem, TakesLine, new_session, session_protocol}
+use Rattle.sipl_lines.specs.Streams.{ServesAll, ServesFirst, ServesPrefix, ServesRead}
+
+-- each rule of a desk implies that of another, where the states are seen so
+pub record Implies {D E : Type 0} (seen : D → E) (R : DeskRules D) (R' : DeskRules E) : Type 0 where
+  pub finds : (question : Question) (words : List ℕ) (before : D) (outcome : Result Handed BookFault) (after : D)
+      → R.Finds question words before outcome after → R'.Finds question words (seen before) outcome (seen after)
+  pub changes : (edit : Edit) (before : D) (outcome : Result Done BookFault) (after : D)
+      → R.Changes edit before outcome after → R'.Changes edit (seen before) outcome (seen after)
+  pub moves : (event : BoardEvent) (before : D) (outcome : Result ℕ BookFault) (after : D)
+      → R.Moves event before outcome after → R'.Moves event (seen before) outcome (seen after)
+  pub depends : (question : Question) (before : D) (outcome : Result (List Evidence) BookFault) (after : D)
+      → R.Depends question before outcome after → R'.Depends question (seen before) outcome (seen after)
+  pub repairs : (before : D) (outcome : Result (Unit {0}) BookFault) (after : D)
+      → R.Repairs before outcome after → R'.Repairs (seen before) outcome (seen after)
+
+-- what is done in a state, with this text, is done in the state that is seen
+abbrev Carries : {D E : Type 0} → (D → E) → (D → Octets → D → Type 0) → (E → Octets → E → Type 0) → Type 0
+Carries {D} seen Acts Acts' = (before : D) (text : Octets) (after : D) → Acts before text after → Acts' (seen before) text (seen after)
+
+-- this reply, and nothing else
+keeps : {D E : Type 0} (seen : D → E) (reply : Octets) → Carries seen (Keeps reply) (Keeps reply)
+keeps seen reply before text after kept = (kept.0, ap seen kept.1)
+
+-- the session's state with its desk as it is seen; all else is the same
+abbrev session_seen : {D E : Type 0} → (D → E) → SessionState D → SessionState E
+session_seen seen state = record { desk = seen state.desk; gathering = state.gathering; ended = state.ended }
+
+on_desk : {D E : Type 0} (seen : D → E) (Acts : D → Octets → D → Type 0) (Acts' : E → Octets → E → Type 0) → Carries seen Acts Acts'
+    → Carries (session_seen seen) (AtDesk Acts) (AtDesk Acts')
+on_desk seen Acts Acts' carries before text after done = (carries before.desk text after.desk done.0, ap (session_seen seen) done.1)
+
+commands : {D E : Type 0} (seen : D → E) (Acts : D → Octets → D → Type 0) (Acts' : E → Octets → E → Type 0) → Carries seen Acts Acts'
+    → Carries (session_seen seen) (Commands Acts) (Commands Acts')
+commands seen Acts Acts' carries before text after (inl done) = inl (on_desk seen Acts Acts' carries before text after done)
+commands seen Acts Acts' carries before text after (inr fails) = inr (fails.0, ap (session_seen seen) fails.1)
+
+-- ---- facts of a case
+
+on_true : {P Q : Type 0} (b : Bool) → (P → Q) → OnTrue b P → OnTrue b Q
+on_true true weaker fact = weaker fact
+on_true false weaker fact = tt
+
+on_false : {P Q : Type 0} (b : Bool) → (P → Q) → OnFalse b P → OnFalse b Q
+on_false true weaker fact = tt
+on_false false weaker fact = weaker fact
+
+pub on_ok : {T X P Q : Type 0} (r : Result T X) → (P → Q) → OnOk r P → OnOk r Q
+on_ok (Ok value) weaker fact = weaker fact
+on_ok (Err e) weaker fact = tt
+
+pub on_err : {T X P Q : Type 0} (r : Result T X) → (P → Q) → OnErr r P → OnErr r Q
+on_err (Ok value) weaker fact = tt
+on_err (Err e) weaker fact = weaker fact
+
+on_read_fault : {T P Q : Type 0} (r : Result T ServeFault) → (P → Q) → OnReadFault r P → OnReadFault r Q
+on_read_fault (Ok value) weaker fact = tt
+on_read_fault (Err Read) weaker fact = weaker fact
+on_read_fault (Err Write) weaker fact = tt
+on_read_fault (Err TooManyTurns) weaker fact = tt
+on_read_fault (Err Memory) weaker fact = tt
+
+on_too_many_turns : {T P Q : Type 0} (r : Result T ServeFault) → (P → Q) → OnTooManyTurns r P → OnTooManyTurns r Q
+on_too_many_turns (Ok value) weaker fact = tt
+on_too_many_turns (Err Read) weaker fact = tt
+on_too_many_turns (Err Write) weaker fact = tt
+on_too_many_turns (Err TooManyTurns) weaker fact = weaker fact
+on_too_many_turns (Err Memory) weaker fact = tt
+
+module _ {D E : Type 0} (seen : D → E) (R : DeskRules D) (R' : DeskRules E) (implies : Implies seen R R') where
+
+  -- ---- what a command asks of the desk
+
+  loads : (read : Result Zone ZoneFault) → Carries seen (Loads R read) (Loads R' read)
+  loads (Err fault) before text after kept = (kept.0, ap seen kept.1)
+  loads (Ok loaded) before text after done = (done.0, implies.changes (Load loaded) before done.0 after done.1, done.2)
+
+  unloads : (name : Result Labels InvalidName) → Carries seen (Unloads R name) (Unloads R' name)
+  unloads (Err fault) before text after kept = (kept.0, ap seen kept.1)
+  unloads (Ok apex) before text after done = (done.0, implies.changes (Unload apex) before done.0 after done.1, done.2)
+
+  edits_record : (kind : RecordEdit) (r : Result Record ZoneFault) → Carries seen (EditsRecord R kind r) (EditsRecord R' kind r)
+  edits_record kind (Err fault) before text after kept = (kept.0, ap seen kept.1)
+  edits_record kind (Ok r) before text after done = (done.0, implies.changes (record_edit kind r) before done.0 after done.1, done.2)
+
+  answers_uri : (asked : Result Question UriFault) (draws : Result (List ℕ) DrawsFault) → Carries seen (AnswersUri R asked draws) (AnswersUri R' asked draws)
+  answers_uri (Err fault) draws before text after kept = (kept.0, ap seen kept.1)
+  answers_uri (Ok question) (Err fault) before text after kept = (kept.0, ap seen kept.1)
+  answers_uri (Ok question) (Ok words) before text after (inl done) = inl (done.0, implies.finds question words before done.0 after done.1, done.2)
+  answers_uri (Ok question) (Ok words) before text after (inr done) = inr (done.0, implies.finds question words before done.0 after done.1, done.2)
+
+  lists_uri : (asked : Result Question UriFault) → Carries seen (ListsUri R asked) (ListsUri R' asked)
+  lists_uri (Err fault) before text after kept = (kept.0, ap seen kept.1)
+  lists_uri (Ok question) before text after (inl done) = inl (done.0, implies.depends question before done.0 after done.1, done.2)
+  lists_uri (Ok question) before text after (inr done) = inr (done.0, implies.depends question before done.0 after done.1, done.2)
+
+  repairs : Carries seen (Repairs R) (Repairs R')
+  repairs before text after done = (done.0, implies.repairs before done.0 after done.1, done.2)
+
+  moves_to : (reply : Octets) (event : BoardEvent) → Carries seen (MovesTo R reply event) (MovesTo R' reply event)
+  moves_to reply event before text after done = (done.0, implies.moves event before done.0 after done.1, done.2)
+
+  holds : (transport : Transport) (address : Option Address) (port ms : ℕ) → Carries seen (Holds R transport address port ms) (Holds R' transport address port ms)
+  holds transport None port ms before text after kept = (kept.0, ap seen kept.1)
+  holds transport (Some address) port ms before text after done =
+      moves_to (counts_line (codes "ok hold") []) (Hold (record { transport = transport; address = address; port = port }) ms) before text after done
+
+  releases : (transport : Transport) (address : Option Address) (port : ℕ) → Carries seen (Releases R transport address port) (Releases R' transport address port)
+  releases transport None port before text after kept = (kept.0, ap seen kept.1)
+  releases transport (Some address) port before text after done =
+      moves_to (counts_line (codes "ok release") []) (Release (record { transport = transport; address = address; port = port })) before text after done
+
+  sets_clock : (ms : ℕ) → Carries seen (SetsClock R ms) (SetsClock R' ms)
+  sets_clock ms before text after done = moves_to (counts_line (codes "ok clock") (ms ∷ [])) (Advance ms) before text after done
+
+  loads_gathered : (gathered : Gathered) → Carries seen (LoadsGathered R gathered) (LoadsGathered R' gathered)
+  loads_gathered Lost before text after kept = (kept.0, ap seen kept.1)
+  loads_gathered LongLine before text after kept = (kept.0, ap seen kept.1)
+  loads_gathered (BadApex fault) before text after kept = (kept.0, ap seen kept.1)
+  loads_gathered (Lines lines) before text after done = loads (zone_of lines.text lines.apex) before text after done
+
+  -- ---- what a line does in the session
+
+  gathers : (gathering : Gathering) → Carries (session_seen seen) (Gathers R gathering) (Gathers R' gathering)
+  gathers gathering before text after done =
+      (
+        on_true (gathering.left == 0) (λ loaded. on_desk seen (LoadsGathered R gathering.gathered) (LoadsGathered R' gathering.gathered) (loads_gathered gathering.gathered) (with_gathering None before) text after loaded) done.0,
+        on_false (gathering.left == 0) (λ kept. keeps (session_seen seen) [] (with_gathering (Some gathering) before) text after kept) done.1,
+      )
+
+  gathers_or_loses : (gathering : Gathering) → Carries (session_seen seen) (GathersOrLoses R gathering) (GathersOrLoses R' gathering)
+  gathers_or_loses gathering before text after (inl done) = inl (gathers gathering before text after done)
+  gathers_or_loses gathering before text after (inr done) = inr (done.0, gathers (lost gathering.left) before text after done.1)
+
+  obeys : (request : Request) → Carries (session_seen seen) (Obeys R request) (Obeys R' request)
+  obeys nothing before text after kept = (kept.0, ap (session_seen seen) kept.1)
+  obeys unknown before text after kept = (kept.0, ap (session_seen seen) kept.1)
+  obeys too_long before text after kept = (kept.0, ap (session_seen seen) kept.1)
+  obeys (zone apex lines) before text after (inl done) = inl (gathers (gathering_of apex lines) before text after done)
+  obeys (zone apex lines) before text after (inr done) = inr (gathers (lost lines) before text after done)
+  obeys (drop apex) before text after done =
+      commands seen (Unloads R (name_of apex [])) (Unloads R' (name_of apex [])) (unloads (name_of apex [])) before text after done
+  obeys (add r) before text after done =
+      commands seen (EditsRecord R AddRecord (record_of r [])) (EditsRecord R' AddRecord (record_of r [])) (edits_record AddRecord (record_of r [])) before text after done
+  obeys (del r) before text after done =
+      commands seen (EditsRecord R RemoveRecord (record_of r [])) (EditsRecord R' RemoveRecord (record_of r [])) (edits_record RemoveRecord (record_of r [])) before text after done
+  obeys (find uri draws) before text after done =
+      commands seen (AnswersUri R (question_of uri) draws) (AnswersUri R' (question_of uri) draws) (answers_uri (question_of uri) draws) before text after done
+  obeys (deps uri) before text after done =
+      commands seen (ListsUri R (question_of uri)) (ListsUri R' (question_of uri)) (lists_uri (question_of uri)) before text after done
+  obeys repair before text after done = on_desk seen (Repairs R) (Repairs R') repairs before text after done
+  obeys (hold transport address port ms) before text after done =
+      on_desk seen (Holds R transport (address_of address) port ms) (Holds R' transport (address_of address) port ms) (holds transport (address_of address) port ms) before text after done
+  obeys (release transport address port) before text after done =
+      on_desk seen (Releases R transport (address_of address) port) (Releases R' transport (address_of address) port) (releases transport (address_of address) port) before text after done
+  obeys (clock ms) before text after done = on_desk seen (SetsClock R ms) (SetsClock R' ms) (sets_clock ms) before text after done
+  obeys quit before text after done = (done.0, ap (session_seen seen) done.1)
+
+  takes_line : (gathering : Option Gathering) (octets : Octets) → Carries (session_seen seen) (TakesLine R gathering octets) (TakesLine R' gathering octets)
+  takes_line None octets before text after done = obeys (request_of octets) before text after done
+  takes_line (Some gathering) octets before text after done = gathers_or_loses (after_line octets gathering) before text after done
+
+  takes_end : (gathering : Option Gathering) → Carries (session_seen seen) (TakesEnd R gathering) (TakesEnd R' gathering)
+  takes_end None before text after kept = (kept.0, ap (session_seen seen) kept.1)
+  takes_end (Some gathering) before text after done = gathers_or_loses (at_end gathering) before text after done
+
+  takes_item : (item : Item) → Carries (session_seen seen) (TakesItem R item) (TakesItem R' item)
+  takes_item (line octets) before text after done = takes_line before.gathering octets before text after done
+  takes_item end_of_input before text after done = takes_end before.gathering before text after done
+
+  may_reply : (before : SessionState D) (item : Item) (text : Octets) (after : SessionState D)
+      → MayReply R before item text after → MayReply R' (session_seen seen before) item text (session_seen seen after)
+  may_reply before item text after reply =
+      (
+        on_true before.ended (λ kept. keeps (session_seen seen) [] before text after kept) reply.0,
+        on_false before.ended (λ taken. takes_item item before text after taken) reply.1,
+      )
+
+  -- ---- what a session writes
+
+  serves : (items : List Item) (before : SessionState D) (text : Octets) (after : SessionState D)
+      → Serves (session_protocol R) before items text after → Serves (session_protocol R') (session_seen seen before) items text (session_seen seen after)
+  serves [] before text after done = (done.0, ap (session_seen seen) done.1)
+  serves (item ∷ items) before text after done =
+      record {
+        reply = done.reply;
+        replies = done.replies;
+        between = session_seen seen done.between;
+        first = may_reply before item done.reply done.between done.first;
+        others = serves items done.between done.replies after done.others;
+        joined = done.joined;
+      }
+
+  serves_all : (before : SessionState D) (unread old : Option Octets) (after : SessionState D) (new : Option Octets)
+      → ServesAll (session_protocol R) before unread old after new → ServesAll (session_protocol R') (session_seen seen before) unread old (session_seen seen after) new
+  serves_all before None old after new done = tt
+  serves_all before (Some input) old after new done = (done.0, serves (items_of input) before done.0 after done.1, done.2)
+
+  serves_prefix : (before : SessionState D) (unread old : Option Octets) (after : SessionState D) (new : Option Octets)
+      → ServesPrefix (session_protocol R) before unread old after new → ServesPrefix (session_protocol R') (session_seen seen before) unread old (session_seen seen after) new
+  serves_prefix before None old after new first = tt
+  serves_prefix before (Some input) old after new first =
+      record {
+        done = first.done;
+        rest = first.rest;
+        sent = first.sent;
+        unsent = first.unsent;
+        split = first.split;
+        serves = serves first.done before (first.sent ++ first.unsent) after first.serves;
+        appended = first.appended;
+      }
+
+  serves_read : (before : SessionState D) (unread left old : Option Octets) (after : SessionState D) (new : Option Octets)
+      → ServesRead (session_protocol R) before unread left old after new → ServesRead (session_protocol R') (session_seen seen before) unread left old (session_seen seen after) new
+  serves_read before unread left old after new read =
+      record {
+        got = read.got;
+        text = read.text;
+        consumed = read.consumed;
+        serves = serves (complete_items read.got) before read.text after read.serves;
+        appended = read.appended;
+      }
+
+  serves_within : {A B : Type 0} (limit : ℕ) (result : Result Ended ServeFault) (remaining : A → Option Octets) (contents : B → Option Octets) (before after : SessionState D)
+      (reader reader' : Tapped A) (writer writer' : Tapped B)
+      → ServesWithin (session_protocol R) limit result remaining contents before after reader reader' writer writer'
+      → ServesWithin (session_protocol R') limit result remaining contents (session_seen seen before) (session_seen seen after) reader reader' writer writer'
+  serves_within limit result remaining contents before after reader reader' writer writer' s =
+      let unread : Option Octets = remaining (tapped_inner reader) in
+      let left : Option Octets = remaining (tapped_inner reader') in
+      let old : Option Octets = contents (tapped_inner writer) in
+      let new : Option Octets = contents (tapped_inner writer') in
+      record {
+        served = on_ok result (λ done. serves_all before unread old after new done) s.served;
+        quit = s.quit;
+        end_of_input = s.end_of_input;
+        prefix = on_err result (λ first. serves_prefix before unread old after new first) s.prefix;
+        interactive = on_read_fault result (λ read. serves_read before unread left old after new read) s.interactive;
+        all_turns = on_too_many_turns result (λ read. serves_read before unread left old after new read) s.all_turns;
+        reads_until_ended = s.reads_until_ended;
+        turns_until_ended = s.turns_until_ended;
+        reader_failed = s.reader_failed;
+        writer_failed = s.writer_failed;
+        too_many = s.too_many;
+        at_most = s.at_most;
+      }
+
+  pub serves_desk : {A B : Type 0} (limit : ℕ) (result : Result Ended ServeFault) (remaining : A → Option Octets) (contents : B → Option Octets) (before after : D)
+      (reader reader' : Tapped A) (writer writer' : Tapped B)
+      → ServesDesk R limit result remaining contents before after reader reader' writer writer'
+      → ServesDesk R' limit result remaining contents (seen before) (seen after) reader reader' writer writer'
+  serves_desk limit result remaining contents before after reader reader' writer writer' s =
+      record {
+        session = session_seen seen s.session;
+        desk = ap seen s.desk;
+        serves = serves_within limit result remaining contents (new_session before) s.session reader reader' writer writer' s.serves;
+      }
