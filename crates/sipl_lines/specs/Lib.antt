@@ -18,6 +18,7 @@ pub mod ReplyText
 pub mod Desk
 pub mod Commands
 pub mod Session
+pub mod SessionLaws
 pub mod Checking
 pub mod Settings
 pub mod SettingsFault

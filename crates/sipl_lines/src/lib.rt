@@ -4,6 +4,7 @@
 
 mod check;
 mod command;
+mod conversation;
 mod desk;
 mod desk_commands;
 mod draws_field;
