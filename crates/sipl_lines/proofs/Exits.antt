@@ -3,7 +3,7 @@ use Rattle.std.proofs.Common.{◌≡◌, ℕ, ◌+◌, ◌-◌, ◌^◌, ◌<◌
 use Rattle.std.specs.Prelude.{Option, IsTrue, ◌↔◌}
 use Rattle.std.proofs.Math.Bool.{or-false}
 use Rattle.sipl_names.specs.Labels.{Octets}
-use Rattle.sipl_lines.specs.Protocol.{Protocol}
+use Rattle.sipl_lines.specs.Protocol.{IsLineProtocol, Protocol}
 use Rattle.sipl_lines.specs.Tapped.{tapped_inner, has_failed, read_count}
 use Rattle.sipl_lines.specs.Turns.{CompletesTurn, FailsTurn, HasServed}
 use Rattle.sipl_lines.specs.ServeFault.{is_read_fault, is_write_fault}
@@ -13,7 +13,6 @@ use Rattle.sipl_lines.specs.declared.server.Ended.TheVariants.{Quit, EndOfInput}
 use Rattle.sipl_lines.specs.declared.server.ServeFault.{ServeFault}
 use Rattle.sipl_lines.specs.declared.server.ServeFault.TheVariants.{Read, Write, TooManyTurns, Memory}
 use Rattle.sipl_lines.specs.declared.tapped.Tapped.{Tapped}
-use Rattle.sipl_lines.proofs.Replies.{IsLineProtocol}
 use Rattle.sipl_lines.proofs.Turning.{served_none, served_more, served_end, served_ended, served_prefix, served_read, served_kept, served_failed}
 
 -- so many turns were made, and all that they read is served

@@ -2,7 +2,6 @@ pub mod Cutting
 pub mod Replies
 pub mod Turning
 pub mod Exits
-pub mod Rules
 pub mod Results
 pub mod Lengths
 pub mod Steps

@@ -5,17 +5,10 @@ use Rattle.std.proofs.lemmas.Bool.{cases_lt}
 use Rattle.sipl_names.specs.Labels.{Octets}
 use Rattle.sipl_lines.specs.Lines.{without_cr}
 use Rattle.sipl_lines.specs.Items.{Item, line, end_of_input}
-use Rattle.sipl_lines.specs.Protocol.{Protocol}
+use Rattle.sipl_lines.specs.Protocol.{IsLineProtocol, Protocol}
 use Rattle.sipl_lines.specs.Replies.{Serves, AppendsReply, AppendsReplies, AppendsFirstReplies}
 use Rattle.sipl_lines.specs.Machine.{items_from, pending_after, kept_prefix, last_items, read_items, EndsNoLine, EndsLine}
 use Rattle.sipl_lines.proofs.Cutting.{kept-append, kept-kept, without_cr-length}
-
--- what the lemmas need of a protocol: a state that has ended says nothing, and lines that are too
--- long have the same replies
-pub record IsLineProtocol (p : Protocol) : Type 0 where
-  pub silent : (s : p.State) (item : Item) → p.has_ended s ≡ true → p.MayReply s item [] s
-  pub long : (s u : p.State) (a b text : Octets) → 65536 < length a → 65536 < length b
-      → p.MayReply s (line a) text u → p.MayReply s (line b) text u
 
 -- ---- replies to several items
 

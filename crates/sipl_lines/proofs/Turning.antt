@@ -8,7 +8,7 @@ use Rattle.std.specs.Io.KnownBytes.{Keeps, Appends, Consumes, IsAtEnd}
 use Rattle.std.proofs.KnownBytes.{Consumes-nil, Appends-nil, Appends-trans, Appends-kept, Consumes-trans, Consumes-kept, Consumes-whole}
 use Rattle.sipl_names.specs.Labels.{Octets}
 use Rattle.sipl_lines.specs.Items.{Item, items_of}
-use Rattle.sipl_lines.specs.Protocol.{Protocol}
+use Rattle.sipl_lines.specs.Protocol.{IsLineProtocol, Protocol}
 use Rattle.sipl_lines.specs.Replies.{Serves, AppendsReplies, AppendsFirstReplies}
 use Rattle.sipl_lines.specs.Machine.{items_from, pending_after, kept_prefix, last_items, read_items}
 use Rattle.sipl_lines.specs.Streams.{ServesAll, ServesFirst, ServesPrefix, ServesRead}
@@ -16,7 +16,7 @@ use Rattle.sipl_lines.specs.Turns.{AppendsPrefix, EndsWithNone, CompletesTurn, A
 use Rattle.sipl_lines.specs.declared.server.ServeFault.{ServeFault}
 use Rattle.sipl_lines.specs.declared.server.ServeFault.TheVariants.{Read, Write, TooManyTurns, Memory}
 use Rattle.sipl_lines.proofs.Cutting.{items_from-append, pending_after-append, complete_items-from, items_of-from, kept-kept, kept-pending_after}
-use Rattle.sipl_lines.proofs.Replies.{IsLineProtocol, AreAllAlike, Serves-append, Serves-ended, Serves-alike, AreAllAlike-split, read_items-alike}
+use Rattle.sipl_lines.proofs.Replies.{AreAllAlike, Serves-append, Serves-ended, Serves-alike, AreAllAlike-split, read_items-alike}
 
 -- ---- a text that is sent
 

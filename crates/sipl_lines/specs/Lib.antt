@@ -19,6 +19,7 @@ pub mod Desk
 pub mod PlainDesk
 pub mod Commands
 pub mod Session
+pub mod SessionLaws
 pub mod Checking
 pub mod Settings
 pub mod SettingsFault

@@ -5,6 +5,7 @@
 mod book;
 mod check;
 mod command;
+mod conversation;
 mod desk;
 mod desk_commands;
 mod draws_field;

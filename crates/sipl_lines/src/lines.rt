@@ -3,11 +3,9 @@ ghost use Rattle.sipl_lines.specs.Lines.{without_cr};
 ghost use Rattle.sipl_lines.specs.Items.{Item};
 ghost use Rattle.sipl_lines.specs.Replies.{AppendsReplies, AppendsFirstReplies};
 ghost use Rattle.sipl_lines.specs.Machine.{items_from, pending_after, kept_prefix, last_items, read_items, EndsNoLine, EndsLine};
-ghost use Rattle.sipl_lines.specs.Session.{at_desk, session_protocol};
 
 use crate::command::MAX_LINE_LEN;
-use crate::desk::Desk;
-use crate::session::Session;
+use crate::conversation::Conversation;
 use memchr::memchr;
 use std::alloc::{AllocError, Global};
 use std::marker::Model;
@@ -54,27 +52,28 @@ impl Pending {
     }
 
     // Processes the line that ends after the piece.
-    fn end_line<D: Desk>(
+    fn end_line<D, C: Conversation<D>>(
         &mut self,
         alloc: Global,
         desk: &mut D,
         piece: &[u8],
-        session: &mut Session,
+        conversation: &mut C,
         out: &mut Vec<u8>,
     ) -> Result<(), AllocError>
-        ensures ok { OnOk result (AppendsReplies (session_protocol D.rules)
-            (at_desk desk.old session.old)
+        ensures ok { OnOk result (AppendsReplies C.protocol
+            (C.state desk.old conversation.old)
             (Item.line (without_cr (self.old ++ piece.now)) ∷ [])
-            out.old.items (at_desk desk.new session.new) out.new.items) }
+            out.old.items (C.state desk.new conversation.new) out.new.items) }
         ensures emptied { OnOk result (self.new ≡ []) }
-        ensures err { OnErr result (at_desk desk.new session.new ≡ at_desk desk.old session.old) }
+        ensures err { OnErr result
+            (C.state desk.new conversation.new ≡ C.state desk.old conversation.old) }
         ensures err_out { OnErr result (out.new.items ≡ out.old.items) }
     {
         if self.kept.is_empty() {
-            return session.process_line(alloc, desk, trim_cr(piece), out);
+            return conversation.process_line(alloc, desk, trim_cr(piece), out);
         }
         self.keep(piece);
-        session.process_line(alloc, desk, trim_cr(&self.kept), out)?;
+        conversation.process_line(alloc, desk, trim_cr(&self.kept), out)?;
         self.kept.clear();
         Ok(())
     }
@@ -83,49 +82,49 @@ impl Pending {
     // end of the input, where a read gives nothing, the octets that are left, which are a line if
     // there are any. The octets after the last line end are kept. An error says that the space for
     // a reply could not be reserved: the lines before have theirs.
-    pub(crate) fn process<D: Desk>(
+    pub(crate) fn process<D, C: Conversation<D>>(
         &mut self,
         alloc: Global,
         desk: &mut D,
         octets: &[u8],
-        session: &mut Session,
+        conversation: &mut C,
         out: &mut Vec<u8>,
     ) -> Result<(), AllocError>
-        ensures ok { OnOk result (AppendsReplies (session_protocol D.rules)
-            (at_desk desk.old session.old)
-            (read_items self.old octets.now) out.old.items (at_desk desk.new session.new) out.new.items) }
+        ensures ok { OnOk result (AppendsReplies C.protocol
+            (C.state desk.old conversation.old) (read_items self.old octets.now)
+            out.old.items (C.state desk.new conversation.new) out.new.items) }
         ensures rest { OnOk result (octets.now ≢ []
             → self.new ≡ kept_prefix (pending_after self.old octets.now)) }
-        ensures err { OnErr result (AppendsFirstReplies (session_protocol D.rules)
-            (at_desk desk.old session.old)
-            (read_items self.old octets.now) out.old.items (at_desk desk.new session.new) out.new.items) }
+        ensures err { OnErr result (AppendsFirstReplies C.protocol
+            (C.state desk.old conversation.old) (read_items self.old octets.now)
+            out.old.items (C.state desk.new conversation.new) out.new.items) }
     {
         if octets.is_empty() {
-            return self.finish(alloc, desk, session, out);
+            return self.finish(alloc, desk, conversation, out);
         }
-        self.feed(alloc, desk, octets, session, out)
+        self.feed(alloc, desk, octets, conversation, out)
     }
 
     // Processes each line that ends in a chunk, and keeps the octets after the last.
-    fn feed<D: Desk>(
+    fn feed<D, C: Conversation<D>>(
         &mut self,
         alloc: Global,
         desk: &mut D,
         chunk: &[u8],
-        session: &mut Session,
+        conversation: &mut C,
         out: &mut Vec<u8>,
     ) -> Result<(), AllocError>
-        ensures ok { OnOk result (AppendsReplies (session_protocol D.rules)
-            (at_desk desk.old session.old)
-            (items_from self.old chunk.now) out.old.items (at_desk desk.new session.new) out.new.items) }
+        ensures ok { OnOk result (AppendsReplies C.protocol
+            (C.state desk.old conversation.old) (items_from self.old chunk.now)
+            out.old.items (C.state desk.new conversation.new) out.new.items) }
         ensures rest { OnOk result (self.new ≡ kept_prefix (pending_after self.old chunk.now)) }
-        ensures err { OnErr result (AppendsFirstReplies (session_protocol D.rules)
-            (at_desk desk.old session.old)
-            (items_from self.old chunk.now) out.old.items (at_desk desk.new session.new) out.new.items) }
+        ensures err { OnErr result (AppendsFirstReplies C.protocol
+            (C.state desk.old conversation.old) (items_from self.old chunk.now)
+            out.old.items (C.state desk.new conversation.new) out.new.items) }
     {
         let mut rest = chunk;
         while let Some((piece, tail)) = split_line(rest) {
-            self.end_line(alloc, desk, piece, session, out)?;
+            self.end_line(alloc, desk, piece, conversation, out)?;
             rest = tail;
         }
         self.keep(rest);
@@ -133,25 +132,25 @@ impl Pending {
     }
 
     // Processes the octets that are left, and then the end of the input.
-    fn finish<D: Desk>(
+    fn finish<D, C: Conversation<D>>(
         &self,
         alloc: Global,
         desk: &mut D,
-        session: &mut Session,
+        conversation: &mut C,
         out: &mut Vec<u8>,
     ) -> Result<(), AllocError>
-        ensures ok { OnOk result (AppendsReplies (session_protocol D.rules)
-            (at_desk desk.old session.old)
-            (last_items self.now) out.old.items (at_desk desk.new session.new) out.new.items) }
-        ensures err { OnErr result (AppendsFirstReplies (session_protocol D.rules)
-            (at_desk desk.old session.old)
-            (last_items self.now) out.old.items (at_desk desk.new session.new) out.new.items) }
+        ensures ok { OnOk result (AppendsReplies C.protocol
+            (C.state desk.old conversation.old) (last_items self.now)
+            out.old.items (C.state desk.new conversation.new) out.new.items) }
+        ensures err { OnErr result (AppendsFirstReplies C.protocol
+            (C.state desk.old conversation.old) (last_items self.now)
+            out.old.items (C.state desk.new conversation.new) out.new.items) }
     {
         if self.kept.is_empty() {
-            return session.finish(alloc, desk, out);
+            return conversation.finish(alloc, desk, out);
         }
-        session.process_line(alloc, desk, &self.kept, out)?;
-        session.finish(alloc, desk, out)
+        conversation.process_line(alloc, desk, &self.kept, out)?;
+        conversation.finish(alloc, desk, out)
     }
 }
 

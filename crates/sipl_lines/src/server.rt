@@ -4,9 +4,9 @@ ghost use Rattle.std.specs.Io.KnownBytes.{Appends};
 ghost use Rattle.sipl_lines.specs.Tapped.{tapped_inner, has_failed, read_count};
 ghost use Rattle.sipl_lines.specs.ServeFault.{code_of, is_read_fault, is_write_fault};
 ghost use Rattle.sipl_lines.specs.Serving.{ServesDesk, ServesWithin};
-ghost use Rattle.sipl_lines.specs.Session.{at_desk, session_protocol};
 ghost use Rattle.sipl_lines.specs.Turns.{AppendsPrefix, CompletesTurn, FailsTurn};
 
+use crate::conversation::Conversation;
 use crate::desk::Desk;
 use crate::lines::Pending;
 use crate::session::Session;
@@ -102,43 +102,44 @@ pub fn serve_within<R: Read, W: Write, D: Desk>(
     ensures { ServesDesk D.rules limit result R.remaining W.contents
         desk.old desk.new reader.old reader.new writer.old writer.new }
 {
-    serve_session(alloc, reader, writer, desk, &mut Session::new(), limit)
+    serve_conversation(alloc, reader, writer, desk, &mut Session::new(), limit)
 }
 
-// Serves a session that has begun, with at most so many reads.
-pub(crate) fn serve_session<R: Read, W: Write, D: Desk>(
+// Serves a conversation that has begun, with at most so many reads.
+pub(crate) fn serve_conversation<R: Read, W: Write, D, C: Conversation<D>>(
     alloc: Global,
     reader: &mut Tapped<R>,
     writer: &mut Tapped<W>,
     desk: &mut D,
-    session: &mut Session,
+    conversation: &mut C,
     limit: u64,
 ) -> Result<Ended, ServeFault>
-    ensures { ServesWithin (session_protocol D.rules) limit result R.remaining W.contents
-        (at_desk desk.old session.old) (at_desk desk.new session.new)
+    ensures { ServesWithin C.protocol limit result R.remaining W.contents
+        (C.state desk.old conversation.old) (C.state desk.new conversation.new)
         reader.old reader.new writer.old writer.new }
 {
     let mut server = Server::new(alloc)?;
     let _reads = reader.reads();
     for _made in 0..limit {
-        if session.has_ended() {
+        if conversation.has_ended(desk) {
             return Ok(Ended::Quit);
         }
-        if !server.turn(alloc, reader, writer, desk, session)? {
-            return Ok(end_of(session));
+        if !server.turn(alloc, reader, writer, desk, conversation)? {
+            return Ok(end_of(desk, conversation));
         }
     }
-    if session.has_ended() {
+    if conversation.has_ended(desk) {
         return Ok(Ended::Quit);
     }
     Err(ServeFault::TooManyTurns)
 }
 
-// How a session ends whose input has no more.
-fn end_of(session: &Session) -> Ended
-    ensures { (result ≡ Ended.Quit) ↔ IsTrue session.now.ended }
+// How a conversation ends whose input has no more.
+fn end_of<D, C: Conversation<D>>(desk: &D, conversation: &C) -> Ended
+    ensures { (result ≡ Ended.Quit)
+        ↔ IsTrue (C.protocol.has_ended (C.state desk.now conversation.now)) }
 {
-    if session.has_ended() {
+    if conversation.has_ended(desk) {
         Ended::Quit
     } else {
         Ended::EndOfInput
@@ -176,23 +177,23 @@ impl Server {
 
     // Reads once, processes the lines that are complete, and writes the replies. Returns whether
     // there may be more to read.
-    fn turn<R: Read, W: Write, D: Desk>(
+    fn turn<R: Read, W: Write, D, C: Conversation<D>>(
         &mut self,
         alloc: Global,
         reader: &mut Tapped<R>,
         writer: &mut Tapped<W>,
         desk: &mut D,
-        session: &mut Session,
+        conversation: &mut C,
     ) -> Result<bool, ServeFault>
-        ensures ok { IfOk result (λ more. CompletesTurn (session_protocol D.rules) more
-            (at_desk desk.old session.old) self.old
+        ensures ok { IfOk result (λ more. CompletesTurn C.protocol more
+            (C.state desk.old conversation.old) self.old
             (R.remaining (tapped_inner reader.old)) (R.remaining (tapped_inner reader.new))
-            (W.contents (tapped_inner writer.old)) (at_desk desk.new session.new) self.new
+            (W.contents (tapped_inner writer.old)) (C.state desk.new conversation.new) self.new
             (W.contents (tapped_inner writer.new))) }
-        ensures err { IfErr result (λ fault. FailsTurn fault (session_protocol D.rules)
-            (at_desk desk.old session.old) self.old
+        ensures err { IfErr result (λ fault. FailsTurn fault C.protocol
+            (C.state desk.old conversation.old) self.old
             (R.remaining (tapped_inner reader.old)) (R.remaining (tapped_inner reader.new))
-            (W.contents (tapped_inner writer.old)) (at_desk desk.new session.new)
+            (W.contents (tapped_inner writer.old)) (C.state desk.new conversation.new)
             (W.contents (tapped_inner writer.new))) }
         ensures reader_failed { has_failed reader.new
             ≡ (has_failed reader.old || is_read_fault result) }
@@ -209,7 +210,7 @@ impl Server {
             alloc,
             desk,
             &self.chunk[..count],
-            session,
+            conversation,
             &mut self.replies,
         );
         if !send(writer, &self.replies) {

@@ -5,7 +5,7 @@ use Rattle.sipl_lines.proofs.server.serve_within.Goals as goal
 pub returns : goal.returns
 returns g c =
     record {
-      session = at_desk c.serve_session.new.desk c.serve_session.new.session;
+      session = at_desk c.serve_conversation.new.desk c.serve_conversation.new.conversation;
       desk = refl;
-      serves = rw c.new.ensures at c.serve_session.ensures;
+      serves = rw c.new.ensures at c.serve_conversation.ensures;
     }

@@ -1,9 +1,7 @@
 use Rattle.std.proofs.Common.{◌≡◌, [], ◌++◌, ◌∙◌, sym, vec_len, arith, rules}
 use Rattle.std.proofs.lemmas.List.{nil_from_length}
 use Rattle.std.proofs.lemmas.Result.{on_ok_weaker}
-use Rattle.sipl_lines.specs.Session.{at_desk, session_protocol}
 use Rattle.sipl_lines.proofs.Replies.{replies_kept, replies_whole}
-use Rattle.sipl_lines.proofs.Rules.{session_rules}
 use Rattle.sipl_lines.proofs.lines.Pending.end_line.Goals as goal
 
 pub returns-then-is_empty-clause-ok : goal.returns-then-is_empty-clause-ok
@@ -11,10 +9,10 @@ returns-then-is_empty-clause-ok g c =
     let none : vec_len c.self.inside.kept ≡ 0 = search rules in
     let empty : c.args.self.now ≡ [] = sym c.self.view_is ∙ nil_from_length c.self.inside.kept.items (omega (arith, c.self.inside.kept.ok.0)) in
     on_ok_weaker c.process_line.result
-    (replies_whole (session_protocol g.D.Desk.rules) (at_desk c.args.desk.now c.args.session.now) c.trim_cr.result.now c.args.piece.now c.args.self.now c.args.out.now.items (at_desk c.process_line.new.desk c.process_line.new.self) c.process_line.new.out.items c.trim_cr.ensures empty)
+    (replies_whole g.C.Conversation.protocol (g.C.Conversation.state c.args.desk.now c.args.conversation.now) c.trim_cr.result.now c.args.piece.now c.args.self.now c.args.out.now.items (g.C.Conversation.state c.process_line.new.desk c.process_line.new.self) c.process_line.new.out.items c.trim_cr.ensures empty)
     c.process_line.ensures.ok
 
 pub returns-clause-ok : goal.returns-clause-ok
 returns-clause-ok g c =
-    replies_kept (session_protocol g.D.Desk.rules) (session_rules g.D.Desk.rules) (at_desk c.args.desk.now c.args.session.now) c.trim_cr-2.result.now c.deref.result.now (c.args.self.now ++ c.args.piece.now) c.args.out.now.items
-    (at_desk c.process_line-2.new.desk c.process_line-2.new.self) c.process_line-2.new.out.items c.trim_cr-2.ensures (c.deref.ensures.value ∙ c.self-2.view_is ∙ c.keep.ensures) c.in_ok-process_line.ensures.ok
+    replies_kept g.C.Conversation.protocol g.met.C.Conversation.is_line_protocol (g.C.Conversation.state c.args.desk.now c.args.conversation.now) c.trim_cr-2.result.now c.deref.result.now (c.args.self.now ++ c.args.piece.now) c.args.out.now.items
+    (g.C.Conversation.state c.process_line-2.new.desk c.process_line-2.new.self) c.process_line-2.new.out.items c.trim_cr-2.ensures (c.deref.ensures.value ∙ c.self-2.view_is ∙ c.keep.ensures) c.in_ok-process_line.ensures.ok

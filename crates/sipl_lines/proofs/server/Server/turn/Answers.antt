@@ -3,7 +3,6 @@ use Rattle.std.specs.Prelude.{nat_lt}
 use Rattle.std.specs.Io.KnownBytes.{Appends}
 use Rattle.sipl_names.specs.Labels.{Octets}
 use Rattle.sipl_lines.specs.Machine.{read_items}
-use Rattle.sipl_lines.specs.Session.{at_desk, session_protocol}
 use Rattle.sipl_lines.specs.Tapped.{tapped_inner}
 use Rattle.sipl_lines.specs.Turns.{CompletesTurn, AbortsTurn, AppendsPrefix}
 use Rattle.sipl_lines.proofs.Turning.{ReadGave, read_gave, turn_completed, turn_aborted, all_replies, whatever_result, all_prefix}
@@ -24,11 +23,11 @@ returns-then-not-send-clause-err g c =
     let replies : Octets = c.process-processed.new.out.items in
     let gave : ReadGave unread left c.in-Ok.count buf octets =
     read_gave unread left c.in-Ok.count c.self.inside.chunk.len items buf c.deref.result.now octets counts same some c.deref.ensures.value refl c.in-Ok.ensures.bound.0 c.in-Ok.ensures.bytes in
-    subst (λ p. AbortsTurn (session_protocol g.D.Desk.rules) (at_desk c.args.desk.now c.args.session.now) p unread left old (at_desk c.process-processed.new.desk c.process-processed.new.session) new) c.self.view_is
-    (turn_aborted (session_protocol g.D.Desk.rules) (at_desk c.args.desk.now c.args.session.now) c.self.inside.pending unread left old (at_desk c.process-processed.new.desk c.process-processed.new.session) new
+    subst (λ p. AbortsTurn g.C.Conversation.protocol (g.C.Conversation.state c.args.desk.now c.args.conversation.now) p unread left old (g.C.Conversation.state c.process-processed.new.desk c.process-processed.new.conversation) new) c.self.view_is
+    (turn_aborted g.C.Conversation.protocol (g.C.Conversation.state c.args.desk.now c.args.conversation.now) c.self.inside.pending unread left old (g.C.Conversation.state c.process-processed.new.desk c.process-processed.new.conversation) new
     c.in-Ok.count buf octets c.clear.new.self.items replies gave c.clear.ensures.items
     (whatever_result c.process-processed.result _ _
-    (all_replies (session_protocol g.D.Desk.rules) (at_desk c.args.desk.now c.args.session.now) (read_items c.self.inside.pending octets) c.clear.new.self.items (at_desk c.process-processed.new.desk c.process-processed.new.session) replies)
+    (all_replies g.C.Conversation.protocol (g.C.Conversation.state c.args.desk.now c.args.conversation.now) (read_items c.self.inside.pending octets) c.clear.new.self.items (g.C.Conversation.state c.process-processed.new.desk c.process-processed.new.conversation) replies)
     c.process-processed.ensures.ok c.process-processed.ensures.err)
     (subst (AppendsPrefix old new) c.deref-2.ensures.value c.if-not-send.ensures.prefix))
 
@@ -47,8 +46,8 @@ returns-in-Err-processed-clause-err g c =
     let replies : Octets = c.process-processed.new.out.items in
     let gave : ReadGave unread left c.in-Ok.count buf octets =
     read_gave unread left c.in-Ok.count c.self.inside.chunk.len items buf c.deref.result.now octets counts same some c.deref.ensures.value refl c.in-Ok.ensures.bound.0 c.in-Ok.ensures.bytes in
-    subst (λ p. AbortsTurn (session_protocol g.D.Desk.rules) (at_desk c.args.desk.now c.args.session.now) p unread left old (at_desk c.process-processed.new.desk c.process-processed.new.session) new) c.self.view_is
-    (turn_aborted (session_protocol g.D.Desk.rules) (at_desk c.args.desk.now c.args.session.now) c.self.inside.pending unread left old (at_desk c.process-processed.new.desk c.process-processed.new.session) new
+    subst (λ p. AbortsTurn g.C.Conversation.protocol (g.C.Conversation.state c.args.desk.now c.args.conversation.now) p unread left old (g.C.Conversation.state c.process-processed.new.desk c.process-processed.new.conversation) new) c.self.view_is
+    (turn_aborted g.C.Conversation.protocol (g.C.Conversation.state c.args.desk.now c.args.conversation.now) c.self.inside.pending unread left old (g.C.Conversation.state c.process-processed.new.desk c.process-processed.new.conversation) new
     c.in-Ok.count buf octets c.clear.new.self.items replies gave c.clear.ensures.items
     c.in-Err-processed.ensures.err
     (all_prefix old new replies (subst (Appends old new) c.deref-2.ensures.value c.if-not-send.ensures.sent)))
@@ -68,8 +67,8 @@ returns-clause-ok g c =
     let replies : Octets = c.process-processed.new.out.items in
     let gave : ReadGave unread left c.in-Ok.count buf octets =
     read_gave unread left c.in-Ok.count c.self.inside.chunk.len items buf c.deref.result.now octets counts same some c.deref.ensures.value refl c.in-Ok.ensures.bound.0 c.in-Ok.ensures.bytes in
-    subst (λ p. CompletesTurn (session_protocol g.D.Desk.rules) (nat_lt 0 c.in-Ok.count) (at_desk c.args.desk.now c.args.session.now) p unread left old (at_desk c.process-processed.new.desk c.process-processed.new.session) c.process-processed.new.self new) c.self.view_is
-    (turn_completed (session_protocol g.D.Desk.rules) (at_desk c.args.desk.now c.args.session.now) c.self.inside.pending unread left old (at_desk c.process-processed.new.desk c.process-processed.new.session) c.process-processed.new.self new
+    subst (λ p. CompletesTurn g.C.Conversation.protocol (nat_lt 0 c.in-Ok.count) (g.C.Conversation.state c.args.desk.now c.args.conversation.now) p unread left old (g.C.Conversation.state c.process-processed.new.desk c.process-processed.new.conversation) c.process-processed.new.self new) c.self.view_is
+    (turn_completed g.C.Conversation.protocol (g.C.Conversation.state c.args.desk.now c.args.conversation.now) c.self.inside.pending unread left old (g.C.Conversation.state c.process-processed.new.desk c.process-processed.new.conversation) c.process-processed.new.self new
     c.in-Ok.count buf octets c.clear.new.self.items replies gave c.clear.ensures.items
     c.in-Ok-processed.ensures.ok c.in-Ok-processed.ensures.rest
     (subst (Appends old new) c.deref-2.ensures.value c.if-not-send.ensures.sent))

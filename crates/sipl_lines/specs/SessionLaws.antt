@@ -8,12 +8,12 @@ use Rattle.sipl_names.specs.Labels.{Octets}
 use Rattle.sipl_lines.specs.Commands.{Keeps}
 use Rattle.sipl_lines.specs.Desk.{DeskRules}
 use Rattle.sipl_lines.specs.Items.{Item, line}
+use Rattle.sipl_lines.specs.Protocol.{IsLineProtocol}
 use Rattle.sipl_lines.specs.Requests.{nothing, too_long, is_comment, fields_request, request_of}
 use Rattle.sipl_lines.specs.Gathering.{gathered_after, after_long_line, after_short_line}
 use Rattle.sipl_lines.specs.declared.gather.Gathered.{Gathered}
 use Rattle.sipl_lines.specs.declared.gather.Gathering.{Gathering}
 use Rattle.sipl_lines.specs.Session.{SessionState, Obeys, GathersOrLoses, TakesLine, TakesItem, MayReply, session_protocol}
-use Rattle.sipl_lines.proofs.Replies.{IsLineProtocol}
 
 -- once a session has ended an item has no reply
 ended_silent : {D : Type 0} (rules : DeskRules D) (s : SessionState D) (item : Item) → s.ended ≡ true → MayReply rules s item [] s
@@ -25,7 +25,7 @@ request_of-long octets long =
     ap (λ b. if b then too_long else (if is_comment octets then nothing else fields_request (fields_of octets) octets))
     (lt-ltb 65536 (length octets) long)
 
-gathered_after-long : (octets : Octets) (gathered : Gathered) → 65536 < length octets → gathered_after octets gathered ≡ after_long_line gathered
+pub gathered_after-long : (octets : Octets) (gathered : Gathered) → 65536 < length octets → gathered_after octets gathered ≡ after_long_line gathered
 gathered_after-long octets gathered long =
     ap (λ b. if b then after_long_line gathered else after_short_line octets gathered) (lt-ltb 65536 (length octets) long)
 
