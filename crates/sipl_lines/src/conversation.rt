@@ -35,12 +35,7 @@ pub(crate) trait Conversation<D> {
         ensures err_out { OnErr result (out.new.items ≡ out.old.items) };
 
     /// Processes the end of the input, and appends its reply to `out`. An error is as with a line.
-    fn finish(
-        &mut self,
-        alloc: Global,
-        desk: &mut D,
-        out: &mut Vec<u8>,
-    ) -> Result<(), AllocError>
+    fn finish(&mut self, alloc: Global, desk: &mut D, out: &mut Vec<u8>) -> Result<(), AllocError>
         ensures ok { OnOk result (AppendsReply protocol (state desk.old self.old)
             Item.end_of_input out.old.items (state desk.new self.new) out.new.items) }
         ensures err { OnErr result (state desk.new self.new ≡ state desk.old self.old) }
@@ -74,12 +69,7 @@ impl<D: Desk> Conversation<D> for Session {
         Session::process_line(self, alloc, desk, line, out)
     }
 
-    fn finish(
-        &mut self,
-        alloc: Global,
-        desk: &mut D,
-        out: &mut Vec<u8>,
-    ) -> Result<(), AllocError> {
+    fn finish(&mut self, alloc: Global, desk: &mut D, out: &mut Vec<u8>) -> Result<(), AllocError> {
         Session::finish(self, alloc, desk, out)
     }
 }
