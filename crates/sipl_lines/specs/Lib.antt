@@ -17,6 +17,7 @@ pub mod CommandMeaning
 pub mod ReplyText
 pub mod Desk
 pub mod Commands
+pub mod Calls
 pub mod Session
 pub mod Checking
 pub mod Settings

@@ -2,6 +2,7 @@
 //! the settings of the program.
 #![tactic(auto)]
 
+mod calls;
 mod check;
 mod command;
 mod desk;
@@ -13,6 +14,7 @@ mod reply;
 mod server;
 mod session;
 mod settings;
+mod step_lines;
 mod tapped;
 
 pub use check::check_zone;
