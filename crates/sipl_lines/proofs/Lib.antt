@@ -9,3 +9,4 @@ pub mod Words
 pub mod InOrder
 pub mod Listening
 pub mod Rows
+pub mod Scripts
