@@ -10,3 +10,4 @@ pub mod Words
 pub mod InOrder
 pub mod Listening
 pub mod Rows
+pub mod Reading
