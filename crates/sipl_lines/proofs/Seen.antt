@@ -1,6 +1,6 @@
 -- A session at a desk whose states are seen as those of another desk: where each rule of the one
 -- implies that of the other, the same text is that of a session at the other.
-use Rattle.std.proofs.Common.{◌≡◌, ◌⊎◌, ℕ, List, [], ◌∷◌, Bool, true, false, Option, None, Some, Result, Ok, Err, OnOk, OnErr, ◌==◌, ◌++◌, ap, inl, inr, codes}
+use Rattle.std.proofs.Common.{ℕ, List, [], ◌∷◌, Bool, true, false, Option, None, Some, Result, Ok, Err, OnOk, OnErr, ◌==◌, ◌++◌, ap, inl, inr, codes}
 use Rattle.std.specs.Bool.{OnTrue, OnFalse}
 use Rattle.sipl_names.specs.Labels.{Octets, Labels}
 use Rattle.sipl_names.specs.NameText.{name_of}
@@ -44,7 +44,7 @@ use Rattle.sipl_lines.specs.Requests.{Request, nothing, unknown, too_long, zone,
 use Rattle.sipl_lines.specs.Serving.{ServesWithin, ServesDesk}
 use Rattle.sipl_lines.specs.ServeFault.{OnReadFault, OnTooManyTurns}
 use Rattle.sipl_lines.specs.Session.{SessionState, with_gathering, AtDesk, Commands, Gathers, GathersOrLoses, LoadsGathered, MayReply, Obeys, TakesEnd, TakesItem, TakesLine, new_session, session_protocol}
-use Rattle.sipl_lines.specs.Streams.{ServesAll, ServesFirst, ServesPrefix, ServesRead}
+use Rattle.sipl_lines.specs.Streams.{ServesAll, ServesPrefix, ServesRead}
 
 -- each rule of a desk implies that of another, where the states are seen so
 pub record Implies {D E : Type 0} (seen : D → E) (R : DeskRules D) (R' : DeskRules E) : Type 0 where
@@ -113,7 +113,6 @@ on_too_many_turns (Err TooManyTurns) weaker fact = weaker fact
 on_too_many_turns (Err Memory) weaker fact = tt
 
 module _ {D E : Type 0} (seen : D → E) (R : DeskRules D) (R' : DeskRules E) (implies : Implies seen R R') where
-
   -- ---- what a command asks of the desk
 
   loads : (read : Result Zone ZoneFault) → Carries seen (Loads R read) (Loads R' read)
@@ -167,11 +166,10 @@ module _ {D E : Type 0} (seen : D → E) (R : DeskRules D) (R' : DeskRules E) (i
   -- ---- what a line does in the session
 
   gathers : (gathering : Gathering) → Carries (session_seen seen) (Gathers R gathering) (Gathers R' gathering)
-  gathers gathering before text after done =
-      (
-        on_true (gathering.left == 0) (λ loaded. on_desk seen (LoadsGathered R gathering.gathered) (LoadsGathered R' gathering.gathered) (loads_gathered gathering.gathered) (with_gathering None before) text after loaded) done.0,
-        on_false (gathering.left == 0) (λ kept. keeps (session_seen seen) [] (with_gathering (Some gathering) before) text after kept) done.1,
-      )
+  gathers gathering before text after done = (
+    on_true (gathering.left == 0) (λ loaded. on_desk seen (LoadsGathered R gathering.gathered) (LoadsGathered R' gathering.gathered) (loads_gathered gathering.gathered) (with_gathering None before) text after loaded) done.0,
+    on_false (gathering.left == 0) (λ kept. keeps (session_seen seen) [] (with_gathering (Some gathering) before) text after kept) done.1,
+  )
 
   gathers_or_loses : (gathering : Gathering) → Carries (session_seen seen) (GathersOrLoses R gathering) (GathersOrLoses R' gathering)
   gathers_or_loses gathering before text after (inl done) = inl (gathers gathering before text after done)
@@ -215,11 +213,10 @@ module _ {D E : Type 0} (seen : D → E) (R : DeskRules D) (R' : DeskRules E) (i
 
   may_reply : (before : SessionState D) (item : Item) (text : Octets) (after : SessionState D)
       → MayReply R before item text after → MayReply R' (session_seen seen before) item text (session_seen seen after)
-  may_reply before item text after reply =
-      (
-        on_true before.ended (λ kept. keeps (session_seen seen) [] before text after kept) reply.0,
-        on_false before.ended (λ taken. takes_item item before text after taken) reply.1,
-      )
+  may_reply before item text after reply = (
+    on_true before.ended (λ kept. keeps (session_seen seen) [] before text after kept) reply.0,
+    on_false before.ended (λ taken. takes_item item before text after taken) reply.1,
+  )
 
   -- ---- what a session writes
 
