@@ -1,4 +1,4 @@
-ghost use Rattle.std.specs.Prelude.{◌≡◌, IfOk};
+ghost use Rattle.std.specs.Prelude.{◌≡◌, IsSome, IfOk, OnErr};
 ghost use Rattle.sipl_choice.specs.ServiceNames.{service_name_of};
 
 use crate::transport::Transport;
@@ -13,7 +13,8 @@ pub fn service_name(
     target: &Name,
     transport: Transport,
 ) -> Result<Option<Name>, AllocError>
-    ensures { IfOk result (λ name. name ≡ service_name_of target.now transport) }
+    ensures name { IfOk result (λ name. name ≡ service_name_of target.now transport) }
+    ensures memory { OnErr result (IsSome (service_name_of target.now transport)) }
 {
     let (service, protocol) = match transport {
         Transport::Udp => (b"_sip".as_slice(), b"_udp".as_slice()),

@@ -1,5 +1,5 @@
-ghost use Rattle.std.specs.Prelude.{◌≡◌, MatchResult, find, option_map, OnOk, OnErr, IsSome};
-ghost use Rattle.std.specs.Option.{option_copied};
+ghost use Rattle.std.specs.Prelude.{◌≡◌, ◌≢◌, MatchResult, find, option_map, OnOk, OnErr, IsSome};
+ghost use Rattle.std.specs.Option.{option_copied, IsSomeAnd};
 ghost use Rattle.sipl_evidence.specs.Looks.{Look, asked, done, key};
 ghost use Rattle.sipl_evidence.specs.Answers.{asking, first_target};
 ghost use Rattle.sipl_evidence.specs.Known.{Agrees, advance, first_unknown, is_unknown, known_result};
@@ -93,6 +93,9 @@ impl Walk {
         ensures onward { OnOk result (IsSome (first_unknown evidence.now (walk_asking self.old))
             → walk_asking self.new ≡ advance evidence.now (walk_asking self.old)) }
         ensures err { OnErr result (self.new ≡ self.old) }
+        ensures memory { OnErr result
+            (IsSomeAnd (first_unknown evidence.now (walk_asking self.old))
+            (λ k. k.name ≢ self.old.name)) }
     {
         let Err(place) = self.reach(evidence) else {
             return Ok(());

@@ -1,4 +1,6 @@
 pub mod Durations
+pub mod Stated
+pub mod Quoting
 pub mod Strings
 pub mod PrintedFields
 pub mod Scanning

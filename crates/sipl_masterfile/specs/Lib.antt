@@ -11,6 +11,7 @@ pub mod JoinedTexts
 pub mod RecordPrint
 pub mod Zones
 pub mod ZoneText
+pub mod StatedRecords
 pub mod Intake
 pub mod RecordText
 pub mod ByOwner

@@ -1,5 +1,5 @@
 -- The tokens of a master file's text (RFC 1035, 5.1).
-use Rattle.std.specs.Prelude.{ℕ, zero, suc, ◌+◌, Bool, false, not, ◌&&◌, ◌||◌, List, [], ◌∷◌, Option, None, Some, length, take, if◌then◌else◌, ◌==◌}
+use Rattle.std.specs.Prelude.{ℕ, zero, suc, ◌+◌, Bool, true, false, not, ◌&&◌, ◌||◌, List, [], ◌∷◌, Option, None, Some, length, take, if◌then◌else◌, ◌==◌}
 use Rattle.std.specs.List.{position_or_len}
 use Rattle.std.specs.Option.{option_map}
 use Rattle.sipl_names.specs.Labels.{Octets}
@@ -21,6 +21,16 @@ is_blank c = c == 32 || c == 9 || c == 13
 -- an octet that ends a field: a blank, LF ( ) ; "
 abbrev pub ends_field : ℕ → Bool
 ends_field c = is_blank c || c == 10 || c == 40 || c == 41 || c == 59 || c == 34
+
+-- an octet that a field has as it is only within quotes, or after a backslash: one that ends a
+-- field, or a backslash
+abbrev pub needs_quotes : ℕ → Bool
+needs_quotes c = ends_field c || c == 92
+
+-- whether a field may end before this text: it is empty or begins with an octet that ends a field
+abbrev pub may_end_field : Octets → Bool
+may_end_field [] = true
+may_end_field (c ∷ text) = ends_field c
 
 -- how many octets more a field has that has begun, maybe with a backslash at last: a backslash
 -- takes the next octet into the field, unless that is LF

@@ -2,6 +2,7 @@
 use Rattle.std.proofs.Common.{◌≡◌, ℕ, ◌+◌, ◌-◌, ◌^◌, ◌<◌, ◌≤◌, min, [], ◌∷◌, ◌++◌, None, Ok, Err, length, map, refl, sym, ap, ◌∙◌, subst, arith, length-append}
 use Rattle.std.proofs.lemmas.List.Concat.{flat_map-append}
 use Rattle.std.specs.List.{AllByRecursion}
+use Rattle.std.specs.Result.{is_ok, IsOk}
 use Rattle.std.specs.Str.{str_to_ascii_lowercase}
 use Rattle.sipl_names.specs.declared.fault.InvalidName.TheVariants.{NameTooLong}
 use Rattle.sipl_names.specs.Labels.{Octets, Labels, length_prefixed, wire_of, wire_length, IsLabel, name_within_limit, first_label_fault, prefixed_of}
@@ -31,6 +32,10 @@ prefix_length labels name own is seen =
 pub prefix_long : (labels name : Labels) (own : Octets) (n : ℕ) → first_label_fault labels ≡ None → IsNameWire own → labels_of_wire own ≡ name → n ≡ min (min (length (wire_of labels)) (2 ^ 64 - 1) + length own) (2 ^ 64 - 1) → 255 ≤ n → prefixed_of labels name ≡ Err NameTooLong
 prefix_long labels name own n none is seen counts long =
     faultless_prefix labels name none ∙ name_within_limit-long _ (omega (arith, prefix_length labels name own is seen))
+
+pub prefix_short : (labels name : Labels) (own : Octets) (n : ℕ) → first_label_fault labels ≡ None → IsNameWire own → labels_of_wire own ≡ name → n ≡ min (min (length (wire_of labels)) (2 ^ 64 - 1) + length own) (2 ^ 64 - 1) → n < 255 → IsOk (prefixed_of labels name)
+prefix_short labels name own n none is seen counts short =
+    ap is_ok (faultless_prefix labels name none ∙ name_within_limit-short (map str_to_ascii_lowercase labels ++ name) (omega (arith, prefix_length labels name own is seen)))
 
 pub prefix_made : (labels name : Labels) (own full : Octets) (n : ℕ) → first_label_fault labels ≡ None → AllByRecursion IsLabel (map str_to_ascii_lowercase labels) → IsNameWire own → labels_of_wire own ≡ name → n ≡ min (min (length (wire_of labels)) (2 ^ 64 - 1) + length own) (2 ^ 64 - 1) → n < 255 → full ≡ wire_of (map str_to_ascii_lowercase labels) ++ own → IsNameWire full × (prefixed_of labels name ≡ Ok (labels_of_wire full))
 prefix_made labels name own full n none each is seen counts short made =

@@ -87,13 +87,16 @@ impl Name {
     }
 
     /// The name with these labels prepended, in lower case. The fault of the first that is not a
-    /// label (N1, N2) comes before that of a wire form of more than 255 octets (N3).
+    /// label (N1, N2) comes before that of a wire form of more than 255 octets (N3). Allocates only
+    /// where there is no such fault.
     pub fn prefixed(&self, alloc: Global, labels: &[&[u8]]) -> Result<Self, NameFault>
         ensures made { IfOk result
             (λ name. prefixed_of (octets_of labels.now) self.now ≡ Ok name) }
         ensures refused { IfErr result
             (λ fault. IfInvalid fault
             (λ invalid. prefixed_of (octets_of labels.now) self.now ≡ Err invalid)) }
+        ensures memory { result ≡ Err NameFault.Memory
+            → IsOk (prefixed_of (octets_of labels.now) self.now) }
         ensures limits { IfOk result IsName }
     {
         let len = checked_wire_len(labels)?.saturating_add(self.wire.len());

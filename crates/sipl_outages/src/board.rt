@@ -1,7 +1,7 @@
-ghost use Rattle.std.specs.Prelude.{◌≡◌, ◌≢◌, ◌≤◌, ◌↔◌, [], length, filter, nat_lt, IsTrue, IfOk, Err};
+ghost use Rattle.std.specs.Prelude.{◌≡◌, ◌≢◌, ◌≤◌, ◌↔◌, [], length, filter, nat_lt, None, IsTrue, IfOk, Err};
 ghost use Rattle.indexmap.specs.IndexMap.{IsUnique};
 ghost use Rattle.sipl_choice.specs.Endpoints.{same_endpoint};
-ghost use Rattle.sipl_outages.specs.Holds.{no_holds, is_held, is_new_hold};
+ghost use Rattle.sipl_outages.specs.Holds.{no_holds, is_held, is_new_hold, refusal_of};
 ghost use Rattle.sipl_outages.specs.Holds.BoardEvent.{Hold, Release, Advance};
 ghost use Rattle.sipl_outages.specs.Board.{IsConsistent, Makes};
 
@@ -106,6 +106,8 @@ impl Board {
         ensures event { Makes (Hold endpoint.now ms) self.old self.new result }
         ensures memory { result ≡ Err BoardFault.Memory
             → IsTrue (is_new_hold endpoint.now ms self.old.holds) }
+        ensures faultless { result ≡ Err BoardFault.Memory
+            → refusal_of self.old.max_holds (Hold endpoint.now ms) self.old.holds ≡ None }
     {
         if ms > MAX_TIME - self.time {
             return Err(BoardFault::TooFar);

@@ -1,4 +1,4 @@
-ghost use Rattle.std.specs.Prelude.{◌≡◌, ◌<◌, ◌≤◌, ◌++◌, [], ◌∷◌, not, length, slice_get, if◌then◌else◌, IfOk, OnOk};
+ghost use Rattle.std.specs.Prelude.{◌≡◌, ◌≢◌, ◌<◌, ◌≤◌, ◌++◌, [], ◌∷◌, not, length, slice_get, if◌then◌else◌, IfOk, OnOk, OnErr};
 ghost use Rattle.std.specs.List.{All, filter_map, flat_map, list_any};
 ghost use Rattle.sipl_records.specs.Unique.{unique};
 ghost use Rattle.sipl_choice.specs.Endpoints.{same_endpoint};
@@ -86,7 +86,7 @@ impl Ranked for Source {
 /// all of its endpoints are held. There are at most 2,048 targets: 32 servers of 64 addresses.
 ///
 /// The reason for no targets is the layout's own where it is refused, `NoAddress` where no server
-/// has an address, and else `AllHeld`.
+/// has an address, and else `AllHeld`. Only a layout with servers allocates.
 pub fn draw(
     alloc: Global,
     layout: &Layout,
@@ -97,6 +97,7 @@ pub fn draw(
     ensures answer { IfOk result
         (λ answer. answer ≡ draw layout.now board.now.holds draws.now) }
     ensures few { IfOk result (λ answer. target_count answer ≤ 2048) }
+    ensures memory { OnErr result ((reason : Reason) → layout.now ≢ Layout.Refused reason) }
 {
     let (transport, servers) = match layout {
         Layout::Refused(reason) => return Ok(Answer::None(*reason)),

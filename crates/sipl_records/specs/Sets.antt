@@ -19,6 +19,13 @@ kind_of (data_service priority weight port target) = Some Service
 kind_of (data_pointer order preference flags services regexp replacement) = Some Pointer
 kind_of data_bare = None
 
+-- whether the data have a name: those of an alias, a service or a pointer
+abbrev pub has_name : Data → Bool
+has_name (data_alias name) = true
+has_name (data_service priority weight port target) = true
+has_name (data_pointer order preference flags services regexp replacement) = true
+has_name _ = false
+
 -- whether two kinds are one
 abbrev pub same_kind : Kind → Kind → Bool
 same_kind Address4 Address4 = true

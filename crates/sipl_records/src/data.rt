@@ -1,5 +1,5 @@
-ghost use Rattle.std.specs.Prelude.{◌≡◌, IfOk};
-ghost use Rattle.sipl_records.specs.Sets.{has_kind, has_same_kind, kind_of};
+ghost use Rattle.std.specs.Prelude.{◌≡◌, IsTrue, IfOk, OnErr};
+ghost use Rattle.sipl_records.specs.Sets.{has_kind, has_name, has_same_kind, kind_of};
 
 use crate::kind::Kind;
 use crate::sequence::Sequence;
@@ -69,7 +69,8 @@ impl Data {
 
     /// A copy of the data. Allocates only for names and strings.
     pub fn dup(&self, alloc: Global) -> Result<Self, AllocError>
-        ensures { IfOk result (λ copy. copy ≡ self.now) }
+        ensures value { IfOk result (λ copy. copy ≡ self.now) }
+        ensures memory { OnErr result (IsTrue (has_name self.now)) }
     {
         Ok(match self {
             Data::Address4(address) => Data::Address4(*address),

@@ -1,4 +1,4 @@
-ghost use Rattle.std.specs.Prelude.{◌≡◌, IfOk};
+ghost use Rattle.std.specs.Prelude.{◌≡◌, IsSome, IfOk, OnErr};
 ghost use Rattle.sipl_records.specs.Sets.{conflicts, has_key, key_of, shares_set};
 
 use crate::data::Data;
@@ -42,9 +42,11 @@ impl Record {
         (kind == Kind::Alias || other_kind == Kind::Alias) && self.owner == other.owner
     }
 
-    /// The key of the set that the record is in; `None` where it is in no set.
+    /// The key of the set that the record is in; `None` where it is in no set; this does
+    /// not allocate.
     pub fn key(&self, alloc: Global) -> Result<Option<Key>, AllocError>
-        ensures { IfOk result (λ key. key ≡ key_of self.now) }
+        ensures key { IfOk result (λ key. key ≡ key_of self.now) }
+        ensures memory { OnErr result (IsSome (key_of self.now)) }
     {
         let Some(kind) = self.value.kind() else {
             return Ok(None);

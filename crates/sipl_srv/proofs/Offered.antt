@@ -1,5 +1,5 @@
 -- What a set offers, from whether it has SRV data and from its picks.
-use Rattle.std.proofs.Common.{◌≡◌, ℕ, ◌+◌, ◌<◌, ◌≤◌, Bool, true, false, not, cond, ltb, List, [], ◌∷◌, ◌++◌, Some, None, length, get_or, take, refl, ap, sym, ◌∙◌, inl, inr, arith, append-nil}
+use Rattle.std.proofs.Common.{◌≡◌, ◌≢◌, ℕ, zero, suc, ◌+◌, ◌<◌, ◌≤◌, Bool, true, false, not, cond, ltb, Option, List, [], ◌∷◌, ◌++◌, Some, None, length, get_or, take, refl, ap, sym, ◌∙◌, inl, inr, arith, append-nil}
 use Rattle.std.specs.List.{filter, filter_map, cons_option, list_all}
 use Rattle.std.proofs.lemmas.Bool.{cases_Bool, lt-ltb}
 use Rattle.std.proofs.lemmas.List.{take_more, length_push}
@@ -9,7 +9,7 @@ use Rattle.sipl_records.specs.declared.data.Data.{Data}
 use Rattle.sipl_records.specs.declared.data.Data.TheVariants.{Address4, Address6, Alias, Service, Pointer, Bare}
 use Rattle.sipl_srv.specs.declared.pick.Pick.{Pick}
 use Rattle.sipl_srv.specs.declared.pick.Offer.TheVariants.{Nothing, Closed, Picks}
-use Rattle.sipl_srv.specs.Offers.{pick_of, is_unavailable, offer_of_picks}
+use Rattle.sipl_srv.specs.Offers.{pick_of, is_unavailable, offer_of_picks, offer_of}
 
 -- the picks whose target is not the root
 abbrev pub available : List Pick → List Pick
@@ -93,6 +93,22 @@ pick_of-other (Service priority weight port target) other = absurd (other priori
 pick_of-other (Pointer order preference flags services regexp replacement) other = refl
 pick_of-other Bare other = refl
 
+-- a pick that is available is among those of the set
+available-more : (found : Option Pick) (picks : List Pick) → 0 < length (available picks) → 0 < length (available (cons_option found picks))
+available-more None picks some' = some'
+available-more (Some pick) picks some' = elim (cases_Bool (is_unavailable pick)) [
+  | inl closed ↦ rw closed some'
+  | inr open' ↦ rw open' (omega arith)
+]
+
+available-there : (set : List Data) (i : ℕ) (value : Data) (pick : Pick) → i < length set → value ≡ get_or set i value → pick_of value ≡ Some pick → is_unavailable pick ≡ false → 0 < length (available (filter_map pick_of set))
+available-there [] i value pick within is some' open' = absurd (omega arith)
+available-there (first ∷ set) zero value pick within is some' open' =
+    let of_first : pick_of first ≡ Some pick = ap pick_of (sym is) ∙ some' in
+    rw (of_first, open') (omega arith)
+available-there (first ∷ set) (suc i) value pick within is some' open' =
+    available-more (pick_of first) (filter_map pick_of set) (available-there set i value pick (omega arith) is some' open')
+
 -- whether the target is the root
 pub unavailable-root : (pick : Pick) → pick.target ≡ [] → is_unavailable pick ≡ true
 unavailable-root pick root = rw root refl
@@ -103,6 +119,13 @@ unavailable-other pick other = from pick.target other
     from : (target : Labels) → (target ≡ [] → ⊥) → is_unavailable (record pick { target = target }) ≡ false
     from [] other = absurd (other refl)
     from (label ∷ labels) other = refl
+
+-- where there is a target other than the root, the set offers picks
+pub offer-open : (set : List Data) (i : ℕ) (value : Data) (priority weight port : ℕ) (target : Labels) → i < length set → value ≡ get_or set i value → value ≡ Service priority weight port target → (target ≡ [] → ⊥) → (offer_of set ≢ Nothing) × (offer_of set ≢ Closed)
+offer-open set i value priority weight port target within is of_service other =
+    let pick : Pick = record { priority = priority; weight = weight; port = port; target = target } in
+    let picks = offer-picks (filter_map pick_of set) (available-there set i value pick within is (ap pick_of of_service) (unavailable-other pick other)) in
+    (λ nothing. cc (picks, nothing), λ closed. cc (picks, closed))
 
 pub nil-from_length : (picks : List Pick) → length picks ≡ 0 → picks ≡ []
 nil-from_length [] none = refl

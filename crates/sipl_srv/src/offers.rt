@@ -1,4 +1,4 @@
-ghost use Rattle.std.specs.Prelude.{◌≡◌, IfOk};
+ghost use Rattle.std.specs.Prelude.{◌≡◌, ◌≢◌, IfOk, OnErr};
 ghost use Rattle.sipl_srv.specs.Offers.{offer_of};
 
 use crate::pick::{Offer, Pick};
@@ -8,7 +8,9 @@ use std::alloc::{AllocError, Global};
 /// What a set of SRV data offers. Data of other kinds do not count. Linear in the set, and only a
 /// pick allocates.
 pub fn offer(alloc: Global, set: &[Data]) -> Result<Offer, AllocError>
-    ensures { IfOk result (λ offer. offer ≡ offer_of set.now) }
+    ensures offer { IfOk result (λ offer. offer ≡ offer_of set.now) }
+    ensures memory_nothing { OnErr result (offer_of set.now ≢ Offer.Nothing) }
+    ensures memory_closed { OnErr result (offer_of set.now ≢ Offer.Closed) }
 {
     let mut has_service = false;
     let mut picks = Vec::new(alloc);

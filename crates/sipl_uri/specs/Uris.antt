@@ -1,7 +1,7 @@
 -- SIP and SIPS URIs (RFC 3261, 19.1.1): the question that a text asks, or its first fault.
 use Rattle.std.specs.Prelude.{ℕ, Bool, true, false, ◌&&◌, Option, None, Some, Result, Ok, Err, codes, count_by, nat_le, if◌then◌else◌, ◌==◌}
 use Rattle.std.specs.List.{list_all}
-use Rattle.std.specs.Option.{unwrap_or}
+use Rattle.std.specs.Option.{is_some, unwrap_or}
 use Rattle.std.specs.Str.{str_to_ascii_lowercase}
 use Rattle.sipl_names.specs.Labels.{Octets}
 use Rattle.sipl_records.specs.Numbers.{number_of}
@@ -83,6 +83,15 @@ question_of_parts secure parts =
 -- whether the octets after the scheme's colon are allowed: at most one is `@` (64)
 abbrev pub has_allowed_octets : Octets → Bool
 has_allowed_octets text = list_all is_uri_octet text && nat_le (count_by (λ c. c == 64) text) 1
+
+-- whether a scheme is one of a URI, and its octets after the colon are allowed
+abbrev pub is_scheme_and_octets : Octets × Option Octets → Bool
+is_scheme_and_octets (scheme, None) = false
+is_scheme_and_octets (scheme, Some text) = is_some (security_of scheme) && has_allowed_octets text
+
+-- whether a text has the scheme of a URI, and after its colon only octets that are allowed
+abbrev pub has_scheme_and_octets : Octets → Bool
+has_scheme_and_octets uri = is_scheme_and_octets (split_once 58 uri)
 
 -- the question of the text after the scheme's colon: the fault of an octet comes first
 abbrev pub question_after_scheme : Bool → Octets → Result Question UriFault

@@ -1,4 +1,4 @@
-ghost use Rattle.std.specs.Prelude.{◌≡◌, ◌+◌, ◌≤◌, ◌++◌, length, IfOk, OnOk, OnErr, IsOk, vec_len, vec_capacity};
+ghost use Rattle.std.specs.Prelude.{◌≡◌, ◌≢◌, ◌+◌, ◌≤◌, ◌++◌, length, IfOk, OnOk, OnErr, IsOk, vec_len, vec_capacity};
 ghost use Rattle.sipl_uri.specs.QuestionText.{question_text, scheme_text, host_text, port_text, transport_param};
 ghost use Rattle.sipl_uri.specs.Appended.{IsAppended};
 
@@ -22,9 +22,10 @@ pub enum Target {
 }
 
 impl Target {
-    /// A copy of the target. The only error is an allocation failure.
+    /// A copy of the target. The only error is an allocation failure; a numeric address has none.
     pub fn dup(&self, alloc: Global) -> Result<Self, AllocError>
-        ensures { IfOk result (λ copy. copy ≡ self.now) }
+        ensures value { IfOk result (λ copy. copy ≡ self.now) }
+        ensures memory { OnErr result ((address : Address) → self.now ≢ Target.Numeric address) }
     {
         match self {
             Target::Numeric(address) => Ok(Target::Numeric(*address)),

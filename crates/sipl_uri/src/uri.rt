@@ -1,7 +1,7 @@
-ghost use Rattle.std.specs.Prelude.{◌≡◌, ◌≢◌, Ok, Err, IfOk, IfErr};
+ghost use Rattle.std.specs.Prelude.{◌≡◌, ◌≢◌, Ok, Err, IsTrue, IfOk, IfErr};
 ghost use Rattle.std.specs.Option.{option_copied};
 ghost use Rattle.sipl_uri.specs.QuestionText.{IsAskable};
-ghost use Rattle.sipl_uri.specs.Uris.{question_of, question_after_scheme, question_with, security_of, transport_with, port_of, port_part};
+ghost use Rattle.sipl_uri.specs.Uris.{has_allowed_octets, has_scheme_and_octets, question_of, question_after_scheme, question_with, security_of, transport_with, port_of, port_part};
 
 use crate::fault::UriFault;
 use crate::host::read_host;
@@ -41,10 +41,13 @@ impl Uri {
     /// parameters from left to right, and of each an empty name (U7), the name of an earlier one
     /// (U5), then its value: another transport, or none (U4), a `maddr` that is not a host, or none
     /// (U2); `sips` over UDP or SCTP (U6).
+    /// Allocates nothing where the fault is U1, or U7 of an octet or a second `@`.
     pub fn parse(alloc: Global, bytes: &[u8]) -> Result<Question, UriFault>
         ensures read { IfOk result (λ question. question_of bytes.now ≡ Ok question) }
         ensures refused { IfErr result
             (λ fault. fault ≢ UriFault.Memory → question_of bytes.now ≡ Err fault) }
+        ensures memory { result ≡ Err UriFault.Memory
+            → IsTrue (has_scheme_and_octets bytes.now) }
         ensures askable { IfOk result IsAskable }
     {
         let (scheme, Some(text)) = split_once(bytes, b':') else {
@@ -74,6 +77,7 @@ fn read_after_scheme(alloc: Global, secure: bool, text: &[u8]) -> Result<Questio
         (λ question. question_after_scheme secure text.now ≡ Ok question) }
     ensures refused { IfErr result (λ fault. fault ≢ UriFault.Memory
         → question_after_scheme secure text.now ≡ Err fault) }
+    ensures memory { result ≡ Err UriFault.Memory → IsTrue (has_allowed_octets text.now) }
 {
     let parts = read_parts(text).ok_or(UriFault::Characters)?;
     let host = read_host(alloc, parts.host)?;

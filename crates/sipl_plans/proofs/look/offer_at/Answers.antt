@@ -14,4 +14,4 @@ returns c =
     let found : c.deref.result.now ≡ answer look c.in-Some.name.now Service = search rules in
     subst (λ o. IfOk c.offer.result (λ offer. offer ≡ o))
     (ap offer_of found ∙ sym (offer_at_some look c.in-Some.name.now) ∙ ap (λ name. offer_at look (option_copied name)) (sym c.in-Some.is))
-    c.offer.ensures
+    c.offer.ensures.offer

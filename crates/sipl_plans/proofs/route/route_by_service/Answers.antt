@@ -28,7 +28,7 @@ decided c =
     (drop_more items i Udp c.loop-transport-test.true)
     (sym c.is_tried.ensures ∙ c.if-not-is_tried.false)
     c.in_ok-picks.ensures
-    (c.as_ref.ensures.value ∙ c.in_ok-service.ensures))
+    (c.as_ref.ensures.value ∙ c.in_ok-service.ensures.name))
     ∙ c.loop-transport.invariant
 
 pub returns-in-Picks : goal.returns-in-Picks

@@ -15,5 +15,5 @@ returns-in-Some c =
     let transport = get_or c.preference-preference.result.now place Udp in
     let inside : place < length client.preference = subst (λ transports. place < length transports) all c.loop-place-test.true in
     let left : services_left client name secure closed (drop place client.preference) ≡ services_left client name secure closed (drop c.args.next client.preference) = subst (λ transports. services_left client name secure closed (drop place transports) ≡ services_left client name secure closed (drop c.args.next transports)) all c.loop-place.invariant in
-    sym (services_left-walk client name secure closed client.preference place transport Udp c.in-Some.service (walk_asking c.start-walk.result) inside (ap (λ transports. get_or transports place Udp) all) (sym c.is_tried.ensures ∙ c.if-not-is_tried.false) (sym c.in_ok-service.ensures ∙ c.in-Some.is) c.start-walk.ensures)
+    sym (services_left-walk client name secure closed client.preference place transport Udp c.in-Some.service (walk_asking c.start-walk.result) inside (ap (λ transports. get_or transports place Udp) all) (sym c.is_tried.ensures ∙ c.if-not-is_tried.false) (sym c.in_ok-service.ensures.name ∙ c.in-Some.is) c.start-walk.ensures)
     ∙ left

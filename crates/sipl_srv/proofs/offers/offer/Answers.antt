@@ -1,13 +1,17 @@
-use Rattle.std.proofs.Common.{◌≡◌, ◌<◌, ◌++◌, [], ◌∷◌, length, true, false, vec_len, sym, ap, ◌∙◌, arith}
+use Rattle.std.proofs.Common.{◌≡◌, Result, Ok, Err, OnErr, ◌<◌, ◌++◌, [], ◌∷◌, length, true, false, vec_len, sym, ap, ◌∙◌, arith}
 use Rattle.std.specs.List.{filter_map}
 use Rattle.std.proofs.lemmas.Bool.{true≢false, eqb-true, eqb-false, ltb-true, ltb-false}
 use Rattle.std.proofs.lemmas.List.{take_all}
 use Rattle.sipl_srv.specs.declared.pick.Pick.{Pick}
 use Rattle.sipl_srv.specs.declared.pick.Offer.TheVariants.{Picks}
 use Rattle.sipl_srv.specs.Offers.{pick_of, is_unavailable}
-use Rattle.sipl_srv.proofs.Offered.{available, IsOffered, IsOffered-none, IsOffered-root, IsOffered-pick, offer-nothing, offer-closed, offer-picks, pick_of-other, unavailable-root, unavailable-other, nil-from_length}
+use Rattle.sipl_srv.proofs.Offered.{available, IsOffered, IsOffered-none, IsOffered-root, IsOffered-pick, offer-open, offer-nothing, offer-closed, offer-picks, pick_of-other, unavailable-root, unavailable-other, nil-from_length}
 use Rattle.sipl_srv.proofs.offers.offer.Goals as goal
 use Rattle.sipl_srv.proofs.offers.offer.Goals.{then-not-is_root+in_ok-dup+in_ok-push, else-not-is_root, then-not-has_service, else-not-has_service+then-is_empty, else-not-has_service+else-is_empty}
+
+on_err : {T E P : Type 0} (result : Result T E) → P → OnErr result P
+on_err (Ok value) holds = tt
+on_err (Err error) holds = holds
 
 pub loop-value-preserved-in_default : goal.loop-value-preserved-in_default
 loop-value-preserved-in_default c =
@@ -33,8 +37,8 @@ loop-value-preserved c =
           (after.0, ap (λ v. v.items) w.picks-is ∙ after.1)
     ]
 
-pub returns : goal.returns
-returns c =
+pub returns-clause-offer : goal.returns-clause-offer
+returns-clause-offer c =
     let set = c.args.set.now in
     let all = filter_map pick_of set in
     let whole : IsOffered c.loop-value.has_service c.loop-value.picks.items set = rw (take_all c.loop-value.value-index set (omega arith)) at c.loop-value.invariant in
@@ -49,3 +53,19 @@ returns c =
           let there : 0 < length (available all) = omega (arith, some', c.loop-value.picks.ok.0, ap length whole.1) in
           w.result-is ∙ ap Picks (w.from_vec.ensures ∙ whole.1) ∙ sym (offer-picks all there)
     ]
+
+pub returns-in_err-dup-clause-memory_nothing : goal.returns-in_err-dup-clause-memory_nothing
+returns-in_err-dup-clause-memory_nothing c =
+    on_err c.from_residual.result (offer-open c.args.set.now c.loop-value.value-index c.value-item.result c.in-Service.priority c.in-Service.weight c.in-Service.port c.in-Service.target c.loop-value-test.true c.value-item.is c.in-Service.is (λ e. true≢false (sym (c.is_root.ensures.1 e) ∙ c.if-not-is_root.true))).0
+
+pub returns-in_err-dup-clause-memory_closed : goal.returns-in_err-dup-clause-memory_closed
+returns-in_err-dup-clause-memory_closed c =
+    on_err c.from_residual.result (offer-open c.args.set.now c.loop-value.value-index c.value-item.result c.in-Service.priority c.in-Service.weight c.in-Service.port c.in-Service.target c.loop-value-test.true c.value-item.is c.in-Service.is (λ e. true≢false (sym (c.is_root.ensures.1 e) ∙ c.if-not-is_root.true))).1
+
+pub returns-in_err-push-clause-memory_nothing : goal.returns-in_err-push-clause-memory_nothing
+returns-in_err-push-clause-memory_nothing c =
+    on_err c.from_residual-in_err-push.result (offer-open c.args.set.now c.loop-value.value-index c.value-item.result c.in-Service.priority c.in-Service.weight c.in-Service.port c.in-Service.target c.loop-value-test.true c.value-item.is c.in-Service.is (λ e. true≢false (sym (c.is_root.ensures.1 e) ∙ c.if-not-is_root.true))).0
+
+pub returns-in_err-push-clause-memory_closed : goal.returns-in_err-push-clause-memory_closed
+returns-in_err-push-clause-memory_closed c =
+    on_err c.from_residual-in_err-push.result (offer-open c.args.set.now c.loop-value.value-index c.value-item.result c.in-Service.priority c.in-Service.weight c.in-Service.port c.in-Service.target c.loop-value-test.true c.value-item.is c.in-Service.is (λ e. true≢false (sym (c.is_root.ensures.1 e) ∙ c.if-not-is_root.true))).1

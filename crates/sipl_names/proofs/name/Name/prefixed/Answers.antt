@@ -3,7 +3,7 @@ use Rattle.std.specs.Str.{str_to_ascii_lowercase}
 use Rattle.sipl_names.specs.Labels.{wire_of, prefixed_of}
 use Rattle.sipl_names.specs.LabelSlices.{octets_of}
 use Rattle.sipl_names.specs.Wire.{IsNameWire, labels_of_wire}
-use Rattle.sipl_names.proofs.Prefixes.{prefix_long, prefix_made}
+use Rattle.sipl_names.proofs.Prefixes.{prefix_long, prefix_short, prefix_made}
 use Rattle.sipl_names.proofs.name.Name.prefixed.Goals as goal
 use Rattle.sipl_names.proofs.name.Name.prefixed.Goals.{In_ok-extend_from_slice}
 
@@ -27,3 +27,12 @@ returns-clause-made c = (made (goal.at.returns-clause-made c).In_ok-extend_from_
 
 pub returns-clause-limits : goal.returns-clause-limits
 returns-clause-limits c = (made (goal.at.returns-clause-limits c).In_ok-extend_from_slice).0.name
+
+pub returns-in_err-wire-clause-memory : goal.returns-in_err-wire-clause-memory
+returns-in_err-wire-clause-memory c = λ memory.
+    prefix_short (octets_of c.args.labels.now) c.args.self.now c.self.inside.wire.items c.saturating_add-len.result c.in_ok-checked_wire_len.ensures.faultless c.self.invariant c.self.view_is (omega (arith, c.self.inside.wire.ok.0, c.in_ok-checked_wire_len.ensures.len)) c.if-len-ge-MAX_NAME_LEN.false
+
+pub returns-in_err-extend_from_slice-clause-memory :
+    goal.returns-in_err-extend_from_slice-clause-memory
+returns-in_err-extend_from_slice-clause-memory c = λ memory.
+    prefix_short (octets_of c.args.labels.now) c.args.self.now c.self.inside.wire.items c.saturating_add-len.result c.in_ok-checked_wire_len.ensures.faultless c.self.invariant c.self.view_is (omega (arith, c.self.inside.wire.ok.0, c.in_ok-checked_wire_len.ensures.len)) c.if-len-ge-MAX_NAME_LEN.false
