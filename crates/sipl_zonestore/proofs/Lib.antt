@@ -2,6 +2,7 @@ pub mod Public
 pub mod Elements
 pub mod Keys
 pub mod Positions
+pub mod LiveRecords
 pub mod SameSets
 pub mod SetTables
 pub mod BareOwners

@@ -13,4 +13,5 @@ pub mod SetTable
 pub mod Lending
 pub mod BareOwners
 pub mod IndexedRecords
+pub mod RecordList
 pub use Rattle.sipl_masterfile.specs.Zones

@@ -98,7 +98,7 @@ pub(crate) fn check_add(
     if found.set_len >= MAX_SET_LEN {
         return Err(StoreFault::SetFull);
     }
-    if records.as_slice().len() >= max_records {
+    if records.len() >= max_records {
         return Err(StoreFault::StoreFull);
     }
     Ok(())

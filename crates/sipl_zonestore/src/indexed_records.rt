@@ -1,5 +1,7 @@
 //! Records with an index of their sets.
-ghost use Rattle.std.specs.Prelude.{◌≡◌, ◌≤◌, ◌^◌, ◌+◌, ◌&&◌, ◌||◌, not, [], ◌∷◌, ◌++◌, length, true, false, None, if◌then◌else◌, IfOk, IfErr, OnOk, OnErr, vec_len, vec_capacity};
+ghost use Rattle.std.specs.Prelude.{◌≡◌, ◌≤◌, ◌^◌, ◌+◌, ◌&&◌, ◌||◌, not, [], ◌∷◌, ◌++◌, length, true, false, None, if◌then◌else◌, IfOk, IfErr, OnOk, OnErr};
+ghost use Rattle.std.specs.Borrow.{sem};
+ghost use Rattle.std.specs.Io.BufRead.{Rests};
 ghost use Rattle.std.specs.List.{count_by, list_all, list_any};
 ghost use Rattle.indexmap.specs.IndexSet.{IsUnchanged, contains};
 ghost use Rattle.sipl_names.specs.Labels.{Labels, is_within, same_name};
@@ -18,6 +20,7 @@ use crate::bare_owners::{bare_owner, bare_owners, insert_owner, remove_owner, re
 use crate::compare::{changed_within, own_key};
 use crate::comparison::{Comparison, has_conflict, has_value};
 use crate::fault::StoreFault;
+use crate::record_list::RecordList;
 use crate::set_numbers::{
     added_count, check_numbers, count_numbered, number_sets, push_to_set, remove_from_set,
     removed_count, sets_of,
@@ -35,7 +38,7 @@ use std::marker::Model;
 #[derive(Drop)]
 pub(crate) struct IndexedRecords {
     alloc: Global,
-    records: Vec<Record>,
+    records: RecordList,
     sets: SetTable,
     bare: IndexSet<Name>,
     next: u64,
@@ -50,15 +53,17 @@ impl Model for IndexedRecords {
     ghost Value = { IndexedState };
 
     ghost view = { λ r. record {
-      records = r.records.items;
+      records = r.records.records;
       numbers = numbers_of r.sets;
       next = r.next;
     } };
 
-    ghost invariant = { λ r. IsIndexed r.records.items r.sets (contains same_name r.bare) r.next };
+    ghost invariant = { λ r. IsIndexed r.records.records r.sets (contains same_name r.bare) r.next };
 }
 
 impl IndexedRecords {
+    ghost use Rattle.sipl_zonestore.specs.contracts.indexed_records.IndexedRecords.{the_row};
+
     // No records, where this is the next number.
     pub(crate) fn new(alloc: Global, next: u64) -> Self
         requires { next ≤ 2 ^ 52 + 1 }
@@ -66,18 +71,26 @@ impl IndexedRecords {
     {
         IndexedRecords {
             alloc,
-            records: Vec::new(alloc),
+            records: RecordList::new(alloc),
             sets: SetTable::new(alloc),
             bare: IndexSet::new(alloc),
             next,
         }
     }
 
-    // All records.
-    pub(crate) fn as_slice(&self) -> &[Record]
-        ensures { result.now ≡ self.now.records }
+    // How many records there are.
+    pub(crate) fn len(&self) -> usize
+        ensures { result ≡ length self.now.records }
     {
-        &self.records
+        self.records.len()
+    }
+
+    // All records. Linear where one was removed since the last call. Does not allocate.
+    pub(crate) fn as_slice(&mut self) -> &[Record]
+        ensures value { result.now ≡ self.old.records }
+        ensures* kept { sem 𝓛 (Rests the_row self.entry (λ new. new ≡ self.old)) }
+    {
+        self.records.as_slice()
     }
 
     // The number of the key's set, and its data.
@@ -142,14 +155,15 @@ impl IndexedRecords {
             self.old self.new result }
     {
         let mut sets = sets_of(self.alloc, text, &self.sets)?;
-        let keys = changed_within(self.alloc, apex, &self.records, text, &self.sets, &sets)?;
+        let records = self.records.as_slice();
+        let keys = changed_within(self.alloc, apex, records, text, &self.sets, &sets)?;
         let count = count_numbered(&keys, &sets);
         check_numbers(self.next, count)?;
         number_sets(&mut sets, &keys, self.next);
         let copies = copy_records(self.alloc, text)?;
         self.records.reserve(copies.len())?;
         replace_tables(self.alloc, &mut self.sets, &mut self.bare, apex, text, sets)?;
-        replace_records(&mut self.records, apex, copies);
+        self.records.replace_within(apex, copies);
         self.next += count as u64;
         Ok(Sequence::from_vec(keys))
     }
@@ -180,7 +194,8 @@ impl IndexedRecords {
     // Removes a record. Returns the key of its set, which changed. Nothing is allocated where too few
     // numbers are left.
     pub(crate) fn remove(&mut self, old: &Record) -> Result<Sequence<Key>, StoreFault>
-        requires { list_any (same_record old.now) self.old.records ≡ true }
+        requires distinct { has_repeats self.old.records ≡ false }
+        requires present { list_any (same_record old.now) self.old.records ≡ true }
         ensures replaced { IsReplaced (records_without old.now self.old.records) self.old self.new result }
         ensures memory { IfErr result (λ fault. fault ≡ StoreFault.Memory
             → number_refusal self.old.records (records_without old.now self.old.records)
@@ -191,7 +206,7 @@ impl IndexedRecords {
         let keys = own_key(self.alloc, old)?;
         remove_from_set(&mut self.sets, self.next, old);
         remove_owner(&mut self.bare, old);
-        self.records.retain(|record| *old != *record);
+        self.records.remove(old);
         self.next += count as u64;
         Ok(Sequence::from_vec(keys))
     }
@@ -234,13 +249,4 @@ fn copy_records(alloc: Global, records: &[Record]) -> Result<Vec<Record>, AllocE
         copies.push(record.dup(alloc)?)?;
     }
     Ok(copies)
-}
-
-// Replaces the records within the apex by those of the text, which are last. Does not allocate.
-fn replace_records(records: &mut Vec<Record>, apex: &Name, mut text: Vec<Record>)
-    requires { vec_len records.old + vec_len text ≤ vec_capacity records.old }
-    ensures { records.new.items ≡ records_outside apex.now records.old.items ++ text.items }
-{
-    records.retain(|record| !record.owner.is_within(apex));
-    records.append(&mut text).unwrap();
 }

@@ -140,7 +140,8 @@ impl ZoneStore {
     }
 
     /// Removes the record that is equal to this one. Returns the key of its set, if it is in one,
-    /// which takes the next number unless it is now empty. Linear in the number of all records.
+    /// which takes the next number unless it is now empty. Linear in the number of all records, of
+    /// which no more is looked at than 32 bits, and in the number of loaded zones.
     ///
     /// The fault is the first one: an owner in no loaded zone (S2), a record that is not in the
     /// store (S4), no number (S8). Memory is reported only where none of them is the fault.
@@ -172,7 +173,8 @@ impl ZoneStore {
         self.records.number(key)
     }
 
-    /// All records, in the order of addition. Counts one look.
+    /// All records, in the order of addition. Counts one look. Linear in their number where one was
+    /// removed since the last call. Does not allocate.
     pub fn records(&mut self) -> &[Record]
         ensures value { result.now ≡ self.old.zones.records }
         ensures consistent { IsConsistent self.old }

@@ -19,47 +19,47 @@ insert_owner-requires c =
 
 pub invariant_of-self-2 : goal.invariant_of-self-2
 invariant_of-self-2 c = record {
-  has_sets = λ key. pushed-sets c.self.inside.records.items c.args.new.now c.self.inside.next c.self.inside.sets c.push_to_set.new.sets c.self.invariant.has_sets c.in_ok-push_to_set.ensures.content key ∙ ap (λ rs. set_of rs key) (sym (c.push_reserved.ensures.items ∙ (λ i. c.in_ok-reserve.ensures.items i ++ c.in_ok-copy.ensures i ∷ [])));
+  has_sets = λ key. pushed-sets c.self.inside.records.records c.args.new.now c.self.inside.next c.self.inside.sets c.push_to_set.new.sets c.self.invariant.has_sets c.in_ok-push_to_set.ensures.content key ∙ ap (λ rs. set_of rs key) (sym (c.push_reserved.ensures ∙ (λ i. c.in_ok-reserve.ensures.records i ++ c.in_ok-copy.ensures i ∷ [])));
   has_bare = λ name.
-      bare-added c.self.inside.records.items c.args.new.now c.in_ok-owner.owner (contains same_name c.self.inside.bare) (contains same_name c.insert_owner.new.owners) c.in_ok-owner.ensures c.self.invariant.has_bare (λ name. c.insert_owner.ensures name ∙ ap (λ keys. is_name name c.in_ok-owner.owner || list_any (same_name name) keys) c.in_ok-reserve-2.ensures.keys) name
-      ∙ ap (λ rs. list_any (is_bare_at name) rs) (sym (c.push_reserved.ensures.items ∙ (λ i. c.in_ok-reserve.ensures.items i ++ c.in_ok-copy.ensures i ∷ [])));
+      bare-added c.self.inside.records.records c.args.new.now c.in_ok-owner.owner (contains same_name c.self.inside.bare) (contains same_name c.insert_owner.new.owners) c.in_ok-owner.ensures c.self.invariant.has_bare (λ name. c.insert_owner.ensures name ∙ ap (λ keys. is_name name c.in_ok-owner.owner || list_any (same_name name) keys) c.in_ok-reserve-2.ensures.keys) name
+      ∙ ap (λ rs. list_any (is_bare_at name) rs) (sym (c.push_reserved.ensures ∙ (λ i. c.in_ok-reserve.ensures.records i ++ c.in_ok-copy.ensures i ∷ [])));
   last = c.in_ok-check_numbers.ensures;
 }
 
 pub returns-clause-replaced : goal.returns-clause-replaced
 returns-clause-replaced c =
-    rw (← c.self.view_is) (added c.self.inside.records.items c.push_reserved.new.self.items c.args.new.now c.self.inside.next _ c.self.inside.sets c.push_to_set.new.sets c.from_vec.result c.self.invariant.has_sets c.in_ok-push_to_set.ensures.content (c.push_reserved.ensures.items ∙ (λ i. c.in_ok-reserve.ensures.items i ++ c.in_ok-copy.ensures i ∷ [])) (c.from_vec.ensures ∙ c.in_ok-keys.ensures) (ap (λ n. c.self.inside.next + n) c.added_count-count.ensures) c.in_ok-check_numbers.ensures)
+    rw (← c.self.view_is) (added c.self.inside.records.records c.push_reserved.new.self.records c.args.new.now c.self.inside.next _ c.self.inside.sets c.push_to_set.new.sets c.from_vec.result c.self.invariant.has_sets c.in_ok-push_to_set.ensures.content (c.push_reserved.ensures ∙ (λ i. c.in_ok-reserve.ensures.records i ++ c.in_ok-copy.ensures i ∷ [])) (c.from_vec.ensures ∙ c.in_ok-keys.ensures) (ap (λ n. c.self.inside.next + n) c.added_count-count.ensures) c.in_ok-check_numbers.ensures)
 
 pub returns-in_err-check_numbers-clause-replaced : goal.returns-in_err-check_numbers-clause-replaced
 returns-in_err-check_numbers-clause-replaced c =
     let p = err_from_is_err_and c.from_residual.result c.from_residual.ensures.1 in
-    rw (p.1, p.2, ← c.self.view_is) (refused (c.self.inside.records.items ++ c.args.new.now ∷ []) _ _ c.in_err-check_numbers.field-0.0 (λ some. refused-add c.self.inside.records.items c.args.new.now c.self.inside.next c.added_count-count.result c.in_err-check_numbers.field-0.0 c.added_count-count.ensures c.in_err-check_numbers.ensures.0 c.in_err-check_numbers.ensures.1) refl)
+    rw (p.1, p.2, ← c.self.view_is) (refused (c.self.inside.records.records ++ c.args.new.now ∷ []) _ _ c.in_err-check_numbers.field-0.0 (λ some. refused-add c.self.inside.records.records c.args.new.now c.self.inside.next c.added_count-count.result c.in_err-check_numbers.field-0.0 c.added_count-count.ensures c.in_err-check_numbers.ensures.0 c.in_err-check_numbers.ensures.1) refl)
 
 pub returns-in_err-keys-clause-memory : goal.returns-in_err-keys-clause-memory
 returns-in_err-keys-clause-memory c =
-    if_memory _ (rw (← c.self.view_is) (enough-add c.self.inside.records.items c.args.new.now c.self.inside.next c.added_count-count.result c.added_count-count.ensures c.in_ok-check_numbers.ensures))
+    if_memory _ (rw (← c.self.view_is) (enough-add c.self.inside.records.records c.args.new.now c.self.inside.next c.added_count-count.result c.added_count-count.ensures c.in_ok-check_numbers.ensures))
 
 pub returns-in_err-copy-clause-memory : goal.returns-in_err-copy-clause-memory
 returns-in_err-copy-clause-memory c =
-    if_memory _ (rw (← c.self.view_is) (enough-add c.self.inside.records.items c.args.new.now c.self.inside.next c.added_count-count.result c.added_count-count.ensures c.in_ok-check_numbers.ensures))
+    if_memory _ (rw (← c.self.view_is) (enough-add c.self.inside.records.records c.args.new.now c.self.inside.next c.added_count-count.result c.added_count-count.ensures c.in_ok-check_numbers.ensures))
 
 pub returns-in_err-owner-clause-memory : goal.returns-in_err-owner-clause-memory
 returns-in_err-owner-clause-memory c =
-    if_memory _ (rw (← c.self.view_is) (enough-add c.self.inside.records.items c.args.new.now c.self.inside.next c.added_count-count.result c.added_count-count.ensures c.in_ok-check_numbers.ensures))
+    if_memory _ (rw (← c.self.view_is) (enough-add c.self.inside.records.records c.args.new.now c.self.inside.next c.added_count-count.result c.added_count-count.ensures c.in_ok-check_numbers.ensures))
 
 pub returns-in_err-reserve-clause-memory : goal.returns-in_err-reserve-clause-memory
 returns-in_err-reserve-clause-memory c =
-    if_memory _ (rw (← c.self.view_is) (enough-add c.self.inside.records.items c.args.new.now c.self.inside.next c.added_count-count.result c.added_count-count.ensures c.in_ok-check_numbers.ensures))
+    if_memory _ (rw (← c.self.view_is) (enough-add c.self.inside.records.records c.args.new.now c.self.inside.next c.added_count-count.result c.added_count-count.ensures c.in_ok-check_numbers.ensures))
 
 pub returns-in_err-reserve-2-clause-memory : goal.returns-in_err-reserve-2-clause-memory
 returns-in_err-reserve-2-clause-memory c =
-    if_memory _ (rw (← c.self.view_is) (enough-add c.self.inside.records.items c.args.new.now c.self.inside.next c.added_count-count.result c.added_count-count.ensures c.in_ok-check_numbers.ensures))
+    if_memory _ (rw (← c.self.view_is) (enough-add c.self.inside.records.records c.args.new.now c.self.inside.next c.added_count-count.result c.added_count-count.ensures c.in_ok-check_numbers.ensures))
 
 pub returns-in_err-push_to_set-clause-memory : goal.returns-in_err-push_to_set-clause-memory
 returns-in_err-push_to_set-clause-memory c =
-    if_memory _ (rw (← c.self.view_is) (enough-add c.self.inside.records.items c.args.new.now c.self.inside.next c.added_count-count.result c.added_count-count.ensures c.in_ok-check_numbers.ensures))
+    if_memory _ (rw (← c.self.view_is) (enough-add c.self.inside.records.records c.args.new.now c.self.inside.next c.added_count-count.result c.added_count-count.ensures c.in_ok-check_numbers.ensures))
 
 pub returns-in_err-reserve-2-clause-replaced : goal.returns-in_err-reserve-2-clause-replaced
 returns-in_err-reserve-2-clause-replaced c =
     let p = err_from_is_err_and c.from_residual-in_err-reserve-2.result c.from_residual-in_err-reserve-2.ensures.1 in
-    rw (p.1, p.2, ← c.self.view_is) (refused (c.self.inside.records.items ++ c.args.new.now ∷ []) _ _ Memory (λ some. absurd (some refl)) (λ i. record { records = c.in_ok-reserve.ensures.items i; numbers = numbers_of c.self.inside.sets; next = c.self.inside.next }))
+    rw (p.1, p.2, ← c.self.view_is) (refused (c.self.inside.records.records ++ c.args.new.now ∷ []) _ _ Memory (λ some. absurd (some refl)) (λ i. record { records = c.in_ok-reserve.ensures.records i; numbers = numbers_of c.self.inside.sets; next = c.self.inside.next }))

@@ -1,12 +1,9 @@
-use Rattle.std.proofs.Common.{◌≡◌, ◌+◌, refl, not, ap, sym, ◌∙◌, rules}
-use Rattle.std.proofs.lemmas.Fn.{filter_same}
+use Rattle.std.proofs.Common.{◌+◌, refl, ap, sym, ◌∙◌}
 use Rattle.std.proofs.lemmas.Result.{err_from_is_err_and}
 use Rattle.indexmap.specs.IndexSet.{contains}
 use Rattle.std.specs.List.{list_any}
 use Rattle.sipl_names.specs.Labels.{same_name}
-use Rattle.sipl_records.specs.declared.record.Record.{Record}
-use Rattle.sipl_records.specs.Sets.{set_of, same_record}
-use Rattle.sipl_records.proofs.Public.{same_record_is}
+use Rattle.sipl_records.specs.Sets.{set_of}
 use Rattle.sipl_zonestore.specs.BareOwners.{is_bare_at}
 use Rattle.sipl_zonestore.specs.Edits.{records_without}
 use Rattle.sipl_zonestore.proofs.BareOwners.{bare-removed}
@@ -16,25 +13,23 @@ use Rattle.sipl_zonestore.proofs.indexed_records.IndexedRecords.remove.Goals as 
 
 pub invariant_of-self : goal.invariant_of-self
 invariant_of-self c =
-    let kept : c.retain.new.self.items ≡ records_without c.args.old.now c.self.inside.records.items = filter_same _ (λ (r : Record). not (same_record c.args.old.now r)) _ (λ x b f k. search (rules, same_record_is)) _ _ c.retain.ensures.filtered in
     record {
-      has_sets = λ key. removed-sets c.self.inside.records.items c.args.old.now c.self.inside.next c.self.inside.sets c.remove_from_set.new.sets c.self.invariant.has_sets c.remove_from_set.ensures key ∙ ap (λ rs. set_of rs key) (sym kept);
+      has_sets = λ key. removed-sets c.self.inside.records.records c.args.old.now c.self.inside.next c.self.inside.sets c.remove_from_set.new.sets c.self.invariant.has_sets c.remove_from_set.ensures key ∙ ap (λ rs. set_of rs key) (sym c.remove.ensures);
       has_bare = λ name.
-          bare-removed c.self.inside.records.items c.args.old.now (contains same_name c.self.inside.bare) (contains same_name c.remove_owner.new.owners) c.self.invariant.has_bare c.remove_owner.ensures name
-          ∙ ap (λ rs. list_any (is_bare_at name) rs) (sym kept);
+          bare-removed c.self.inside.records.records c.args.old.now (contains same_name c.self.inside.bare) (contains same_name c.remove_owner.new.owners) c.self.invariant.has_bare c.remove_owner.ensures name
+          ∙ ap (λ rs. list_any (is_bare_at name) rs) (sym c.remove.ensures);
       last = c.in_ok-check_numbers.ensures;
     }
 
 pub returns-clause-replaced : goal.returns-clause-replaced
 returns-clause-replaced c =
-    let kept : c.retain.new.self.items ≡ records_without c.args.old.now c.self.inside.records.items = filter_same _ (λ (r : Record). not (same_record c.args.old.now r)) _ (λ x b f k. search (rules, same_record_is)) _ _ c.retain.ensures.filtered in
-    rw (← c.self.view_is) (taken_out c.self.inside.records.items c.retain.new.self.items c.args.old.now c.self.inside.next _ c.self.inside.sets c.remove_from_set.new.sets c.from_vec.result c.self.invariant.has_sets (rw (← c.self.view_is) at c.requires) c.remove_from_set.ensures kept (c.from_vec.ensures ∙ c.in_ok-keys.ensures) (ap (λ n. c.self.inside.next + n) c.removed_count-count.ensures) c.in_ok-check_numbers.ensures)
+    rw (← c.self.view_is) (taken_out c.self.inside.records.records c.remove.new.self.records c.args.old.now c.self.inside.next _ c.self.inside.sets c.remove_from_set.new.sets c.from_vec.result c.self.invariant.has_sets (rw (← c.self.view_is) at c.requires.present) c.remove_from_set.ensures c.remove.ensures (c.from_vec.ensures ∙ c.in_ok-keys.ensures) (ap (λ n. c.self.inside.next + n) c.removed_count-count.ensures) c.in_ok-check_numbers.ensures)
 
 pub returns-in_err-check_numbers-clause-replaced : goal.returns-in_err-check_numbers-clause-replaced
 returns-in_err-check_numbers-clause-replaced c =
     let p = err_from_is_err_and c.from_residual.result c.from_residual.ensures.1 in
-    rw (p.1, p.2, ← c.self.view_is) (refused (records_without c.args.old.now c.self.inside.records.items) _ _ c.in_err-check_numbers.field-0.0 (λ some. refused-remove c.self.inside.records.items c.args.old.now c.self.inside.next c.removed_count-count.result c.self.inside.sets c.in_err-check_numbers.field-0.0 c.self.invariant.has_sets (rw (← c.self.view_is) at c.requires) c.removed_count-count.ensures c.in_err-check_numbers.ensures.0 c.in_err-check_numbers.ensures.1) refl)
+    rw (p.1, p.2, ← c.self.view_is) (refused (records_without c.args.old.now c.self.inside.records.records) _ _ c.in_err-check_numbers.field-0.0 (λ some. refused-remove c.self.inside.records.records c.args.old.now c.self.inside.next c.removed_count-count.result c.self.inside.sets c.in_err-check_numbers.field-0.0 c.self.invariant.has_sets (rw (← c.self.view_is) at c.requires.present) c.removed_count-count.ensures c.in_err-check_numbers.ensures.0 c.in_err-check_numbers.ensures.1) refl)
 
 pub returns-in_err-keys-clause-memory : goal.returns-in_err-keys-clause-memory
 returns-in_err-keys-clause-memory c =
-    if_memory _ (rw (← c.self.view_is) (enough-remove c.self.inside.records.items c.args.old.now c.self.inside.next c.removed_count-count.result c.self.inside.sets c.self.invariant.has_sets (rw (← c.self.view_is) at c.requires) c.removed_count-count.ensures c.in_ok-check_numbers.ensures))
+    if_memory _ (rw (← c.self.view_is) (enough-remove c.self.inside.records.records c.args.old.now c.self.inside.next c.removed_count-count.result c.self.inside.sets c.self.invariant.has_sets (rw (← c.self.view_is) at c.requires.present) c.removed_count-count.ensures c.in_ok-check_numbers.ensures))

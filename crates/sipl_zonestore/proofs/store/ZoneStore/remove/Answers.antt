@@ -14,7 +14,10 @@ returns c =
 
 pub remove-requires : goal.remove-requires
 remove-requires c =
-    not_absent c.self.inside.max_records c.args.old.now (record { apexes = c.self.inside.apexes.items; records = c.self.inside.records.records }) (rw c.deref.ensures.value at (c.in_ok-check_remove.ensures c.self.inside.max_records))
+    record {
+      distinct = c.self.invariant.records_distinct;
+      present = not_absent c.self.inside.max_records c.args.old.now (record { apexes = c.self.inside.apexes.items; records = c.self.inside.records.records }) (rw c.deref.ensures.value at (c.in_ok-check_remove.ensures c.self.inside.max_records));
+    }
 
 pub returns-in_err-check_remove : goal.returns-in_err-check_remove
 returns-in_err-check_remove c =

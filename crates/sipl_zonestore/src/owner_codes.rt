@@ -1,0 +1,35 @@
+//! Codes of owners, by which a record is found among many.
+ghost use Rattle.std.specs.Prelude.{◌≡◌, ◌≤◌, length, false, nat_eq, vec_capacity};
+ghost use Rattle.sipl_zonestore.specs.RecordList.{code_of_owner, codes_of};
+
+use sipl_names::Name;
+use sipl_records::Record;
+use std::hash::{FoldHasher, Hash, Hasher};
+
+// The code of an owner: a hash of its octets.
+pub(crate) fn code_of(owner: &Name) -> u32
+    ensures { result ≡ code_of_owner owner.now }
+{
+    let mut state = FoldHasher::default();
+    owner.hash(&mut state);
+    (state.finish() % 4_294_967_296) as u32
+}
+
+// Another code than this.
+pub(crate) fn other_code(code: u32) -> u32
+    ensures { nat_eq result code ≡ false }
+{
+    if code == 0 { 1 } else { 0 }
+}
+
+// Writes the codes of the records' owners. Does not allocate.
+pub(crate) fn write_codes(codes: &mut Vec<u32>, records: &[Record])
+    requires { length records.now ≤ vec_capacity codes.old }
+    ensures codes { codes.new.items ≡ codes_of records.now }
+    ensures capacity { vec_capacity codes.old ≤ vec_capacity codes.new }
+{
+    codes.clear();
+    for record in records {
+        codes.push_reserved(code_of(&record.owner));
+    }
+}

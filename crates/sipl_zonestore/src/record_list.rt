@@ -1,0 +1,117 @@
+//! Records in the order of addition, of which one is removed without moving those after it.
+ghost use Rattle.std.specs.Prelude.{◌≡◌, ◌≤◌, ◌++◌, ◌∷◌, [], length, true, false, OnOk, vec_len, vec_capacity};
+ghost use Rattle.std.specs.Borrow.{sem};
+ghost use Rattle.std.specs.Io.BufRead.{Rests};
+ghost use Rattle.std.specs.List.{list_any};
+ghost use Rattle.sipl_records.specs.Sets.{same_record};
+ghost use Rattle.sipl_masterfile.specs.Zones.{has_repeats};
+ghost use Rattle.sipl_zonestore.specs.Store.{records_outside};
+ghost use Rattle.sipl_zonestore.specs.Edits.{records_without};
+
+use crate::owner_codes::{code_of, other_code, write_codes};
+use crate::places::{compact, find_place};
+use sipl_names::Name;
+use sipl_records::Record;
+use std::alloc::{AllocError, Global};
+use std::marker::Model;
+
+// Records, each beside a code. Where this is the code of its owner, the record is there; else it was
+// removed, and is dropped when the others are moved together.
+#[derive(Drop)]
+pub(crate) struct RecordList {
+    records: Vec<Record>,
+    codes: Vec<u32>,
+    len: usize,
+}
+
+impl Model for RecordList {
+    ghost use Rattle.std.specs.Prelude.{◌-◌, min, vec_len, vec_capacity};
+    ghost use Rattle.sipl_zonestore.specs.RecordList.{ListState, IsRecordList, live};
+
+    ghost Value = { ListState };
+
+    ghost view = { λ l. record {
+      records = live l.records.items l.codes.items;
+      room = min (vec_capacity l.records - vec_len l.records) (vec_capacity l.codes - vec_len l.codes);
+    } };
+
+    ghost invariant = { λ l. IsRecordList l.records.items l.codes.items l.len };
+}
+
+impl RecordList {
+    ghost use Rattle.sipl_zonestore.specs.contracts.record_list.RecordList.{the_row};
+
+    // No records. Does not allocate.
+    pub(crate) fn new(alloc: Global) -> Self
+        ensures { result.records ≡ [] }
+    {
+        RecordList {
+            records: Vec::new(alloc),
+            codes: Vec::new(alloc),
+            len: 0,
+        }
+    }
+
+    // How many records there are.
+    pub(crate) fn len(&self) -> usize
+        ensures { result ≡ length self.now.records }
+    {
+        self.len
+    }
+
+    // All records. Linear where one was removed since the last call. Does not allocate.
+    pub(crate) fn as_slice(&mut self) -> &[Record]
+        ensures value { result.now ≡ self.old.records }
+        ensures* kept { sem 𝓛 (Rests the_row self.entry (λ new. new.records ≡ self.old.records)) }
+    {
+        compact(&mut self.records, &mut self.codes, self.len);
+        &self.records
+    }
+
+    // Makes room for so many more records. Moves the records together where more were removed than
+    // are left, so that this takes constant time for each removal.
+    pub(crate) fn reserve(&mut self, additional: usize) -> Result<(), AllocError>
+        ensures records { self.new.records ≡ self.old.records }
+        ensures room { OnOk result (additional ≤ self.new.room) }
+    {
+        if self.records.len() - self.len > self.len {
+            compact(&mut self.records, &mut self.codes, self.len);
+        }
+        self.records.reserve(additional)?;
+        self.codes.reserve(additional)
+    }
+
+    // Appends a record. Does not allocate.
+    pub(crate) fn push_reserved(&mut self, new: Record)
+        requires { 1 ≤ self.old.room }
+        ensures { self.new.records ≡ self.old.records ++ new ∷ [] }
+    {
+        self.codes.push_reserved(code_of(&new.owner));
+        self.records.push_reserved(new);
+        self.len += 1;
+    }
+
+    // Removes a record: its code becomes another. Linear in the number of codes, which are compared
+    // one by one. Does not allocate.
+    pub(crate) fn remove(&mut self, old: &Record)
+        requires distinct { has_repeats self.old.records ≡ false }
+        requires present { list_any (same_record old.now) self.old.records ≡ true }
+        ensures { self.new.records ≡ records_without old.now self.old.records }
+    {
+        let place = find_place(&self.records, &self.codes, old);
+        self.codes[place] = other_code(self.codes[place]);
+        self.len -= 1;
+    }
+
+    // Replaces the records within the apex by those of a text, which are last. Does not allocate.
+    pub(crate) fn replace_within(&mut self, apex: &Name, mut text: Vec<Record>)
+        requires { vec_len text ≤ self.old.room }
+        ensures { self.new.records ≡ records_outside apex.now self.old.records ++ text.items }
+    {
+        compact(&mut self.records, &mut self.codes, self.len);
+        self.records.retain(|record| !record.owner.is_within(apex));
+        self.records.append(&mut text).unwrap();
+        write_codes(&mut self.codes, &self.records);
+        self.len = self.records.len();
+    }
+}
