@@ -1,6 +1,8 @@
 -- The targets of servers: their endpoints, without the held ones.
-use Rattle.std.proofs.Common.{◌≡◌, ℕ, ◌<◌, not, List, [], ◌∷◌, length, slice_get, map, filter, sym, ap, ◌∙◌, arith}
+use Rattle.std.proofs.Common.{◌≡◌, ℕ, ◌<◌, not, List, [], ◌∷◌, length, slice_get, map, filter, true, nat_lt, unwrap_or, refl, sym, ap, ◌∙◌, arith}
 use Rattle.std.specs.List.{filter_map, flat_map}
+use Rattle.std.specs.Map.{lookup}
+use Rattle.std.proofs.lemmas.Bool.{le-ltb}
 use Rattle.sipl_records.specs.Unique.{unique}
 use Rattle.sipl_choice.specs.Endpoints.{same_endpoint}
 use Rattle.sipl_choice.specs.declared.endpoint.Endpoint.{Endpoint}
@@ -17,6 +19,13 @@ use Rattle.sipl_plans.specs.declared.layout.Source.{Source}
 -- the endpoints that are not held
 abbrev pub free : Holds → List Endpoint → List Endpoint
 free holds endpoints = filter (λ e. not (is_held holds e)) endpoints
+
+-- where none is held, all are left
+pub free-all : (holds : Holds) (endpoints : List Endpoint) → holds.ends ≡ [] → endpoints ≡ free holds endpoints
+free-all holds [] none = refl
+free-all holds (endpoint ∷ others) none =
+    let kept : not (is_held holds endpoint) ≡ true = ap (λ (ends : List (Endpoint × ℕ)). not (nat_lt holds.now (unwrap_or (lookup (same_endpoint endpoint) ends) 0))) none ∙ ap not (le-ltb holds.now 0 (omega arith)) in
+    rw kept (ap (λ (left : List Endpoint). endpoint ∷ left) (free-all holds others none))
 
 -- the answer is among the endpoints of the servers at some places
 pub draw-among : (layout : Layout) (transport : Transport) (servers slice : List Source) (holds : Holds) (words order places : List ℕ) (endpoints : List Endpoint) → layout ≡ Servers transport servers → slice ≡ servers → order ≡ ordered (map source_rank slice) words → places ≡ order

@@ -1,4 +1,4 @@
-ghost use Rattle.std.specs.Prelude.{◌≡◌, ◌≢◌, ◌<◌, ◌≤◌, ◌++◌, [], ◌∷◌, not, length, slice_get, if◌then◌else◌, IfOk, OnOk, OnErr};
+ghost use Rattle.std.specs.Prelude.{◌≡◌, ◌≢◌, ◌<◌, ◌≤◌, ◌++◌, [], ◌∷◌, not, length, filter, slice_get, if◌then◌else◌, IfOk, OnOk, OnErr};
 ghost use Rattle.std.specs.List.{All, filter_map, flat_map, list_any};
 ghost use Rattle.sipl_records.specs.Unique.{unique};
 ghost use Rattle.sipl_choice.specs.Endpoints.{same_endpoint};
@@ -108,15 +108,26 @@ pub fn draw(
     if targets.is_empty() {
         return Ok(Answer::None(Reason::NoAddress));
     }
+    leave_held_out(&mut targets, board);
+    if targets.is_empty() {
+        return Ok(Answer::None(Reason::AllHeld));
+    }
+    Ok(Answer::Targets(Sequence::from_vec(targets)))
+}
+
+// Takes the held endpoints out. Mostly none is held, and then none is looked up.
+fn leave_held_out(targets: &mut Vec<Endpoint>, board: &Board)
+    ensures { targets.new.items
+        ≡ filter (λ target. not (is_held board.now.holds target)) targets.old.items }
+{
+    if board.is_empty() {
+        return;
+    }
     targets.retain(
         |target: &Endpoint| -> bool
             ensures { result ≡ not (is_held board.entry.now.holds target.now) }
         { !board.is_held(target) },
     );
-    if targets.is_empty() {
-        return Ok(Answer::None(Reason::AllHeld));
-    }
-    Ok(Answer::Targets(Sequence::from_vec(targets)))
 }
 
 // The endpoints of the servers at these places, each once, at its first place.
