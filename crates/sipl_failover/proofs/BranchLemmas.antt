@@ -63,3 +63,6 @@ length-branch_of base attempt few =
     let before = length_before base in
     let whole = length-append (before_attempt base) (decimal attempt) in
     omega (arith, digits, before, whole)
+
+pub branch_is_short : (base attempt : ℕ) → attempt ≤ 2048 → length (branch_of base attempt) ≤ 28
+branch_is_short = length-branch_of

@@ -230,11 +230,12 @@ impl Failover {
     }
 
     /// Appends the branch of this attempt (RFC 3261, 8.1.1.7): `z9hG4bK`, the base as 16 lower-case
-    /// hexadecimal digits, a dot, and the attempt in decimal.
+    /// hexadecimal digits, a dot, and the attempt in decimal. It has at most 28 octets.
     ///
     /// # Errors
     ///
     /// F3 if no such attempt was sent, and then Memory. An `Err` leaves `out` as it was.
+    #[tactic(auto, using(crate::proofs::BranchLemmas::branch_is_short))]
     pub fn branch(&self, attempt: u32, out: &mut Vec<u8>) -> Result<(), FailoverFault>
         ensures ok { OnOk result
             (out.new.items ≡ out.old.items ++ branch_of self.now.base attempt) }
@@ -247,6 +248,8 @@ impl Failover {
         ensures succeeds { IsTrue (was_sent self.now attempt) →
             vec_len out.old + length (branch_of self.now.base attempt) ≤ vec_capacity out.old →
             IsOk result }
+        ensures short { IsTrue (was_sent self.now attempt) →
+            length (branch_of self.now.base attempt) ≤ 28 }
     {
         if !self.was_sent(attempt) {
             return Err(FailoverFault::NoAttempt);

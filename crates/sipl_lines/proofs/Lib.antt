@@ -11,3 +11,4 @@ pub mod Listening
 pub mod Rows
 pub mod Seen
 pub mod Plain
+pub mod Calling

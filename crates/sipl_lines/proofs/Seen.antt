@@ -1,6 +1,6 @@
 -- A session at a desk whose states are seen as those of another desk: where each rule of the one
 -- implies that of the other, the same text is that of a session at the other.
-use Rattle.std.proofs.Common.{◌≡◌, ◌⊎◌, ℕ, List, [], ◌∷◌, Bool, true, false, Option, None, Some, Result, Ok, Err, OnOk, OnErr, ◌==◌, ◌++◌, ap, inl, inr, codes}
+use Rattle.std.proofs.Common.{◌≡◌, ◌⊎◌, ℕ, List, [], ◌∷◌, Bool, true, false, Option, None, Some, Result, Ok, Err, OnOk, OnErr, ◌==◌, ◌++◌, ap, subst, inl, inr, codes}
 use Rattle.std.specs.Bool.{OnTrue, OnFalse}
 use Rattle.sipl_names.specs.Labels.{Octets, Labels}
 use Rattle.sipl_names.specs.NameText.{name_of}
@@ -11,6 +11,7 @@ use Rattle.sipl_records.specs.declared.record.Record.{Record}
 use Rattle.sipl_masterfile.specs.Zones.{Zone, zone_of}
 use Rattle.sipl_masterfile.specs.RecordText.{record_of}
 use Rattle.sipl_masterfile.specs.declared.fault.ZoneFault.{ZoneFault}
+use Rattle.sipl_choice.specs.declared.endpoint.Endpoint.{Endpoint}
 use Rattle.sipl_choice.specs.declared.transport.Transport.{Transport}
 use Rattle.sipl_srv.specs.declared.fault.DrawsFault.{DrawsFault}
 use Rattle.sipl_uri.specs.Uris.{question_of}
@@ -19,6 +20,11 @@ use Rattle.sipl_uri.specs.declared.question.Question.{Question}
 use Rattle.sipl_evidence.specs.Items.{Item as Evidence}
 use Rattle.sipl_outages.specs.Holds.{BoardEvent}
 use Rattle.sipl_outages.specs.Holds.BoardEvent.{Hold, Release, Advance}
+use Rattle.sipl_tx.specs.declared.parts.Kind.{Kind}
+use Rattle.sipl_failover.specs.FailoverRun.{FailoverRun, Event, has_ended}
+use Rattle.sipl_failover.specs.FailoverRun.Event.{Received, Ticked, TransportFailed}
+use Rattle.sipl_failover.specs.Rules.{after as after_event, refusal_of}
+use Rattle.sipl_failover.specs.declared.fault.FailoverFault.{FailoverFault}
 use Rattle.sipl_book.specs.declared.edit.Edit.{Edit}
 use Rattle.sipl_book.specs.declared.edit.Edit.TheVariants.{Load, Unload}
 use Rattle.sipl_book.specs.declared.fault.BookFault.{BookFault}
@@ -34,16 +40,17 @@ use Rattle.sipl_lines.specs.declared.server.ServeFault.{ServeFault}
 use Rattle.sipl_lines.specs.declared.server.ServeFault.TheVariants.{Read, Write, TooManyTurns, Memory}
 use Rattle.sipl_lines.specs.declared.tapped.Tapped.{Tapped}
 use Rattle.sipl_lines.specs.Tapped.{tapped_inner}
-use Rattle.sipl_lines.specs.Commands.{Keeps, Loads, Unloads, EditsRecord, record_edit, AnswersUri, ListsUri, Repairs, MovesTo, Holds, Releases, SetsClock}
+use Rattle.sipl_lines.specs.Commands.{Keeps, Loads, Unloads, EditsRecord, record_edit, AnswersUri, ListsUri, Repairs, MovesTo, Holds, Releases}
+use Rattle.sipl_lines.specs.Calls.{CallDesk, with_call, hold_in, MakesHold, GoesOn, Hears, HearsOf, Ticks, TellsTime, SetsClock, Opens, OpensFor, is_open, CallsUnlessOpen, CallsUri}
 use Rattle.sipl_lines.specs.Desk.{DeskRules}
 use Rattle.sipl_lines.specs.Gathering.{gathering_of, after_line, at_end, lost}
 use Rattle.sipl_lines.specs.Items.{Item, line, end_of_input, items_of, complete_items}
 use Rattle.sipl_lines.specs.Replies.{Serves}
 use Rattle.sipl_lines.specs.ReplyText.{counts_line}
-use Rattle.sipl_lines.specs.Requests.{Request, nothing, unknown, too_long, zone, drop, add, del, find, deps, repair, hold, release, clock, quit, request_of}
+use Rattle.sipl_lines.specs.Requests.{Request, nothing, unknown, too_long, zone, drop, add, del, find, deps, repair, hold, release, clock, call, got, broke, quit, request_of}
 use Rattle.sipl_lines.specs.Serving.{ServesWithin, ServesDesk}
 use Rattle.sipl_lines.specs.ServeFault.{OnReadFault, OnTooManyTurns}
-use Rattle.sipl_lines.specs.Session.{SessionState, with_gathering, AtDesk, Commands, Gathers, GathersOrLoses, LoadsGathered, MayReply, Obeys, TakesEnd, TakesItem, TakesLine, new_session, session_protocol}
+use Rattle.sipl_lines.specs.Session.{SessionState, with_gathering, AtCall, AtDesk, Commands, Gathers, GathersOrLoses, LoadsGathered, MayReply, Obeys, TakesEnd, TakesItem, TakesLine, new_session, session_protocol}
 use Rattle.sipl_lines.specs.Streams.{ServesAll, ServesFirst, ServesPrefix, ServesRead}
 
 -- each rule of a desk implies that of another, where the states are seen so
@@ -58,6 +65,7 @@ pub record Implies {D E : Type 0} (seen : D → E) (R : DeskRules D) (R' : DeskR
       → R.Depends question before outcome after → R'.Depends question (seen before) outcome (seen after)
   pub repairs : (before : D) (outcome : Result (Unit {0}) BookFault) (after : D)
       → R.Repairs before outcome after → R'.Repairs (seen before) outcome (seen after)
+  pub time : (state : D) → R.time state ≡ R'.time (seen state)
 
 -- what is done in a state, with this text, is done in the state that is seen
 abbrev Carries : {D E : Type 0} → (D → E) → (D → Octets → D → Type 0) → (E → Octets → E → Type 0) → Type 0
@@ -69,7 +77,7 @@ keeps seen reply before text after kept = (kept.0, ap seen kept.1)
 
 -- the session's state with its desk as it is seen; all else is the same
 abbrev session_seen : {D E : Type 0} → (D → E) → SessionState D → SessionState E
-session_seen seen state = record { desk = seen state.desk; gathering = state.gathering; ended = state.ended }
+session_seen seen state = record { desk = seen state.desk; gathering = state.gathering; call = state.call; ended = state.ended }
 
 on_desk : {D E : Type 0} (seen : D → E) (Acts : D → Octets → D → Type 0) (Acts' : E → Octets → E → Type 0) → Carries seen Acts Acts'
     → Carries (session_seen seen) (AtDesk Acts) (AtDesk Acts')
@@ -79,6 +87,15 @@ commands : {D E : Type 0} (seen : D → E) (Acts : D → Octets → D → Type 0
     → Carries (session_seen seen) (Commands Acts) (Commands Acts')
 commands seen Acts Acts' carries before text after (inl done) = inl (on_desk seen Acts Acts' carries before text after done)
 commands seen Acts Acts' carries before text after (inr fails) = inr (fails.0, ap (session_seen seen) fails.1)
+
+-- a desk with its call, as the desk is seen
+abbrev call_seen : {D E : Type 0} → (D → E) → CallDesk D → CallDesk E
+call_seen seen at = with_call (seen at.desk) at.call
+
+on_call : {D E : Type 0} (seen : D → E) (Acts : CallDesk D → Octets → CallDesk D → Type 0) (Acts' : CallDesk E → Octets → CallDesk E → Type 0) → Carries (call_seen seen) Acts Acts'
+    → Carries (session_seen seen) (AtCall Acts) (AtCall Acts')
+on_call seen Acts Acts' carries before text after done =
+    (carries (with_call before.desk before.call) text (with_call after.desk after.call) done.0, ap (session_seen seen) done.1)
 
 -- ---- facts of a case
 
@@ -154,14 +171,67 @@ module _ {D E : Type 0} (seen : D → E) (R : DeskRules D) (R' : DeskRules E) (i
   releases transport (Some address) port before text after done =
       moves_to (counts_line (codes "ok release") []) (Release (record { transport = transport; address = address; port = port })) before text after done
 
-  sets_clock : (ms : ℕ) → Carries seen (SetsClock R ms) (SetsClock R' ms)
-  sets_clock ms before text after done = moves_to (counts_line (codes "ok clock") (ms ∷ [])) (Advance ms) before text after done
-
   loads_gathered : (gathered : Gathered) → Carries seen (LoadsGathered R gathered) (LoadsGathered R' gathered)
   loads_gathered Lost before text after kept = (kept.0, ap seen kept.1)
   loads_gathered LongLine before text after kept = (kept.0, ap seen kept.1)
   loads_gathered (BadApex fault) before text after kept = (kept.0, ap seen kept.1)
   loads_gathered (Lines lines) before text after done = loads (zone_of lines.text lines.apex) before text after done
+
+  -- ---- what a command does with the call
+
+  makes_hold : (reply : Octets) (hold : Option (Endpoint × ℕ)) → Carries seen (MakesHold R reply hold) (MakesHold R' reply hold)
+  makes_hold reply None before text after kept = (kept.0, ap seen kept.1)
+  makes_hold reply (Some hold) before text after done = moves_to reply (Hold hold.0 hold.1) before text after done
+
+  goes_on : (reply : Octets) (run : FailoverRun) (event : Event) (fault : Option FailoverFault)
+      → Carries (call_seen seen) (GoesOn R reply run event fault) (GoesOn R' reply run event fault)
+  goes_on reply run event (Some fault) before text after kept = (kept.0, ap (call_seen seen) kept.1)
+  goes_on reply run event None before text after done =
+      ((done.0.0, makes_hold reply (hold_in (after_event run event).steps) before.desk done.0.0 after.desk done.0.1, done.0.2), done.1)
+
+  hears : (reply : Octets) (event : Event) (heard : Option FailoverRun) → Carries (call_seen seen) (Hears R reply event heard) (Hears R' reply event heard)
+  hears reply event None before text after kept = (kept.0, ap (call_seen seen) kept.1)
+  hears reply event (Some run) before text after done = goes_on reply run event (refusal_of run event) before text after done
+
+  hears_of : (words : Octets) (event : Event) → Carries (call_seen seen) (HearsOf R words event) (HearsOf R' words event)
+  hears_of words event before text after done = hears (counts_line words []) event before.call before text after done
+
+  ticks : (reply : Octets) (ms : ℕ) (told : Option FailoverRun) → Carries (call_seen seen) (Ticks R reply ms told) (Ticks R' reply ms told)
+  ticks reply ms None before text after kept = (kept.0, ap (call_seen seen) kept.1)
+  ticks reply ms (Some run) before text after done =
+      (
+        on_true (has_ended run) (λ kept. keeps (call_seen seen) reply before text after kept) done.0,
+        on_false (has_ended run) (λ goes. goes_on reply run (Ticked ms) (refusal_of run (Ticked ms)) before text after goes) done.1,
+      )
+
+  tells_time : (ms : ℕ) (outcome : Result ℕ BookFault) → Carries (call_seen seen) (TellsTime R ms outcome) (TellsTime R' ms outcome)
+  tells_time ms (Err fault) before text after kept = (kept.0, ap (call_seen seen) kept.1)
+  tells_time ms (Ok number) before text after done = ticks (counts_line (codes "ok clock") (ms ∷ [])) ms before.call before text after done
+
+  sets_clock : (ms : ℕ) → Carries (call_seen seen) (SetsClock R ms) (SetsClock R' ms)
+  sets_clock ms before text after done =
+      (done.0, seen done.1, implies.moves (Advance ms) before.desk done.0 done.1 done.2, tells_time ms done.0 (with_call done.1 before.call) text after done.3)
+
+  opens_for : (kind : Kind) (base : ℕ) (outcome : Result Handed BookFault) (earlier : Option FailoverRun) (text : Octets) (after : CallDesk D)
+      → OpensFor R kind base outcome earlier text after → OpensFor R' kind base outcome earlier text (call_seen seen after)
+  opens_for kind base (Err fault) earlier text after kept = kept
+  opens_for kind base (Ok handed) earlier text after opens =
+      subst (λ moment. Opens kind base moment handed.answer earlier text after.call) (implies.time after.desk) opens
+
+  calls_unless_open : (kind : Kind) (base : ℕ) (question : Question) (words : List ℕ)
+      → Carries (call_seen seen) (CallsUnlessOpen R kind base question words) (CallsUnlessOpen R' kind base question words)
+  calls_unless_open kind base question words before text after done =
+      (
+        on_true (is_open before.call) (λ refused. (refused.0, ap (call_seen seen) refused.1)) done.0,
+        on_false (is_open before.call)
+        (λ opened. (opened.0, implies.finds question words before.desk opened.0 after.desk opened.1, opens_for kind base opened.0 before.call text after opened.2)) done.1,
+      )
+
+  calls_uri : (kind : Kind) (base : ℕ) (asked : Result Question UriFault) (draws : Result (List ℕ) DrawsFault)
+      → Carries (call_seen seen) (CallsUri R kind base asked draws) (CallsUri R' kind base asked draws)
+  calls_uri kind base (Err fault) draws before text after kept = (kept.0, ap (call_seen seen) kept.1)
+  calls_uri kind base (Ok question) (Err fault) before text after kept = (kept.0, ap (call_seen seen) kept.1)
+  calls_uri kind base (Ok question) (Ok words) before text after done = calls_unless_open kind base question words before text after done
 
   -- ---- what a line does in the session
 
@@ -196,7 +266,14 @@ module _ {D E : Type 0} (seen : D → E) (R : DeskRules D) (R' : DeskRules E) (i
       on_desk seen (Holds R transport (address_of address) port ms) (Holds R' transport (address_of address) port ms) (holds transport (address_of address) port ms) before text after done
   obeys (release transport address port) before text after done =
       on_desk seen (Releases R transport (address_of address) port) (Releases R' transport (address_of address) port) (releases transport (address_of address) port) before text after done
-  obeys (clock ms) before text after done = on_desk seen (SetsClock R ms) (SetsClock R' ms) (sets_clock ms) before text after done
+  obeys (clock ms) before text after done = on_call seen (SetsClock R ms) (SetsClock R' ms) (sets_clock ms) before text after done
+  obeys (call kind base uri draws) before text after (inl done) =
+      inl (on_call seen (CallsUri R kind base (question_of uri) draws) (CallsUri R' kind base (question_of uri) draws) (calls_uri kind base (question_of uri) draws) before text after done)
+  obeys (call kind base uri draws) before text after (inr fails) = inr (fails.0, ap (session_seen seen) fails.1)
+  obeys (got attempt code retry) before text after done =
+      on_call seen (HearsOf R (codes "ok got") (Received attempt code retry)) (HearsOf R' (codes "ok got") (Received attempt code retry)) (hears_of (codes "ok got") (Received attempt code retry)) before text after done
+  obeys broke before text after done =
+      on_call seen (HearsOf R (codes "ok broke") TransportFailed) (HearsOf R' (codes "ok broke") TransportFailed) (hears_of (codes "ok broke") TransportFailed) before text after done
   obeys quit before text after done = (done.0, ap (session_seen seen) done.1)
 
   takes_line : (gathering : Option Gathering) (octets : Octets) → Carries (session_seen seen) (TakesLine R gathering octets) (TakesLine R' gathering octets)

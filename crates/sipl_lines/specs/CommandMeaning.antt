@@ -1,7 +1,7 @@
 -- What a command that was read asks for.
 use Rattle.sipl_lines.specs.declared.command.Command.{Command}
-use Rattle.sipl_lines.specs.declared.command.Command.TheVariants.{Nothing, Unknown, TooLong, Zone, Drop, Add, Del, Find, Deps, Repair, Hold, Release, Clock, Quit}
-use Rattle.sipl_lines.specs.Requests.{Request, nothing, unknown, too_long, zone, drop, add, del, find, deps, repair, hold, release, clock, quit}
+use Rattle.sipl_lines.specs.declared.command.Command.TheVariants.{Nothing, Unknown, TooLong, Zone, Drop, Add, Del, Find, Deps, Repair, Hold, Release, Clock, Call, Got, Broke, Quit}
+use Rattle.sipl_lines.specs.Requests.{Request, nothing, unknown, too_long, zone, drop, add, del, find, deps, repair, hold, release, clock, call, got, broke, quit}
 
 -- the request of a command
 abbrev pub meaning_of : Command → Request
@@ -18,4 +18,7 @@ meaning_of Repair = repair
 meaning_of (Hold transport address port ms) = hold transport address.now port ms
 meaning_of (Release transport address port) = release transport address.now port
 meaning_of (Clock to) = clock to
+meaning_of (Call kind base uri draws) = call kind base uri.now draws
+meaning_of (Got attempt code retry_after) = got attempt code retry_after
+meaning_of Broke = broke
 meaning_of Quit = quit

@@ -15,7 +15,7 @@ use Rattle.sipl_uri.specs.declared.fault.UriFault.{UriFault}
 use Rattle.sipl_uri.specs.declared.question.Question.{Question}
 use Rattle.sipl_uri.specs.UriFault.{code_of as uri_code}
 use Rattle.sipl_outages.specs.Holds.{BoardEvent}
-use Rattle.sipl_outages.specs.Holds.BoardEvent.{Hold, Release, Advance}
+use Rattle.sipl_outages.specs.Holds.BoardEvent.{Hold, Release}
 use Rattle.sipl_book.specs.BookFault.{code_of as book_code}
 use Rattle.sipl_book.specs.declared.edit.Edit.{Edit}
 use Rattle.sipl_book.specs.declared.edit.Edit.TheVariants.{Load, Unload, Add, Remove}
@@ -149,8 +149,3 @@ Releases rules transport None port before text after = Refuses (codes "A1") befo
 Releases rules transport (Some address) port before text after =
     MovesTo rules (counts_line (codes "ok release") [])
     (Release (record { transport = transport; address = address; port = port })) before text after
-
--- the clock is set
-abbrev pub SetsClock : {D : Type 0} → DeskRules D → ℕ → D → Octets → D → Type 0
-SetsClock rules ms before text after =
-    MovesTo rules (counts_line (codes "ok clock") (ms ∷ [])) (Advance ms) before text after

@@ -18,6 +18,7 @@ pub mod ReplyText
 pub mod Desk
 pub mod PlainDesk
 pub mod Commands
+pub mod Calls
 pub mod Session
 pub mod SessionLaws
 pub mod Checking

@@ -148,4 +148,5 @@ plain_rules =
       Depends = λ question before outcome after.
           EndsSo (Ok (sets_read question before), before) before (sets_listed outcome) after;
       Repairs = λ before outcome after. EndsSo (Ok tt, before) before outcome after;
+      time = λ plain. plain.holds.now;
     }

@@ -1,11 +1,13 @@
 -- What a line of a session asks for.
-use Rattle.std.specs.Prelude.{ℕ, Bool, false, List, [], ◌∷◌, Option, None, Some, Result, codes, nat_eq, nat_lt, length, if◌then◌else◌, ◌==◌}
+use Rattle.std.specs.Prelude.{ℕ, Bool, false, List, [], ◌∷◌, Option, None, Some, Result, codes, nat_eq, nat_lt, length, option_map, if◌then◌else◌, ◌==◌}
 use lib.Pointwise.{pointwise}
 use Rattle.sipl_records.specs.Fields.{fields_of, trim_start, after_field}
 use Rattle.sipl_records.specs.Numbers.{number_of}
 use Rattle.sipl_choice.specs.declared.transport.Transport.{Transport}
 use Rattle.sipl_choice.specs.Transports.{transport_named}
 use Rattle.sipl_srv.specs.declared.fault.DrawsFault.{DrawsFault}
+use Rattle.sipl_tx.specs.declared.parts.Kind.{Kind}
+use Rattle.sipl_tx.specs.declared.parts.Kind.TheVariants.{Invite, Other}
 use Rattle.sipl_names.specs.Labels.{Octets}
 use Rattle.sipl_lines.specs.DrawsField.{draws_of}
 
@@ -24,6 +26,9 @@ pub data Request : Type 0 where
   hold : Transport → Octets → ℕ → ℕ → Request
   release : Transport → Octets → ℕ → Request
   clock : ℕ → Request
+  call : Kind → ℕ → Octets → Result (List ℕ) DrawsFault → Request
+  got : ℕ → ℕ → Option ℕ → Request
+  broke : Request
   quit : Request
 
 -- a comment begins with # as the first octet of its line
@@ -97,17 +102,66 @@ clock_request (ms ∷ []) =
     elim (number_of ms 18446744073709551615) [ Some to ↦ clock to | None ↦ unknown ]
 clock_request _ = unknown
 
+-- the kind of a request: `invite` or `other`
+abbrev pub kind_named : Octets → Option Kind
+kind_named word =
+    if pointwise nat_eq word (codes "invite") then Some Invite
+    else (if pointwise nat_eq word (codes "other") then Some Other else None)
+
+-- a call, if its kind, base and random words are ones
+abbrev pub call_of : Option Kind → Option ℕ → Octets → Option (Result (List ℕ) DrawsFault) → Request
+call_of (Some kind) (Some base) uri (Some draws) = call kind base uri draws
+call_of _ _ uri _ = unknown
+
+-- `call invite|other BASE URI`, and the fields that give the random words: a base of 64 bits
+abbrev pub call_request : List Octets → Request
+call_request (kind ∷ base ∷ uri ∷ others) =
+    call_of (kind_named kind) (number_of base 18446744073709551615) uri (draws_of others)
+call_request _ = unknown
+
+-- `retry SECONDS`, or nothing: seconds of 32 bits
+abbrev pub retry_of : List Octets → Option (Option ℕ)
+retry_of [] = Some None
+retry_of (word ∷ seconds ∷ []) =
+    if pointwise nat_eq word (codes "retry") then option_map Some (number_of seconds 4294967295)
+    else None
+retry_of _ = None
+
+-- a response, if its attempt, code and seconds are ones
+abbrev pub got_of : Option ℕ → Option ℕ → Option (Option ℕ) → Request
+got_of (Some attempt) (Some code) (Some retry) = got attempt code retry
+got_of _ _ _ = unknown
+
+-- `got ATTEMPT CODE`, and `retry SECONDS`: an attempt of 32 bits, and a code of 16 bits
+abbrev pub got_request : List Octets → Request
+got_request (attempt ∷ code ∷ others) =
+    got_of (number_of attempt 4294967295) (number_of code 65535) (retry_of others)
+got_request _ = unknown
+
+-- `broke`
+abbrev pub broke_request : List Octets → Request
+broke_request [] = broke
+broke_request _ = unknown
+
 -- `quit`
 abbrev pub quit_request : List Octets → Request
 quit_request [] = quit
 quit_request _ = unknown
+
+-- `call`, `got` and `broke`
+abbrev pub call_command : Octets → List Octets → Request
+call_command word others =
+    if pointwise nat_eq word (codes "call") then call_request others
+    else (if pointwise nat_eq word (codes "got") then got_request others
+    else (if pointwise nat_eq word (codes "broke") then broke_request others else unknown))
 
 -- `hold`, `release` and `clock`
 abbrev pub outage_request : Octets → List Octets → Request
 outage_request word others =
     if pointwise nat_eq word (codes "hold") then hold_request others
     else (if pointwise nat_eq word (codes "release") then release_request others
-    else (if pointwise nat_eq word (codes "clock") then clock_request others else unknown))
+    else (if pointwise nat_eq word (codes "clock") then clock_request others
+    else call_command word others))
 
 -- what the command word asks for, with the fields after it, and the whole line for a record
 abbrev pub command_request : Octets → List Octets → Octets → Request

@@ -8,33 +8,42 @@ use Rattle.sipl_records.specs.Addresses.{address_of}
 use Rattle.sipl_masterfile.specs.Zones.{zone_of}
 use Rattle.sipl_masterfile.specs.RecordText.{record_of}
 use Rattle.sipl_uri.specs.Uris.{question_of}
+use Rattle.sipl_failover.specs.FailoverRun.{FailoverRun}
+use Rattle.sipl_failover.specs.FailoverRun.Event.{Received, TransportFailed}
 use Rattle.sipl_lines.specs.declared.desk_commands.RecordEdit.TheVariants.{Add as AddRecord, Remove as RemoveRecord}
-use Rattle.sipl_lines.specs.Commands.{Keeps, Refuses, Fails, Loads, Unloads, EditsRecord, AnswersUri, ListsUri, Repairs, Holds, Releases, SetsClock}
+use Rattle.sipl_lines.specs.Commands.{Keeps, Refuses, Fails, Loads, Unloads, EditsRecord, AnswersUri, ListsUri, Repairs, Holds, Releases}
+use Rattle.sipl_lines.specs.Calls.{CallDesk, CallsUri, HearsOf, SetsClock, with_call}
 use Rattle.sipl_lines.specs.Desk.{DeskRules}
 use Rattle.sipl_lines.specs.Items.{Item, line, end_of_input}
 use Rattle.sipl_lines.specs.Protocol.{Protocol}
-use Rattle.sipl_lines.specs.Requests.{Request, nothing, unknown, too_long, zone, drop, add, del, find, deps, repair, hold, release, clock, quit, request_of}
+use Rattle.sipl_lines.specs.Requests.{Request, nothing, unknown, too_long, zone, drop, add, del, find, deps, repair, hold, release, clock, call, got, broke, quit, request_of}
 use Rattle.sipl_lines.specs.Gathering.{gathering_of, after_line, at_end, lost, keeps_lines}
 use Rattle.sipl_lines.specs.declared.gather.Gathered.{Gathered}
 use Rattle.sipl_lines.specs.declared.gather.Gathered.TheVariants.{Lines, BadApex, LongLine, Lost}
 use Rattle.sipl_lines.specs.declared.gather.Gathering.{Gathering}
 use Rattle.sipl_lines.specs.declared.session.Session.{Session}
 
--- the state of a session: the desk, the zone whose lines are being taken, and whether the session
--- has ended
+-- the state of a session: the desk, the zone whose lines are being taken, the last call, and whether
+-- the session has ended
 pub record SessionState (D : Type 0) : Type 0 where
   pub desk : D
   pub gathering : Option Gathering
+  pub call : Option FailoverRun
   pub ended : Bool
 
 -- the state of a session at a desk
 abbrev pub at_desk : {D : Type 0} → D → Session → SessionState D
 at_desk desk session =
-    record { desk = desk; gathering = session.gathering; ended = session.ended }
+    record {
+      desk = desk;
+      gathering = session.gathering;
+      call = session.call;
+      ended = session.ended;
+    }
 
 -- a session at a desk that has had no line
 abbrev pub new_session : {D : Type 0} → D → SessionState D
-new_session desk = record { desk = desk; gathering = None; ended = false }
+new_session desk = record { desk = desk; gathering = None; call = None; ended = false }
 
 -- the state with another desk
 abbrev pub with_desk : {D : Type 0} → D → SessionState D → SessionState D
@@ -50,6 +59,13 @@ abbrev pub AtDesk : {D : Type 0} → (D → Octets → D → Type 0) → Session
 AtDesk Acts before text after =
     Acts before.desk text after.desk × (after ≡ with_desk after.desk before)
 
+-- what happens at the desk and with the call; all else is as it was
+abbrev pub AtCall : {D : Type 0} → (CallDesk D → Octets → CallDesk D → Type 0) → SessionState D
+    → Octets → SessionState D → Type 0
+AtCall Acts before text after =
+    Acts (with_call before.desk before.call) text (with_call after.desk after.call)
+    × (after ≡ record before { desk = after.desk; call = after.call })
+
 -- whether an allocation of a request may fail, which then changes nothing
 abbrev pub MayFail : Request → Type 0
 MayFail (drop apex) = Unit {0}
@@ -57,6 +73,7 @@ MayFail (add r) = Unit {0}
 MayFail (del r) = Unit {0}
 MayFail (find uri draws) = Unit {0}
 MayFail (deps uri) = Unit {0}
+MayFail (call kind base uri draws) = Unit {0}
 MayFail _ = ⊥
 
 -- `zone APEX COUNT`, once its lines are taken: the first of these that applies is reported
@@ -107,7 +124,14 @@ Obeys rules (hold transport address port ms) before text after =
     AtDesk (Holds rules transport (address_of address) port ms) before text after
 Obeys rules (release transport address port) before text after =
     AtDesk (Releases rules transport (address_of address) port) before text after
-Obeys rules (clock ms) before text after = AtDesk (SetsClock rules ms) before text after
+Obeys rules (clock ms) before text after = AtCall (SetsClock rules ms) before text after
+Obeys rules (call kind base uri draws) before text after =
+    AtCall (CallsUri rules kind base (question_of uri) draws) before text after
+    ⊎ Fails before text after
+Obeys rules (got attempt code retry_after) before text after =
+    AtCall (HearsOf rules (codes "ok got") (Received attempt code retry_after)) before text after
+Obeys rules broke before text after =
+    AtCall (HearsOf rules (codes "ok broke") TransportFailed) before text after
 Obeys rules quit before text after =
     (text ≡ codes "ok quit\n") × (after ≡ record before { ended = true })
 

@@ -1,7 +1,7 @@
 // What a line of a session asks for.
 ghost use Rattle.std.specs.Prelude.{◌≡◌};
 ghost use Rattle.sipl_records.specs.Fields.{fields_of, trim_start};
-ghost use Rattle.sipl_lines.specs.Requests.{add_request, del_request, deps_request, drop_request, find_request, hold_request, release_request, repair_request, clock_request, outage_request, quit_request, request_of, zone_request, unknown};
+ghost use Rattle.sipl_lines.specs.Requests.{add_request, broke_request, call_command, call_request, del_request, deps_request, got_request, kind_named, retry_of, drop_request, find_request, hold_request, release_request, repair_request, clock_request, outage_request, quit_request, request_of, zone_request, unknown};
 ghost use Rattle.std.specs.Option.{option_map_or};
 ghost use Rattle.sipl_lines.specs.CommandMeaning.{meaning_of};
 
@@ -9,6 +9,7 @@ use crate::draws_field::read_draws;
 use sipl_choice::Transport;
 use sipl_records::{next_field, read_number, trim_start};
 use sipl_srv::{Draws, DrawsFault};
+use sipl_tx::Kind;
 
 /// The maximum length of a line in octets. A longer one is refused as K2.
 pub const MAX_LINE_LEN: usize = 65_536;
@@ -45,6 +46,13 @@ pub(crate) enum Command<'a> {
     Release(Transport, &'a [u8], u16),
     // `clock MS`: sets the time, in milliseconds.
     Clock(u64),
+    // `call invite|other BASE URI DRAWS`: opens a call to the targets of a URI. Its branches share
+    // the base.
+    Call(Kind, u64, &'a [u8], Result<Draws, DrawsFault>),
+    // `got ATTEMPT CODE [retry SECONDS]`: a response to an attempt of the call.
+    Got(u32, u16, Option<u32>),
+    // `broke`: an error of the transport of the call's running attempt.
+    Broke,
     // `quit`: ends the session.
     Quit,
 }
@@ -190,6 +198,22 @@ fn read_outage<'a>(word: &[u8], rest: &'a [u8]) -> Option<Command<'a>>
     } else if word == b"clock".as_slice() {
         clock_command(rest)
     } else {
+        read_call(word, rest)
+    }
+}
+
+// `call`, `got` or `broke`, if the fields are so.
+fn read_call<'a>(word: &[u8], rest: &'a [u8]) -> Option<Command<'a>>
+    ensures { option_map_or meaning_of result unknown
+        ≡ call_command word.now (fields_of rest.now) }
+{
+    if word == b"call".as_slice() {
+        call_fields(rest)
+    } else if word == b"got".as_slice() {
+        got_fields(rest)
+    } else if word == b"broke".as_slice() {
+        broke_fields(rest)
+    } else {
         None
     }
 }
@@ -235,6 +259,70 @@ fn clock_command(rest: &[u8]) -> Option<Command<'_>>
         return None;
     }
     Some(Command::Clock(read_number(ms, u64::MAX)?))
+}
+
+// `call invite|other BASE URI DRAWS`, if the fields are so.
+fn call_fields(rest: &[u8]) -> Option<Command<'_>>
+    ensures { option_map_or meaning_of result unknown ≡ call_request (fields_of rest.now) }
+{
+    let (kind, rest) = next_field(rest)?;
+    let (base, rest) = next_field(rest)?;
+    let (uri, rest) = next_field(rest)?;
+    let kind = read_kind(kind)?;
+    let base = read_number(base, u64::MAX)?;
+    let draws = read_draws(rest)?;
+    Some(Command::Call(kind, base, uri, draws))
+}
+
+// `got ATTEMPT CODE [retry SECONDS]`, if the fields are so.
+fn got_fields(rest: &[u8]) -> Option<Command<'_>>
+    ensures { option_map_or meaning_of result unknown ≡ got_request (fields_of rest.now) }
+{
+    let (attempt, rest) = next_field(rest)?;
+    let (code, rest) = next_field(rest)?;
+    let attempt = read_number(attempt, u64::from(u32::MAX))?;
+    let code = read_number(code, u64::from(u16::MAX))?;
+    let retry_after = read_retry(rest)?;
+    Some(Command::Got(attempt as u32, code as u16, retry_after))
+}
+
+// `broke`, if there are no more fields.
+fn broke_fields(rest: &[u8]) -> Option<Command<'_>>
+    ensures { option_map_or meaning_of result unknown ≡ broke_request (fields_of rest.now) }
+{
+    if next_field(rest).is_some() {
+        None
+    } else {
+        Some(Command::Broke)
+    }
+}
+
+// The kind of a request by its word.
+fn read_kind(word: &[u8]) -> Option<Kind>
+    ensures { result ≡ kind_named word.now }
+{
+    if word == b"invite".as_slice() {
+        Some(Kind::Invite)
+    } else if word == b"other".as_slice() {
+        Some(Kind::Other)
+    } else {
+        None
+    }
+}
+
+// The seconds of `retry SECONDS`, or none where there are no fields. `None` for other fields.
+fn read_retry(fields: &[u8]) -> Option<Option<u32>>
+    ensures { result ≡ retry_of (fields_of fields.now) }
+{
+    let Some((word, rest)) = next_field(fields) else {
+        return Some(None);
+    };
+    let (seconds, rest) = next_field(rest)?;
+    if next_field(rest).is_some() || word != b"retry".as_slice() {
+        return None;
+    }
+    let seconds = read_number(seconds, u64::from(u32::MAX))?;
+    Some(Some(seconds as u32))
 }
 
 // `quit`.

@@ -1,4 +1,5 @@
 //! What a session's commands act on.
+ghost use Rattle.std.specs.Prelude.{◌≡◌, ◌≤◌, ◌^◌, OnOk};
 ghost use Rattle.sipl_outages.specs.Holds.BoardEvent.{Hold, Release, Advance};
 ghost use Rattle.sipl_lines.specs.Desk.{DeskRules};
 
@@ -35,9 +36,15 @@ pub trait Desk {
     fn release(&mut self, endpoint: &Endpoint) -> Result<u64, BookFault>
         ensures { rules.Moves (Release endpoint.now) self.old result self.new };
 
-    /// Sets the time, in milliseconds. Returns the event's number.
+    /// Sets the time, in milliseconds, at most to 2^52. Returns the event's number.
     fn advance(&mut self, to: u64) -> Result<u64, BookFault>
-        ensures { rules.Moves (Advance to) self.old result self.new };
+        ensures moved { rules.Moves (Advance to) self.old result self.new }
+        ensures limit { OnOk result (to ≤ 2 ^ 52) };
+
+    /// The present time, in milliseconds, at most 2^52.
+    fn now(&self) -> u64
+        ensures time { result ≡ rules.time self.now }
+        ensures limit { result ≤ 2 ^ 52 };
 
     /// The record sets that a question's targets depend on, in the order of reading. Keeps nothing.
     fn deps(&mut self, alloc: Global, question: Question) -> Result<Evidence, BookFault>
@@ -77,6 +84,10 @@ impl Desk for Book {
 
     fn advance(&mut self, to: u64) -> Result<u64, BookFault> {
         Book::advance(self, to)
+    }
+
+    fn now(&self) -> u64 {
+        self.board().now()
     }
 
     fn deps(&mut self, _alloc: Global, question: Question) -> Result<Evidence, BookFault> {

@@ -6,7 +6,7 @@ ghost use Rattle.sipl_names.specs.NameFault.{IfInvalid};
 ghost use Rattle.sipl_names.specs.NameText.{name_of};
 ghost use Rattle.sipl_records.specs.Addresses.{address_of};
 ghost use Rattle.sipl_uri.specs.Uris.{question_of};
-ghost use Rattle.sipl_lines.specs.Commands.{AnswersUri, Edits, EditsRecord, Holds, ListsUri, Loads, Releases, Repairs, SetsClock, Unloads, handed_text, result_text};
+ghost use Rattle.sipl_lines.specs.Commands.{AnswersUri, Edits, EditsRecord, Holds, ListsUri, Loads, Releases, Repairs, Unloads, handed_text, result_text};
 ghost use Rattle.sipl_lines.specs.ReplyText.{counts_line, evidence_text, refusal_line};
 ghost use Rattle.sipl_lines.specs.Session.{AppendsText};
 
@@ -23,8 +23,12 @@ use sipl_srv::{Draws, DrawsFault};
 use sipl_uri::{Question, Uri, UriFault};
 use std::alloc::{AllocError, Global};
 
-// The maximum length of a short reply in octets. Space for one is reserved before each command.
-pub(crate) const MAX_SHORT_REPLY_LEN: usize = 128;
+// The maximum length of a short reply in octets: the lines of four steps of a call, each of at most
+// 128, and a last line. Space for one is reserved before each command.
+pub(crate) const MAX_SHORT_REPLY_LEN: usize = 640;
+
+// The maximum length in octets of the last line of a short reply.
+pub(crate) const MAX_LAST_LINE_LEN: usize = 128;
 
 // Loads the zone of a text, and appends the reply.
 pub(crate) fn load_zone<D: Desk>(
@@ -280,19 +284,14 @@ pub(crate) fn release<D: Desk>(
     reply_moved(desk.release(&endpoint), b"ok release", &[], out);
 }
 
-// `clock MS`: sets the time, and appends the reply.
-pub(crate) fn set_clock<D: Desk>(desk: &mut D, to: u64, out: &mut Vec<u8>)
-    requires space { vec_len out.old + MAX_SHORT_REPLY_LEN ≤ vec_capacity out.old }
-    ensures done { AppendsText (SetsClock D.rules to)
-        desk.old out.old.items desk.new out.new.items }
-    ensures capacity { vec_capacity out.old ≤ vec_capacity out.new }
-{
-    reply_moved(desk.advance(to), b"ok clock", &[to], out);
-}
-
 // Appends the reply to a hold, a release or a move of the clock: words and numbers, or its fault.
-fn reply_moved(outcome: Result<u64, BookFault>, words: &[u8], numbers: &[u64], out: &mut Vec<u8>)
-    requires space { vec_len out.old + MAX_SHORT_REPLY_LEN ≤ vec_capacity out.old }
+pub(crate) fn reply_moved(
+    outcome: Result<u64, BookFault>,
+    words: &[u8],
+    numbers: &[u64],
+    out: &mut Vec<u8>,
+)
+    requires space { vec_len out.old + MAX_LAST_LINE_LEN ≤ vec_capacity out.old }
     requires words { length words.now ≤ 10 }
     requires numbers { length numbers.now ≤ 1 }
     ensures done { out.new.items ≡ out.old.items
@@ -326,7 +325,10 @@ fn read_absolute_record(alloc: Global, text: &[u8]) -> Result<Result<Record, Zon
 }
 
 // The question of a URI, or its fault. An error says that an allocation failed.
-fn read_question(alloc: Global, uri: &[u8]) -> Result<Result<Question, UriFault>, AllocError>
+pub(crate) fn read_question(
+    alloc: Global,
+    uri: &[u8],
+) -> Result<Result<Question, UriFault>, AllocError>
     ensures { IfOk result (λ read. read ≡ question_of uri.now) }
 {
     match Uri::parse(alloc, uri) {

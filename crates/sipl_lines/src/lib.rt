@@ -3,6 +3,7 @@
 #![tactic(auto)]
 
 mod book;
+mod calls;
 mod check;
 mod command;
 mod conversation;
@@ -15,6 +16,7 @@ mod reply;
 mod server;
 mod session;
 mod settings;
+mod step_lines;
 mod tapped;
 
 pub use book::serve_book;

@@ -11,7 +11,7 @@ use sipl_records::Kind;
 use std::alloc::AllocError;
 
 // The maximum length in octets of a number below 2^64 with a space before it.
-const MAX_NUMBER_FIELD_LEN: usize = 21;
+pub(crate) const MAX_NUMBER_FIELD_LEN: usize = 21;
 
 // The maximum length in octets of a target's line: `target`, its number, the transport's name of at
 // most four octets, the address's text of at most 39, and the port.
@@ -40,7 +40,7 @@ pub(crate) fn write_counts(out: &mut Vec<u8>, words: &[u8], numbers: &[u64])
 }
 
 // Appends a space and a number to space that is reserved.
-fn write_number(out: &mut Vec<u8>, number: u64)
+pub(crate) fn write_number(out: &mut Vec<u8>, number: u64)
     requires { vec_len out.old + MAX_NUMBER_FIELD_LEN ≤ vec_capacity out.old }
     ensures ok { out.new.items ≡ out.old.items ++ number_field number }
     ensures len { vec_len out.new ≤ vec_len out.old + MAX_NUMBER_FIELD_LEN }
@@ -57,7 +57,7 @@ fn write_number(out: &mut Vec<u8>, number: u64)
 }
 
 // Appends a space and a word to space that is reserved.
-fn write_word(out: &mut Vec<u8>, word: &[u8])
+pub(crate) fn write_word(out: &mut Vec<u8>, word: &[u8])
     requires { vec_len out.old + 1 + length word.now ≤ vec_capacity out.old }
     ensures ok { out.new.items ≡ out.old.items ++ word_field word.now }
     ensures len { vec_len out.new ≡ vec_len out.old + 1 + length word.now }

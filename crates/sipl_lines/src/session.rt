@@ -5,31 +5,35 @@ ghost use Rattle.sipl_lines.specs.Items.{Item};
 ghost use Rattle.sipl_lines.specs.Replies.{AppendsReply};
 ghost use Rattle.sipl_lines.specs.Session.{AppendsText, GathersOrLoses, LoadsGathered, MayFail, Obeys, at_desk, session_protocol};
 
+use crate::calls::{hear_failure, hear_response, open_call, set_clock};
 use crate::command::{Command, read_command};
 use crate::desk::Desk;
 use crate::desk_commands::{
     MAX_SHORT_REPLY_LEN, RecordEdit, edit_record, find, hold, list_evidence, load_zone, release,
-    repair, set_clock, unload_zone,
+    repair, unload_zone,
 };
 use crate::gather::{Gathered, Gathering};
 use crate::reply::write_refusal;
+use sipl_failover::Failover;
 use std::alloc::{AllocError, Global};
 
-/// What is kept of a session beside its desk: the zone whose lines are being taken, and whether the
-/// session has ended.
+/// What is kept of a session beside its desk: the zone whose lines are being taken, the last call,
+/// and whether the session has ended.
 #[derive(Drop)]
 pub struct Session {
     gathering: Option<Gathering>,
+    call: Option<Failover>,
     ended: bool,
 }
 
 impl Session {
     /// A session that has had no line.
     pub fn new() -> Self
-        ensures { result ≡ record { gathering = None; ended = false } }
+        ensures { result ≡ record { gathering = None; call = None; ended = false } }
     {
         Session {
             gathering: None,
+            call: None,
             ended: false,
         }
     }
@@ -163,7 +167,18 @@ impl Session {
                 Ok(())
             }
             Command::Clock(to) => {
-                set_clock(desk, *to, out);
+                set_clock(desk, &mut self.call, *to, out);
+                Ok(())
+            }
+            Command::Call(kind, base, uri, draws) => {
+                open_call(alloc, desk, &mut self.call, *kind, *base, uri, draws, out)
+            }
+            Command::Got(attempt, code, retry_after) => {
+                hear_response(desk, &mut self.call, *attempt, *code, *retry_after, out);
+                Ok(())
+            }
+            Command::Broke => {
+                hear_failure(desk, &mut self.call, out);
                 Ok(())
             }
             Command::Quit => {

@@ -1,0 +1,222 @@
+// What `call`, `got`, `broke` and `clock` do with a session's call, and their replies.
+ghost use Rattle.std.specs.Prelude.{◌≡◌, ◌+◌, ◌^◌, ◌≤◌, [], ◌∷◌, length, codes, Some, OnOk, OnErr, vec_len, vec_capacity};
+ghost use Rattle.sipl_uri.specs.Uris.{question_of};
+ghost use Rattle.sipl_failover.specs.FailoverRun.{Event};
+ghost use Rattle.sipl_failover.specs.Rules.{refusal_of};
+ghost use Rattle.sipl_lines.specs.Calls.{CallsUri, GoesOn, HearsOf, Opens, OpensOver, Reports, SetsClock, is_open, with_call};
+ghost use Rattle.sipl_lines.specs.ReplyText.{counts_line};
+ghost use Rattle.sipl_lines.specs.Session.{AppendsText};
+
+use crate::desk::Desk;
+use crate::desk_commands::{MAX_SHORT_REPLY_LEN, read_question, reply_moved};
+use crate::reply::{write_answer, write_counts, write_refusal};
+use crate::step_lines::{hold_of, write_steps};
+use sipl_choice::Endpoint;
+use sipl_failover::{Failover, Steps};
+use sipl_plans::Answer;
+use sipl_srv::{Draws, DrawsFault};
+use sipl_tx::Kind;
+use std::alloc::{AllocError, Global};
+
+// The maximum number of targets of a call. An answer of a book has no more.
+const MAX_TARGETS: usize = 2_048;
+
+// `call invite|other BASE URI DRAWS`: opens a call to a URI's targets for these random words, and
+// appends its first step, or why there is none.
+pub(crate) fn open_call<D: Desk>(
+    alloc: Global,
+    desk: &mut D,
+    call: &mut Option<Failover>,
+    kind: Kind,
+    base: u64,
+    uri: &[u8],
+    draws: &Result<Draws, DrawsFault>,
+    out: &mut Vec<u8>,
+) -> Result<(), AllocError>
+    requires space { vec_len out.old + MAX_SHORT_REPLY_LEN ≤ vec_capacity out.old }
+    ensures ok { OnOk result (AppendsText (CallsUri D.rules kind base (question_of uri.now) draws.now)
+        (with_call desk.old call.old) out.old.items (with_call desk.new call.new) out.new.items) }
+    ensures err { OnErr result (with_call desk.new call.new ≡ with_call desk.old call.old) }
+    ensures err_out { OnErr result (out.new.items ≡ out.old.items) }
+    ensures capacity { vec_capacity out.old ≤ vec_capacity out.new }
+{
+    let question = match read_question(alloc, uri)? {
+        Ok(question) => question,
+        Err(fault) => return write_refusal(out, fault.code()),
+    };
+    let draws = match draws {
+        Ok(draws) => draws,
+        Err(fault) => return write_refusal(out, fault.code()),
+    };
+    if is_open(call) {
+        return write_refusal(out, "K4");
+    }
+    match desk.find(alloc, question, draws) {
+        Ok(handed) => {
+            open_to(call, kind, base, desk.now(), handed.answer, out);
+            Ok(())
+        }
+        Err(fault) => write_refusal(out, fault.code()),
+    }
+}
+
+// Whether there is a call that has not ended.
+fn is_open(call: &Option<Failover>) -> bool
+    ensures { result ≡ is_open call.now }
+{
+    match call {
+        Some(failover) => !failover.has_ended(),
+        None => false,
+    }
+}
+
+// Opens a call to the targets of an answer, and appends its first step, or why there are none.
+fn open_to(
+    call: &mut Option<Failover>,
+    kind: Kind,
+    base: u64,
+    now: u64,
+    answer: Answer,
+    out: &mut Vec<u8>,
+)
+    requires space { vec_len out.old + MAX_SHORT_REPLY_LEN ≤ vec_capacity out.old }
+    requires time { now ≤ 2 ^ 52 }
+    ensures done { AppendsText (Opens kind base now answer)
+        call.old out.old.items call.new out.new.items }
+    ensures capacity { vec_capacity out.old ≤ vec_capacity out.new }
+{
+    match answer {
+        Answer::Targets(targets) => start(call, kind, base, now, targets.into_vec(), out),
+        Answer::None(reason) => write_answer(out, &Answer::None(reason)).unwrap(),
+    }
+}
+
+// Starts a call to these targets, and appends its first step, or the fault.
+fn start(
+    call: &mut Option<Failover>,
+    kind: Kind,
+    base: u64,
+    now: u64,
+    mut targets: Vec<Endpoint>,
+    out: &mut Vec<u8>,
+)
+    requires space { vec_len out.old + MAX_SHORT_REPLY_LEN ≤ vec_capacity out.old }
+    requires time { now ≤ 2 ^ 52 }
+    ensures done { AppendsText (OpensOver kind base now targets.items)
+        call.old out.old.items call.new out.new.items }
+    ensures capacity { vec_capacity out.old ≤ vec_capacity out.new }
+{
+    targets.truncate(MAX_TARGETS);
+    match Failover::start(targets, kind, base, now) {
+        Ok((failover, steps)) => {
+            write_steps(out, &failover, steps.as_slice());
+            write_counts(out, b"ok call", &[]);
+            *call = Some(failover);
+        }
+        Err(fault) => write_refusal(out, fault.code()).unwrap(),
+    }
+}
+
+// `got ATTEMPT CODE [retry SECONDS]`: a response has come to an attempt of the call. Appends the
+// steps and the reply.
+pub(crate) fn hear_response<D: Desk>(
+    desk: &mut D,
+    call: &mut Option<Failover>,
+    attempt: u32,
+    code: u16,
+    retry_after: Option<u32>,
+    out: &mut Vec<u8>,
+)
+    requires space { vec_len out.old + MAX_SHORT_REPLY_LEN ≤ vec_capacity out.old }
+    ensures done { AppendsText
+        (HearsOf D.rules (codes "ok got") (Event.Received attempt code retry_after))
+        (with_call desk.old call.old) out.old.items (with_call desk.new call.new) out.new.items }
+    ensures capacity { vec_capacity out.old ≤ vec_capacity out.new }
+{
+    let Some(failover) = call else {
+        return write_refusal(out, "K3").unwrap();
+    };
+    match failover.receive(attempt, code, retry_after) {
+        Ok(steps) => report(desk, failover, &steps, b"ok got", &[], out),
+        Err(fault) => write_refusal(out, fault.code()).unwrap(),
+    }
+}
+
+// `broke`: the transport of the call's running attempt has failed. Appends the steps and the reply.
+pub(crate) fn hear_failure<D: Desk>(desk: &mut D, call: &mut Option<Failover>, out: &mut Vec<u8>)
+    requires space { vec_len out.old + MAX_SHORT_REPLY_LEN ≤ vec_capacity out.old }
+    ensures done { AppendsText (HearsOf D.rules (codes "ok broke") Event.TransportFailed)
+        (with_call desk.old call.old) out.old.items (with_call desk.new call.new) out.new.items }
+    ensures capacity { vec_capacity out.old ≤ vec_capacity out.new }
+{
+    let Some(failover) = call else {
+        return write_refusal(out, "K3").unwrap();
+    };
+    match failover.transport_error() {
+        Ok(steps) => report(desk, failover, &steps, b"ok broke", &[], out),
+        Err(fault) => write_refusal(out, fault.code()).unwrap(),
+    }
+}
+
+// `clock MS`: sets the time, and tells it to a call that has not ended. Appends the steps and the
+// reply.
+pub(crate) fn set_clock<D: Desk>(
+    desk: &mut D,
+    call: &mut Option<Failover>,
+    to: u64,
+    out: &mut Vec<u8>,
+)
+    requires space { vec_len out.old + MAX_SHORT_REPLY_LEN ≤ vec_capacity out.old }
+    ensures done { AppendsText (SetsClock D.rules to)
+        (with_call desk.old call.old) out.old.items (with_call desk.new call.new) out.new.items }
+    ensures capacity { vec_capacity out.old ≤ vec_capacity out.new }
+{
+    if let Err(fault) = desk.advance(to) {
+        return write_refusal(out, fault.code()).unwrap();
+    }
+    match call {
+        Some(failover) if !failover.has_ended() => tick(desk, failover, to, out),
+        _ => write_counts(out, b"ok clock", &[to]),
+    }
+}
+
+// Tells a call the time. Appends the steps and the reply to `clock`.
+fn tick<D: Desk>(desk: &mut D, failover: &mut Failover, to: u64, out: &mut Vec<u8>)
+    requires space { vec_len out.old + MAX_SHORT_REPLY_LEN ≤ vec_capacity out.old }
+    requires time { to ≤ 2 ^ 52 }
+    ensures done { AppendsText (GoesOn D.rules (counts_line (codes "ok clock") (to ∷ []))
+        failover.old (Event.Ticked to) (refusal_of failover.old (Event.Ticked to)))
+        (with_call desk.old (Some failover.old)) out.old.items
+        (with_call desk.new (Some failover.new)) out.new.items }
+    ensures capacity { vec_capacity out.old ≤ vec_capacity out.new }
+{
+    match failover.tick(to) {
+        Ok(steps) => report(desk, failover, &steps, b"ok clock", &[to], out),
+        Err(fault) => write_refusal(out, fault.code()).unwrap(),
+    }
+}
+
+// Appends the lines of a call's steps, makes the hold among them, and appends the last line: words
+// and numbers, or why the hold was refused.
+fn report<D: Desk>(
+    desk: &mut D,
+    failover: &Failover,
+    steps: &Steps,
+    words: &[u8],
+    numbers: &[u64],
+    out: &mut Vec<u8>,
+)
+    requires space { vec_len out.old + MAX_SHORT_REPLY_LEN ≤ vec_capacity out.old }
+    requires words { length words.now ≤ 10 }
+    requires numbers { length numbers.now ≤ 1 }
+    ensures done { AppendsText (Reports D.rules (counts_line words.now numbers.now)
+        failover.now steps.now) desk.old out.old.items desk.new out.new.items }
+    ensures capacity { vec_capacity out.old ≤ vec_capacity out.new }
+{
+    let steps = steps.as_slice();
+    write_steps(out, failover, steps);
+    match hold_of(steps) {
+        Some((endpoint, ms)) => reply_moved(desk.hold(&endpoint, ms), words, numbers, out),
+        None => write_counts(out, words, numbers),
+    }
+}
