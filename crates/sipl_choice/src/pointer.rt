@@ -107,10 +107,14 @@ fn candidate_of<'a>(datum: &'a Data, secure: bool, abilities: &Abilities) -> Opt
     else {
         return None;
     };
-    if !is_terminal(flags.as_slice(), regexp.as_slice(), replacement) {
+    if !is_terminal(
+        flags.get().as_slice(),
+        regexp.get().as_slice(),
+        replacement.get(),
+    ) {
         return None;
     }
-    let transport = transport_of_services(services.as_slice())?;
+    let transport = transport_of_services(services.get().as_slice())?;
     if !is_usable(transport, secure, abilities) {
         return None;
     }
@@ -118,7 +122,7 @@ fn candidate_of<'a>(datum: &'a Data, secure: bool, abilities: &Abilities) -> Opt
         order: *order,
         preference: *preference,
         transport,
-        replacement,
+        replacement: replacement.get(),
     })
 }
 

@@ -1,26 +1,25 @@
-ghost use Rattle.std.specs.Prelude.{◌≡◌, [], ◌∷◌, ◌++◌, ◌<◌, ◌+◌, ◌^◌, ◌||◌, if◌then◌else◌, Some, length, vec_len, vec_capacity, count_by, IfOk, OnOk, OnErr};
+ghost use Rattle.std.specs.Prelude.{◌≡◌, ℕ, nat_eq, [], ◌∷◌, ◌++◌, ◌<◌, ◌+◌, ◌^◌, ◌||◌, if◌then◌else◌, Some, length, vec_len, vec_capacity, count_by, IfOk, OnOk, OnErr};
 ghost use Rattle.std.specs.Option.{unwrap_or};
 ghost use Rattle.indexmap.specs.IndexMap.{get, IsUnchanged};
-ghost use Rattle.sipl_names.specs.Labels.{Labels, same_name};
 ghost use Rattle.std.specs.List.{list_any};
 ghost use Rattle.sipl_records.specs.Sets.{conflicts, same_record, shares_set};
 
 use indexmap::IndexMap;
-use sipl_names::Name;
-use sipl_records::Record;
+use sipl_records::{Record, name_code};
 use std::alloc::{AllocError, Global};
 use std::marker::Model;
 
 // Records in the order of addition, with a table by which those of one owner are found.
 //
-// The end of an owner's records is how many records there are up to its last one, 0 if it has none.
-// The table has it for each owner, and beside each record is the end of those of its owner before
-// it: so the records of an owner are found from the last one to the first.
+// The end of a code is how many records there are up to the last one whose owner has it, 0 if there
+// is none. The table has it for each code, and beside each record is the end of its owner's code
+// among those before it: so the records of an owner, and the few of others that have its code, are
+// found from the last one to the first, and no name is kept twice.
 #[derive(Drop)]
 pub(crate) struct RecordsByOwner {
     records: Vec<Record>,
     earlier: Vec<usize>,
-    ends: IndexMap<Name, usize>,
+    ends: IndexMap<u32, usize>,
 }
 
 impl Model for RecordsByOwner {
@@ -30,12 +29,12 @@ impl Model for RecordsByOwner {
     ghost Value = { List Record };
 
     ghost use Rattle.indexmap.specs.IndexMap.{get};
-    ghost use Rattle.sipl_names.specs.Labels.{same_name};
+    ghost use Rattle.std.specs.Prelude.{nat_eq};
     ghost use Rattle.sipl_masterfile.specs.ByOwner.{IsIndexed};
 
     ghost view = { λ s. s.records.items };
 
-    ghost invariant = { λ s. IsIndexed s.records.items s.earlier.items (get same_name s.ends) };
+    ghost invariant = { λ s. IsIndexed s.records.items s.earlier.items (get nat_eq s.ends) };
 }
 
 // What the records are to a new one.
@@ -61,7 +60,7 @@ impl RecordsByOwner {
     }
 
     // Appends a record.
-    pub(crate) fn push(&mut self, alloc: Global, new: Record) -> Result<(), AllocError>
+    pub(crate) fn push(&mut self, new: Record) -> Result<(), AllocError>
         ensures ok { OnOk result (self.new ≡ self.old ++ new ∷ []) }
         ensures err { OnErr result (self.new ≡ self.old) }
     {
@@ -69,8 +68,7 @@ impl RecordsByOwner {
             &mut self.records,
             &mut self.earlier,
             &mut self.ends,
-            alloc,
-            &new.owner,
+            name_code(&new.owner),
         )?;
         self.records.push_reserved(new);
         Ok(())
@@ -84,7 +82,7 @@ impl RecordsByOwner {
         records
     }
 
-    // Compares a new record with those of its owner, from the last one to the first.
+    // Compares a new record with those of its owner's code, from the last one to the first.
     pub(crate) fn compare(&self, new: &Record) -> Comparison
         ensures repeated { result.is_repeated ≡ list_any (same_record new.now) self.now }
         ensures conflicts { result.conflicts ≡ list_any (conflicts new.now) self.now }
@@ -95,7 +93,7 @@ impl RecordsByOwner {
             conflicts: false,
             set_len: 0,
         };
-        let mut end = self.ends.get(&new.owner).copied().unwrap_or(0);
+        let mut end = self.ends.get(&name_code(&new.owner)).copied().unwrap_or(0);
         while end > 0 {
             let other = &self.records[end - 1];
             found = found.with(new, other);
@@ -106,48 +104,42 @@ impl RecordsByOwner {
 }
 
 // Reserves space for one more record, and adds what the table and the ends beside the records have
-// of it, whose owner is this one.
+// of it, whose owner has this code.
 fn link(
     records: &mut Vec<Record>,
     earlier: &mut Vec<usize>,
-    ends: &mut IndexMap<Name, usize>,
-    alloc: Global,
-    owner: &Name,
+    ends: &mut IndexMap<u32, usize>,
+    code: u32,
 ) -> Result<(), AllocError>
     ensures space { OnOk result (vec_len records.new < vec_capacity records.new) }
     ensures records { records.new.items ≡ records.old.items }
     ensures earlier { OnOk result (earlier.new.items
-        ≡ earlier.old.items ++ unwrap_or (get same_name ends.old owner.now) 0 ∷ []) }
-    ensures ends { OnOk result ((name : Labels) → get same_name ends.new name
-        ≡ (if same_name owner.now name then Some (length records.old.items + 1)
-        else get same_name ends.old name)) }
+        ≡ earlier.old.items ++ unwrap_or (get nat_eq ends.old code) 0 ∷ []) }
+    ensures ends { OnOk result ((other : ℕ) → get nat_eq ends.new other
+        ≡ (if nat_eq code other then Some (length records.old.items + 1)
+        else get nat_eq ends.old other)) }
     ensures earlier_left { OnErr result (earlier.new.items ≡ earlier.old.items) }
     ensures ends_left { OnErr result (IsUnchanged ends.old ends.new) }
 {
     records.reserve(1)?;
     earlier.reserve(1)?;
-    let end = replace_end(ends, alloc, owner, records.len() + 1)?;
+    let end = replace_end(ends, code, records.len() + 1)?;
     earlier.push_reserved(end);
     Ok(())
 }
 
-// Sets the end of an owner's records, and returns the one that it had, 0 if it had none.
-fn replace_end(
-    ends: &mut IndexMap<Name, usize>,
-    alloc: Global,
-    owner: &Name,
-    end: usize,
-) -> Result<usize, AllocError>
+// Sets the end of a code, and returns the one that it had, 0 if it had none.
+fn replace_end(ends: &mut IndexMap<u32, usize>, code: u32, end: usize) -> Result<usize, AllocError>
     ensures earlier { IfOk result
-        (λ earlier. earlier ≡ unwrap_or (get same_name ends.old owner.now) 0) }
-    ensures ends { OnOk result ((name : Labels) → get same_name ends.new name
-        ≡ (if same_name owner.now name then Some end else get same_name ends.old name)) }
+        (λ earlier. earlier ≡ unwrap_or (get nat_eq ends.old code) 0) }
+    ensures ends { OnOk result ((other : ℕ) → get nat_eq ends.new other
+        ≡ (if nat_eq code other then Some end else get nat_eq ends.old other)) }
     ensures unchanged { OnErr result (IsUnchanged ends.old ends.new) }
 {
-    match ends.get_mut(owner) {
+    match ends.get_mut(&code) {
         Some(last) => Ok(std::mem::replace(last, end)),
         None => {
-            ends.insert(owner.dup(alloc)?, end)?;
+            ends.insert(code, end)?;
             Ok(0)
         }
     }

@@ -55,7 +55,7 @@ impl Intake {
         if !self.is_new(&new)? {
             return Ok(());
         }
-        Ok(self.records.push(alloc, new)?)
+        Ok(self.records.push(new)?)
     }
 
     // Whether a record is to be appended. One that is left out is counted.

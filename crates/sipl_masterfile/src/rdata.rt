@@ -7,7 +7,7 @@ ghost use Rattle.sipl_masterfile.specs.Rdata.{data_of, data_of_kind, address4_da
 use crate::fault::ZoneCause;
 use crate::reader::{check_end, first_field, first_number, first_string, last_name};
 use sipl_names::Name;
-use sipl_records::{Data, Kind, begins_with_letter, read_ipv4, read_ipv6};
+use sipl_records::{Boxed, Data, Kind, begins_with_letter, read_ipv4, read_ipv6};
 use std::alloc::Global;
 
 // The data of the fields from the type on.
@@ -106,7 +106,7 @@ fn read_pointer(alloc: Global, fields: &[&[u8]], origin: &Name) -> Result<Data, 
     let (flags, rest) = first_string(alloc, rest)?;
     let (services, rest) = first_string(alloc, rest)?;
     let (regexp, rest) = first_string(alloc, rest)?;
-    let replacement = last_name(alloc, rest, origin)?;
+    let replacement = Boxed::new(alloc, last_name(alloc, rest, origin)?)?;
     Ok(Data::Pointer {
         order,
         preference,

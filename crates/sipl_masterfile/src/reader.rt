@@ -6,7 +6,7 @@ ghost use Rattle.sipl_masterfile.specs.Readers.{first, last, at_end, name_in, nu
 
 use crate::fault::ZoneCause;
 use sipl_names::{InvalidName, Name, read_escape};
-use sipl_records::{Sequence, read_number};
+use sipl_records::{Boxed, Sequence, read_number};
 use std::alloc::Global;
 
 // The maximum number of octets of a character string (RFC 1035, 3.3).
@@ -65,7 +65,7 @@ pub(crate) fn last_name(alloc: Global, fields: &[&[u8]], origin: &Name) -> Resul
 pub(crate) fn first_string<'a>(
     alloc: Global,
     fields: &'a [&'a [u8]],
-) -> Result<(Sequence<u8>, &'a [&'a [u8]]), ZoneCause>
+) -> Result<(Boxed<Sequence<u8>>, &'a [&'a [u8]]), ZoneCause>
     ensures read { IfOk result (λ next.
         first string_of (octets_of fields.now) ≡ Ok (next.0, octets_of next.1.now)) }
     ensures refused { IfErr result (λ cause. cause ≢ ZoneCause.Memory
@@ -73,7 +73,8 @@ pub(crate) fn first_string<'a>(
 {
     let (field, rest) = first_field(fields)?;
     let string = read_string(alloc, field)?;
-    Ok((Sequence::from_vec(string), rest))
+    let string = Boxed::new(alloc, Sequence::from_vec(string))?;
+    Ok((string, rest))
 }
 
 // The octets of a character string. A backslash that begins no escape comes before the length.

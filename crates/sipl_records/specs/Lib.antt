@@ -10,5 +10,6 @@ pub mod Ipv6Grammar
 pub mod Addresses
 pub mod AddressFault
 pub mod Kinds
+pub mod Codes
 pub mod Sets
 pub use Rattle.sipl_names.specs.Labels

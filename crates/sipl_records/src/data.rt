@@ -1,6 +1,7 @@
 ghost use Rattle.std.specs.Prelude.{◌≡◌, IsTrue, IfOk, OnErr};
 ghost use Rattle.sipl_records.specs.Sets.{has_kind, has_name, has_same_kind, kind_of};
 
+use crate::boxed::Boxed;
 use crate::kind::Kind;
 use crate::sequence::Sequence;
 use sipl_names::Name;
@@ -25,14 +26,15 @@ pub enum Data {
         target: Name,
     },
     /// A pointer to a domain's services (RFC 3403, 4.1). Flags, services and regexp are character
-    /// strings (RFC 1035, 3.3).
+    /// strings (RFC 1035, 3.3). They and the replacement are apart: few records are pointers, and the
+    /// others are no larger for them.
     Pointer {
         order: u16,
         preference: u16,
-        flags: Sequence<u8>,
-        services: Sequence<u8>,
-        regexp: Sequence<u8>,
-        replacement: Name,
+        flags: Boxed<Sequence<u8>>,
+        services: Boxed<Sequence<u8>>,
+        regexp: Boxed<Sequence<u8>>,
+        replacement: Boxed<Name>,
     },
     /// The data of a record of any other type, of which nothing is kept.
     Bare,
@@ -97,10 +99,10 @@ impl Data {
             } => Data::Pointer {
                 order: *order,
                 preference: *preference,
-                flags: flags.dup(alloc)?,
-                services: services.dup(alloc)?,
-                regexp: regexp.dup(alloc)?,
-                replacement: replacement.dup(alloc)?,
+                flags: Boxed::new(alloc, flags.get().dup(alloc)?)?,
+                services: Boxed::new(alloc, services.get().dup(alloc)?)?,
+                regexp: Boxed::new(alloc, regexp.get().dup(alloc)?)?,
+                replacement: Boxed::new(alloc, replacement.get().dup(alloc)?)?,
             },
             Data::Bare => Data::Bare,
         })

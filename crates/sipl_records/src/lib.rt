@@ -5,6 +5,8 @@
 mod address;
 mod address4;
 mod address6;
+mod boxed;
+mod code;
 mod data;
 mod fault;
 mod field;
@@ -17,6 +19,8 @@ mod sequence;
 mod split;
 
 pub use address::{Address, MAX_ADDRESS_TEXT_LEN, read_ipv4, read_ipv6};
+pub use boxed::Boxed;
+pub use code::name_code;
 pub use data::Data;
 pub use fault::AddressFault;
 pub use field::{is_wsp, next_field, trim_start};

@@ -1,7 +1,8 @@
 // Which NAPTR record decides the transport.
 use super::*;
 use sipl_choice::{choose_pointer, chosen_service};
-use sipl_records::{Data, Sequence};
+use sipl_names::Name;
+use sipl_records::{Boxed, Data, Sequence};
 
 // The fields of a NAPTR record, in their order.
 type Fields = (
@@ -13,9 +14,13 @@ type Fields = (
     &'static str,
 );
 
-fn string(alloc: Global, text: &str) -> Option<Sequence<u8>> {
+fn string(alloc: Global, text: &str) -> Option<Boxed<Sequence<u8>>> {
     let octets = Vec::from_slice(alloc, text.as_bytes()).ok()?;
-    Some(Sequence::from_vec(octets))
+    Boxed::new(alloc, Sequence::from_vec(octets)).ok()
+}
+
+fn boxed_name(alloc: Global, text: &str) -> Option<Boxed<Name>> {
+    Boxed::new(alloc, name(alloc, text.as_bytes())?).ok()
 }
 
 fn pointer(alloc: Global, fields: &Fields) -> Option<Data> {
@@ -24,7 +29,7 @@ fn pointer(alloc: Global, fields: &Fields) -> Option<Data> {
         string(alloc, flags),
         string(alloc, services),
         string(alloc, regexp),
-        name(alloc, replacement.as_bytes()),
+        boxed_name(alloc, replacement),
     ) {
         (Some(flags), Some(services), Some(regexp), Some(replacement)) => Some(Data::Pointer {
             order,

@@ -4,7 +4,7 @@ use super::{
 };
 use sipl_masterfile::{ZoneCause, ZoneFault};
 use sipl_names::Name;
-use sipl_records::{Data, Sequence};
+use sipl_records::{Boxed, Data, Sequence};
 use std::alloc::Global;
 use std::process::Abort;
 
@@ -105,8 +105,9 @@ fn parentheses_join_lines(rt: HostRuntime) {
     fault_each(&rt, rt.alloc(), &unbalanced, ZoneCause::Parenthesis);
 }
 
-fn string(rt: &impl Abort, alloc: Global, text: &str) -> Sequence<u8> {
-    Sequence::from_vec(Vec::from_slice(alloc, text.as_bytes()).expect(rt, "memory"))
+fn string(rt: &impl Abort, alloc: Global, text: &str) -> Boxed<Sequence<u8>> {
+    let octets = Vec::from_slice(alloc, text.as_bytes()).expect(rt, "memory");
+    Boxed::new(alloc, Sequence::from_vec(octets)).expect(rt, "memory")
 }
 
 // The data of `NAPTR 1 2 FLAGS SERVICES REGEXP .`.
@@ -121,7 +122,7 @@ fn pointer(rt: &impl Abort, alloc: Global, strings: [&str; 3]) -> Data {
         flags,
         services,
         regexp,
-        replacement: Name::root(alloc),
+        replacement: Boxed::new(alloc, Name::root(alloc)).expect(rt, "memory"),
     }
 }
 

@@ -4,7 +4,7 @@ use super::{
     record_fault, states_record,
 };
 use sipl_masterfile::{ZoneCause, ZoneFault};
-use sipl_records::{Data, Sequence};
+use sipl_records::{Boxed, Data, Sequence};
 use std::alloc::Global;
 use std::process::Abort;
 
@@ -67,8 +67,9 @@ fn data_are_read_by_their_type(rt: HostRuntime) {
     }
 }
 
-fn string(rt: &impl Abort, alloc: Global, octets: &[u8]) -> Sequence<u8> {
-    Sequence::from_vec(Vec::from_slice(alloc, octets).expect(rt, "memory"))
+fn string(rt: &impl Abort, alloc: Global, octets: &[u8]) -> Boxed<Sequence<u8>> {
+    let octets = Vec::from_slice(alloc, octets).expect(rt, "memory");
+    Boxed::new(alloc, Sequence::from_vec(octets)).expect(rt, "memory")
 }
 
 fn pointer(rt: &impl Abort, alloc: Global) -> Data {
@@ -81,7 +82,7 @@ fn pointer(rt: &impl Abort, alloc: Global) -> Data {
         flags,
         services,
         regexp,
-        replacement: name(rt, alloc, "example.com."),
+        replacement: Boxed::new(alloc, name(rt, alloc, "example.com.")).expect(rt, "memory"),
     }
 }
 

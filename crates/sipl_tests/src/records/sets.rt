@@ -1,7 +1,7 @@
 // Data, records, keys, and the sets that records form.
 use super::{key, name, record, string};
 use sipl_names::Name;
-use sipl_records::{Data, Key, Kind, Record, Sequence};
+use sipl_records::{Boxed, Data, Key, Kind, Record, Sequence};
 use std::alloc::Global;
 use std::process::Abort;
 
@@ -41,15 +41,19 @@ fn service(rt: &impl Abort, alloc: Global, row: &Row) -> Data {
     }
 }
 
+fn boxed<T: Drop>(rt: &impl Abort, alloc: Global, value: T) -> Boxed<T> {
+    Boxed::new(alloc, value).expect(rt, "memory")
+}
+
 fn pointer(rt: &impl Abort, alloc: Global, row: &Row) -> Data {
     let (numbers, strings, target) = row;
     Data::Pointer {
         order: numbers[0],
         preference: numbers[1],
-        flags: string(rt, alloc, strings[0]),
-        services: string(rt, alloc, strings[1]),
-        regexp: string(rt, alloc, strings[2]),
-        replacement: name(rt, alloc, target),
+        flags: boxed(rt, alloc, string(rt, alloc, strings[0])),
+        services: boxed(rt, alloc, string(rt, alloc, strings[1])),
+        regexp: boxed(rt, alloc, string(rt, alloc, strings[2])),
+        replacement: boxed(rt, alloc, name(rt, alloc, target)),
     }
 }
 
