@@ -1,5 +1,6 @@
 pub mod Public
 mod Alike
+mod AliasAnswers
 mod Knowing
 mod Placing
 mod Traces

@@ -1,5 +1,5 @@
 -- A walk over aliases, one look-up after another.
-use Rattle.std.proofs.Common.{◌≡◌, ◌≢◌, ℕ, zero, suc, ◌-◌, Bool, true, false, List, [], ◌∷◌, length, Option, None, Some, Result, Ok, Err, MatchResult, refl, ap, sym, subst, ◌∙◌, append-nil, arith}
+use Rattle.std.proofs.Common.{◌≡◌, ◌≢◌, ℕ, zero, suc, ◌-◌, Bool, true, false, List, [], ◌∷◌, length, Option, None, Some, IsSome, Result, Ok, Err, MatchResult, refl, ap, sym, subst, ◌∙◌, append-nil, arith}
 use Rattle.std.specs.Bool.{◌==◌}
 use Rattle.std.specs.Borrow.{Bor}
 use Rattle.std.specs.Option.{option_copied}
@@ -101,6 +101,11 @@ next_key-set is_empty (suc left) name kind at_set = ap (λ b. next_key (asking_a
 
 pub next_key-alias : (is_empty : Bool) (left : ℕ) (name : Labels) (kind : Kind) → is_empty ≡ true → next_key (asking_at is_empty left name kind) ≡ Some (key name Alias)
 next_key-alias is_empty left name kind at_alias = ap (λ b. next_key (asking_at b left name kind)) at_alias
+
+pub next_key-some : (is_empty : Bool) (left : ℕ) (name : Labels) (kind : Kind) → IsSome (next_key (asking_at is_empty left name kind))
+next_key-some true left name kind = refl
+next_key-some false zero name kind = refl
+next_key-some false (suc left) name kind = refl
 
 -- a place asks for a set, so there is no result yet
 value_of-place : (is_empty : Bool) (left : ℕ) (name : Labels) (kind : Kind) → value_of (asking_at is_empty left name kind) ≡ None

@@ -1,10 +1,14 @@
 -- Walks over aliases, which look up one set at a time.
-use Rattle.std.specs.Prelude.{ℕ, Bool, true, false, List}
+use Rattle.std.specs.Prelude.{◌≡◌, ℕ, Bool, true, false, List, Some}
 use Rattle.sipl_names.specs.Labels.{Labels}
 use Rattle.sipl_records.specs.declared.data.Data.{Data}
 use Rattle.sipl_records.specs.declared.kind.Kind.{Kind}
+use Rattle.sipl_evidence.specs.Items.{Item}
+use Rattle.sipl_evidence.specs.Known.{first_unknown, known_result}
 use Rattle.sipl_evidence.specs.Looks.{Asking}
 use Rattle.sipl_evidence.specs.declared.walk.Place.{Place}
+use Rattle.sipl_evidence.specs.declared.walk.Reached.{Reached}
+use Rattle.sipl_evidence.specs.declared.walk.Reached.TheVariants.{Answer, Wanting}
 use Rattle.sipl_evidence.specs.Answers.{asking_within, at_alias}
 
 -- a walk at a name: the kind that it asks for, and whether the name's set is known to be empty; how
@@ -27,3 +31,8 @@ asking_from place kind = asking_at place.is_empty place.left place.name.now kind
 -- what a walk still asks for
 abbrev pub walk_asking : WalkState → Asking (List Data)
 walk_asking walk = asking_at walk.is_empty walk.left walk.name walk.kind
+
+-- how far the sets that were read lead: to the answer, or to the first set that is missing
+abbrev pub IsReached : List Item → Asking (List Data) → Reached → Type 0
+IsReached items asking (Answer set) = known_result items asking ≡ Some set.now
+IsReached items asking (Wanting k) = first_unknown items asking ≡ Some k

@@ -1,13 +1,14 @@
 //! What follows from the definitions. Each law is the contract of a function that does nothing.
 
-ghost use Rattle.std.specs.Prelude.{◌≡◌, ◌≤◌, [], ◌∷◌, ◌++◌, List, None, Some, length, map, filter, find, false, All};
+ghost use Rattle.std.specs.Prelude.{◌≡◌, ◌≢◌, ◌≤◌, ◌+◌, ℕ, [], ◌∷◌, ◌++◌, List, None, Some, length, map, filter, find, false, All};
 ghost use Rattle.sipl_names.specs.Labels.{Labels};
 ghost use Rattle.sipl_records.specs.Sets.{same_key};
 ghost use Rattle.sipl_records.specs.Unique.{unique};
 ghost use Rattle.sipl_records.specs.declared.data.Data.{Data};
 ghost use Rattle.sipl_records.specs.declared.kind.Kind.{Kind};
-ghost use Rattle.sipl_evidence.specs.Looks.{Look, Asking, result_of, asked};
-ghost use Rattle.sipl_evidence.specs.Answers.{asking};
+ghost use Rattle.sipl_records.specs.declared.kind.Kind.TheVariants.{Alias};
+ghost use Rattle.sipl_evidence.specs.Looks.{Look, Asking, key, result_of, asked};
+ghost use Rattle.sipl_evidence.specs.Answers.{asking, asking_within, first_target};
 ghost use Rattle.sipl_evidence.specs.Items.{Item};
 ghost use Rattle.sipl_evidence.specs.Known.{is_unknown, Agrees, first_unknown, advance, known_result, IsTrace};
 
@@ -72,6 +73,24 @@ pub fn traces_go_on_with_the_first_unknown<T>()
     ensures next { (computation : Asking T) (items : List Item) (item : Item)
         → IsTrace computation items → first_unknown items computation ≡ Some item.key
         → IsTrace computation (items ++ item ∷ []) }
+{}
+
+/// The answer to a name and a kind over so many aliases (RFC 1034, 3.6.2). Data of the name are the
+/// answer. Without data it is that of the target of the name's first alias, over one alias fewer;
+/// and without an alias, or where no more are followed, it is empty.
+pub fn answers_are_those_at_the_first_alias()
+    ensures own { (look : Look) (name : Labels) (kind : Kind) (left : ℕ)
+        → look (key name kind) ≢ []
+        → result_of look (asking_within left name kind) ≡ look (key name kind) }
+    ensures alias { (look : Look) (name target : Labels) (kind : Kind) (left : ℕ)
+        → look (key name kind) ≡ [] → first_target (look (key name Alias)) ≡ Some target
+        → result_of look (asking_within (left + 1) name kind)
+        ≡ result_of look (asking_within left target kind) }
+    ensures none { (look : Look) (name : Labels) (kind : Kind) (left : ℕ)
+        → look (key name kind) ≡ [] → first_target (look (key name Alias)) ≡ None
+        → result_of look (asking_within left name kind) ≡ [] }
+    ensures last { (look : Look) (name : Labels) (kind : Kind)
+        → look (key name kind) ≡ [] → result_of look (asking_within 0 name kind) ≡ [] }
 {}
 
 /// An answer asks for at most 17 sets: those of a name and of its alias, over 8 aliases, and that of

@@ -18,4 +18,4 @@ pub use dependents::Dependents;
 pub use evidence::{Evidence, Refused};
 pub use fault::EvidenceFault;
 pub use item::{Item, dup_data};
-pub use walk::{MAX_ALIASES, Walk};
+pub use walk::{MAX_ALIASES, Reached, Walk};

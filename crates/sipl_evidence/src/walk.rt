@@ -1,13 +1,13 @@
-ghost use Rattle.std.specs.Prelude.{◌≡◌, ◌≢◌, MatchResult, find, option_map, OnOk, OnErr, IsSome};
+ghost use Rattle.std.specs.Prelude.{◌≡◌, ◌≢◌, MatchResult, find, option_map, IfOk, OnOk, OnErr, IsSome};
 ghost use Rattle.std.specs.Option.{option_copied, IsSomeAnd};
 ghost use Rattle.sipl_evidence.specs.Looks.{Look, asked, done, key};
 ghost use Rattle.sipl_evidence.specs.Answers.{asking, first_target};
 ghost use Rattle.sipl_evidence.specs.Known.{Agrees, advance, first_unknown, is_unknown, known_result};
-ghost use Rattle.sipl_evidence.specs.Walks.{asking_from, walk_asking};
+ghost use Rattle.sipl_evidence.specs.Walks.{IsReached, asking_from, walk_asking};
 
 use crate::evidence::Evidence;
 use sipl_names::Name;
-use sipl_records::{Data, Kind};
+use sipl_records::{Data, Key, Kind};
 use std::alloc::{AllocError, Global};
 use std::marker::Model;
 
@@ -37,6 +37,15 @@ impl Model for Walk {
       left = w.left;
       is_empty = w.is_empty;
     } };
+}
+
+/// How far evidence leads a walk.
+#[derive(Debug, Drop)]
+pub enum Reached<'a> {
+    /// To the answer.
+    Answer(&'a [Data]),
+    /// To the first set that the evidence lacks: its key.
+    Wanting(Key),
 }
 
 // A place on a walk.
@@ -109,8 +118,44 @@ impl Walk {
         Ok(())
     }
 
+    /// Goes on as `step` does, and returns the answer, or the key of the first set that the evidence
+    /// lacks. Looks each set up once, where `wants`, `result` and `step` do so each. Allocates only
+    /// where a set is lacking. An `Err` leaves the walk as it was.
+    pub fn advance<'a>(
+        &mut self,
+        alloc: Global,
+        evidence: &'a Evidence,
+    ) -> Result<Reached<'a>, AllocError>
+        ensures reached { IfOk result (IsReached evidence.now (walk_asking self.old)) }
+        ensures same { OnOk result (advance evidence.now (walk_asking self.new)
+            ≡ advance evidence.now (walk_asking self.old)) }
+        ensures onward { OnOk result (IsSome (first_unknown evidence.now (walk_asking self.old))
+            → walk_asking self.new ≡ advance evidence.now (walk_asking self.old)) }
+        ensures err { OnErr result (self.new ≡ self.old) }
+        ensures memory { OnErr result
+            (IsSome (first_unknown evidence.now (walk_asking self.old))) }
+    {
+        let place = match self.reach(evidence) {
+            Ok(set) => return Ok(Reached::Answer(set)),
+            Err(place) => place,
+        };
+        let kind = if place.is_empty {
+            Kind::Alias
+        } else {
+            self.kind
+        };
+        let name = place.name.dup(alloc)?;
+        let (left, is_empty) = (place.left, place.is_empty);
+        if place.name != &self.name {
+            self.name = name.dup(alloc)?;
+        }
+        self.left = left;
+        self.is_empty = is_empty;
+        Ok(Reached::Wanting(Key { name, kind }))
+    }
+
     // The answer, or the place of the first set that the evidence lacks.
-    fn reach<'a>(&'a self, evidence: &'a Evidence) -> Result<&'a [Data], Place<'a>>
+    fn reach<'a, 'e: 'a>(&'a self, evidence: &'e Evidence) -> Result<&'e [Data], Place<'a>>
         ensures { MatchResult result
             (λ set. advance evidence.now (walk_asking self.now) ≡ done set.now)
             (λ place. advance evidence.now (walk_asking self.now)
@@ -126,11 +171,11 @@ impl Walk {
 }
 
 // The answer that is left at a place, or the place of the first set that the evidence lacks.
-fn reach_from<'a>(
-    evidence: &'a Evidence,
+fn reach_from<'a, 'e: 'a>(
+    evidence: &'e Evidence,
     place: Place<'a>,
     kind: Kind,
-) -> Result<&'a [Data], Place<'a>>
+) -> Result<&'e [Data], Place<'a>>
     ensures { MatchResult result
         (λ set. advance evidence.now (asking_from place.entry kind) ≡ done set.now)
         (λ last. advance evidence.now (asking_from place.entry kind) ≡ asking_from last kind) }

@@ -1,9 +1,9 @@
 -- A layout of few servers has few targets.
 use Rattle.std.proofs.Common.{◌≡◌, ℕ, suc, ◌*◌, ◌≤◌, Bool, not, List, [], ◌∷◌, length, length-append, slice_get, map, Option, None, Some, refl, sym, ap, subst, ◌∙◌, arith}
-use Rattle.std.specs.List.{All, cons_option, filter_map, flat_map, range_with_len}
+use Rattle.std.specs.List.{All, cons_option, filter_map, flat_map, range_with_len, sum_by}
 use Rattle.std.proofs.lemmas.List.{length-map}
 use Rattle.std.proofs.lemmas.List.FromFn.{length-range_with_len}
-use Rattle.std.proofs.lemmas.List.Sorted.{length_permutation}
+use Rattle.std.proofs.lemmas.List.Sorted.{length_permutation, sum_by-IsPermutation}
 use Rattle.std.proofs.lemmas.Option.{slice_get_within, get_or_from_slice_get}
 use Rattle.std.proofs.lemmas.List.Sums.{length-filter, count_by-le-length}
 use Rattle.sipl_records.specs.Unique.{unique}
@@ -13,7 +13,7 @@ use Rattle.sipl_choice.specs.declared.transport.Transport.{Transport}
 use Rattle.sipl_srv.specs.Order.{Rank, ordered}
 use Rattle.sipl_srv.proofs.Public.{ordered-IsPermutation}
 use Rattle.sipl_outages.specs.Holds.{Holds, is_held}
-use Rattle.sipl_plans.specs.Plan.{endpoints_of, source_rank}
+use Rattle.sipl_plans.specs.Plan.{arranged, endpoints_of, source_rank}
 use Rattle.sipl_plans.specs.Servers.{AreFew, HasFewServers}
 use Rattle.sipl_plans.specs.declared.layout.Layout.{Layout}
 use Rattle.sipl_plans.specs.declared.layout.Layout.TheVariants.{Servers}
@@ -49,9 +49,25 @@ module _ (transport : Transport) (servers : List Source) (few : All (λ server. 
           omega (arith, own server refl, length-append (endpoints_of transport server) more, length-map server.addresses (λ address. let endpoint : Endpoint = record { transport = transport; address = address; port = server.port } in endpoint))
 
 -- of few servers the endpoints, each once, that are left are few
-pub draw-few : (layout : Layout) (transport : Transport) (servers slice : List Source) (holds : Holds) (words order places : List ℕ) (endpoints left targets : List Endpoint) → HasFewServers layout → layout ≡ Servers transport servers → slice ≡ servers
-    → order ≡ ordered (map source_rank slice) words → places ≡ order → endpoints ≡ unique same_endpoint (flat_map (endpoints_of transport) (filter_map (slice_get slice) places)) → left ≡ free holds endpoints → targets ≡ left → length targets ≤ 2048
-draw-few layout transport servers slice holds words order places endpoints left targets few at own by all is kept same =
+pub draw-few : (layout : Layout) (transport : Transport) (servers slice : List Source) (holds : Holds) (words : List ℕ) (endpoints left targets : List Endpoint) → HasFewServers layout → layout ≡ Servers transport servers → slice ≡ servers
+    → endpoints ≡ unique same_endpoint (flat_map (endpoints_of transport) (arranged slice words)) → left ≡ free holds endpoints → targets ≡ left → length targets ≤ 2048
+draw-few layout transport servers slice holds words endpoints left targets few at own is kept same =
     let some : AreFew slice = subst AreFew (sym own) (subst HasFewServers at few) in
+    let places : List ℕ = ordered (map source_rank slice) words in
     let each : List Endpoint = flat_map (endpoints_of transport) (filter_map (slice_get slice) places) in
-    omega (arith, some.servers, ap length same, ap length kept, length-filter (λ e. not (is_held holds e)) endpoints, count_by-le-length (λ e. not (is_held holds e)) endpoints, ap length is, length-unique same_endpoint each, length-endpoints transport slice some.addresses places, ap length all, ap length by, length-ordered (map source_rank slice) words, length-map slice source_rank)
+    omega (arith, some.servers, ap length same, ap length kept, length-filter (λ e. not (is_held holds e)) endpoints, count_by-le-length (λ e. not (is_held holds e)) endpoints, ap length is, length-unique same_endpoint each, length-endpoints transport slice some.addresses places, length-ordered (map source_rank slice) words, length-map slice source_rank)
+
+-- the only place
+only-place : (places : List ℕ) → length places ≡ 1 → sum_by (λ place. place) places ≡ 0 → places ≡ 0 ∷ []
+only-place [] one sum = absurd (omega (arith, one))
+only-place (place ∷ []) one sum =
+    let first : place ≡ 0 = omega (arith, sum) in
+    ap (λ (p : ℕ). p ∷ []) first
+only-place (place ∷ other ∷ others) one sum = absurd (omega (arith, one))
+
+-- a single server has no order
+pub ordered-one : (ranks : List Rank) (words : List ℕ) → length ranks ≡ 1 → ordered ranks words ≡ 0 ∷ []
+ordered-one ranks words one =
+    only-place (ordered ranks words) (length-ordered ranks words ∙ one)
+    (sum_by-IsPermutation (λ (place : ℕ). place) (range_with_len 0 (length ranks)) (ordered ranks words) (ordered-IsPermutation ranks words)
+    ∙ ap (λ (n : ℕ). sum_by (λ (place : ℕ). place) (range_with_len 0 n)) one)

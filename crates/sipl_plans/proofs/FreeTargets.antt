@@ -1,15 +1,14 @@
 -- The targets of servers: their endpoints, without the held ones.
-use Rattle.std.proofs.Common.{◌≡◌, ℕ, ◌<◌, not, List, [], ◌∷◌, length, slice_get, map, filter, true, nat_lt, unwrap_or, refl, sym, ap, ◌∙◌, arith}
-use Rattle.std.specs.List.{filter_map, flat_map}
+use Rattle.std.proofs.Common.{◌≡◌, ℕ, ◌<◌, not, List, [], ◌∷◌, length, filter, true, nat_lt, unwrap_or, refl, sym, ap, ◌∙◌, arith}
+use Rattle.std.specs.List.{flat_map}
 use Rattle.std.specs.Map.{lookup}
 use Rattle.std.proofs.lemmas.Bool.{le-ltb}
 use Rattle.sipl_records.specs.Unique.{unique}
 use Rattle.sipl_choice.specs.Endpoints.{same_endpoint}
 use Rattle.sipl_choice.specs.declared.endpoint.Endpoint.{Endpoint}
 use Rattle.sipl_choice.specs.declared.transport.Transport.{Transport}
-use Rattle.sipl_srv.specs.Order.{ordered}
 use Rattle.sipl_outages.specs.Holds.{Holds, is_held}
-use Rattle.sipl_plans.specs.Plan.{endpoints_of, source_rank, targets_or_all_held, targets_among, draw}
+use Rattle.sipl_plans.specs.Plan.{arranged, endpoints_of, targets_or_all_held, targets_among, draw}
 use Rattle.sipl_plans.specs.declared.answer.Answer.TheVariants.{Targets, None}
 use Rattle.sipl_plans.specs.declared.answer.Reason.TheVariants.{NoAddress, AllHeld}
 use Rattle.sipl_plans.specs.declared.layout.Layout.{Layout}
@@ -27,11 +26,11 @@ free-all holds (endpoint ∷ others) none =
     let kept : not (is_held holds endpoint) ≡ true = ap (λ (ends : List (Endpoint × ℕ)). not (nat_lt holds.now (unwrap_or (lookup (same_endpoint endpoint) ends) 0))) none ∙ ap not (le-ltb holds.now 0 (omega arith)) in
     rw kept (ap (λ (left : List Endpoint). endpoint ∷ left) (free-all holds others none))
 
--- the answer is among the endpoints of the servers at some places
-pub draw-among : (layout : Layout) (transport : Transport) (servers slice : List Source) (holds : Holds) (words order places : List ℕ) (endpoints : List Endpoint) → layout ≡ Servers transport servers → slice ≡ servers → order ≡ ordered (map source_rank slice) words → places ≡ order
-    → endpoints ≡ unique same_endpoint (flat_map (endpoints_of transport) (filter_map (slice_get slice) places)) → targets_among holds endpoints ≡ draw layout holds words
-draw-among layout transport servers slice holds words order places endpoints at own by all is =
-    ap (targets_among holds) (is ∙ ap (λ ps. unique same_endpoint (flat_map (endpoints_of transport) (filter_map (slice_get slice) ps))) (all ∙ by))
+-- the answer is among the endpoints of the servers in their order
+pub draw-among : (layout : Layout) (transport : Transport) (servers slice : List Source) (holds : Holds) (words : List ℕ) (endpoints : List Endpoint) → layout ≡ Servers transport servers → slice ≡ servers
+    → endpoints ≡ unique same_endpoint (flat_map (endpoints_of transport) (arranged slice words)) → targets_among holds endpoints ≡ draw layout holds words
+draw-among layout transport servers slice holds words endpoints at own is =
+    ap (targets_among holds) is
     ∙ ap (λ ss. draw (Servers transport ss) holds words) own
     ∙ ap (λ l. draw l holds words) (sym at)
 

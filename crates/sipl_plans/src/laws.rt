@@ -1,15 +1,20 @@
 //! What follows from the definitions. Each law is the contract of a function that does nothing.
 
-ghost use Rattle.std.specs.Prelude.{◌≡◌, ◌++◌, List, map, filter, All};
+ghost use Rattle.std.specs.Prelude.{◌≡◌, ◌<◌, ◌++◌, [], ◌∷◌, List, map, filter, filter_map, length, All, IsSome};
 ghost use Rattle.sipl_records.specs.Sets.{set_of};
+ghost use Rattle.sipl_records.specs.declared.kind.Kind.{Kind};
 ghost use Rattle.sipl_records.specs.declared.record.Record.{Record};
+ghost use Rattle.sipl_names.specs.Labels.{Labels};
+ghost use Rattle.sipl_srv.specs.declared.pick.Pick.{Pick};
 ghost use Rattle.sipl_choice.specs.Abilities.{Client};
+ghost use Rattle.sipl_evidence.specs.Answers.{answer};
 ghost use Rattle.sipl_evidence.specs.Known.{is_unknown, Agrees};
 ghost use Rattle.sipl_evidence.specs.Looks.{Look};
 ghost use Rattle.sipl_uri.specs.declared.question.Question.{Question};
 ghost use Rattle.sipl_plans.specs.Findings.{Found, IsSound};
-ghost use Rattle.sipl_plans.specs.Route.{route, reads};
-ghost use Rattle.sipl_plans.specs.Runs.{RunState, IsRun};
+ghost use Rattle.sipl_plans.specs.Route.{address_of_data, addresses, route, reads, source_of, sources};
+ghost use Rattle.sipl_plans.specs.Runs.{RunState, IsRun, wanted};
+ghost use Rattle.sipl_plans.specs.declared.run.TheConstants.{MAX_SETS};
 
 /// Where two look-ups have equal sets of the keys that the route looks at in one of them, the route
 /// is the same in both, and looks at the same keys.
@@ -28,6 +33,31 @@ pub fn runs_want_what_the_route_reads()
     ensures { (run : RunState) (look : Look) → IsRun run → Agrees look run.items
         → reads look run.question run.client ≡ map (λ item. item.key) run.items
         ++ filter (is_unknown run.items) (reads look run.question run.client) }
+{}
+
+/// A run that wants a set has read fewer than `MAX_SETS`, which are 1,156: 17 on each of 68 walks.
+pub fn runs_want_at_most_1156_sets()
+    ensures fewer { (run : RunState) → IsRun run → IsSome (wanted run)
+        → length run.items < MAX_SETS }
+    ensures constant { MAX_SETS ≡ 1156 }
+{}
+
+/// The addresses of a name are those of its first family and then those of the next ones (RFC 3263,
+/// 4.2).
+pub fn addresses_are_those_of_one_family_after_another()
+    ensures none { (look : Look) (name : Labels) → addresses look [] name ≡ [] }
+    ensures next { (look : Look) (kind : Kind) (kinds : List Kind) (name : Labels)
+        → addresses look (kind ∷ kinds) name
+        ≡ filter_map address_of_data (answer look name kind) ++ addresses look kinds name }
+{}
+
+/// The servers of picks are that of the first pick, with the addresses of its target, and then those
+/// of the next ones (RFC 3263, 4.2).
+pub fn sources_are_those_of_one_pick_after_another()
+    ensures none { (look : Look) (kinds : List Kind) → sources look kinds [] ≡ [] }
+    ensures next { (look : Look) (kinds : List Kind) (pick : Pick) (picks : List Pick)
+        → sources look kinds (pick ∷ picks)
+        ≡ source_of pick (addresses look kinds pick.target) ∷ sources look kinds picks }
 {}
 
 /// There are records that agree with a finding's evidence.

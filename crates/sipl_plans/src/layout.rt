@@ -3,7 +3,7 @@ ghost use Rattle.std.specs.List.{All, filter_map, flat_map, list_any};
 ghost use Rattle.sipl_records.specs.Unique.{unique};
 ghost use Rattle.sipl_choice.specs.Endpoints.{same_endpoint};
 ghost use Rattle.sipl_outages.specs.Holds.{is_held};
-ghost use Rattle.sipl_plans.specs.Plan.{draw, endpoints_of};
+ghost use Rattle.sipl_plans.specs.Plan.{arranged, draw, endpoints_of};
 ghost use Rattle.sipl_plans.specs.Servers.{HasFewServers, target_count};
 
 use crate::answer::{Answer, Reason};
@@ -103,8 +103,7 @@ pub fn draw(
         Layout::Refused(reason) => return Ok(Answer::None(*reason)),
         Layout::Servers(transport, servers) => (*transport, servers.as_slice()),
     };
-    let order = arrange(alloc, servers, draws)?;
-    let mut targets = unique_endpoints(alloc, transport, servers, order.as_slice())?;
+    let mut targets = ordered_endpoints(alloc, transport, servers, draws)?;
     if targets.is_empty() {
         return Ok(Answer::None(Reason::NoAddress));
     }
@@ -128,6 +127,25 @@ fn leave_held_out(targets: &mut Vec<Endpoint>, board: &Board)
             ensures { result ≡ not (is_held board.entry.now.holds target.now) }
         { !board.is_held(target) },
     );
+}
+
+// The endpoints of the servers in the order that the draws give, each once, at its first place. A
+// single server has no order.
+fn ordered_endpoints(
+    alloc: Global,
+    transport: Transport,
+    servers: &[Source],
+    draws: &Draws,
+) -> Result<Vec<Endpoint>, AllocError>
+    requires { length servers.now ≤ 32 }
+    ensures { IfOk result (λ targets. targets.items ≡ unique same_endpoint
+        (flat_map (endpoints_of transport) (arranged servers.now draws.now))) }
+{
+    if servers.len() == 1 {
+        return unique_endpoints(alloc, transport, servers, &[0]);
+    }
+    let order = arrange(alloc, servers, draws)?;
+    unique_endpoints(alloc, transport, servers, order.as_slice())
 }
 
 // The endpoints of the servers at these places, each once, at its first place.

@@ -11,7 +11,7 @@ use crate::look::push_addresses;
 use crate::route::{default_transport, is_tried, numeric_layout, transport_of};
 use crate::serving::Serving;
 use sipl_choice::{Abilities, Transport, chosen_service, default_port, service_name};
-use sipl_evidence::{Evidence, Walk};
+use sipl_evidence::{Evidence, Reached, Walk};
 use sipl_names::Name;
 use sipl_records::{Data, Key, Kind, Sequence};
 use sipl_srv::{Offer, Pick, offer};
@@ -107,7 +107,13 @@ fn read(
     ensures { IfOk result (λ progress. HasReachedIn domain.entry evidence.now
         (reading domain.entry walk purpose) progress) }
 {
-    while let Some(set) = walk.result(evidence) {
+    loop {
+        let set = match walk.advance(alloc, evidence)? {
+            Reached::Answer(set) => set,
+            Reached::Wanting(key) => {
+                return Ok(Progress::Wanting(key, Stage::Reading(walk, purpose)));
+            }
+        };
         match follow(alloc, domain, purpose, set)? {
             Step::Done(layout) => return Ok(Progress::Done(layout)),
             Step::Reading(next_walk, next_purpose) => {
@@ -116,12 +122,6 @@ fn read(
             }
         }
     }
-    let Some((name, kind)) = walk.wants(evidence) else {
-        unreachable!()
-    };
-    let name = name.dup(alloc)?;
-    walk.step(alloc, evidence)?;
-    Ok(Progress::Wanting(Key { name, kind }, Stage::Reading(walk, purpose)))
 }
 
 // What follows at the start of a route (RFC 3263, 4): with a port the addresses of the domain;

@@ -1,4 +1,5 @@
 pub mod Steps
 pub mod RunLaws
+pub mod TimerE
 pub mod Timelines
 pub mod Completed

@@ -4,7 +4,7 @@
 //! They are about the definitions by which the calls of [`crate::ClientTx`] have their contracts. A
 //! refused event changes nothing. Times are in milliseconds.
 
-ghost use Rattle.std.specs.Prelude.{◌≡◌, ◌≢◌, ℕ, ◌≤◌, ◌<◌, ◌+◌, ◌↔◌, Bool, false, true, List, [], ◌∷◌, length, Some, IsTrue, All};
+ghost use Rattle.std.specs.Prelude.{◌≡◌, ◌≢◌, ℕ, ◌≤◌, ◌<◌, ◌+◌, ◌*◌, ◌↔◌, Bool, false, true, List, [], ◌∷◌, length, min, Some, IsTrue, All};
 ghost use Rattle.sipl_tx.specs.declared.parts.Kind.{Kind};
 ghost use Rattle.sipl_tx.specs.declared.parts.Kind.TheVariants.{Invite, Other};
 ghost use Rattle.sipl_tx.specs.declared.parts.State.TheVariants.{Calling, Trying, Proceeding, Completed, Terminated};
@@ -163,4 +163,36 @@ pub fn other_intervals_double_up_to_t2()
         moments_of reports_timeout (new_transaction Other false start)
         (every_millisecond start ticks)
         ≡ moments_after start (32000 ∷ []) }
+{}
+
+/// Timer E runs on from Trying into Proceeding (RFC 3261, 17.1.2.2). While another request waits
+/// for its final response over an unreliable transport, a provisional response changes its state
+/// alone, and a tick before the timer fires its time alone. A later tick sends the request, and
+/// starts the timer at that time: in Trying for twice its interval, up to T2, in Proceeding for T2.
+pub fn timer_e_runs_on_in_proceeding()
+    ensures provisional { (t : Transaction) (code : ℕ) →
+        t.kind ≡ Other → IsTrue (awaits_final t.kind t.state) → 100 ≤ code → code < 200 →
+        (step t (Response code)).transaction ≡ record t { state = Proceeding } }
+    ensures running { (t : Transaction) (moment : ℕ) →
+        t.kind ≡ Other → IsTrue (awaits_final t.kind t.state) → t.moment ≤ moment →
+        moment < t.since + 32000 → moment < t.sent + t.interval →
+        step t (Tick moment) ≡ record {
+          transaction = record t { moment = moment };
+          acts = no_acts;
+        } }
+    ensures trying { (t : Transaction) (moment : ℕ) →
+        t.kind ≡ Other → t.state ≡ Trying → t.reliable ≡ false → t.moment ≤ moment →
+        moment < t.since + 32000 → t.sent + t.interval ≤ moment →
+        step t (Tick moment) ≡ record {
+          transaction =
+              record t { moment = moment; sent = moment; interval = min (2 * t.interval) 4000 };
+          acts = send_acts;
+        } }
+    ensures proceeding { (t : Transaction) (moment : ℕ) →
+        t.kind ≡ Other → t.state ≡ Proceeding → t.reliable ≡ false → t.moment ≤ moment →
+        moment < t.since + 32000 → t.sent + t.interval ≤ moment →
+        step t (Tick moment) ≡ record {
+          transaction = record t { moment = moment; sent = moment; interval = 4000 };
+          acts = send_acts;
+        } }
 {}

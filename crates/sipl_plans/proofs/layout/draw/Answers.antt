@@ -11,8 +11,8 @@ returns-then-is_empty-clause-answer c =
     let targets = c.in_ok-targets.targets in
     let none = eqb-true (vec_len targets) 0 (sym c.is_empty.ensures ∙ c.if-is_empty.true) in
     among-none holds targets.items (nil_from_length targets.items (omega (arith, none, targets.ok.0)))
-    ∙ draw-among c.args.layout.now c.in-Servers.transport c.in-Servers.servers c.as_slice.result.now holds c.args.draws.now c.in_ok-order.order c.as_slice-2.result.now targets.items
-    c.in-Servers.is c.as_slice.ensures c.in_ok-order.ensures.order c.as_slice-2.ensures c.in_ok-targets.ensures
+    ∙ draw-among c.args.layout.now c.in-Servers.transport c.in-Servers.servers c.as_slice.result.now holds c.args.draws.now targets.items
+    c.in-Servers.is c.as_slice.ensures c.in_ok-targets.ensures
 
 pub returns-then-is_empty-2-clause-answer : goal.returns-then-is_empty-2-clause-answer
 returns-then-is_empty-2-clause-answer c =
@@ -23,8 +23,8 @@ returns-then-is_empty-2-clause-answer c =
     let none = eqb-true (vec_len left) 0 (sym c.is_empty-2.ensures ∙ c.if-is_empty-2.true) in
     let kept : left.items ≡ free holds targets.items = c.leave_held_out.ensures in
     among-held holds targets.items left.items (omega (arith, some, targets.ok.0)) kept (nil_from_length left.items (omega (arith, none, left.ok.0)))
-    ∙ draw-among c.args.layout.now c.in-Servers.transport c.in-Servers.servers c.as_slice.result.now holds c.args.draws.now c.in_ok-order.order c.as_slice-2.result.now targets.items
-    c.in-Servers.is c.as_slice.ensures c.in_ok-order.ensures.order c.as_slice-2.ensures c.in_ok-targets.ensures
+    ∙ draw-among c.args.layout.now c.in-Servers.transport c.in-Servers.servers c.as_slice.result.now holds c.args.draws.now targets.items
+    c.in-Servers.is c.as_slice.ensures c.in_ok-targets.ensures
 
 pub returns-clause-answer : goal.returns-clause-answer
 returns-clause-answer c =
@@ -35,13 +35,13 @@ returns-clause-answer c =
     let more = eqb-false (vec_len left) 0 (sym c.is_empty-2.ensures ∙ c.if-is_empty-2.false) in
     let kept : left.items ≡ free holds targets.items = c.leave_held_out.ensures in
     among-left holds targets.items left.items c.from_vec.result (omega (arith, some, targets.ok.0)) kept (omega (arith, more, left.ok.0)) c.from_vec.ensures
-    ∙ draw-among c.args.layout.now c.in-Servers.transport c.in-Servers.servers c.as_slice.result.now holds c.args.draws.now c.in_ok-order.order c.as_slice-2.result.now targets.items
-    c.in-Servers.is c.as_slice.ensures c.in_ok-order.ensures.order c.as_slice-2.ensures c.in_ok-targets.ensures
+    ∙ draw-among c.args.layout.now c.in-Servers.transport c.in-Servers.servers c.as_slice.result.now holds c.args.draws.now targets.items
+    c.in-Servers.is c.as_slice.ensures c.in_ok-targets.ensures
 
 pub returns-clause-few : goal.returns-clause-few
 returns-clause-few c =
     let holds = c.args.board.now.holds in
     let targets = c.in_ok-targets.targets in
     let kept = c.leave_held_out.ensures in
-    draw-few c.args.layout.now c.in-Servers.transport c.in-Servers.servers c.as_slice.result.now holds c.args.draws.now c.in_ok-order.order c.as_slice-2.result.now targets.items c.leave_held_out.new.targets.items c.from_vec.result
-    c.requires.few c.in-Servers.is c.as_slice.ensures c.in_ok-order.ensures.order c.as_slice-2.ensures c.in_ok-targets.ensures kept c.from_vec.ensures
+    draw-few c.args.layout.now c.in-Servers.transport c.in-Servers.servers c.as_slice.result.now holds c.args.draws.now targets.items c.leave_held_out.new.targets.items c.from_vec.result
+    c.requires.few c.in-Servers.is c.as_slice.ensures c.in_ok-targets.ensures kept c.from_vec.ensures

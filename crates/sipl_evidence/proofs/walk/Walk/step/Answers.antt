@@ -36,8 +36,8 @@ returns-in_err-self-inside-clause-memory c =
     let asking = walk_asking c.args.self.now in
     let found = first_unknown-next_key c.args.evidence.now asking ∙ ap next_key c.in-Err.ensures in
     let other : place.name.now ≢ c.args.self.now.name = λ same.
-        let is_same = (same_name_decides place.name.now c.self.inside.name).1 (same ∙ sym (ap (λ (walk : WalkState). walk.name) c.self.view_is)) in
-        let never : false ≡ true = ap not (sym is_same) ∙ sym c.ne.ensures ∙ c.if-ne.true in cc never in
+    let is_same = (same_name_decides place.name.now c.self.inside.name).1 (same ∙ sym (ap (λ (walk : WalkState). walk.name) c.self.view_is)) in
+    let never : false ≡ true = ap not (sym is_same) ∙ sym c.ne.ensures ∙ c.if-ne.true in cc never in
     on_err c.from_residual.result (subst (λ key. IsSomeAnd key (λ k. k.name ≢ c.args.self.now.name)) (sym found)
     (some_and (next_key (asking_at place.is_empty place.left place.name.now c.args.self.now.kind)) (λ k. k.name ≡ place.name.now) (λ k. k.name ≢ c.args.self.now.name) (λ k of_place same. other (sym of_place ∙ same)) (next_key-named place.is_empty place.left place.name.now c.args.self.now.kind)))
 
