@@ -10,6 +10,7 @@ pub mod Statements
 pub mod JoinedTexts
 pub mod RecordPrint
 pub mod Zones
+pub mod SameZone
 pub mod ZoneText
 pub mod StatedRecords
 pub mod Intake

@@ -1,4 +1,6 @@
 ghost use Rattle.std.specs.Prelude.{◌≡◌, ◌≢◌, IfOk, IfErr, Ok, Err};
+ghost use Rattle.std.specs.Cmp.{partial_equiv_from_equiv};
+ghost use Rattle.sipl_masterfile.specs.SameZone.{same_zone, same_zone-equivalence};
 ghost use Rattle.sipl_masterfile.specs.Zones.{IsZone, zone_of};
 ghost use Rattle.sipl_masterfile.specs.ZoneText.{zone_with};
 
@@ -6,7 +8,7 @@ use crate::fault::{ZoneCause, ZoneFault};
 use crate::reading::Reading;
 use sipl_names::Name;
 use sipl_records::Record;
-use std::alloc::Global;
+use std::alloc::{AllocError, Global};
 use std::marker::Model;
 
 /// A zone's records, read from its text (RFC 1035, 5.1): all owners are within the apex, no record
@@ -72,6 +74,46 @@ impl ZoneText {
     {
         self.repeated
     }
+
+    /// A copy. The only error is an allocation failure. Linear in the records.
+    pub fn dup(&self, alloc: Global) -> Result<Self, AllocError>
+        ensures { IfOk result (λ copy. copy ≡ self.now) }
+    {
+        Ok(ZoneText {
+            apex: self.apex.dup(alloc)?,
+            records: dup_records(alloc, &self.records)?,
+            outside: self.outside,
+            repeated: self.repeated,
+        })
+    }
+}
+
+impl PartialEq for ZoneText {
+    ghost eq = { same_zone };
+
+    ghost laws = { partial_equiv_from_equiv same_zone-equivalence };
+
+    fn eq(&self, other: &ZoneText) -> bool {
+        self.apex == other.apex
+            && self.records == other.records
+            && self.outside == other.outside
+            && self.repeated == other.repeated
+    }
+}
+
+impl Eq for ZoneText {
+    ghost laws = { same_zone-equivalence };
+}
+
+// A copy of the records.
+fn dup_records(alloc: Global, records: &[Record]) -> Result<Vec<Record>, AllocError>
+    ensures { IfOk result (λ copy. copy.items ≡ records.now) }
+{
+    let mut copy = Vec::with_capacity(alloc, records.len())?;
+    for record in records {
+        copy.push(record.dup(alloc)?)?;
+    }
+    Ok(copy)
 }
 
 /// Reads a zone's text (RFC 1035, 5.1), whose origin is at first the apex. The entries are records

@@ -20,7 +20,7 @@ pub enum Reason {
 }
 
 /// The answer to a question (RFC 3263, 4).
-#[derive(Debug, Drop)]
+#[derive(Debug, PartialEq, Eq, Drop)]
 pub enum Answer {
     /// Where to send the request: each endpoint once, the one to try first at the front.
     Targets(Sequence<Endpoint>),
