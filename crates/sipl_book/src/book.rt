@@ -85,7 +85,7 @@ impl Book {
         Book {
             alloc,
             abilities,
-            store: ZoneStore::with(alloc, limits.next, limits.records),
+            store: ZoneStore::with(alloc, limits.next, limits.records as u64),
             board: Board::with(alloc, limits.holds),
             journal: Vec::new(alloc),
             cache: Cache::new(alloc, limits.entries),

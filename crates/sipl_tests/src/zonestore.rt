@@ -49,7 +49,7 @@ enum Step {
 
 // Takes the steps with a new store. It alone owns a store: at each exit the proof owes what becomes
 // of one.
-fn play(rt: &impl Abort, alloc: Global, next: u64, max_records: usize, steps: &[Step])
+fn play(rt: &impl Abort, alloc: Global, next: u64, max_records: u64, steps: &[Step])
     requires first { 1 ≤ next }
     requires last { next ≤ 2 ^ 52 }
     requires limit { max_records ≤ 1048576 }

@@ -9,7 +9,8 @@ use Rattle.sipl_records.specs.Sets.{same_record}
 use Rattle.sipl_records.proofs.Public.{same_record-Decides}
 use Rattle.sipl_masterfile.specs.Zones.{has_repeats}
 use Rattle.sipl_zonestore.specs.Edits.{records_without}
-use Rattle.sipl_zonestore.specs.RecordList.{code_of_owner, codes_of, is_first, live}
+use Rattle.sipl_records.specs.Codes.{code_of_name}
+use Rattle.sipl_zonestore.specs.RecordList.{codes_of, is_first, live}
 use Rattle.sipl_zonestore.proofs.Elements.{or_left, or_right}
 
 same-code : (n : ℕ) → nat_eq n n ≡ true
@@ -22,7 +23,7 @@ live-none (r ∷ records) = refl
 -- each record beside its own code is there
 pub live-all : (records : List Record) → live records (codes_of records) ≡ records
 live-all [] = refl
-live-all (r ∷ records) = rw (same-code (code_of_owner r.owner)) (ap (λ rest. r ∷ rest) (live-all records))
+live-all (r ∷ records) = rw (same-code (code_of_name r.owner)) (ap (λ rest. r ∷ rest) (live-all records))
 
 pub length-codes_of : (records : List Record) → length (codes_of records) ≡ length records
 length-codes_of [] = refl
@@ -31,7 +32,7 @@ length-codes_of (r ∷ records) = ap suc (length-codes_of records)
 pub live-le : (records : List Record) (codes : List ℕ) → length (live records codes) ≤ length records
 live-le [] codes = omega arith
 live-le (r ∷ records) [] = omega arith
-live-le (r ∷ records) (code ∷ codes) = elim (cases_Bool (nat_eq code (code_of_owner r.owner))) [
+live-le (r ∷ records) (code ∷ codes) = elim (cases_Bool (nat_eq code (code_of_name r.owner))) [
   | inl is ↦ rw is (omega (arith, live-le records codes))
   | inr other ↦ rw other (omega (arith, live-le records codes))
 ]
@@ -40,7 +41,7 @@ live-le (r ∷ records) (code ∷ codes) = elim (cases_Bool (nat_eq code (code_o
 pub live-whole : (records : List Record) (codes : List ℕ) → length (live records codes) ≡ length records → live records codes ≡ records
 live-whole [] codes long = refl
 live-whole (r ∷ records) [] long = absurd (omega arith)
-live-whole (r ∷ records) (code ∷ codes) long = elim (cases_Bool (nat_eq code (code_of_owner r.owner))) [
+live-whole (r ∷ records) (code ∷ codes) long = elim (cases_Bool (nat_eq code (code_of_name r.owner))) [
   | inl is ↦
       let rest : length (r ∷ live records codes) ≡ length (r ∷ records) = rw is at long in
       rw is (ap (λ rest. r ∷ rest) (live-whole records codes (omega arith)))
@@ -50,11 +51,11 @@ live-whole (r ∷ records) (code ∷ codes) long = elim (cases_Bool (nat_eq code
 ]
 
 -- a record that is appended with its code
-pub live-push : (records : List Record) (codes : List ℕ) (r : Record) → length codes ≡ length records → live (records ++ r ∷ []) (codes ++ code_of_owner r.owner ∷ []) ≡ live records codes ++ r ∷ []
-live-push [] [] r long = rw (same-code (code_of_owner r.owner)) refl
+pub live-push : (records : List Record) (codes : List ℕ) (r : Record) → length codes ≡ length records → live (records ++ r ∷ []) (codes ++ code_of_name r.owner ∷ []) ≡ live records codes ++ r ∷ []
+live-push [] [] r long = rw (same-code (code_of_name r.owner)) refl
 live-push [] (code ∷ codes) r long = absurd (omega arith)
 live-push (first ∷ records) [] r long = absurd (omega arith)
-live-push (first ∷ records) (code ∷ codes) r long = elim (cases_Bool (nat_eq code (code_of_owner first.owner))) [
+live-push (first ∷ records) (code ∷ codes) r long = elim (cases_Bool (nat_eq code (code_of_name first.owner))) [
   | inl is ↦ rw is (ap (λ rest. first ∷ rest) (live-push records codes r (omega arith)))
   | inr other ↦ rw other (live-push records codes r (omega arith))
 ]
@@ -72,11 +73,11 @@ or-false : (a b : Bool) → (a || b) ≡ true → a ≡ false → b ≡ true
 or-false false b is not_so = is
 or-false true b is not_so = cc
 
-first-not : (s r : Record) (code : ℕ) → (nat_eq code (code_of_owner s.owner) && same_record s r) ≡ false → nat_eq code (code_of_owner r.owner) ≡ true → same_record s r ≡ false
+first-not : (s r : Record) (code : ℕ) → (nat_eq code (code_of_name s.owner) && same_record s r) ≡ false → nat_eq code (code_of_name r.owner) ≡ true → same_record s r ≡ false
 first-not s r code not_so is = elim (cases_Bool (same_record s r)) [
   | inl same ↦
       let one : s ≡ r = (same_record-Decides s r).0 same in
-      let both : (nat_eq code (code_of_owner s.owner) && same_record s r) ≡ true = rw (same, ap (λ r. nat_eq code (code_of_owner r.owner)) one, is) refl in
+      let both : (nat_eq code (code_of_name s.owner) && same_record s r) ≡ true = rw (same, ap (λ r. nat_eq code (code_of_name r.owner)) one, is) refl in
       let never : true ≡ false = sym both ∙ not_so in cc
   | inr other ↦ other
 ]
@@ -86,7 +87,7 @@ pub sought-later : (s : Record) (records : List Record) (codes : List ℕ) (p : 
 sought-later s [] codes zero not_so any = cc
 sought-later s [] codes (suc p) not_so any = cc
 sought-later s (r ∷ records) [] zero not_so any = cc
-sought-later s (r ∷ records) (code ∷ codes) zero not_so any = elim (cases_Bool (nat_eq code (code_of_owner r.owner))) [
+sought-later s (r ∷ records) (code ∷ codes) zero not_so any = elim (cases_Bool (nat_eq code (code_of_name r.owner))) [
   | inl is ↦
       let there : (same_record s r || list_any (same_record s) (live records codes)) ≡ true = rw is at any in
       or-false (same_record s r) (list_any (same_record s) (live records codes)) there (first-not s r code not_so is)
@@ -127,10 +128,10 @@ first-is s [] codes (suc p) is = cc
 first-is s (r ∷ records) [] zero is = cc
 first-is s (r ∷ records) (code ∷ codes) zero is = elim (cases_Bool (same_record s r)) [
   | inl same ↦
-      let coded : nat_eq code (code_of_owner s.owner) ≡ true = and-left (nat_eq code (code_of_owner s.owner)) (same_record s r) is in
-      rw (ap (λ r. nat_eq code (code_of_owner r.owner)) (sym ((same_record-Decides s r).0 same)), coded, same) refl
+      let coded : nat_eq code (code_of_name s.owner) ≡ true = and-left (nat_eq code (code_of_name s.owner)) (same_record s r) is in
+      rw (ap (λ r. nat_eq code (code_of_name r.owner)) (sym ((same_record-Decides s r).0 same)), coded, same) refl
   | inr other ↦
-      let never : true ≡ false = sym is ∙ and-right (nat_eq code (code_of_owner s.owner)) (same_record s r) other in cc
+      let never : true ≡ false = sym is ∙ and-right (nat_eq code (code_of_name s.owner)) (same_record s r) other in cc
 ]
 first-is s (r ∷ records) [] (suc p) is = absurd (first-none s (drop p records) is)
 first-is s (r ∷ records) (code ∷ codes) (suc p) is = first-is s records codes p is
@@ -140,28 +141,28 @@ past s records codes zero any = any
 past s [] codes (suc p) any = cc
 past s (r ∷ records) [] (suc p) any =
     let none : false ≡ true = rw (live-none (drop p records)) at any in cc
-past s (r ∷ records) (code ∷ codes) (suc p) any = elim (cases_Bool (nat_eq code (code_of_owner r.owner))) [
+past s (r ∷ records) (code ∷ codes) (suc p) any = elim (cases_Bool (nat_eq code (code_of_name r.owner))) [
   | inl is ↦ rw (is, past s records codes p any) (or-true (same_record s r))
   | inr other ↦ rw other (past s records codes p any)
 ]
 
 -- where another code is written at the record's place, it is not there, and all others are
-pub live-without : (s : Record) (records : List Record) (codes : List ℕ) (p c : ℕ) → nat_eq c (code_of_owner s.owner) ≡ false → has_repeats (live records codes) ≡ false → is_first s (drop p records) (drop p codes) ≡ true → live records (set codes p c) ≡ records_without s (live records codes)
+pub live-without : (s : Record) (records : List Record) (codes : List ℕ) (p c : ℕ) → nat_eq c (code_of_name s.owner) ≡ false → has_repeats (live records codes) ≡ false → is_first s (drop p records) (drop p codes) ≡ true → live records (set codes p c) ≡ records_without s (live records codes)
 live-without s [] codes p c other distinct at = refl
 live-without s (r ∷ records) [] zero c other distinct at = cc
 live-without s (r ∷ records) [] (suc p) c other distinct at = refl
 live-without s (r ∷ records) (code ∷ codes) zero c other distinct at = elim (cases_Bool (same_record s r)) [
   | inl same ↦
       let one : s ≡ r = (same_record-Decides s r).0 same in
-      let coded : nat_eq code (code_of_owner r.owner) ≡ true = ap (λ r. nat_eq code (code_of_owner r.owner)) (sym one) ∙ and-left (nat_eq code (code_of_owner s.owner)) (same_record s r) at in
-      let gone : nat_eq c (code_of_owner r.owner) ≡ false = ap (λ r. nat_eq c (code_of_owner r.owner)) (sym one) ∙ other in
+      let coded : nat_eq code (code_of_name r.owner) ≡ true = ap (λ r. nat_eq code (code_of_name r.owner)) (sym one) ∙ and-left (nat_eq code (code_of_name s.owner)) (same_record s r) at in
+      let gone : nat_eq c (code_of_name r.owner) ≡ false = ap (λ r. nat_eq c (code_of_name r.owner)) (sym one) ∙ other in
       let once : (list_any (same_record r) (live records codes) || has_repeats (live records codes)) ≡ false = rw coded at distinct in
       let none : list_any (same_record s) (live records codes) ≡ false = ap (λ s. list_any (same_record s) (live records codes)) one ∙ or_left (list_any (same_record r) (live records codes)) (has_repeats (live records codes)) once in
       rw (coded, gone, same) (sym (without-none (same_record s) (live records codes) none))
   | inr differs ↦
-      let never : true ≡ false = sym at ∙ and-right (nat_eq code (code_of_owner s.owner)) (same_record s r) differs in cc
+      let never : true ≡ false = sym at ∙ and-right (nat_eq code (code_of_name s.owner)) (same_record s r) differs in cc
 ]
-live-without s (r ∷ records) (code ∷ codes) (suc p) c other distinct at = elim (cases_Bool (nat_eq code (code_of_owner r.owner))) [
+live-without s (r ∷ records) (code ∷ codes) (suc p) c other distinct at = elim (cases_Bool (nat_eq code (code_of_name r.owner))) [
   | inl is ↦
       let once : (list_any (same_record r) (live records codes) || has_repeats (live records codes)) ≡ false = rw is at distinct in
       let there : list_any (same_record s) (live records codes) ≡ true = past s records codes p (first-is s records codes p at) in
@@ -176,7 +177,7 @@ live-without s (r ∷ records) (code ∷ codes) (suc p) c other distinct at = el
   apart false never = refl
 
 -- and there is one record less
-pub length-without : (s : Record) (records : List Record) (codes : List ℕ) (p c : ℕ) → nat_eq c (code_of_owner s.owner) ≡ false → is_first s (drop p records) (drop p codes) ≡ true → length (live records codes) ≡ suc (length (live records (set codes p c)))
+pub length-without : (s : Record) (records : List Record) (codes : List ℕ) (p c : ℕ) → nat_eq c (code_of_name s.owner) ≡ false → is_first s (drop p records) (drop p codes) ≡ true → length (live records codes) ≡ suc (length (live records (set codes p c)))
 length-without s [] codes zero c other at = cc
 length-without s [] codes (suc p) c other at = cc
 length-without s (r ∷ records) [] zero c other at = cc
@@ -184,13 +185,13 @@ length-without s (r ∷ records) [] (suc p) c other at = absurd (first-none s (d
 length-without s (r ∷ records) (code ∷ codes) zero c other at = elim (cases_Bool (same_record s r)) [
   | inl same ↦
       let one : s ≡ r = (same_record-Decides s r).0 same in
-      let coded : nat_eq code (code_of_owner r.owner) ≡ true = ap (λ r. nat_eq code (code_of_owner r.owner)) (sym one) ∙ and-left (nat_eq code (code_of_owner s.owner)) (same_record s r) at in
-      let gone : nat_eq c (code_of_owner r.owner) ≡ false = ap (λ r. nat_eq c (code_of_owner r.owner)) (sym one) ∙ other in
+      let coded : nat_eq code (code_of_name r.owner) ≡ true = ap (λ r. nat_eq code (code_of_name r.owner)) (sym one) ∙ and-left (nat_eq code (code_of_name s.owner)) (same_record s r) at in
+      let gone : nat_eq c (code_of_name r.owner) ≡ false = ap (λ r. nat_eq c (code_of_name r.owner)) (sym one) ∙ other in
       rw (coded, gone) refl
   | inr differs ↦
-      let never : true ≡ false = sym at ∙ and-right (nat_eq code (code_of_owner s.owner)) (same_record s r) differs in cc
+      let never : true ≡ false = sym at ∙ and-right (nat_eq code (code_of_name s.owner)) (same_record s r) differs in cc
 ]
-length-without s (r ∷ records) (code ∷ codes) (suc p) c other at = elim (cases_Bool (nat_eq code (code_of_owner r.owner))) [
+length-without s (r ∷ records) (code ∷ codes) (suc p) c other at = elim (cases_Bool (nat_eq code (code_of_name r.owner))) [
   | inl is ↦ rw is (ap suc (length-without s records codes p c other at))
   | inr not_there ↦ rw not_there (length-without s records codes p c other at)
 ]
@@ -203,13 +204,13 @@ pub record LiveInPlace (xs : List Record) (codes : List ℕ) (ys : List Record) 
   pub long : length ys ≡ length xs
 
 abbrev one : Record → ℕ → List Record
-one r code = if nat_eq code (code_of_owner r.owner) then r ∷ [] else []
+one r code = if nat_eq code (code_of_name r.owner) then r ∷ [] else []
 
 live-suc : (xs : List Record) (codes : List ℕ) (i c : ℕ) (x : Record) → i < length xs → length codes ≡ length xs → live (take (suc i) xs) (take (suc i) codes) ≡ live (take i xs) (take i codes) ++ one (get_or xs i x) (get_or codes i c)
 live-suc [] codes i c x lt long = absurd (omega arith)
 live-suc (r ∷ xs) [] i c x lt long = absurd (omega arith)
 live-suc (r ∷ xs) (code ∷ codes) zero c x lt long = refl
-live-suc (r ∷ xs) (code ∷ codes) (suc i) c x lt long = elim (cases_Bool (nat_eq code (code_of_owner r.owner))) [
+live-suc (r ∷ xs) (code ∷ codes) (suc i) c x lt long = elim (cases_Bool (nat_eq code (code_of_name r.owner))) [
   | inl is ↦ rw is (ap (λ rest. r ∷ rest) (live-suc xs codes i c x (omega arith) (omega arith)))
   | inr other ↦ rw other (live-suc xs codes i c x (omega arith) (omega arith))
 ]
@@ -225,13 +226,13 @@ module _ {xs : List Record} {codes : List ℕ} {ys : List Record} {k i : ℕ} wh
       let read : get_or xs i x ≡ x = sym (ap (λ l. get_or l 0 x) (both h lt is)) in
       (λ t. live (take (next t) xs) (take (next t) codes)) ∙ live-suc xs codes i c x (omega arith) coded ∙ (λ t. sym h.front t ++ one (read t) (get_or codes i c))
 
-  pub LiveInPlace-no : {x : Record} (c : ℕ) → LiveInPlace xs codes ys k i → length codes ≡ length xs → i < length ys → x ≡ get_or ys i x → nat_eq (get_or codes i c) (code_of_owner x.owner) ≡ false → LiveInPlace xs codes ys k (i + 1)
+  pub LiveInPlace-no : {x : Record} (c : ℕ) → LiveInPlace xs codes ys k i → length codes ≡ length xs → i < length ys → x ≡ get_or ys i x → nat_eq (get_or codes i c) (code_of_name x.owner) ≡ false → LiveInPlace xs codes ys k (i + 1)
   LiveInPlace-no {x} c h coded lt is not_so =
       let behind = h.behind in
       let none : one x (get_or codes i c) ≡ [] = rw not_so refl in
       record { front = sym (step c h coded lt is ∙ ap (λ l. take k ys ++ l) none ∙ append-nil (take k ys)); rest = ap (drop 1) (both h lt is); behind = omega arith; long = h.long }
 
-  pub LiveInPlace-swap : {x : Record} {zs : List Record} (c : ℕ) → LiveInPlace xs codes ys k i → length codes ≡ length xs → i < length ys → x ≡ get_or ys i x → nat_eq (get_or codes i c) (code_of_owner x.owner) ≡ true → SwappedAt ys zs k i → LiveInPlace xs codes zs (k + 1) (i + 1)
+  pub LiveInPlace-swap : {x : Record} {zs : List Record} (c : ℕ) → LiveInPlace xs codes ys k i → length codes ≡ length xs → i < length ys → x ≡ get_or ys i x → nat_eq (get_or codes i c) (code_of_name x.owner) ≡ true → SwappedAt ys zs k i → LiveInPlace xs codes zs (k + 1) (i + 1)
   LiveInPlace-swap {x} {zs} c h coded lt is so s =
       let behind = h.behind in
       let all : one x (get_or codes i c) ≡ x ∷ [] = rw so refl in
@@ -264,17 +265,17 @@ sought-next s records codes p other any =
     let next : p + 1 ≡ suc p = omega arith in
     ap (λ n. list_any (same_record s) (live (drop n records) (drop n codes))) next ∙ sought-later s records codes p other any
 
-first-code : (s : Record) (records : List Record) (codes : List ℕ) (p d : ℕ) → is_first s (drop p records) (drop p codes) ≡ true → get_or codes p d ≡ code_of_owner s.owner
+first-code : (s : Record) (records : List Record) (codes : List ℕ) (p d : ℕ) → is_first s (drop p records) (drop p codes) ≡ true → get_or codes p d ≡ code_of_name s.owner
 first-code s [] codes zero d is = cc
 first-code s [] codes (suc p) d is = cc
 first-code s (r ∷ records) [] zero d is = cc
 first-code s (r ∷ records) [] (suc p) d is = absurd (first-none s (drop p records) is)
 first-code s (r ∷ records) (code ∷ codes) zero d is =
-    codes-equal code (code_of_owner s.owner) (and-left (nat_eq code (code_of_owner s.owner)) (same_record s r) is) where
+    codes-equal code (code_of_name s.owner) (and-left (nat_eq code (code_of_name s.owner)) (same_record s r) is) where
       codes-equal : (a b : ℕ) → nat_eq a b ≡ true → a ≡ b
       codes-equal a b same = grind (arith, nat_tests)
 first-code s (r ∷ records) (code ∷ codes) (suc p) d is = first-code s records codes p d is
 
 -- a code other than that at the record's place is not that of its owner
-pub not-its-code : (s : Record) (records : List Record) (codes : List ℕ) (p c d : ℕ) → is_first s (drop p records) (drop p codes) ≡ true → d ≡ get_or codes p d → nat_eq c d ≡ false → nat_eq c (code_of_owner s.owner) ≡ false
+pub not-its-code : (s : Record) (records : List Record) (codes : List ℕ) (p c d : ℕ) → is_first s (drop p records) (drop p codes) ≡ true → d ≡ get_or codes p d → nat_eq c d ≡ false → nat_eq c (code_of_name s.owner) ≡ false
 not-its-code s records codes p c d is here other = ap (nat_eq c) (sym (here ∙ first-code s records codes p d is)) ∙ other

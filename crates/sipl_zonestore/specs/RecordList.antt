@@ -1,25 +1,19 @@
 -- A list of records, some of which were removed and not moved.
-use Rattle.std.specs.Prelude.{◌≡◌, ℕ, ◌%◌, ◌^◌, Bool, ◌&&◌, false, List, [], ◌∷◌, length, map, fold, nat_eq, if◌then◌else◌}
-use Rattle.std.specs.Hash.FoldHasher as folding
-use Rattle.sipl_names.specs.Labels.{Labels}
-use Rattle.sipl_names.specs.contracts.name.NameHash.TheImpl.{hash_input-value}
+use Rattle.std.specs.Prelude.{◌≡◌, ℕ, Bool, ◌&&◌, false, List, [], ◌∷◌, length, map, nat_eq, if◌then◌else◌}
+use Rattle.sipl_records.specs.Codes.{code_of_name}
 use Rattle.sipl_records.specs.Sets.{same_record}
 use Rattle.sipl_records.specs.declared.record.Record.{Record}
 
--- an owner's code: a hash of its octets, below 2^32
-abbrev pub code_of_owner : Labels → ℕ
-code_of_owner name = folding.finish (fold folding.write folding.initial (hash_input-value.it name)) % 2 ^ 32
-
 -- the codes of the records' owners
 abbrev pub codes_of : List Record → List ℕ
-codes_of records = map (λ r. code_of_owner r.owner) records
+codes_of records = map (λ r. code_of_name r.owner) records
 
 -- the records that were not removed: those beside the code of their owner
 abbrev pub live : List Record → List ℕ → List Record
 live [] codes = []
 live (r ∷ records) [] = []
 live (r ∷ records) (code ∷ codes) =
-    if nat_eq code (code_of_owner r.owner) then r ∷ live records codes else live records codes
+    if nat_eq code (code_of_name r.owner) then r ∷ live records codes else live records codes
 
 -- the records, and for how many more there is room
 pub record ListState : Type 0 where
@@ -36,4 +30,4 @@ abbrev pub is_first : Record → List Record → List ℕ → Bool
 is_first sought [] codes = false
 is_first sought (r ∷ records) [] = false
 is_first sought (r ∷ records) (code ∷ codes) =
-    nat_eq code (code_of_owner sought.owner) && same_record sought r
+    nat_eq code (code_of_name sought.owner) && same_record sought r

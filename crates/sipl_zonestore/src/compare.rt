@@ -1,5 +1,5 @@
 //! The keys whose sets an edit changes.
-ghost use Rattle.std.specs.Prelude.{◌≡◌, [], ◌++◌, List, true, false, not, IfOk, OnOk};
+ghost use Rattle.std.specs.Prelude.{◌≡◌, [], ◌∷◌, ◌++◌, List, true, false, not, IfOk, OnOk};
 ghost use Rattle.std.specs.List.{list_all};
 ghost use Rattle.std.specs.Option.{option_to_list};
 ghost use Rattle.sipl_names.specs.Labels.{Labels, is_within};
@@ -13,7 +13,7 @@ ghost use Rattle.sipl_zonestore.specs.SetTable.{HasSets, is_first, changed_in, a
 
 use crate::sets::SetTable;
 use sipl_names::Name;
-use sipl_records::{Data, Key, Record};
+use sipl_records::{Data, Key, Kind, Record};
 use std::alloc::{AllocError, Global};
 
 // The key of the set that the record is in, if it is in one.
@@ -107,11 +107,12 @@ fn push_if_changed(
     ensures { OnOk result
         (keys.new.items ≡ keys.old.items ++ changed_in old.now new.now next.now) }
 {
-    if let Some(key) = next.key(alloc)? {
-        let values = old.values(&key.name, key.kind);
-        if is_first(&next.value, values) && is_other_set(values, new.values(&key.name, key.kind)) {
-            keys.push(key)?;
-        }
+    let Some(kind) = next.value.kind() else {
+        return Ok(());
+    };
+    let values = old.values(&next.owner, kind);
+    if is_first(&next.value, values) && is_other_set(values, new.values(&next.owner, kind)) {
+        push_key(alloc, keys, &next.owner, kind)?;
     }
     Ok(())
 }
@@ -127,12 +128,23 @@ fn push_if_added(
     ensures { OnOk result
         (keys.new.items ≡ keys.old.items ++ added_in old.now new.now next.now) }
 {
-    if let Some(key) = next.key(alloc)? {
-        let values = new.values(&key.name, key.kind);
-        if old.values(&key.name, key.kind).is_empty() && is_first(&next.value, values) {
-            keys.push(key)?;
-        }
+    let Some(kind) = next.value.kind() else {
+        return Ok(());
+    };
+    let values = new.values(&next.owner, kind);
+    if old.values(&next.owner, kind).is_empty() && is_first(&next.value, values) {
+        push_key(alloc, keys, &next.owner, kind)?;
     }
+    Ok(())
+}
+
+// Appends a key.
+fn push_key(alloc: Global, keys: &mut Vec<Key>, owner: &Name, kind: Kind) -> Result<(), AllocError>
+    ensures { OnOk result (keys.new.items
+        ≡ keys.old.items ++ record { name = owner.now; kind = kind } ∷ []) }
+{
+    let name = owner.dup(alloc)?;
+    keys.push(Key { name, kind })?;
     Ok(())
 }
 

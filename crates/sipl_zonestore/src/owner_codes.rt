@@ -1,19 +1,8 @@
 //! Codes of owners, by which a record is found among many.
 ghost use Rattle.std.specs.Prelude.{◌≡◌, ◌≤◌, length, false, nat_eq, vec_capacity};
-ghost use Rattle.sipl_zonestore.specs.RecordList.{code_of_owner, codes_of};
+ghost use Rattle.sipl_zonestore.specs.RecordList.{codes_of};
 
-use sipl_names::Name;
-use sipl_records::Record;
-use std::hash::{FoldHasher, Hash, Hasher};
-
-// The code of an owner: a hash of its octets.
-pub(crate) fn code_of(owner: &Name) -> u32
-    ensures { result ≡ code_of_owner owner.now }
-{
-    let mut state = FoldHasher::default();
-    owner.hash(&mut state);
-    (state.finish() % 4_294_967_296) as u32
-}
+use sipl_records::{Record, name_code};
 
 // Another code than this.
 pub(crate) fn other_code(code: u32) -> u32
@@ -30,6 +19,6 @@ pub(crate) fn write_codes(codes: &mut Vec<u32>, records: &[Record])
 {
     codes.clear();
     for record in records {
-        codes.push_reserved(code_of(&record.owner));
+        codes.push_reserved(name_code(&record.owner));
     }
 }

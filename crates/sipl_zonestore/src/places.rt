@@ -1,11 +1,12 @@
 //! Where a record stands among records with codes, some of which were removed.
 ghost use Rattle.std.specs.Prelude.{◌≡◌, ◌≤◌, ◌<◌, length, drop, true, vec_len, vec_capacity};
 ghost use Rattle.std.specs.List.{list_any};
+ghost use Rattle.sipl_records.specs.Codes.{code_of_name};
 ghost use Rattle.sipl_records.specs.Sets.{same_record};
-ghost use Rattle.sipl_zonestore.specs.RecordList.{code_of_owner, is_first, live};
+ghost use Rattle.sipl_zonestore.specs.RecordList.{is_first, live};
 
-use crate::owner_codes::{code_of, write_codes};
-use sipl_records::Record;
+use crate::owner_codes::write_codes;
+use sipl_records::{Record, name_code};
 
 // The place of the record that is equal to this one, and was not removed.
 pub(crate) fn find_place(records: &[Record], codes: &[u32], sought: &Record) -> usize
@@ -14,7 +15,7 @@ pub(crate) fn find_place(records: &[Record], codes: &[u32], sought: &Record) -> 
     ensures within { result < length records.now }
     ensures found { is_first sought.now (drop result records.now) (drop result codes.now) ≡ true }
 {
-    let code = code_of(&sought.owner);
+    let code = name_code(&sought.owner);
     let mut place = 0;
     while !is_at(records, codes, place, code, sought) {
         place += 1;
@@ -26,7 +27,7 @@ pub(crate) fn find_place(records: &[Record], codes: &[u32], sought: &Record) -> 
 fn is_at(records: &[Record], codes: &[u32], place: usize, code: u32, sought: &Record) -> bool
     requires long { length codes.now ≡ length records.now }
     requires within { place < length records.now }
-    requires code { code ≡ code_of_owner sought.now.owner }
+    requires code { code ≡ code_of_name sought.now.owner }
     ensures { result ≡ is_first sought.now (drop place records.now) (drop place codes.now) }
 {
     codes[place] == code && *sought == records[place]
@@ -40,7 +41,7 @@ pub(crate) fn move_together(records: &mut Vec<Record>, codes: &[u32])
 {
     let mut kept = 0;
     for place in 0..codes.len() {
-        if codes[place] == code_of(&records[place].owner) {
+        if codes[place] == name_code(&records[place].owner) {
             records.swap(kept, place);
             kept += 1;
         }

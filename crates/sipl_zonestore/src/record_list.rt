@@ -1,5 +1,5 @@
 //! Records in the order of addition, of which one is removed without moving those after it.
-ghost use Rattle.std.specs.Prelude.{◌≡◌, ◌≤◌, ◌++◌, ◌∷◌, [], length, true, false, OnOk, vec_len, vec_capacity};
+ghost use Rattle.std.specs.Prelude.{◌≡◌, ◌≤◌, ◌+◌, ◌++◌, ◌∷◌, [], length, true, false, OnOk, vec_len, vec_capacity};
 ghost use Rattle.std.specs.Borrow.{sem};
 ghost use Rattle.std.specs.Io.BufRead.{Rests};
 ghost use Rattle.std.specs.List.{list_any};
@@ -8,10 +8,10 @@ ghost use Rattle.sipl_masterfile.specs.Zones.{has_repeats};
 ghost use Rattle.sipl_zonestore.specs.Store.{records_outside};
 ghost use Rattle.sipl_zonestore.specs.Edits.{records_without};
 
-use crate::owner_codes::{code_of, other_code, write_codes};
+use crate::owner_codes::{other_code, write_codes};
 use crate::places::{compact, find_place};
 use sipl_names::Name;
-use sipl_records::Record;
+use sipl_records::{Record, name_code};
 use std::alloc::{AllocError, Global};
 use std::marker::Model;
 
@@ -86,7 +86,7 @@ impl RecordList {
         requires { 1 ≤ self.old.room }
         ensures { self.new.records ≡ self.old.records ++ new ∷ [] }
     {
-        self.codes.push_reserved(code_of(&new.owner));
+        self.codes.push_reserved(name_code(&new.owner));
         self.records.push_reserved(new);
         self.len += 1;
     }
@@ -104,14 +104,26 @@ impl RecordList {
     }
 
     // Replaces the records within the apex by those of a text, which are last. Does not allocate.
-    pub(crate) fn replace_within(&mut self, apex: &Name, mut text: Vec<Record>)
+    pub(crate) fn replace_within(&mut self, apex: &Name, text: Vec<Record>)
         requires { vec_len text ≤ self.old.room }
         ensures { self.new.records ≡ records_outside apex.now self.old.records ++ text.items }
     {
         compact(&mut self.records, &mut self.codes, self.len);
         self.records.retain(|record| !record.owner.is_within(apex));
-        self.records.append(&mut text).unwrap();
+        append_records(&mut self.records, text);
         write_codes(&mut self.codes, &self.records);
         self.len = self.records.len();
     }
+}
+
+// Appends the records of a text, which stay where they are if there are no others. Does not allocate.
+fn append_records(records: &mut Vec<Record>, mut text: Vec<Record>)
+    requires { vec_len records.old + vec_len text ≤ vec_capacity records.old }
+    ensures { records.new.items ≡ records.old.items ++ text.items }
+{
+    if records.is_empty() {
+        *records = text;
+        return;
+    }
+    records.append(&mut text).unwrap();
 }

@@ -46,12 +46,14 @@ impl RecordSet {
         (number, &self.values)
     }
 
-    // Appends a datum to the set, which gets this number.
+    // Appends a datum to the set, which gets this number. Most sets have one datum, so no space is
+    // kept for more.
     pub(crate) fn push(&mut self, number: u64, value: Data) -> Result<(), AllocError>
         ensures pushed { OnOk result (self.new ≡ pushed number value self.old) }
         ensures unchanged { OnErr result (self.new ≡ self.old) }
     {
-        self.values.push(value)?;
+        self.values.reserve_exact(1)?;
+        self.values.push_reserved(value);
         self.number = number;
         Ok(())
     }

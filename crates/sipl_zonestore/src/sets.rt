@@ -144,6 +144,10 @@ impl SetTable {
             else content_of self.old key)) }
         ensures unchanged { OnErr result (self.new ≡ self.old) }
     {
+        if self.owners.is_empty() {
+            std::mem::swap(&mut self.owners, &mut text.owners);
+            return Ok(());
+        }
         self.owners.reserve(text.owners.len())?;
         self.owners.retain(|owner, _| !owner.is_within(apex));
         self.owners.append(&mut text.owners).unwrap();

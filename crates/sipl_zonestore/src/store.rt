@@ -61,12 +61,12 @@ impl ZoneStore {
           looks = 0;
         } }
     {
-        ZoneStore::with(alloc, 1, MAX_RECORDS)
+        ZoneStore::with(alloc, 1, MAX_RECORDS as u64)
     }
 
     /// A store without zones, of at most this many records, whose first number is `next`. Does not
     /// allocate.
-    pub fn with(alloc: Global, next: u64, max_records: usize) -> Self
+    pub fn with(alloc: Global, next: u64, max_records: u64) -> Self
         requires first { 1 ≤ next }
         requires last { next ≤ 2 ^ 52 }
         requires limit { max_records ≤ 1048576 }
@@ -80,7 +80,7 @@ impl ZoneStore {
     {
         ZoneStore {
             alloc,
-            max_records,
+            max_records: max_records as usize,
             apexes: Vec::new(alloc),
             records: IndexedRecords::new(alloc, next),
             looks: 0,

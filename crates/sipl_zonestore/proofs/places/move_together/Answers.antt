@@ -12,8 +12,8 @@ loop-place-preserved c =
     let within : c.loop-place.place < length c.loop-place.records.items = omega arith in
     elim c.if-codes-place.branch [
       | then-codes-place w ↦
-          let next : LiveInPlace c.args.records.now.items c.args.codes.now w.swap.new.self.items (c.loop-place.kept + 1) (c.loop-place.place + 1) = LiveInPlace-swap 0 before coded within c.index.ensures (equal-codes _ _ (w.if-codes-place.true ∙ c.code_of.ensures)) w.swap.ensures.by_index in
+          let next : LiveInPlace c.args.records.now.items c.args.codes.now w.swap.new.self.items (c.loop-place.kept + 1) (c.loop-place.place + 1) = LiveInPlace-swap 0 before coded within c.index.ensures (equal-codes _ _ (w.if-codes-place.true ∙ c.name_code.ensures)) w.swap.ensures.by_index in
           rw (w.records-is, w.kept-is) (next, w.swap.ensures.capacity ∙ c.loop-place.invariant.1)
       | else-codes-place w ↦
-          rw (w.records-is, w.kept-is) (LiveInPlace-no 0 before coded within c.index.ensures (other-codes _ _ (λ same. w.if-codes-place.false (same ∙ sym c.code_of.ensures))), c.loop-place.invariant.1)
+          rw (w.records-is, w.kept-is) (LiveInPlace-no 0 before coded within c.index.ensures (other-codes _ _ (λ same. w.if-codes-place.false (same ∙ sym c.name_code.ensures))), c.loop-place.invariant.1)
     ]

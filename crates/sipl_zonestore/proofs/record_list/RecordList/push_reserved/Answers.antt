@@ -10,12 +10,12 @@ overflow_add-self c =
 pub invariant_of-self : goal.invariant_of-self
 invariant_of-self c =
     let pushed : live c.push_reserved-2.new.self.items c.push_reserved.new.self.items ≡ live c.self.inside.records.items c.self.inside.codes.items ++ c.args.new ∷ [] =
-    (λ i. live (c.push_reserved-2.ensures.items i) ((c.push_reserved.ensures.items ∙ ap (λ code. c.self.inside.codes.items ++ code ∷ []) c.code_of.ensures) i)) ∙ live-push c.self.inside.records.items c.self.inside.codes.items c.args.new c.self.invariant.long in
+    (λ i. live (c.push_reserved-2.ensures.items i) ((c.push_reserved.ensures.items ∙ ap (λ code. c.self.inside.codes.items ++ code ∷ []) c.name_code.ensures) i)) ∙ live-push c.self.inside.records.items c.self.inside.codes.items c.args.new c.self.invariant.long in
     record {
-      long = omega (arith, ap length c.push_reserved-2.ensures.items, ap length c.push_reserved.ensures.items, length-append c.self.inside.records.items (c.args.new ∷ []), length-append c.self.inside.codes.items (c.code_of.result ∷ []), c.self.invariant.long);
+      long = omega (arith, ap length c.push_reserved-2.ensures.items, ap length c.push_reserved.ensures.items, length-append c.self.inside.records.items (c.args.new ∷ []), length-append c.self.inside.codes.items (c.name_code.result ∷ []), c.self.invariant.long);
       counted = omega (arith, ap length pushed, length-append (live c.self.inside.records.items c.self.inside.codes.items) (c.args.new ∷ []), c.self.invariant.counted);
     }
 
 pub returns : goal.returns
 returns c =
-    rw (← c.self.view_is) ((λ i. live (c.push_reserved-2.ensures.items i) ((c.push_reserved.ensures.items ∙ ap (λ code. c.self.inside.codes.items ++ code ∷ []) c.code_of.ensures) i)) ∙ live-push c.self.inside.records.items c.self.inside.codes.items c.args.new c.self.invariant.long)
+    rw (← c.self.view_is) ((λ i. live (c.push_reserved-2.ensures.items i) ((c.push_reserved.ensures.items ∙ ap (λ code. c.self.inside.codes.items ++ code ∷ []) c.name_code.ensures) i)) ∙ live-push c.self.inside.records.items c.self.inside.codes.items c.args.new c.self.invariant.long)
