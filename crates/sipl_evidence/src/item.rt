@@ -45,6 +45,13 @@ impl Item {
         &self.key
     }
 
+    /// The key of the set.
+    pub fn into_key(self) -> Key
+        ensures { result ≡ self.key }
+    {
+        self.key
+    }
+
     /// The number of the set: 0 exactly where it is empty.
     pub fn number(&self) -> u64
         ensures number { result ≡ self.now.number }

@@ -1,7 +1,5 @@
 -- How far a run is, with one set more.
-use Rattle.std.proofs.Common.{◌≡◌, ℕ, true, false, List, [], ◌∷◌, ◌++◌, length, take, Option, None, Some, Result, Ok, Err, IfSome, OnOk, refl, ap, sym, subst, ◌∙◌, arith, length-append}
-use Rattle.std.specs.Result.{is_ok}
-use Rattle.std.proofs.Math.Seq.{take-append_seam}
+use Rattle.std.proofs.Common.{◌≡◌, ℕ, List, [], ◌∷◌, ◌++◌, None, Some, ap, sym, subst, ◌∙◌}
 use Rattle.std.proofs.lemmas.List.Elements.{All-push}
 use Rattle.sipl_records.specs.declared.data.Data.{Data}
 use Rattle.sipl_records.specs.declared.record.Key.{Key}
@@ -18,7 +16,6 @@ use Rattle.sipl_plans.specs.declared.layout.Layout.{Layout}
 use Rattle.sipl_plans.specs.declared.stage.Progress.{Progress}
 use Rattle.sipl_plans.specs.declared.stage.Progress.TheVariants.{Done, Wanting}
 use Rattle.sipl_plans.specs.declared.stage.Stage.{Stage}
-use Rattle.sipl_plans.specs.declared.stage.Stage.TheVariants.{Start}
 
 -- what callers see of a run with these sets
 abbrev pub run_of : Question → Client → List Item → RunState
@@ -31,10 +28,6 @@ IsAt question client items progress = HasReached question client items (asking_r
 -- a computation that is done asks for nothing
 pub none-unknown : {A : Type 0} (items : List Item) (asking : Asking A) (value : A) → advance items asking ≡ done value → first_unknown items asking ≡ None
 none-unknown items asking value is = first_unknown-next_key items asking ∙ ap next_key is
-
--- at the start the whole route is left
-pub rest-start : (question : Question) (client : Client) (stage : Stage) → stage ≡ Start → rest question client stage ≡ asking_route question client
-rest-start question client stage start = ap (rest question client) start
 
 module _ (question : Question) (client : Client) (items : List Item) where
   -- where a layout was reached, nothing is wanted
@@ -90,32 +83,3 @@ given question client items new k number content stage progress run reached set 
     let on = subst (λ items. HasReached question client items (rest question client stage) progress) pushed later in
     let whole = reached-both question client items (item ∷ []) (rest question client stage) (asking_route question client) reached.1 progress on in
     subst (λ items. IsRun (run_of question client items) × IsAt question client items progress) (sym pushed) (is, whole)
-
--- a run as it was, at the start of the route again
-pub restarted : (question : Question) (client : Client) (items old : List Item) (k : Key) (stage start : Stage)
-    → IsRun (run_of question client items)
-    → IsAt question client items (Wanting k stage)
-    → old ≡ items → start ≡ Start
-    → IsRun (run_of question client old) × IsAt question client old (Wanting k start)
-restarted question client items old k stage start run reached as_before at_start =
-    subst (λ items. IsRun (run_of question client items) × IsAt question client items (Wanting k start)) (sym as_before)
-    (run, (reached.0, ap (advance items) (rest-start question client start at_start)))
-
--- what holds on `Ok`, where that is the result
-pub where-ok : {T E P : Type 0} (result : Result T E) → is_ok result ≡ true → OnOk result P → P
-where-ok (Ok value) ok holds = holds
-where-ok (Err error) ok holds = let never : false ≡ true = ok in cc
-
-module _ (items others : List Item) (item : Item) where
-  -- without the last item, the others are left
-  others-left : (last : Item) → items ++ item ∷ [] ≡ others ++ last ∷ [] → others ≡ items
-  others-left last e =
-      let lengths : length (items ++ item ∷ []) ≡ length (others ++ last ∷ []) = ap length e in
-      let as_many : length others ≡ length items = omega (arith, length-append items (item ∷ []), length-append others (last ∷ []), lengths) in
-      sym (take-append_seam others (last ∷ [])) ∙ ap (take (length others)) (sym e) ∙ ap (λ n. take n (items ++ item ∷ [])) as_many ∙ take-append_seam items (item ∷ [])
-
-  pub popped : (all : List Item) (last : Option Item) → all ≡ items ++ item ∷ [] → IfSome last (λ last. all ≡ others ++ last ∷ []) → (last ≡ None → all ≡ []) → others ≡ items
-  popped all (Some last) pushed some none = others-left last (sym pushed ∙ some)
-  popped all None pushed some none =
-      let lengths : length (items ++ item ∷ []) ≡ 0 = ap length (sym pushed ∙ none refl) in
-      absurd (omega (arith, length-append items (item ∷ []), lengths))

@@ -8,7 +8,9 @@ ghost use Rattle.sipl_plans.specs.Route.{reads};
 ghost use Rattle.sipl_plans.specs.Runs.{first_unread, wanted, IsGiven, IsRun, IsWanted};
 ghost use Rattle.sipl_plans.specs.Unfinished.{code_of};
 
+use crate::answer::Reason;
 use crate::finding::Finding;
+use crate::layout::Layout;
 use crate::stage::{Progress, Stage, advance};
 use sipl_choice::Abilities;
 use sipl_evidence::{Evidence, Item};
@@ -93,15 +95,16 @@ impl Run {
         ensures ok { OnOk result (IsGiven self.old self.new number content) }
         ensures err { OnErr result (self.new ≡ self.old) }
     {
-        let Progress::Wanting(key, stage) = &mut self.progress else {
+        // Each way out puts a progress in this one's place.
+        let none = Progress::Done(Layout::Refused(Reason::NoAddress));
+        let Progress::Wanting(key, stage) = mem::replace(&mut self.progress, none) else {
             unreachable!()
         };
-        let own_key = key.dup(alloc)?;
-        let item = Item::new(own_key, number, content);
-        if self.evidence.push(item).is_err() {
+        let item = Item::new(key, number, content);
+        if let Err(refused) = self.evidence.push(item) {
+            self.progress = Progress::Wanting(refused.item.into_key(), stage);
             return Err(AllocError);
         }
-        let stage = mem::replace(stage, Stage::Start);
         match advance(
             alloc,
             &self.question,
@@ -114,7 +117,8 @@ impl Run {
                 Ok(())
             }
             Err(error) => {
-                self.evidence.pop();
+                let item = self.evidence.pop().unwrap();
+                self.progress = Progress::Wanting(item.into_key(), Stage::Start);
                 Err(error)
             }
         }
