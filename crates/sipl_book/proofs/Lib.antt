@@ -26,3 +26,4 @@ mod Legal
 mod Locating
 mod Finding
 mod Repairing
+mod SameEvent

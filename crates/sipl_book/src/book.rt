@@ -1,4 +1,4 @@
-ghost use Rattle.std.specs.Prelude.{◌≡◌, ◌≢◌, ◌+◌, ◌^◌, ◌<◌, ◌≤◌, ◌&&◌, [], ◌∷◌, ◌++◌, true, length, option_map, Some, None, IsTrue, IfOk, IfErr, IfSome, OnOk, OnErr, vec_len, vec_capacity};
+ghost use Rattle.std.specs.Prelude.{◌≡◌, ◌≢◌, ◌+◌, ◌^◌, ◌<◌, ◌≤◌, ◌&&◌, [], ◌∷◌, ◌++◌, true, length, nat_le, option_map, Some, None, IsTrue, IfOk, IfErr, IfSome, OnOk, OnErr, vec_len, vec_capacity};
 ghost use Rattle.std.specs.List.{All, count_by};
 ghost use Rattle.std.specs.Option.{option_copied};
 ghost use Rattle.sipl_records.specs.Sets.{set_of};
@@ -414,6 +414,22 @@ impl Book {
         ensures few { length self.now.journal ≤ self.now.max_events }
     {
         &self.journal
+    }
+
+    /// Whether the journal has as many events as it may have.
+    pub fn is_full(&self) -> bool
+        ensures { result ≡ nat_le self.now.max_events (next_event self.now) }
+    {
+        self.journal.len() >= self.max_events
+    }
+
+    /// The events, in their order, as the only thing that is left of the book. Does not allocate.
+    pub fn into_journal(self) -> Sequence<Event>
+        ensures journal { result ≡ self.journal }
+        ensures legal { IsLegal self.client self.journal empty_state }
+        ensures few { length self.journal ≤ self.max_events }
+    {
+        Sequence::from_vec(self.journal)
     }
 
     /// How many looks at record sets were counted; at most 2^64 - 1.

@@ -1,4 +1,4 @@
-ghost use Rattle.std.specs.Prelude.{◌≡◌};
+ghost use Rattle.std.specs.Prelude.{◌≡◌, IfOk};
 ghost use Rattle.sipl_zonestore.specs.Edited.{IsEdited};
 ghost use Rattle.sipl_book.specs.Machine.{zone_edit};
 
@@ -6,9 +6,10 @@ use sipl_masterfile::ZoneText;
 use sipl_names::Name;
 use sipl_records::{Key, Record, Sequence};
 use sipl_zonestore::{StoreFault, ZoneStore};
+use std::alloc::{AllocError, Global};
 
 /// A change of the loaded zones.
-#[derive(Drop)]
+#[derive(PartialEq, Eq, Drop)]
 pub enum Edit {
     /// Loads a zone: the records of its text replace those within its apex.
     Load(ZoneText),
@@ -21,6 +22,18 @@ pub enum Edit {
 }
 
 impl Edit {
+    /// A copy. The only error is an allocation failure. Linear in the records of a zone.
+    pub fn dup(&self, alloc: Global) -> Result<Self, AllocError>
+        ensures { IfOk result (λ copy. copy ≡ self.now) }
+    {
+        Ok(match self {
+            Edit::Load(zone) => Edit::Load(zone.dup(alloc)?),
+            Edit::Unload(apex) => Edit::Unload(apex.dup(alloc)?),
+            Edit::Add(record) => Edit::Add(record.dup(alloc)?),
+            Edit::Remove(record) => Edit::Remove(record.dup(alloc)?),
+        })
+    }
+
     // Makes the edit. Returns the keys of the sets that changed.
     pub(crate) fn apply(&self, store: &mut ZoneStore) -> Result<Sequence<Key>, StoreFault>
         ensures { IsEdited (zone_edit self.now) store.old store.new result }

@@ -1,11 +1,14 @@
+ghost use Rattle.std.specs.Prelude.{◌≡◌, IfOk};
+
 use crate::edit::Edit;
 use sipl_choice::Endpoint;
 use sipl_plans::Answer;
 use sipl_srv::Draws;
 use sipl_uri::Question;
+use std::alloc::{AllocError, Global};
 
 /// What happened in a step. An event's number is its place in the journal, from 0.
-#[derive(Drop)]
+#[derive(PartialEq, Eq, Drop)]
 pub enum Event {
     /// The zones were edited.
     Change(Edit),
@@ -17,4 +20,22 @@ pub enum Event {
     Advance(u64),
     /// This answer to a question was returned, for these random words.
     Answer(Question, Draws, Answer),
+}
+
+impl Event {
+    /// A copy. The only error is an allocation failure. Linear in the records of an edit and in the
+    /// targets of an answer.
+    pub fn dup(&self, alloc: Global) -> Result<Self, AllocError>
+        ensures { IfOk result (λ copy. copy ≡ self.now) }
+    {
+        Ok(match self {
+            Event::Change(edit) => Event::Change(edit.dup(alloc)?),
+            Event::Hold(endpoint, ms) => Event::Hold(*endpoint, *ms),
+            Event::Release(endpoint) => Event::Release(*endpoint),
+            Event::Advance(to) => Event::Advance(*to),
+            Event::Answer(question, draws, answer) => {
+                Event::Answer(question.dup(alloc)?, *draws, answer.dup(alloc)?)
+            }
+        })
+    }
 }
