@@ -1,14 +1,15 @@
 -- A finding on the records of a book that is committed, or is not.
-use Rattle.std.proofs.Common.{◌≡◌, ℕ, true, false, List, length, None, Result, Ok, Err, position, refl, sym, ap, subst, ◌∙◌}
-use Rattle.std.specs.Prelude.{option_map, IsErrAnd, MatchResult}
+use Rattle.std.proofs.Common.{◌≡◌, ℕ, ◌<◌, true, false, List, length, Option, Some, None, Result, Ok, Err, position, refl, sym, ap, subst, ◌∙◌, inl, inr}
+use Rattle.std.specs.Prelude.{option_map, IfOk, IfErr, OnOk, OnErr, IsErrAnd, MatchResult}
 use Rattle.sipl_plans.specs.Findings.{Found}
 use Rattle.sipl_uri.specs.declared.question.Question.{Question}
-use Rattle.sipl_book.specs.Book.{BookState, answer_now}
-use Rattle.sipl_book.specs.Calls.{IsCommitted, after_commit, commit_refusal, is_renumbered, unless_full, with_looks}
+use Rattle.std.proofs.lemmas.Bool.{cases_lt, cond-false, cond-true, le-leb, lt-leb}
+use Rattle.sipl_book.specs.Book.{BookState, answer_now, next_event}
+use Rattle.sipl_book.specs.Calls.{IsCommitted, after_commit, commit_refusal, hand_refusal, is_renumbered, unless_full, with_looks}
 use Rattle.sipl_book.specs.Entries.{has_current_entry}
 use Rattle.sipl_book.specs.Lookups.{IsFound, IsLocated, after_reads}
 use Rattle.sipl_book.specs.declared.fault.BookFault.{BookFault}
-use Rattle.sipl_book.specs.declared.fault.BookFault.TheVariants.{Stale}
+use Rattle.sipl_book.specs.declared.fault.BookFault.TheVariants.{JournalFull, Memory, NotCurrent, Stale}
 use Rattle.sipl_book.specs.declared.outcome.Handed.{Handed}
 use Rattle.sipl_book.specs.declared.outcome.Uncommitted.{Uncommitted}
 use Rattle.sipl_book.proofs.Locating.{not_renumbered}
@@ -53,9 +54,43 @@ module _ (question : Question) (words : List ℕ) (old : BookState) (outdated : 
         unchanged = subst (λ b. b ≡ with_looks b.store.looks old) (sym (is.unchanged ∙ looked)) refl;
       }
 
+  -- it is committed without a comparison, for its sets are as they were read
+  pub as_committed : next_event old < old.max_events → (new : BookState) (result : Result Handed Uncommitted) → IfOk result (λ handed. handed.number ≡ next_event now) → IfOk result (λ handed. handed.answer ≡ answer_now now found.question words)
+      → OnOk result (new ≡ after_commit found words now) → IfErr result (λ uncommitted. uncommitted.fault ≡ Memory) → IfErr result (λ uncommitted. uncommitted.finding ≡ found) → OnErr result (new ≡ now) → IsCommitted is_renumbered found words now now new result
+  as_committed space new (Ok handed) number answer after memory finding unchanged =
+      record {
+        accepted = refusal ∙ cond-false _ _ _ (lt-leb old.max_events (next_event old) space);
+        number = number;
+        answer = answer;
+        after = after;
+        refused = tt;
+        finding = tt;
+        unchanged = tt;
+      }
+  as_committed space new (Err uncommitted) number answer after memory finding unchanged =
+      record {
+        accepted = tt;
+        number = tt;
+        answer = tt;
+        after = tt;
+        refused = λ real. absurd (real memory);
+        finding = finding;
+        unchanged = unchanged;
+      }
+
   -- what is returned of it
   pub found_anew : (new : BookState) (committed : Result Handed Uncommitted) (result : Result Handed BookFault) → IsCommitted is_renumbered found words now now new committed
       → MatchResult committed (λ handed. result ≡ Ok handed) (λ uncommitted. IsErrAnd result (λ fault. fault ≡ uncommitted.fault)) → IsFound question words old new result
   found_anew new (Ok handed) result is same = subst (IsFound question words old new) (sym same) (committed_found new handed is)
   found_anew new (Err uncommitted) (Ok handed) is same = absurd same
   found_anew new (Err uncommitted) (Err fault) is same = subst (λ f. IsFound question words old new (Err f)) (sym same) (uncommitted_found new uncommitted is)
+
+-- where an answer is refused for the entry, the journal has space
+pub space_of-refusal : (question : Question) (book : BookState) → hand_refusal question book ≡ Some NotCurrent → next_event book < book.max_events
+space_of-refusal question book is =
+    elim (cases_lt (next_event book) book.max_events) [
+      | inl below ↦ below
+      | inr full ↦
+          let never : Some JournalFull ≡ Some NotCurrent = sym (cond-true _ (Some JournalFull) _ (le-leb book.max_events (next_event book) full)) ∙ is in
+          cc
+    ]

@@ -237,7 +237,11 @@ impl Book {
 
     // Commits a finding whose sets are as they were read. The only error is an allocation failure;
     // then nothing changes.
-    fn commit_current(&mut self, finding: Finding, draws: &Draws) -> Result<Handed, Uncommitted>
+    pub(crate) fn commit_current(
+        &mut self,
+        finding: Finding,
+        draws: &Draws,
+    ) -> Result<Handed, Uncommitted>
         requires client { finding.client ≡ self.old.client }
         requires sound { IsSound finding }
         requires current { AreCurrent self.old.store finding.items }

@@ -1,6 +1,7 @@
 // Looking questions up: runs over a book's own sets.
-ghost use Rattle.std.specs.Prelude.{◌≡◌, ◌≢◌, [], drop, take, length, IfOk, IfErr, OnOk, IsFalse};
+ghost use Rattle.std.specs.Prelude.{◌≡◌, ◌≢◌, ◌<◌, [], drop, take, length, IfOk, IfErr, OnOk, IsFalse};
 ghost use Rattle.std.specs.List.{sum_by};
+ghost use Rattle.sipl_book.specs.Book.{next_event};
 ghost use Rattle.sipl_book.specs.Calls.{looks_after, with_looks};
 ghost use Rattle.sipl_book.specs.Entries.{has_current_entry};
 ghost use Rattle.sipl_book.specs.Lookups.{AreDependencies, IsFound, IsLocated, IsRenewed, IsRepaired, after_reads, sets_read};
@@ -29,13 +30,15 @@ impl Book {
         }
     }
 
-    // The answer to a question that has no current entry: by a run, whose finding is committed.
+    // The answer to a question that has no current entry: by a run, whose finding is committed. Its
+    // sets are as they were read, for nothing changes between.
     fn find_anew(&mut self, question: Question, draws: &Draws) -> Result<Handed, BookFault>
-        requires { IsFalse (has_current_entry self.old.entries question) }
+        requires outdated { IsFalse (has_current_entry self.old.entries question) }
+        requires space { next_event self.old < self.old.max_events }
         ensures { IsFound question draws.now self.old self.new result }
     {
         let finding = self.locate(question)?;
-        self.commit(finding, draws)
+        self.commit_current(finding, draws)
             .map_err(|uncommitted| uncommitted.fault)
     }
 
