@@ -12,6 +12,7 @@ ghost use Rattle.sipl_plans.specs.Servers.{HasFewServers};
 ghost use Rattle.sipl_book.specs.Book.{HasRoute, IsGoodEntry, answer_now, new_book, next_event, state_of};
 ghost use Rattle.sipl_book.specs.Calls.{IsChanged, MovesBoard, IsHanded, IsCommitted, IsLeased, IsSettled, IsForgotten, after_check, after_commit, after_comparison, after_give_back, after_look, after_settlement, after_stale, is_renumbered, is_stale};
 ghost use Rattle.sipl_book.specs.Honesty.{AreCurrent, IsHonest};
+ghost use Rattle.sipl_book.specs.Lookups.{IsFound};
 ghost use Rattle.sipl_book.specs.Entries.{depends_on, entry_of};
 ghost use Rattle.sipl_book.specs.Repairs.{IsQueueOf, is_leased_for, is_outdated};
 ghost use Rattle.sipl_book.specs.Machine.{IsLegal, replay, empty_state};
@@ -183,6 +184,25 @@ impl Book {
             Some(entry) if entry.is_current() => entry.layout(),
             _ => return Err(BookFault::NotCurrent),
         };
+        let question = question.dup(self.alloc)?;
+        let (event, answer) = prepare(self.alloc, question, layout, draws, &self.board)?;
+        let number = record_event(&mut self.journal, event);
+        Ok(Handed { number, answer })
+    }
+
+    /// The answer to a question for these random words: that of its current entry, or else that of a
+    /// run over the book's sets, which is committed. A run looks once at each set that it reads. With
+    /// a current entry linear in the targets.
+    ///
+    /// The fault is a full journal (B3).
+    pub fn find(&mut self, question: Question, draws: &Draws) -> Result<Handed, BookFault>
+        ensures { IsFound question draws.now self.old self.new result }
+    {
+        reserve_event(&mut self.journal, self.max_events)?;
+        let layout = match self.cache.get(&question) {
+            Some(entry) if entry.is_current() => entry.layout(),
+            _ => return self.find_anew(question, draws),
+        };
         let (event, answer) = prepare(self.alloc, question, layout, draws, &self.board)?;
         let number = record_event(&mut self.journal, event);
         Ok(Handed { number, answer })
@@ -258,8 +278,10 @@ impl Book {
         let Ok(()) = self.journal.reserve(1) else {
             return Err(Uncommitted { fault, finding });
         };
-        let (question, layout) = (finding.question(), finding.layout());
-        let prepared = prepare(self.alloc, question, layout, draws, &self.board);
+        let Ok(question) = finding.question().dup(self.alloc) else {
+            return Err(Uncommitted { fault, finding });
+        };
+        let prepared = prepare(self.alloc, question, finding.layout(), draws, &self.board);
         let Ok((event, answer)) = prepared else {
             return Err(Uncommitted { fault, finding });
         };
@@ -479,18 +501,18 @@ fn record_event(journal: &mut Vec<Event>, event: Event) -> u64
 // The event of an answer, and the answer: that of a layout for these random words.
 fn prepare(
     alloc: Global,
-    question: &Question,
+    question: Question,
     layout: &Layout,
     draws: &Draws,
     board: &Board,
 ) -> Result<(Event, Answer), AllocError>
     requires { HasFewServers layout.now }
     ensures event { IfOk result (λ prepared. prepared.0
-        ≡ Event.Answer question.now draws.now (draw layout.now board.now.holds draws.now)) }
+        ≡ Event.Answer question draws.now (draw layout.now board.now.holds draws.now)) }
     ensures answer { IfOk result
         (λ prepared. prepared.1 ≡ draw layout.now board.now.holds draws.now) }
 {
     let answer = draw(alloc, layout, draws, board)?;
-    let event = Event::Answer(question.dup(alloc)?, *draws, answer.dup(alloc)?);
+    let event = Event::Answer(question, *draws, answer.dup(alloc)?);
     Ok((event, answer))
 }

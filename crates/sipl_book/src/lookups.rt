@@ -16,23 +16,13 @@ use sipl_uri::Question;
 use std::alloc::AllocError;
 
 impl Book {
-    /// The answer to a question for these random words: that of its current entry, or else that of a
-    /// run over the book's sets, which is committed. A run looks once at each set that it reads. With
-    /// a current entry linear in the targets.
-    ///
-    /// The fault is a full journal (B3).
-    pub fn find(&mut self, question: Question, draws: &Draws) -> Result<Handed, BookFault>
-        ensures { IsFound question draws.now self.old self.new result }
-    {
-        match self.hand(&question, draws) {
-            Err(BookFault::NotCurrent) => self.find_anew(question, draws),
-            handed => handed,
-        }
-    }
-
     // The answer to a question that has no current entry: by a run, whose finding is committed. Its
     // sets are as they were read, for nothing changes between.
-    fn find_anew(&mut self, question: Question, draws: &Draws) -> Result<Handed, BookFault>
+    pub(crate) fn find_anew(
+        &mut self,
+        question: Question,
+        draws: &Draws,
+    ) -> Result<Handed, BookFault>
         requires outdated { IsFalse (has_current_entry self.old.entries question) }
         requires space { next_event self.old < self.old.max_events }
         ensures { IsFound question draws.now self.old self.new result }

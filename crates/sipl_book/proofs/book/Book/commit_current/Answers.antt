@@ -22,12 +22,12 @@ invariant_of-self-2 c =
     let client : found.client ≡ inside.abilities = c.requires.client ∙ sym (ap (λ (b : BookState). b.client) c.self.view_is) in
     let now : AreCurrent inside.store found.items = subst (λ (b : BookState). AreCurrent b.store found.items) (sym c.self.view_is) c.requires.current in
     let space : length old.journal < old.max_events = subst (λ (b : BookState). length b.journal < b.max_events) (sym c.self.view_is) c.requires.space in
-    let answer : draw c.layout-layout.result.now inside.board.holds words ≡ answer_now old found.question words =
+    let answer : draw c.layout.result.now inside.board.holds words ≡ answer_now old found.question words =
     ap (λ (layout : Layout). draw layout inside.board.holds words)
-    (c.layout-layout.ensures.layout ∙ sym (c.layout-layout.ensures.records inside.store.zones.records now.agrees))
+    (c.layout.ensures.layout ∙ sym (c.layout.ensures.records inside.store.zones.records now.agrees))
     ∙ ap (λ (client : Client). answer_in (record { zones = inside.store.zones; holds = inside.board.holds }) found.question client words) client in
     let event : c.in-Ok-prepared.event ≡ answer_event old found.question words =
-    c.in-Ok-prepared.ensures.event ∙ (λ i. Answer (c.question-question.ensures i) words (answer i)) in
+    c.in-Ok-prepared.ensures.event ∙ (λ i. Answer ((c.in-Ok-dup.ensures ∙ c.question.ensures) i) words (answer i)) in
     let id : c.len-id.result ≡ length inside.journal.items = search rules in
     let journal : c.record_event-number.new.journal.items ≡ inside.journal.items ++ answer_event old found.question words ∷ [] =
     c.record_event-number.ensures.items ∙ (λ i. c.reserve.ensures.items i ++ event i ∷ []) in
