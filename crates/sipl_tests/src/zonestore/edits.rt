@@ -9,7 +9,7 @@ fn records_and_apexes_are_in_order_of_addition(rt: HostRuntime) {
         &rt,
         rt.alloc(),
         1,
-        MAX_RECORDS,
+        MAX_RECORDS as u64,
         &[
             Step::Starts,
             Step::Changes(Edit::Load("example.org.", EMPTY), &[]),
@@ -34,7 +34,7 @@ fn loading_again_empties_the_zone(rt: HostRuntime) {
         &rt,
         rt.alloc(),
         1,
-        MAX_RECORDS,
+        MAX_RECORDS as u64,
         &[
             Step::Starts,
             Step::Changes(Edit::Load("example.org.", EMPTY), &[]),
@@ -60,7 +60,7 @@ fn zones_above_and_below_overlap(rt: HostRuntime) {
         &rt,
         rt.alloc(),
         1,
-        MAX_RECORDS,
+        MAX_RECORDS as u64,
         &[
             Step::Starts,
             Step::Refuses(Edit::Load("a.example.com.", EMPTY), StoreFault::Overlap),
@@ -139,7 +139,7 @@ fn unloading_and_removing_what_is_absent_is_refused(rt: HostRuntime) {
         &rt,
         rt.alloc(),
         1,
-        MAX_RECORDS,
+        MAX_RECORDS as u64,
         &[
             Step::Starts,
             Step::Refuses(Edit::Unload("example.org."), StoreFault::NoZone),
@@ -165,7 +165,7 @@ fn an_alias_has_no_data_beside_it(rt: HostRuntime) {
         &rt,
         rt.alloc(),
         1,
-        MAX_RECORDS,
+        MAX_RECORDS as u64,
         &[
             Step::Changes(Edit::Load("example.com.", EMPTY), &[]),
             Step::Changes(Edit::Add("server1 CNAME a"), &[("server1", Kind::Alias)]),
@@ -185,7 +185,7 @@ fn an_unloaded_zone_is_gone(rt: HostRuntime) {
         &rt,
         rt.alloc(),
         1,
-        MAX_RECORDS,
+        MAX_RECORDS as u64,
         &[
             Step::Starts,
             Step::Changes(Edit::Load("example.org.", EMPTY), &[]),

@@ -29,7 +29,7 @@ fn changed_sets_take_the_next_numbers(rt: HostRuntime) {
         &rt,
         rt.alloc(),
         1,
-        MAX_RECORDS,
+        MAX_RECORDS as u64,
         &[
             Step::Starts,
             Step::HasNumbers(&[("server1", A, 3), ("server2", A, 2), ("server3", A, 0)]),
@@ -77,7 +77,7 @@ fn looks_at_data_are_counted(rt: HostRuntime) {
         &rt,
         rt.alloc(),
         1,
-        MAX_RECORDS,
+        MAX_RECORDS as u64,
         &[
             Step::Starts,
             Step::HasLooks(0),
