@@ -30,21 +30,24 @@ pub(crate) const MAX_SHORT_REPLY_LEN: usize = 640;
 // The maximum length in octets of the last line of a short reply.
 pub(crate) const MAX_LAST_LINE_LEN: usize = 128;
 
-// Loads the zone of a text, and appends the reply.
+// Loads the zone of a text, and appends the reply. The text is dropped as soon as it is read, so that
+// it takes no memory beside the loaded zone.
 pub(crate) fn load_zone<D: Desk>(
     alloc: Global,
     desk: &mut D,
-    zone: &ZoneLines,
+    zone: ZoneLines,
     out: &mut Vec<u8>,
 ) -> Result<(), AllocError>
     requires space { vec_len out.old + MAX_SHORT_REPLY_LEN ≤ vec_capacity out.old }
-    ensures ok { OnOk result (AppendsText (Loads D.rules (zone_of zone.now.text zone.now.apex))
+    ensures ok { OnOk result (AppendsText (Loads D.rules (zone_of zone.text zone.apex))
         desk.old out.old.items desk.new out.new.items) }
     ensures err { OnErr result (desk.new ≡ desk.old) }
     ensures err_out { OnErr result (out.new.items ≡ out.old.items) }
     ensures capacity { vec_capacity out.old ≤ vec_capacity out.new }
 {
-    let text = match read_zone(alloc, zone.text(), zone.apex()) {
+    let read = read_zone(alloc, zone.text(), zone.apex());
+    drop(zone);
+    let text = match read {
         Ok(text) => text,
         Err(fault) if fault.is_memory() => return Err(AllocError),
         Err(fault) => return write_text_fault(out, b"err zone", fault.line, fault.code()),

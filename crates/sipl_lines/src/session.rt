@@ -228,7 +228,7 @@ fn load_gathered<D: Desk>(
     ensures capacity { vec_capacity out.old ≤ vec_capacity out.new }
 {
     match gathered {
-        Gathered::Lines(zone) => load_zone(alloc, desk, &zone, out),
+        Gathered::Lines(zone) => load_zone(alloc, desk, zone, out),
         Gathered::BadApex(fault) => write_refusal(out, fault.code()),
         Gathered::LongLine => write_refusal(out, "K2"),
         Gathered::Lost => write_refusal(out, "Memory"),
