@@ -12,3 +12,4 @@ pub mod Rows
 pub mod Seen
 pub mod Plain
 pub mod Calling
+pub mod Scripts
