@@ -1,10 +1,10 @@
 // What a line of a script asks for.
-ghost use Rattle.std.specs.Prelude.{◌≡◌, ◌≤◌, IfSome};
+ghost use Rattle.std.specs.Prelude.{◌≡◌, ◌≤◌, IfOk, IfSome, OnErr};
 ghost use Rattle.sipl_records.specs.Fields.{fields_of};
 ghost use Rattle.sipl_records.specs.Numbers.{number_of};
 ghost use Rattle.sipl_lines.specs.CommandMeaning.{meaning_of};
 ghost use Rattle.sipl_lines.specs.Requests.{request_of};
-ghost use Rattle.sipl_lines.specs.ScriptLines.{ScriptRequest, as_in_session, commit_request, forget_request, hand_request, only_worker, script_request_of, some_workers, start_request, step_request, worker_request, workers_in};
+ghost use Rattle.sipl_lines.specs.ScriptLines.{ScriptRequest, as_in_session, commit_request, forget_request, hand_request, only_worker, script_request_of, some_workers, start_request, step_request, unknown, worker_request, workers_in};
 ghost use Rattle.sipl_lines.specs.ScriptMeaning.{meaning_of_line};
 
 use crate::command::{Command, MAX_LINE_LEN, read_command};
@@ -39,13 +39,17 @@ pub(crate) enum ScriptLine<'a> {
     // `clock MS`: sets the time, in milliseconds.
     Clock(u64),
     // `hand URI DRAWS`: asks for the kept answer to a URI, for these random words.
-    Hand(&'a [u8], Result<Draws, DrawsFault>),
+    Hand(&'a [u8], Draws),
+    // `hand URI DRAWS` with faulty random words.
+    HandFault(&'a [u8], DrawsFault),
     // `start W URI`: a worker begins to look up a URI.
     Start(u64, &'a [u8]),
     // `read W`: a worker reads the record set that its run wants.
     Read(u64),
     // `commit W DRAWS`: a worker commits what it found, for these random words.
-    Commit(u64, Result<Draws, DrawsFault>),
+    Commit(u64, Draws),
+    // `commit W DRAWS` with faulty random words.
+    CommitFault(u64, DrawsFault),
     // `lease W`: a worker leases a result that an edit outdated, and begins to look it up.
     Lease(u64),
     // `settle W`: a worker settles its lease with what it found.
@@ -65,7 +69,7 @@ pub(crate) fn read_script_line(line: &[u8]) -> ScriptLine<'_>
     }
     match next_field(line) {
         Some((word, rest)) => step_line(word, rest, line),
-        None => session_line(read_command(line)),
+        None => session_line(line),
     }
 }
 
@@ -91,29 +95,45 @@ fn step_line<'a>(word: &[u8], rest: &'a [u8], line: &'a [u8]) -> ScriptLine<'a>
     } else if word == b"forget".as_slice() {
         forget_line(rest)
     } else {
-        session_line(read_command(line))
+        session_line(line)
     }
 }
 
 // A line of a session that a script has too; its other commands are unknown.
-fn session_line(command: Command<'_>) -> ScriptLine<'_>
-    ensures { meaning_of_line result ≡ as_in_session (meaning_of command.entry) }
+fn session_line(line: &[u8]) -> ScriptLine<'_>
+    ensures { meaning_of_line result ≡ as_in_session (request_of line.now) }
+{
+    match shared_line(read_command(line)) {
+        Ok(line) => line,
+        Err(NotInScripts) => ScriptLine::Unknown,
+    }
+}
+
+// A command is unknown, or one of sessions only.
+#[derive(Clone, Copy)]
+struct NotInScripts;
+
+// The line of a script that is this command of a session, if scripts have it too.
+fn shared_line(command: Command<'_>) -> Result<ScriptLine<'_>, NotInScripts>
+    ensures ok { IfOk result
+        (λ line. meaning_of_line line ≡ as_in_session (meaning_of command.entry)) }
+    ensures err { OnErr result (as_in_session (meaning_of command.entry) ≡ unknown) }
 {
     match command {
-        Command::Nothing => ScriptLine::Nothing,
-        Command::TooLong => ScriptLine::TooLong,
-        Command::Zone(apex, lines) => ScriptLine::Zone(apex, lines),
-        Command::Drop(apex) => ScriptLine::Drop(apex),
-        Command::Add(record) => ScriptLine::Add(record),
-        Command::Del(record) => ScriptLine::Del(record),
+        Command::Nothing => Ok(ScriptLine::Nothing),
+        Command::TooLong => Ok(ScriptLine::TooLong),
+        Command::Zone(apex, lines) => Ok(ScriptLine::Zone(apex, lines)),
+        Command::Drop(apex) => Ok(ScriptLine::Drop(apex)),
+        Command::Add(record) => Ok(ScriptLine::Add(record)),
+        Command::Del(record) => Ok(ScriptLine::Del(record)),
         Command::Hold(transport, address, port, ms) => {
-            ScriptLine::Hold(transport, address, port, ms)
+            Ok(ScriptLine::Hold(transport, address, port, ms))
         }
         Command::Release(transport, address, port) => {
-            ScriptLine::Release(transport, address, port)
+            Ok(ScriptLine::Release(transport, address, port))
         }
-        Command::Clock(to) => ScriptLine::Clock(to),
-        _ => ScriptLine::Unknown,
+        Command::Clock(to) => Ok(ScriptLine::Clock(to)),
+        _ => Err(NotInScripts),
     }
 }
 
@@ -125,7 +145,8 @@ fn hand_line(rest: &[u8]) -> ScriptLine<'_>
         return ScriptLine::Unknown;
     };
     match read_draws(rest) {
-        Some(draws) => ScriptLine::Hand(uri, draws),
+        Some(Ok(draws)) => ScriptLine::Hand(uri, draws),
+        Some(Err(fault)) => ScriptLine::HandFault(uri, fault),
         None => ScriptLine::Unknown,
     }
 }
@@ -157,7 +178,8 @@ fn commit_line(rest: &[u8]) -> ScriptLine<'_>
         return ScriptLine::Unknown;
     };
     match (read_number(worker, u64::MAX), read_draws(rest)) {
-        (Some(worker), Some(draws)) => ScriptLine::Commit(worker, draws),
+        (Some(worker), Some(Ok(draws))) => ScriptLine::Commit(worker, draws),
+        (Some(worker), Some(Err(fault))) => ScriptLine::CommitFault(worker, fault),
         _ => ScriptLine::Unknown,
     }
 }

@@ -146,6 +146,8 @@ fn write_name(out: &mut Vec<u8>, name: &Name)
     ensures capacity { vec_capacity out.old ≤ vec_capacity out.new }
 {
     out.push_reserved(b' ');
+    // each octet of the wire form is printed in at most four
+    out.reserve(4 * name.wire_len()).unwrap();
     name.write(out).unwrap();
 }
 

@@ -2,7 +2,7 @@
 ghost use Rattle.std.specs.Prelude.{◌≡◌, ◌⊎◌, ◌≤◌, Ok, Err, codes, length, IfOk, IfErr};
 ghost use Rattle.sipl_records.specs.Addresses.{address_of};
 ghost use Rattle.sipl_lines.specs.ScriptMeaning.{meaning_of_line};
-ghost use Rattle.sipl_lines.specs.ScriptSteps.{MayFail, apex_of, endpoint_of, question_in, record_in, step_of, words_in};
+ghost use Rattle.sipl_lines.specs.ScriptSteps.{MayFail, apex_of, endpoint_of, question_in, record_in, step_of};
 
 use crate::desk_commands::{read_absolute_name, read_absolute_record, read_question};
 use crate::script_line::ScriptLine;
@@ -11,7 +11,6 @@ use sipl_choice::{Endpoint, Transport};
 use sipl_interleave::Step;
 use sipl_names::{Name, NameFault};
 use sipl_records::{Address, Record};
-use sipl_srv::{Draws, DrawsFault};
 use sipl_uri::Question;
 use std::alloc::Global;
 
@@ -34,13 +33,15 @@ pub(crate) fn read_step(alloc: Global, line: &ScriptLine<'_>) -> Result<Step, &'
             Ok(Step::Release(read_endpoint(*transport, address, *port)?))
         }
         ScriptLine::Clock(to) => Ok(Step::Advance(*to)),
-        ScriptLine::Hand(uri, draws) => {
-            let question = read_uri(alloc, uri)?;
-            Ok(Step::Hand(question, good_draws(draws)?))
+        ScriptLine::Hand(uri, draws) => Ok(Step::Hand(read_uri(alloc, uri)?, *draws)),
+        ScriptLine::HandFault(uri, fault) => {
+            read_uri(alloc, uri)?;
+            Err(fault.code())
         }
         ScriptLine::Start(worker, uri) => Ok(Step::Start(*worker as usize, read_uri(alloc, uri)?)),
         ScriptLine::Read(worker) => Ok(Step::Read(*worker as usize)),
-        ScriptLine::Commit(worker, draws) => Ok(Step::Commit(*worker as usize, good_draws(draws)?)),
+        ScriptLine::Commit(worker, draws) => Ok(Step::Commit(*worker as usize, *draws)),
+        ScriptLine::CommitFault(_, fault) => Err(fault.code()),
         ScriptLine::Lease(worker) => Ok(Step::Lease(*worker as usize)),
         ScriptLine::Settle(worker) => Ok(Step::Settle(*worker as usize)),
         ScriptLine::Abandon(worker) => Ok(Step::Abandon(*worker as usize)),
@@ -106,18 +107,6 @@ fn read_endpoint(transport: Transport, address: &[u8], port: u16) -> Result<Endp
             address,
             port,
         }),
-        Err(fault) => Err(fault.code()),
-    }
-}
-
-// The random words, or the code of their fault.
-fn good_draws(draws: &Result<Draws, DrawsFault>) -> Result<Draws, &'static str>
-    ensures ok { IfOk result (λ words. words_in draws.now ≡ Ok words) }
-    ensures err { IfErr result (λ code. words_in draws.now ≡ Err code.now) }
-    ensures short { IfErr result (λ code. length code.now ≤ 6) }
-{
-    match draws {
-        Ok(draws) => Ok(*draws),
         Err(fault) => Err(fault.code()),
     }
 }
