@@ -1,13 +1,12 @@
 // What a line of a script asks for.
-ghost use Rattle.std.specs.Prelude.{◌≡◌, ◌≤◌, IfOk, IfSome, OnErr};
+ghost use Rattle.std.specs.Prelude.{◌≡◌, ◌≤◌, IfSome};
 ghost use Rattle.sipl_records.specs.Fields.{fields_of};
 ghost use Rattle.sipl_records.specs.Numbers.{number_of};
-ghost use Rattle.sipl_lines.specs.CommandMeaning.{meaning_of};
 ghost use Rattle.sipl_lines.specs.Requests.{request_of};
-ghost use Rattle.sipl_lines.specs.ScriptLines.{ScriptRequest, as_in_session, commit_request, forget_request, hand_request, only_worker, script_request_of, some_workers, start_request, step_request, unknown, worker_request, workers_in};
+ghost use Rattle.sipl_lines.specs.ScriptLines.{ScriptRequest, commit_request, forget_request, hand_request, only_worker, script_request_of, some_workers, start_request, step_request, worker_request, workers_in};
 ghost use Rattle.sipl_lines.specs.ScriptMeaning.{meaning_of_line};
 
-use crate::command::{Command, MAX_LINE_LEN, read_command};
+use crate::command::{MAX_LINE_LEN, read_shared_line};
 use crate::draws_field::read_draws;
 use sipl_choice::Transport;
 use sipl_interleave::MAX_WORKERS;
@@ -69,7 +68,7 @@ pub(crate) fn read_script_line(line: &[u8]) -> ScriptLine<'_>
     }
     match next_field(line) {
         Some((word, rest)) => step_line(word, rest, line),
-        None => session_line(line),
+        None => read_shared_line(line),
     }
 }
 
@@ -95,45 +94,7 @@ fn step_line<'a>(word: &[u8], rest: &'a [u8], line: &'a [u8]) -> ScriptLine<'a>
     } else if word == b"forget".as_slice() {
         forget_line(rest)
     } else {
-        session_line(line)
-    }
-}
-
-// A line of a session that a script has too; its other commands are unknown.
-fn session_line(line: &[u8]) -> ScriptLine<'_>
-    ensures { meaning_of_line result ≡ as_in_session (request_of line.now) }
-{
-    match shared_line(read_command(line)) {
-        Ok(line) => line,
-        Err(NotInScripts) => ScriptLine::Unknown,
-    }
-}
-
-// A command is unknown, or one of sessions only.
-#[derive(Clone, Copy)]
-struct NotInScripts;
-
-// The line of a script that is this command of a session, if scripts have it too.
-fn shared_line(command: Command<'_>) -> Result<ScriptLine<'_>, NotInScripts>
-    ensures ok { IfOk result
-        (λ line. meaning_of_line line ≡ as_in_session (meaning_of command.entry)) }
-    ensures err { OnErr result (as_in_session (meaning_of command.entry) ≡ unknown) }
-{
-    match command {
-        Command::Nothing => Ok(ScriptLine::Nothing),
-        Command::TooLong => Ok(ScriptLine::TooLong),
-        Command::Zone(apex, lines) => Ok(ScriptLine::Zone(apex, lines)),
-        Command::Drop(apex) => Ok(ScriptLine::Drop(apex)),
-        Command::Add(record) => Ok(ScriptLine::Add(record)),
-        Command::Del(record) => Ok(ScriptLine::Del(record)),
-        Command::Hold(transport, address, port, ms) => {
-            Ok(ScriptLine::Hold(transport, address, port, ms))
-        }
-        Command::Release(transport, address, port) => {
-            Ok(ScriptLine::Release(transport, address, port))
-        }
-        Command::Clock(to) => Ok(ScriptLine::Clock(to)),
-        _ => Err(NotInScripts),
+        read_shared_line(line)
     }
 }
 
