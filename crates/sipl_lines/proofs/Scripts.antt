@@ -1,7 +1,7 @@
 -- What a script does: its first line makes a world, and the step of each other line is made, or the
 -- line refused.
 use Rattle.std.proofs.Common.{◌≡◌, ◌⊎◌, ◌++◌, ℕ, [], replicate, refl, sym, ap, subst, inl, inr}
-use Rattle.std.specs.Prelude.{Ok, Err, None, Some, codes}
+use Rattle.std.specs.Prelude.{Result, Ok, Err, None, Some, OnOk, codes}
 use Rattle.sipl_names.specs.Labels.{Octets}
 use Rattle.sipl_book.specs.Book.{new_book}
 use Rattle.sipl_book.specs.declared.limits.Limits.{Limits}
@@ -62,6 +62,9 @@ pub begun : (settings : Settings) (workers : ℕ) (limits : Limits) (world : Wor
 begun settings workers limits world play is_limits is_world is_play = inl (refl, cc)
 
 -- what a script does at play
-pub at_play : (item : Item) (before after : Play) (old new : Octets) → AppendsText (PlaysItem item) before old after new
-    → AppendsReply script_protocol (Playing before) item old (Playing after) new
-at_play item before after old new plays = (plays.0, (after, plays.1, refl), plays.2)
+pub at_play : {T E : Type 0} (result : Result T E) (item : Item) (script : Script) (before after : Play) (old new : Octets)
+    → script ≡ Playing before → OnOk result (AppendsText (PlaysItem item) before old after new)
+    → OnOk result (AppendsReply script_protocol script item old (Playing after) new)
+at_play (Ok x) item script before after old new is plays =
+    subst (λ s. AppendsReply script_protocol s item old (Playing after) new) (sym is) (plays.0, (after, plays.1, refl), plays.2)
+at_play (Err e) item script before after old new is plays = tt

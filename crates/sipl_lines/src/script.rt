@@ -1,7 +1,9 @@
 //! Scripts: the steps of a world, line by line.
-ghost use Rattle.std.specs.Prelude.{◌≡◌, ◌^◌, ◌+◌, ◌≤◌, ◌++◌, vec_len, vec_capacity};
+ghost use Rattle.std.specs.Prelude.{◌≡◌, ◌^◌, ◌+◌, ◌≤◌, ◌++◌, OnOk, OnErr, vec_len, vec_capacity};
 ghost use Rattle.sipl_names.specs.Labels.{Octets};
-ghost use Rattle.sipl_lines.specs.Script.{Begins, PlaysScript};
+ghost use Rattle.sipl_lines.specs.Items.{Item};
+ghost use Rattle.sipl_lines.specs.Replies.{AppendsReply};
+ghost use Rattle.sipl_lines.specs.Script.{Begins, PlaysScript, has_ended, script_protocol};
 ghost use Rattle.sipl_lines.specs.ScriptLines.{workers_in};
 ghost use Rattle.sipl_lines.specs.Settings.{IsWithinLimits};
 
@@ -86,6 +88,51 @@ impl Opening {
     }
 }
 
+impl Script {
+    // Whether the script has ended. From then on a line has no reply.
+    fn has_ended(&self) -> bool
+        ensures { result ≡ has_ended self.now }
+    {
+        matches!(self, Script::Ended)
+    }
+
+    // Processes a line, which has no line end, and appends its reply to `out`. An error says that
+    // the space for the reply could not be reserved: then nothing has changed.
+    fn process_line(
+        &mut self,
+        alloc: Global,
+        line: &[u8],
+        out: &mut Vec<u8>,
+    ) -> Result<(), AllocError>
+        ensures ok { OnOk result (AppendsReply script_protocol self.old (Item.line line.now)
+            out.old.items self.new out.new.items) }
+        ensures err { OnErr result (self.new ≡ self.old) }
+        ensures err_out { OnErr result (out.new.items ≡ out.old.items) }
+    {
+        if let Script::Playing(play) = self {
+            return play.process_line(alloc, line, out);
+        }
+        out.reserve(MAX_SCRIPT_REPLY_LEN)?;
+        if let Script::Waiting(opening) = mem::replace(self, Script::Ended) {
+            *self = opening.begin(alloc, line, out);
+        }
+        Ok(())
+    }
+
+    // Processes the end of the input, and appends its reply to `out`. An error is as with a line.
+    fn finish(&mut self, alloc: Global, out: &mut Vec<u8>) -> Result<(), AllocError>
+        ensures ok { OnOk result (AppendsReply script_protocol self.old Item.end_of_input
+            out.old.items self.new out.new.items) }
+        ensures err { OnErr result (self.new ≡ self.old) }
+        ensures err_out { OnErr result (out.new.items ≡ out.old.items) }
+    {
+        match self {
+            Script::Playing(play) => play.finish(alloc, out),
+            Script::Waiting(_) | Script::Ended => Ok(()),
+        }
+    }
+}
+
 /// A script has its world itself, and acts on nothing else.
 impl Conversation<()> for Script {
     ghost use Rattle.sipl_lines.specs.Script.{script_protocol};
@@ -98,7 +145,7 @@ impl Conversation<()> for Script {
     ghost is_line_protocol = { script_rules };
 
     fn has_ended(&self, _desk: &()) -> bool {
-        matches!(self, Script::Ended)
+        Script::has_ended(self)
     }
 
     fn process_line(
@@ -108,14 +155,7 @@ impl Conversation<()> for Script {
         line: &[u8],
         out: &mut Vec<u8>,
     ) -> Result<(), AllocError> {
-        if let Script::Playing(play) = self {
-            return play.process_line(alloc, line, out);
-        }
-        out.reserve(MAX_SCRIPT_REPLY_LEN)?;
-        if let Script::Waiting(opening) = mem::replace(self, Script::Ended) {
-            *self = opening.begin(alloc, line, out);
-        }
-        Ok(())
+        Script::process_line(self, alloc, line, out)
     }
 
     fn finish(
@@ -124,9 +164,6 @@ impl Conversation<()> for Script {
         _desk: &mut (),
         out: &mut Vec<u8>,
     ) -> Result<(), AllocError> {
-        match self {
-            Script::Playing(play) => play.finish(alloc, out),
-            Script::Waiting(_) | Script::Ended => Ok(()),
-        }
+        Script::finish(self, alloc, out)
     }
 }
