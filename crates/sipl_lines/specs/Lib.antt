@@ -21,6 +21,12 @@ pub mod Commands
 pub mod Calls
 pub mod Session
 pub mod SessionLaws
+pub mod ScriptLines
+pub mod ScriptMeaning
+pub mod ScriptSteps
+pub mod ScriptText
+pub mod Script
+pub mod ScriptLaws
 pub mod Checking
 pub mod Settings
 pub mod SettingsFault

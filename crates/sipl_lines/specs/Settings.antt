@@ -10,6 +10,7 @@ use Rattle.toml.specs.Parse.{parse_document}
 use Rattle.sipl_names.specs.Labels.{Octets}
 use Rattle.sipl_choice.specs.declared.transport.Transport.TheVariants.{Udp, Tcp}
 use Rattle.sipl_choice.specs.declared.families.Families.TheVariants.{V4}
+use Rattle.sipl_book.specs.declared.limits.Limits.{Limits}
 use Rattle.sipl_lines.specs.declared.settings.Settings.{Settings}
 use Rattle.sipl_lines.specs.SettingsFault.{Fault, not_toml, unknown_key, bad_value, key_fault}
 use Rattle.sipl_lines.specs.declared.settings.fault.Refusal.{Refusal}
@@ -58,6 +59,16 @@ pub record IsWithinLimits (settings : Settings) : Type 0 where
   pub entries : settings.entries ≤ 65536
   pub journal : settings.journal ≤ 1048576
   pub holds : settings.holds ≤ 4096
+
+-- what a book with these settings keeps at most; its sets are numbered from 1
+abbrev pub limits_of : Settings → Limits
+limits_of settings = record {
+  records = settings.records;
+  entries = settings.entries;
+  journal = settings.journal;
+  holds = settings.holds;
+  next = 1;
+}
 
 -- whether a value is as it may be
 abbrev pub allows : Allowed → Data → Bool

@@ -4,8 +4,11 @@ ghost use Rattle.sipl_records.specs.Fields.{fields_of, trim_start};
 ghost use Rattle.sipl_lines.specs.Requests.{add_request, broke_request, call_command, call_request, del_request, deps_request, got_request, kind_named, retry_of, drop_request, find_request, hold_request, release_request, repair_request, clock_request, outage_request, quit_request, request_of, zone_request, unknown};
 ghost use Rattle.std.specs.Option.{option_map_or};
 ghost use Rattle.sipl_lines.specs.CommandMeaning.{meaning_of};
+ghost use Rattle.sipl_lines.specs.ScriptLines.{as_in_session};
+ghost use Rattle.sipl_lines.specs.ScriptMeaning.{meaning_of_line};
 
 use crate::draws_field::read_draws;
+use crate::script_line::ScriptLine;
 use sipl_choice::Transport;
 use sipl_records::{next_field, read_number, trim_start};
 use sipl_srv::{Draws, DrawsFault};
@@ -88,6 +91,26 @@ pub(crate) fn read_command(line: &[u8]) -> Command<'_>
         quit_command(rest)
     } else {
         outage_command(word, rest)
+    }
+}
+
+// What a line of a session asks for in a script: a command that scripts do not have is unknown.
+pub(crate) fn read_shared_line(line: &[u8]) -> ScriptLine<'_>
+    ensures { meaning_of_line result ≡ as_in_session (request_of line.now) }
+{
+    match read_command(line) {
+        Command::Nothing => ScriptLine::Nothing,
+        Command::TooLong => ScriptLine::TooLong,
+        Command::Zone(apex, lines) => ScriptLine::Zone(apex, lines),
+        Command::Drop(apex) => ScriptLine::Drop(apex),
+        Command::Add(record) => ScriptLine::Add(record),
+        Command::Del(record) => ScriptLine::Del(record),
+        Command::Hold(transport, address, port, ms) => {
+            ScriptLine::Hold(transport, address, port, ms)
+        }
+        Command::Release(transport, address, port) => ScriptLine::Release(transport, address, port),
+        Command::Clock(to) => ScriptLine::Clock(to),
+        _ => ScriptLine::Unknown,
     }
 }
 

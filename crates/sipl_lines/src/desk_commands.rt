@@ -173,7 +173,7 @@ pub(crate) fn find<D: Desk>(
 }
 
 // Appends the reply to a question, or `err Memory` where there is no space for it.
-fn reply_handed(handed: &Handed, out: &mut Vec<u8>)
+pub(crate) fn reply_handed(handed: &Handed, out: &mut Vec<u8>)
     requires space { vec_len out.old + MAX_SHORT_REPLY_LEN ≤ vec_capacity out.old }
     ensures text { (out.new.items ≡ out.old.items ++ handed_text handed.now)
         ⊎ (out.new.items ≡ out.old.items ++ refusal_line (codes "Memory")) }
@@ -308,7 +308,7 @@ pub(crate) fn reply_moved(
 }
 
 // The name of a text that is relative to the root, or its fault.
-fn read_absolute_name(alloc: Global, text: &[u8]) -> Result<Name, NameFault>
+pub(crate) fn read_absolute_name(alloc: Global, text: &[u8]) -> Result<Name, NameFault>
     ensures read { IfOk result (λ name. name_of text.now [] ≡ Ok name) }
     ensures refused { IfErr result
         (λ fault. IfInvalid fault (λ invalid. name_of text.now [] ≡ Err invalid)) }
@@ -318,7 +318,7 @@ fn read_absolute_name(alloc: Global, text: &[u8]) -> Result<Name, NameFault>
 
 // The record of a text whose names are relative to the root, or its fault. An error says that an
 // allocation failed.
-fn read_absolute_record(alloc: Global, text: &[u8]) -> Result<Result<Record, ZoneFault>, AllocError>
+pub(crate) fn read_absolute_record(alloc: Global, text: &[u8]) -> Result<Result<Record, ZoneFault>, AllocError>
     ensures { IfOk result (λ read. read ≡ record_of text.now []) }
 {
     match read_record(alloc, text, &Name::root(alloc)) {

@@ -1,5 +1,5 @@
-//! The line server: sessions of commands on a reader and a writer, the check of a zone's text, and
-//! the settings of the program.
+//! The line server: sessions of commands and scripts of steps on a reader and a writer, the check of a
+//! zone's text, and the settings of the program.
 #![tactic(auto)]
 
 mod book;
@@ -12,7 +12,12 @@ mod desk_commands;
 mod draws_field;
 mod gather;
 mod lines;
+mod play;
 mod reply;
+mod script;
+mod script_line;
+mod script_reply;
+mod script_step;
 mod server;
 mod session;
 mod settings;
@@ -23,6 +28,7 @@ pub use book::serve_book;
 pub use check::check_zone;
 pub use command::{MAX_LINE_LEN, MAX_ZONE_LINES};
 pub use desk::Desk;
+pub use script::play_script;
 pub use server::{Ended, MAX_READS, ServeFault, serve, serve_within};
 pub use settings::{Settings, SettingsFault};
 pub use tapped::Tapped;

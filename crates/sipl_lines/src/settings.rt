@@ -3,14 +3,14 @@ ghost use Rattle.std.specs.Prelude.{◌≡◌, ◌≢◌, None, Some, Ok, Err, I
 ghost use Rattle.toml.specs.Parse.{parse_document};
 ghost use Rattle.toml.specs.View.{table_view, view};
 ghost use Rattle.sipl_lines.specs.SettingsFault.{fault_of};
-ghost use Rattle.sipl_lines.specs.Settings.{defaults, IsWithinLimits, SetsKey, settings_of};
+ghost use Rattle.sipl_lines.specs.Settings.{defaults, IsWithinLimits, limits_of, SetsKey, settings_of};
 
 mod fault;
 mod values;
 
 use fault::Refusal;
 pub use fault::SettingsFault;
-use sipl_book::{MAX_ENTRIES, MAX_EVENTS};
+use sipl_book::{Limits, MAX_ENTRIES, MAX_EVENTS};
 use sipl_choice::{Abilities, Families, Transport};
 use sipl_outages::MAX_HOLDS;
 use sipl_zonestore::MAX_RECORDS;
@@ -67,6 +67,19 @@ impl Settings {
             }
         }
         Ok(settings)
+    }
+
+    /// What a book with these settings keeps at most; its record sets are numbered from 1.
+    pub fn limits(&self) -> Limits
+        ensures { result ≡ limits_of self.now }
+    {
+        Limits {
+            records: self.records,
+            entries: self.entries,
+            journal: self.journal,
+            holds: self.holds,
+            next: 1,
+        }
     }
 
     // The settings of an empty document.

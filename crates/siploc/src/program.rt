@@ -1,8 +1,10 @@
 //! The program: its arguments, and what it does on its standard streams.
 ghost use Rattle.sipl_lines.specs.Settings.{IsWithinLimits};
 
-use sipl_book::{Book, Limits};
-use sipl_lines::{Ended, ServeFault, Settings, SettingsFault, Tapped, check_zone, serve_book};
+use sipl_book::Book;
+use sipl_lines::{
+    Ended, ServeFault, Settings, SettingsFault, Tapped, check_zone, play_script, serve_book,
+};
 use sipl_names::{Name, NameFault};
 use std::alloc::Global;
 use std::io::{ErrorKind, Input};
@@ -20,6 +22,8 @@ enum Call {
     Run(Option<String>),
     // `check APEX`: checks a zone's text.
     Check(Name),
+    // `world [SETTINGS]`: plays a script.
+    World(Option<String>),
 }
 
 // Why a call failed.
@@ -92,6 +96,7 @@ fn read_arguments<R: Env + AllocGlobal>(rt: &R) -> io::Result<Option<Call>> {
     let _program = words.next();
     let call = match words.next() {
         Some(word) if word.as_str() == "run" => Some(Call::Run(words.next())),
+        Some(word) if word.as_str() == "world" => Some(Call::World(words.next())),
         Some(word) if word.as_str() == "check" => match words.next() {
             Some(apex) => read_apex(rt.alloc(), apex.as_bytes())?,
             None => None,
@@ -119,6 +124,11 @@ fn perform<R: Input + Print + AllocGlobal>(rt: &R, call: Call) -> Result<bool, F
             serve_streams(rt, Settings::from_toml(rt.alloc(), text)?)?;
             Ok(true)
         }
+        Call::World(text) => {
+            let text = text.as_deref().unwrap_or("");
+            play_streams(rt, Settings::from_toml(rt.alloc(), text)?)?;
+            Ok(true)
+        }
         Call::Check(apex) => Ok(check_streams(rt, &apex)?),
     }
 }
@@ -131,17 +141,23 @@ fn serve_streams<R: Input + Print + AllocGlobal>(
     requires { IsWithinLimits settings }
 {
     let alloc = rt.alloc();
-    let limits = Limits {
-        records: settings.records,
-        entries: settings.entries,
-        journal: settings.journal,
-        holds: settings.holds,
-        next: 1,
-    };
+    let limits = settings.limits();
     let mut book = Book::new(alloc, settings.abilities, &limits);
     let mut reader = Tapped::new(rt.reader());
     let mut writer = Tapped::new(io::writer(rt));
     serve_book(alloc, &mut reader, &mut writer, &mut book)
+}
+
+// Plays a script on standard input and output.
+fn play_streams<R: Input + Print + AllocGlobal>(
+    rt: &R,
+    settings: Settings,
+) -> Result<Ended, ServeFault>
+    requires { IsWithinLimits settings }
+{
+    let mut reader = Tapped::new(rt.reader());
+    let mut writer = Tapped::new(io::writer(rt));
+    play_script(rt.alloc(), &mut reader, &mut writer, settings)
 }
 
 // Checks the zone on standard input, and reports on standard output. Returns whether it is a zone.
@@ -202,6 +218,17 @@ mod tests {
         let mut process = Process::new(rt.alloc(), &[b"siploc", b"run"], b"find x\n");
         process.is_closed = true;
         assert!(rt; ends(process, 1, b"", b"fault write\n"));
+        Ok(())
+    }
+
+    #[test]
+    fn faults_of_the_streams_of_a_script_print_their_code(rt: HostRuntime) -> Result<(), Fail> {
+        let mut process = Process::new(rt.alloc(), &[b"siploc", b"world"], b"x\nread");
+        process.is_closed = true;
+        assert!(rt; ends(process, 1, b"", b"fault write\n"));
+        let mut process = Process::new(rt.alloc(), &[b"siploc", b"world"], b"workers 1\nread");
+        process.input_fails = true;
+        assert!(rt; ends(process, 1, b"", b"fault read\n"));
         Ok(())
     }
 }

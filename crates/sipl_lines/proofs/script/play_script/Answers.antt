@@ -1,0 +1,8 @@
+use Rattle.sipl_lines.proofs.script.play_script.Goals as goal
+
+pub returns : goal.returns
+returns g c =
+    record {
+      script = c.serve_conversation.new.conversation;
+      serves = c.serve_conversation.ensures;
+    }

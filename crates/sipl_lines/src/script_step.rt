@@ -1,0 +1,112 @@
+// The step of the world that a line of a script asks for.
+ghost use Rattle.std.specs.Prelude.{◌≡◌, ◌⊎◌, ◌≤◌, Ok, Err, codes, length, IfOk, IfErr};
+ghost use Rattle.sipl_records.specs.Addresses.{address_of};
+ghost use Rattle.sipl_lines.specs.ScriptMeaning.{meaning_of_line};
+ghost use Rattle.sipl_lines.specs.ScriptSteps.{MayFail, apex_of, endpoint_of, question_in, record_in, step_of};
+
+use crate::desk_commands::{read_absolute_name, read_absolute_record, read_question};
+use crate::script_line::ScriptLine;
+use sipl_book::Edit;
+use sipl_choice::{Endpoint, Transport};
+use sipl_interleave::Step;
+use sipl_names::{Name, NameFault};
+use sipl_records::{Address, Record};
+use sipl_uri::Question;
+use std::alloc::Global;
+
+// The step that a line asks for, or the code with which it is refused: K1 where it asks for none, else
+// that of the first faulty field, or `Memory` where an allocation failed.
+pub(crate) fn read_step(alloc: Global, line: &ScriptLine<'_>) -> Result<Step, &'static str>
+    ensures ok { IfOk result (λ step. step_of (meaning_of_line line.now) ≡ Ok step) }
+    ensures err { IfErr result (λ code. (step_of (meaning_of_line line.now) ≡ Err code.now)
+        ⊎ (MayFail (meaning_of_line line.now) × (code.now ≡ codes "Memory"))) }
+    ensures short { IfErr result (λ code. length code.now ≤ 6) }
+{
+    match line {
+        ScriptLine::Drop(apex) => Ok(Step::Change(Edit::Unload(read_apex(alloc, apex)?))),
+        ScriptLine::Add(text) => Ok(Step::Change(Edit::Add(read_record(alloc, text)?))),
+        ScriptLine::Del(text) => Ok(Step::Change(Edit::Remove(read_record(alloc, text)?))),
+        ScriptLine::Hold(transport, address, port, ms) => {
+            Ok(Step::Hold(read_endpoint(*transport, address, *port)?, *ms))
+        }
+        ScriptLine::Release(transport, address, port) => {
+            Ok(Step::Release(read_endpoint(*transport, address, *port)?))
+        }
+        ScriptLine::Clock(to) => Ok(Step::Advance(*to)),
+        ScriptLine::Hand(uri, draws) => Ok(Step::Hand(read_uri(alloc, uri)?, *draws)),
+        ScriptLine::HandFault(uri, fault) => {
+            read_uri(alloc, uri)?;
+            Err(fault.code())
+        }
+        ScriptLine::Start(worker, uri) => Ok(Step::Start(*worker as usize, read_uri(alloc, uri)?)),
+        ScriptLine::Read(worker) => Ok(Step::Read(*worker as usize)),
+        ScriptLine::Commit(worker, draws) => Ok(Step::Commit(*worker as usize, *draws)),
+        ScriptLine::CommitFault(_, fault) => Err(fault.code()),
+        ScriptLine::Lease(worker) => Ok(Step::Lease(*worker as usize)),
+        ScriptLine::Settle(worker) => Ok(Step::Settle(*worker as usize)),
+        ScriptLine::Abandon(worker) => Ok(Step::Abandon(*worker as usize)),
+        ScriptLine::Forget(uri) => Ok(Step::Forget(read_uri(alloc, uri)?)),
+        ScriptLine::TooLong => Err("K2"),
+        ScriptLine::Unknown | ScriptLine::Nothing | ScriptLine::Zone(_, _) => Err("K1"),
+    }
+}
+
+// The name of a text, which is relative to the root, or the code of its fault.
+fn read_apex(alloc: Global, text: &[u8]) -> Result<Name, &'static str>
+    ensures ok { IfOk result (λ apex. apex_of text.now ≡ Ok apex) }
+    ensures err { IfErr result
+        (λ code. (apex_of text.now ≡ Err code.now) ⊎ (code.now ≡ codes "Memory")) }
+    ensures short { IfErr result (λ code. length code.now ≤ 6) }
+{
+    match read_absolute_name(alloc, text) {
+        Ok(apex) => Ok(apex),
+        Err(NameFault::Invalid(invalid)) => Err(invalid.code()),
+        Err(NameFault::Memory) => Err("Memory"),
+    }
+}
+
+// The record of a text, whose names are relative to the root, or the code of its fault.
+fn read_record(alloc: Global, text: &[u8]) -> Result<Record, &'static str>
+    ensures ok { IfOk result (λ r. record_in text.now ≡ Ok r) }
+    ensures err { IfErr result
+        (λ code. (record_in text.now ≡ Err code.now) ⊎ (code.now ≡ codes "Memory")) }
+    ensures short { IfErr result (λ code. length code.now ≤ 6) }
+{
+    match read_absolute_record(alloc, text) {
+        Ok(Ok(record)) => Ok(record),
+        Ok(Err(fault)) => Err(fault.code()),
+        Err(_) => Err("Memory"),
+    }
+}
+
+// The question of a URI, or the code of its fault.
+fn read_uri(alloc: Global, uri: &[u8]) -> Result<Question, &'static str>
+    ensures ok { IfOk result (λ question. question_in uri.now ≡ Ok question) }
+    ensures err { IfErr result
+        (λ code. (question_in uri.now ≡ Err code.now) ⊎ (code.now ≡ codes "Memory")) }
+    ensures short { IfErr result (λ code. length code.now ≤ 6) }
+{
+    match read_question(alloc, uri) {
+        Ok(Ok(question)) => Ok(question),
+        Ok(Err(fault)) => Err(fault.code()),
+        Err(_) => Err("Memory"),
+    }
+}
+
+// The endpoint of an address's text, or the code of its fault.
+fn read_endpoint(transport: Transport, address: &[u8], port: u16) -> Result<Endpoint, &'static str>
+    ensures ok { IfOk result
+        (λ endpoint. endpoint_of transport (address_of address.now) port ≡ Ok endpoint) }
+    ensures err { IfErr result
+        (λ code. endpoint_of transport (address_of address.now) port ≡ Err code.now) }
+    ensures short { IfErr result (λ code. length code.now ≤ 6) }
+{
+    match Address::from_text(address) {
+        Ok(address) => Ok(Endpoint {
+            transport,
+            address,
+            port,
+        }),
+        Err(fault) => Err(fault.code()),
+    }
+}
