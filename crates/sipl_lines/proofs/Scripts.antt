@@ -82,6 +82,6 @@ stale_written item key old word named new first is second third =
     third ∙ ap (λ (text : Octets). text ++ 10 ∷ []) (second ∙ ap (λ (text : Octets). text ++ fields) first)
     ∙ joined ∙ ap (λ (k : Key). old ++ stale_text (Some (record item { key = k }))) is
   where
-  joined : ((old ++ codes "err B2") ++ (word_field (text_of key.name) ++ word_field (text_of_kind key.kind))) ++ 10 ∷ []
-      ≡ old ++ stale_text (Some (record item { key = key }))
-  joined = simp append_assoc
+    joined : ((old ++ codes "err B2") ++ (word_field (text_of key.name) ++ word_field (text_of_kind key.kind))) ++ 10 ∷ []
+        ≡ old ++ stale_text (Some (record item { key = key }))
+    joined = simp append_assoc

@@ -315,7 +315,10 @@ pub(crate) fn read_absolute_name(alloc: Global, text: &[u8]) -> Result<Name, Nam
 
 // The record of a text whose names are relative to the root, or its fault. An error says that an
 // allocation failed.
-pub(crate) fn read_absolute_record(alloc: Global, text: &[u8]) -> Result<Result<Record, ZoneFault>, AllocError>
+pub(crate) fn read_absolute_record(
+    alloc: Global,
+    text: &[u8],
+) -> Result<Result<Record, ZoneFault>, AllocError>
     ensures { IfOk result (λ read. read ≡ record_of text.now []) }
 {
     match read_record(alloc, text, &Name::root(alloc)) {
