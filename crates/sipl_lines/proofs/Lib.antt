@@ -13,3 +13,4 @@ pub mod Seen
 pub mod Plain
 pub mod Calling
 pub mod Scripts
+pub mod Reading

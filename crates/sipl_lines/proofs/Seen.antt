@@ -1,6 +1,6 @@
 -- A session at a desk whose states are seen as those of another desk: where each rule of the one
 -- implies that of the other, the same text is that of a session at the other.
-use Rattle.std.proofs.Common.{◌≡◌, ◌⊎◌, ℕ, List, [], ◌∷◌, Bool, true, false, Option, None, Some, Result, Ok, Err, OnOk, OnErr, ◌==◌, ◌++◌, ap, subst, inl, inr, codes}
+use Rattle.std.proofs.Common.{◌≡◌, ℕ, List, [], ◌∷◌, Bool, true, false, Option, None, Some, Result, Ok, Err, OnOk, OnErr, ◌==◌, ◌++◌, ap, subst, inl, inr, codes}
 use Rattle.std.specs.Bool.{OnTrue, OnFalse}
 use Rattle.sipl_names.specs.Labels.{Octets, Labels}
 use Rattle.sipl_names.specs.NameText.{name_of}
@@ -51,7 +51,7 @@ use Rattle.sipl_lines.specs.Requests.{Request, nothing, unknown, too_long, zone,
 use Rattle.sipl_lines.specs.Serving.{ServesWithin, ServesDesk}
 use Rattle.sipl_lines.specs.ServeFault.{OnReadFault, OnTooManyTurns}
 use Rattle.sipl_lines.specs.Session.{SessionState, with_gathering, AtCall, AtDesk, Commands, Gathers, GathersOrLoses, LoadsGathered, MayReply, Obeys, TakesEnd, TakesItem, TakesLine, new_session, session_protocol}
-use Rattle.sipl_lines.specs.Streams.{ServesAll, ServesFirst, ServesPrefix, ServesRead}
+use Rattle.sipl_lines.specs.Streams.{ServesAll, ServesPrefix, ServesRead}
 
 -- each rule of a desk implies that of another, where the states are seen so
 pub record Implies {D E : Type 0} (seen : D → E) (R : DeskRules D) (R' : DeskRules E) : Type 0 where
@@ -179,9 +179,9 @@ module _ {D E : Type 0} (seen : D → E) (R : DeskRules D) (R' : DeskRules E) (i
 
   -- ---- what a command does with the call
 
-  makes_hold : (reply : Octets) (hold : Option (Endpoint × ℕ)) → Carries seen (MakesHold R reply hold) (MakesHold R' reply hold)
+  makes_hold : (reply : Octets) (asked : Option (Endpoint × ℕ)) → Carries seen (MakesHold R reply asked) (MakesHold R' reply asked)
   makes_hold reply None before text after kept = (kept.0, ap seen kept.1)
-  makes_hold reply (Some hold) before text after done = moves_to reply (Hold hold.0 hold.1) before text after done
+  makes_hold reply (Some asked) before text after done = moves_to reply (Hold asked.0 asked.1) before text after done
 
   goes_on : (reply : Octets) (run : FailoverRun) (event : Event) (fault : Option FailoverFault)
       → Carries (call_seen seen) (GoesOn R reply run event fault) (GoesOn R' reply run event fault)
@@ -198,11 +198,10 @@ module _ {D E : Type 0} (seen : D → E) (R : DeskRules D) (R' : DeskRules E) (i
 
   ticks : (reply : Octets) (ms : ℕ) (told : Option FailoverRun) → Carries (call_seen seen) (Ticks R reply ms told) (Ticks R' reply ms told)
   ticks reply ms None before text after kept = (kept.0, ap (call_seen seen) kept.1)
-  ticks reply ms (Some run) before text after done =
-      (
-        on_true (has_ended run) (λ kept. keeps (call_seen seen) reply before text after kept) done.0,
-        on_false (has_ended run) (λ goes. goes_on reply run (Ticked ms) (refusal_of run (Ticked ms)) before text after goes) done.1,
-      )
+  ticks reply ms (Some run) before text after done = (
+    on_true (has_ended run) (λ kept. keeps (call_seen seen) reply before text after kept) done.0,
+    on_false (has_ended run) (λ goes. goes_on reply run (Ticked ms) (refusal_of run (Ticked ms)) before text after goes) done.1,
+  )
 
   tells_time : (ms : ℕ) (outcome : Result ℕ BookFault) → Carries (call_seen seen) (TellsTime R ms outcome) (TellsTime R' ms outcome)
   tells_time ms (Err fault) before text after kept = (kept.0, ap (call_seen seen) kept.1)
@@ -220,12 +219,11 @@ module _ {D E : Type 0} (seen : D → E) (R : DeskRules D) (R' : DeskRules E) (i
 
   calls_unless_open : (kind : Kind) (base : ℕ) (question : Question) (words : List ℕ)
       → Carries (call_seen seen) (CallsUnlessOpen R kind base question words) (CallsUnlessOpen R' kind base question words)
-  calls_unless_open kind base question words before text after done =
-      (
-        on_true (is_open before.call) (λ refused. (refused.0, ap (call_seen seen) refused.1)) done.0,
-        on_false (is_open before.call)
+  calls_unless_open kind base question words before text after done = (
+    on_true (is_open before.call) (λ refused. (refused.0, ap (call_seen seen) refused.1)) done.0,
+    on_false (is_open before.call)
         (λ opened. (opened.0, implies.finds question words before.desk opened.0 after.desk opened.1, opens_for kind base opened.0 before.call text after opened.2)) done.1,
-      )
+  )
 
   calls_uri : (kind : Kind) (base : ℕ) (asked : Result Question UriFault) (draws : Result (List ℕ) DrawsFault)
       → Carries (call_seen seen) (CallsUri R kind base asked draws) (CallsUri R' kind base asked draws)

@@ -1,7 +1,9 @@
 // The check of a zone's text.
-ghost use Rattle.std.specs.Prelude.{◌≡◌, ◌++◌, IfOk, OnErr, is_ok};
+ghost use Rattle.std.specs.Prelude.{◌≡◌, ◌<◌, ◌++◌, ◌||◌, false, length, IfOk, OnOk, OnErr, is_ok};
 ghost use Rattle.sipl_masterfile.specs.Zones.{zone_of};
-ghost use Rattle.sipl_lines.specs.Checking.{Checks, report_of};
+ghost use Rattle.sipl_lines.specs.Checking.{Checks, ReadsAll, ReadsPiece, report_of};
+ghost use Rattle.sipl_lines.specs.ServeFault.{is_read_fault, is_write_fault, OnTooManyTurns};
+ghost use Rattle.sipl_lines.specs.Tapped.{tapped_inner, has_failed};
 
 use crate::reply::{write_counts, write_text_fault};
 use crate::server::{ServeFault, send};
@@ -14,9 +16,12 @@ use std::io::{Read, Write};
 // The maximum length of the counts of a zone in octets.
 const MAX_COUNTS_LEN: usize = 66;
 
+// The maximum length of a read in octets.
+const CHUNK_LEN: usize = 64 * 1024;
+
 /// Reads a zone's text until the input ends, and writes the counts of its records, or its first
 /// fault. Returns whether the text is a zone. Linear in the length of the text, which is read as a
-/// whole.
+/// whole. A read that fails is not tried again.
 pub fn check_zone<R: Read, W: Write>(
     alloc: Global,
     reader: &mut Tapped<R>,
@@ -27,19 +32,52 @@ pub fn check_zone<R: Read, W: Write>(
         reader.old reader.new writer.old writer.new }
 {
     let mut text = Vec::new(alloc);
-    if reader.read_to_end(&mut text).is_err() {
-        return Err(if reader.failed() {
-            ServeFault::Read
-        } else {
-            ServeFault::Memory
-        });
-    }
+    read_all(alloc, reader, &mut text)?;
     let mut report = Vec::new(alloc);
     let is_zone = write_report(alloc, &text, apex, &mut report)?;
     if !send(writer, &report) {
         return Err(ServeFault::Write);
     }
     Ok(is_zone)
+}
+
+// Reads until the input ends, and appends what was read.
+fn read_all<R: Read>(
+    alloc: Global,
+    reader: &mut Tapped<R>,
+    text: &mut Vec<u8>,
+) -> Result<(), ServeFault>
+    ensures ok { OnOk result (ReadsAll (R.remaining (tapped_inner reader.old))
+        (R.remaining (tapped_inner reader.new)) text.old.items text.new.items) }
+    ensures failed { has_failed reader.new ≡ (has_failed reader.old || is_read_fault result) }
+    ensures unwritten { is_write_fault result ≡ false }
+    ensures unlimited { OnTooManyTurns result ⊥ }
+{
+    let mut chunk = vec![in alloc; 0; CHUNK_LEN]?;
+    while read_piece(reader, &mut chunk, text)? {}
+    Ok(())
+}
+
+// Reads once, and appends what was read. Returns whether there may be more to read.
+fn read_piece<R: Read>(
+    reader: &mut Tapped<R>,
+    chunk: &mut [u8],
+    text: &mut Vec<u8>,
+) -> Result<bool, ServeFault>
+    requires { 0 < length chunk.old }
+    ensures ok { IfOk result (λ more. ReadsPiece more (R.remaining (tapped_inner reader.old))
+        (R.remaining (tapped_inner reader.new)) text.old.items text.new.items) }
+    ensures chunk { length chunk.new ≡ length chunk.old }
+    ensures failed { has_failed reader.new ≡ (has_failed reader.old || is_read_fault result) }
+    ensures unwritten { is_write_fault result ≡ false }
+    ensures unlimited { OnTooManyTurns result ⊥ }
+{
+    let count = match reader.read(chunk) {
+        Ok(count) => count,
+        Err(_) => return Err(ServeFault::Read),
+    };
+    text.extend_from_slice(&chunk[..count])?;
+    Ok(count > 0)
 }
 
 // Appends the report on a zone's text. Returns whether it is a zone.
