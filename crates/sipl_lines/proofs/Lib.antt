@@ -12,5 +12,5 @@ pub mod Rows
 pub mod Seen
 pub mod Plain
 pub mod Calling
-pub mod Reading
 pub mod Scripts
+pub mod Reading

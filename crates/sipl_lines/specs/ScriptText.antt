@@ -5,7 +5,6 @@ use Rattle.sipl_names.specs.Labels.{Octets}
 use Rattle.sipl_names.specs.NamePrint.{text_of}
 use Rattle.sipl_records.specs.Addresses.{text_of_address}
 use Rattle.sipl_records.specs.Kinds.{text_of_kind}
-use Rattle.sipl_records.specs.declared.record.Key.{Key}
 use Rattle.sipl_choice.specs.Transports.{transport_text}
 use Rattle.sipl_choice.specs.declared.transport.Transport.{Transport}
 use Rattle.sipl_uri.specs.declared.question.Question.{Question}
@@ -15,7 +14,7 @@ use Rattle.sipl_evidence.specs.Items.{Item}
 use Rattle.sipl_book.specs.BookFault.{code_of as book_code}
 use Rattle.sipl_book.specs.declared.edit.Edit.TheVariants.{Load, Unload, Add, Remove}
 use Rattle.sipl_book.specs.declared.fault.BookFault.{BookFault}
-use Rattle.sipl_book.specs.declared.fault.BookFault.TheVariants.{JournalFull, NotCurrent, Stale, Unknown, Gone, Queue, Store, Board, Memory}
+use Rattle.sipl_book.specs.declared.fault.BookFault.TheVariants.{Stale}
 use Rattle.sipl_interleave.specs.WorldFault.{code_of}
 use Rattle.sipl_interleave.specs.declared.reply.Reply.{Reply}
 use Rattle.sipl_interleave.specs.declared.reply.Reply.TheVariants.{Changed, Moved, Answered, Started, Read, Leased, Settled, Abandoned, Forgotten, Uncommitted, Refused}
