@@ -148,10 +148,7 @@ impl Service {
         ensures { IfOk result (λ read. IsSet key.now read.0 read.1) }
     {
         let mut shared = self.shared.lock(rt);
-        if shared.is_stopped {
-            return Err(ServiceFault::Stopped);
-        }
-        steps::check_client(&shared.book, &self.abilities)?;
+        shared.check(&self.abilities)?;
         Ok(shared.book.read(key)?)
     }
 
@@ -163,6 +160,7 @@ impl Service {
         ensures { IfOk result
             (λ items. AreDependencies question.now self.now.client items) }
     {
+        self.shared.lock(rt).check(&self.abilities)?;
         let finding = self.locate(rt, Who::Caller, question, &OpenGate)?;
         Ok(finding.into_evidence())
     }

@@ -20,6 +20,14 @@ impl Service {
     /// The fault is the first one: the service was stopped (L6), the book is for another client (L7).
     /// What was repaired until then stays so, and the other entries stay queued.
     pub fn repair<R: Wait>(&self, rt: &R) -> Result<(), ServiceFault> {
+        let repaired = self.repair_queued(rt);
+        self.woken.notify_all();
+        repaired
+    }
+
+    // Looks up again as many entries as are queued now, but none a second time: a stale one is put
+    // behind all that were queued.
+    fn repair_queued<R: Wait>(&self, rt: &R) -> Result<(), ServiceFault> {
         let mut first_stale = None;
         for _ in 0..self.queued(rt)? {
             let Some((lease, question)) = self.lease(rt)? else {
@@ -35,7 +43,6 @@ impl Service {
                 first_stale = Some(id);
             }
         }
-        self.woken.notify_all();
         Ok(())
     }
 
@@ -110,19 +117,14 @@ impl Service {
     // How many entries are queued.
     fn queued<R: Wait>(&self, rt: &R) -> Result<u64, ServiceFault> {
         let shared = self.shared.lock(rt);
-        if shared.is_stopped {
-            return Err(ServiceFault::Stopped);
-        }
-        steps::check_client(&shared.book, &self.abilities)?;
+        shared.check(&self.abilities)?;
         Ok(shared.book.queued())
     }
 
     // Leases the first queued entry; `None` where none is queued.
     fn lease<R: Wait>(&self, rt: &R) -> Result<Option<(Lease, Question)>, ServiceFault> {
         let mut shared = self.shared.lock(rt);
-        if shared.is_stopped {
-            return Err(ServiceFault::Stopped);
-        }
+        shared.check(&self.abilities)?;
         match shared.book.lease() {
             Ok(leased) => Ok(Some(leased)),
             Err(BookFault::Queue(QueueFault::Empty)) => Ok(None),

@@ -1,4 +1,4 @@
-ghost use Rattle.std.specs.Prelude.{◌≡◌, ◌≤◌, ◌^◌, [], IfOk, IfErr};
+ghost use Rattle.std.specs.Prelude.{◌≡◌, ◌≤◌, ◌^◌, [], IfOk, IfErr, OnOk};
 ghost use Rattle.sipl_book.specs.Machine.{IsLegal, empty_state};
 ghost use Rattle.sipl_service.specs.Passes.{GetsReceipt};
 
@@ -20,6 +20,18 @@ pub const MAX_TRIES: u64 = 16;
 pub(crate) struct Shared {
     pub book: Book,
     pub is_stopped: bool,
+}
+
+impl Shared {
+    // L6 where the service was stopped, L7 where the book is for a client of other abilities.
+    pub fn check(&self, abilities: &Abilities) -> Result<(), ServiceFault>
+        ensures { OnOk result (self.now.book.client ≡ abilities.now) }
+    {
+        if self.is_stopped {
+            return Err(ServiceFault::Stopped);
+        }
+        steps::check_client(&self.book, abilities)
+    }
 }
 
 /// A book that threads share (RFC 3263, 4), for one client. Contracts see the client's abilities and
@@ -154,12 +166,13 @@ impl Service {
         steps::release(&mut shared.book, pass, endpoint)
     }
 
-    /// Sets the time, in milliseconds. Returns the event's number.
+    /// Sets the time, in milliseconds, at most to 2^52. Returns the event's number.
     ///
     /// The fault is the first one: L6, L2, a fault of the book (B3, O1, O2). Then nothing changes.
     pub fn advance<R: Wait>(&self, rt: &R, pass: &mut Pass, to: u64) -> Result<u64, ServiceFault>
-        ensures { GetsReceipt (λ number. number) (λ number. Event.Advance to)
+        ensures receipt { GetsReceipt (λ number. number) (λ number. Event.Advance to)
             pass.old pass.new result }
+        ensures limit { OnOk result (to ≤ 2 ^ 52) }
     {
         pass.reserve()?;
         let mut shared = self.shared.lock(rt);
@@ -169,9 +182,11 @@ impl Service {
         steps::advance(&mut shared.book, pass, to)
     }
 
-    /// The present time, in milliseconds.
-    pub fn now<R: Wait>(&self, rt: &R) -> u64 {
-        self.shared.lock(rt).book.now()
+    /// The present time, in milliseconds, at most 2^52.
+    pub fn now<R: Wait>(&self, rt: &R) -> u64
+        ensures { result ≤ 2 ^ 52 }
+    {
+        self.shared.lock(rt).book.board().now()
     }
 
     /// Stops the service: the workers end, and calls that can be refused for it are (L6).

@@ -1,6 +1,6 @@
 // What a call does to the book that the lock lends it, and to the caller's pass. What was allocated
 // before the lock was taken is passed in.
-ghost use Rattle.std.specs.Prelude.{◌≡◌, ◌+◌, ◌≤◌, ◌++◌, [], ◌∷◌, length, Ok, IfOk, OnOk, OnErr};
+ghost use Rattle.std.specs.Prelude.{◌≡◌, ◌+◌, ◌^◌, ◌≤◌, ◌++◌, [], ◌∷◌, length, Ok, IfOk, OnOk, OnErr};
 ghost use Rattle.sipl_outages.specs.Holds.{BoardEvent};
 ghost use Rattle.sipl_outages.specs.Holds.BoardEvent.{Hold, Release, Advance};
 ghost use Rattle.sipl_book.specs.Book.{next_event};
@@ -113,6 +113,7 @@ pub(crate) fn advance(book: &mut Book, pass: &mut Pass, to: u64) -> Result<u64, 
         pass.old pass.new result }
     ensures moved { IfOk result
         (λ number. MovesBoard (Advance to) book.old book.new (Ok number)) }
+    ensures limit { OnOk result (to ≤ 2 ^ 52) }
     ensures unchanged { OnErr result (book.new ≡ book.old) }
 {
     next_number(book, pass)?;
