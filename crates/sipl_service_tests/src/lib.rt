@@ -6,6 +6,8 @@ mod calls;
 #[cfg(test)]
 mod gates;
 #[cfg(test)]
+mod readme;
+#[cfg(test)]
 mod threads;
 #[cfg(test)]
 mod values;
