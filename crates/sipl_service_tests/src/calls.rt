@@ -13,7 +13,11 @@ use std::sync::{Mutex, Wait};
 use std::test::*;
 
 // A lookup over TCP whose gate adds an address of server1 at its third read, with so many tries.
-fn contended<R: Wait + Abort>(rt: &R, alloc: Global, service: &Service) -> Result<Told, ServiceFault> {
+fn contended<R: Wait + Abort>(
+    rt: &R,
+    alloc: Global,
+    service: &Service,
+) -> Result<Told, ServiceFault> {
     let mut pass = service.pass();
     load_zone(rt, alloc, service, &mut pass);
     let gate = Editing {
@@ -34,7 +38,8 @@ fn contended_key(rt: &impl Abort, alloc: Global, told: Result<Told, ServiceFault
     let mut text = Vec::new(alloc);
     key.name.write(&mut text).expect(rt, "out of memory");
     text.extend_from_slice(b" ").expect(rt, "out of memory");
-    text.extend_from_slice(key.kind.name().as_bytes()).expect(rt, "out of memory");
+    text.extend_from_slice(key.kind.name().as_bytes())
+        .expect(rt, "out of memory");
     text
 }
 
@@ -56,7 +61,9 @@ fn a_lookup_is_tried_again_where_a_set_changes(rt: HostRuntime) {
 fn pass_of_another<R: Wait + Abort>(rt: &R, alloc: Global) -> Pass {
     let other = new_service(rt, alloc, 1);
     let mut pass = other.pass();
-    other.hold(rt, &mut pass, &tcp(SERVER_1), 1).expect(rt, "the hold is refused");
+    other
+        .hold(rt, &mut pass, &tcp(SERVER_1), 1)
+        .expect(rt, "the hold is refused");
     pass
 }
 
@@ -76,12 +83,16 @@ fn a_pass_that_has_seen_more_is_refused(rt: HostRuntime) {
 fn doubled<R: Wait + Abort>(rt: &R, alloc: Global) -> Option<ClaimFault> {
     let service = new_service(rt, alloc, 1);
     let mut pass = service.pass();
-    service.hold(rt, &mut pass, &tcp(SERVER_1), 1).expect(rt, "the hold is refused");
+    service
+        .hold(rt, &mut pass, &tcp(SERVER_1), 1)
+        .expect(rt, "the hold is refused");
     let mut passes = Vec::new(alloc);
     passes.push(pass).expect(rt, "out of memory");
     let closing = close(rt, service);
     is_claimed(rt, alloc, &closing, passes.as_slice(), 1);
-    passes.push(pass_of_another(rt, alloc)).expect(rt, "out of memory");
+    passes
+        .push(pass_of_another(rt, alloc))
+        .expect(rt, "out of memory");
     claim(alloc, &closing, passes.as_slice()).err()
 }
 
@@ -97,7 +108,11 @@ fn stopped<R: Wait + Abort>(rt: &R, alloc: Global, service: &Service) {
     let question = question(rt, alloc, BOB);
     let told = service.lookup(rt, &mut pass, &question, &draws(rt, &[]), &Closed);
     fails(rt, told, "L6");
-    targets(rt, find(rt, alloc, service, &mut pass, BOB, &[2, 0]), &[SERVER_2, SERVER_1]);
+    targets(
+        rt,
+        find(rt, alloc, service, &mut pass, BOB, &[2, 0]),
+        &[SERVER_2, SERVER_1],
+    );
     service.stop(rt);
     fails(rt, find(rt, alloc, service, &mut pass, BOB, &[]), "L6");
     let edit = Edit::Add(record(rt, alloc, ADDRESS_11));
@@ -118,7 +133,11 @@ fn a_stopped_service_refuses(rt: HostRuntime) {
 fn repaired<R: Wait + Abort>(rt: &R, alloc: Global, service: &Service) {
     let mut pass = service.pass();
     load_zone(rt, alloc, service, &mut pass);
-    targets(rt, find(rt, alloc, service, &mut pass, BOB, &[2, 0]), &[SERVER_2, SERVER_1]);
+    targets(
+        rt,
+        find(rt, alloc, service, &mut pass, BOB, &[2, 0]),
+        &[SERVER_2, SERVER_1],
+    );
     remove(rt, alloc, service, &mut pass, ADDRESS_2);
     assert!(rt; service.repair(rt).is_ok());
     let turns = Turns::new();

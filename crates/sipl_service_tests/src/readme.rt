@@ -17,7 +17,12 @@ fn loads<R: Wait>(rt: &R, alloc: Global, service: &Service, pass: &mut Pass) -> 
     Ok(())
 }
 
-fn asks<R: Wait>(rt: &R, alloc: Global, service: &Service, pass: &mut Pass) -> anyhow::Result<Told> {
+fn asks<R: Wait>(
+    rt: &R,
+    alloc: Global,
+    service: &Service,
+    pass: &mut Pass,
+) -> anyhow::Result<Told> {
     let question = Uri::parse(alloc, b"sip:server1.example.com:5070")?;
     Ok(service.lookup(rt, pass, &question, &Draws::from_seed(42), &OpenGate)?)
 }

@@ -18,8 +18,21 @@ use std::thread::Threads;
 
 // Adds a host and finds it.
 fn adds<R: Wait + Abort>(rt: &R, alloc: Global, service: &Service, mut pass: Pass) -> Pass {
-    add(rt, alloc, service, &mut pass, b"other.example.com. A 192.0.2.50");
-    let told = find(rt, alloc, service, &mut pass, b"sip:other.example.com:5060", &[]);
+    add(
+        rt,
+        alloc,
+        service,
+        &mut pass,
+        b"other.example.com. A 192.0.2.50",
+    );
+    let told = find(
+        rt,
+        alloc,
+        service,
+        &mut pass,
+        b"sip:other.example.com:5060",
+        &[],
+    );
     let expected = match told {
         Ok(told) => is_other(told.answer()),
         Err(_) => false,
@@ -42,7 +55,11 @@ fn is_other(answer: &Answer) -> bool {
 }
 
 fn finds<R: Wait + Abort>(rt: &R, alloc: Global, service: &Service, mut pass: Pass) -> Pass {
-    targets(rt, find(rt, alloc, service, &mut pass, BOB, &[2, 0]), &[SERVER_2, SERVER_1]);
+    targets(
+        rt,
+        find(rt, alloc, service, &mut pass, BOB, &[2, 0]),
+        &[SERVER_2, SERVER_1],
+    );
     pass
 }
 
@@ -63,7 +80,14 @@ fn two_callers<R: Threads + Wait + Abort + Sync>(
 }
 
 // The claims of a journal: with all passes; with one missing; with one of another service first.
-fn claims(rt: &impl Abort, alloc: Global, closing: &Closing, first: Pass, second: Pass, other: Pass) {
+fn claims(
+    rt: &impl Abort,
+    alloc: Global,
+    closing: &Closing,
+    first: Pass,
+    second: Pass,
+    other: Pass,
+) {
     let number = second.receipts()[0].number;
     let mut passes = Vec::new(alloc);
     passes.push(first).expect(rt, "out of memory");
@@ -79,7 +103,9 @@ fn claims(rt: &impl Abort, alloc: Global, closing: &Closing, first: Pass, second
 fn pass_of_another<R: Wait + Abort>(rt: &R, alloc: Global) -> Pass {
     let other = new_service(rt, alloc, 1);
     let mut pass = other.pass();
-    other.advance(rt, &mut pass, 1).expect(rt, "the time is refused");
+    other
+        .advance(rt, &mut pass, 1)
+        .expect(rt, "the time is refused");
     pass
 }
 
@@ -102,7 +128,11 @@ fn held<R: Wait + Abort>(rt: &R, alloc: Global, service: &Service, gate: &Waitin
 fn answered<R: Wait + Abort>(rt: &R, alloc: Global, service: &Service, gate: &Waiting) {
     let mut pass = service.pass();
     assert!(rt; comes(&gate.is_held), "no lookup is held");
-    targets(rt, find(rt, alloc, service, &mut pass, BOB, &[2, 0]), &[SERVER_2, SERVER_1]);
+    targets(
+        rt,
+        find(rt, alloc, service, &mut pass, BOB, &[2, 0]),
+        &[SERVER_2, SERVER_1],
+    );
     gate.is_answered.store(1, Ordering::SeqCst);
 }
 
@@ -130,7 +160,11 @@ fn a_lookup_overtakes_one_that_is_held(rt: HostRuntime) {
 fn outdates<R: Wait + Abort>(rt: &R, alloc: Global, service: &Service, turns: &Turns) {
     let mut pass = service.pass();
     load_zone(rt, alloc, service, &mut pass);
-    targets(rt, find(rt, alloc, service, &mut pass, BOB, &[2, 0]), &[SERVER_2, SERVER_1]);
+    targets(
+        rt,
+        find(rt, alloc, service, &mut pass, BOB, &[2, 0]),
+        &[SERVER_2, SERVER_1],
+    );
     remove(rt, alloc, service, &mut pass, ADDRESS_2);
     let is_repaired = comes(&turns.first_worker);
     service.stop(rt);

@@ -80,11 +80,23 @@ pub(crate) fn tcp(number: u32) -> Endpoint {
 
 // ---- calls of the service
 
-pub(crate) fn edit<R: Wait + Abort>(rt: &R, service: &Service, pass: &mut Pass, edit: Edit) -> Done {
-    service.edit(rt, pass, edit).expect(rt, "the edit is refused")
+pub(crate) fn edit<R: Wait + Abort>(
+    rt: &R,
+    service: &Service,
+    pass: &mut Pass,
+    edit: Edit,
+) -> Done {
+    service
+        .edit(rt, pass, edit)
+        .expect(rt, "the edit is refused")
 }
 
-pub(crate) fn load_zone<R: Wait + Abort>(rt: &R, alloc: Global, service: &Service, pass: &mut Pass) {
+pub(crate) fn load_zone<R: Wait + Abort>(
+    rt: &R,
+    alloc: Global,
+    service: &Service,
+    pass: &mut Pass,
+) {
     edit(rt, service, pass, Edit::Load(zone(rt, alloc)));
 }
 
