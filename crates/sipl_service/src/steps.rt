@@ -1,6 +1,6 @@
 // What a call does to the book that the lock lends it, and to the caller's pass. What was allocated
 // before the lock was taken is passed in.
-ghost use Rattle.std.specs.Prelude.{◌≡◌, ◌+◌, ◌^◌, ◌≤◌, ◌++◌, [], ◌∷◌, length, Ok, IfOk, OnOk, OnErr};
+ghost use Rattle.std.specs.Prelude.{◌≡◌, ℕ, ◌+◌, ◌^◌, ◌<◌, ◌≤◌, ◌++◌, [], ◌∷◌, length, Ok, IfOk, OnOk, OnErr};
 ghost use Rattle.sipl_outages.specs.Holds.{BoardEvent};
 ghost use Rattle.sipl_outages.specs.Holds.BoardEvent.{Hold, Release, Advance};
 ghost use Rattle.sipl_book.specs.Book.{next_event};
@@ -210,7 +210,10 @@ pub(crate) fn commit(
 }
 
 // Why a finding was not committed.
-fn commit_fault(alloc: Global, uncommitted: Uncommitted) -> ServiceFault {
+fn commit_fault(alloc: Global, uncommitted: Uncommitted) -> ServiceFault
+    requires within { (place : ℕ) → uncommitted.fault ≡ BookFault.Stale place
+        → place < length uncommitted.finding.items }
+{
     let Uncommitted { fault, finding } = uncommitted;
     let BookFault::Stale(place) = fault else {
         return fault.into();
