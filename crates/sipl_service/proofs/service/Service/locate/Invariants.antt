@@ -1,0 +1,12 @@
+use Rattle.std.proofs.Common.{◌≡◌, ◌-◌, length}
+use Rattle.sipl_service.proofs.service.Service.locate.Given as goal
+
+abbrev pub invariant-loop-key : goal.invariant-loop-key
+invariant-loop-key g l = record {
+  question : l.run.question ≡ l.question;
+  client : l.run.client ≡ l.self.client;
+  reads : l.reads ≡ length l.run.items;
+}
+
+abbrev pub decreases-loop-key : goal.decreases-loop-key
+decreases-loop-key g l = 1156 - length l.run.items

@@ -1,0 +1,6 @@
+pub mod Faults
+pub mod Passes
+pub mod Claims
+pub mod Telling
+pub mod Told
+pub mod Services

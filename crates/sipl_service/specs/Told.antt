@@ -1,0 +1,20 @@
+-- How the fields of a `Told` represent what a caller is told.
+use Rattle.sipl_service.specs.Telling.{IsDecided, ToldState}
+use Rattle.sipl_service.specs.declared.told.Told.TheInside.{Inside}
+
+-- each field by its name
+abbrev pub told_of : Inside → ToldState
+told_of t =
+    record {
+      number = t.number;
+      question = t.question;
+      client = t.abilities;
+      words = t.draws;
+      answer = t.answer;
+      items = t.evidence;
+      board = t.holds;
+    }
+
+-- the evidence and the holds decide the answer
+abbrev pub IsValidTold : Inside → Type 0
+IsValidTold t = IsDecided (told_of t)

@@ -1,0 +1,167 @@
+// A lookup: the answer of the current entry, or else a run over sets that are read one at a time, and
+// a commit; where a set has changed in between, again.
+ghost use Rattle.std.specs.Prelude.{◌≡◌, IfOk};
+ghost use Rattle.sipl_plans.specs.Findings.{IsSound};
+ghost use Rattle.sipl_plans.specs.Runs.{IsSet};
+ghost use Rattle.sipl_service.specs.Passes.{GetsReceipt};
+ghost use Rattle.sipl_service.specs.Telling.{AreDependencies, IsToldFor, event_of};
+
+use crate::asked::Asked;
+use crate::fault::ServiceFault;
+use crate::gate::{Gate, Go, OpenGate, Who};
+use crate::pass::Pass;
+use crate::service::Service;
+use crate::steps;
+use crate::told::Told;
+use sipl_book::BookFault;
+use sipl_evidence::Evidence;
+use sipl_plans::{Finding, Run};
+use sipl_records::{Data, Key, Sequence};
+use sipl_srv::Draws;
+use sipl_uri::Question;
+use std::sync::Wait;
+
+impl Service {
+    /// The answer to a question for these random words, with the record sets and the holds that
+    /// decide it: that of its current entry, which is one taking of the lock; or else that of a run,
+    /// which takes the lock for each set that it reads, and is committed. The gate is called after
+    /// each read.
+    ///
+    /// The fault is the first one: the service was stopped, or the gate stopped the run (L6), the
+    /// pass is another service's (L2), the book is for another client (L7), a full journal (B3), a
+    /// set changed in each of the tries (L1). Then nothing changes, and no event is recorded.
+    pub fn lookup<R: Wait, G: Gate>(
+        &self,
+        rt: &R,
+        pass: &mut Pass,
+        question: &Question,
+        draws: &Draws,
+        gate: &G,
+    ) -> Result<Told, ServiceFault>
+        ensures receipt { GetsReceipt (λ told. told.number) event_of pass.old pass.new result }
+        ensures told { IfOk result
+            (λ told. IsToldFor question.now self.now.client draws.now told) }
+    {
+        match self.hand(rt, pass, question, draws) {
+            Err(ServiceFault::Book(BookFault::NotCurrent)) => {}
+            handed => return handed,
+        }
+        for _ in 1..self.tries {
+            match self.look_up_anew(rt, pass, question, draws, gate) {
+                Err(ServiceFault::Contended(_)) => {}
+                found => return found,
+            }
+        }
+        self.look_up_anew(rt, pass, question, draws, gate)
+    }
+
+    // The answer of the question's current entry. B1 where there is none.
+    fn hand<R: Wait>(
+        &self,
+        rt: &R,
+        pass: &mut Pass,
+        question: &Question,
+        draws: &Draws,
+    ) -> Result<Told, ServiceFault>
+        ensures receipt { GetsReceipt (λ told. told.number) event_of pass.old pass.new result }
+        ensures told { IfOk result
+            (λ told. IsToldFor question.now self.now.client draws.now told) }
+    {
+        pass.reserve()?;
+        let asked = Asked::of(self.alloc, question, &self.abilities, draws)?;
+        let copy = question.dup(self.alloc)?;
+        let mut shared = self.shared.lock(rt);
+        if shared.is_stopped {
+            return Err(ServiceFault::Stopped);
+        }
+        steps::hand(self.alloc, &mut shared.book, pass, asked, copy)
+    }
+
+    // The answer of a run, which is committed. L1 where a set has changed since it was read.
+    fn look_up_anew<R: Wait, G: Gate>(
+        &self,
+        rt: &R,
+        pass: &mut Pass,
+        question: &Question,
+        draws: &Draws,
+        gate: &G,
+    ) -> Result<Told, ServiceFault>
+        ensures receipt { GetsReceipt (λ told. told.number) event_of pass.old pass.new result }
+        ensures told { IfOk result
+            (λ told. IsToldFor question.now self.now.client draws.now told) }
+    {
+        let finding = self.locate(rt, Who::Caller, question, gate)?;
+        self.commit(rt, pass, finding, draws)
+    }
+
+    // The answer of a finding, which is committed. L1 where a set has changed since it was read.
+    fn commit<R: Wait>(
+        &self,
+        rt: &R,
+        pass: &mut Pass,
+        finding: Finding,
+        draws: &Draws,
+    ) -> Result<Told, ServiceFault>
+        requires client { finding.client ≡ self.now.client }
+        ensures receipt { GetsReceipt (λ told. told.number) event_of pass.old pass.new result }
+        ensures told { IfOk result
+            (λ told. IsToldFor finding.question self.now.client draws.now told) }
+    {
+        pass.reserve()?;
+        let asked = Asked::of(self.alloc, finding.question(), &self.abilities, draws)?;
+        let copy = finding.question().dup(self.alloc)?;
+        let mut shared = self.shared.lock(rt);
+        if shared.is_stopped {
+            return Err(ServiceFault::Stopped);
+        }
+        steps::commit(self.alloc, &mut shared.book, pass, asked, copy, finding)
+    }
+
+    // The route of a question on the sets as they are read one after another, which may be of
+    // different times. The gate is called after each read, with no lock held.
+    pub(crate) fn locate<R: Wait, G: Gate>(
+        &self,
+        rt: &R,
+        who: Who,
+        question: &Question,
+        gate: &G,
+    ) -> Result<Finding, ServiceFault>
+        ensures question { IfOk result (λ finding. finding.question ≡ question.now) }
+        ensures client { IfOk result (λ finding. finding.client ≡ self.now.client) }
+        ensures sound { IfOk result (λ finding. IsSound finding) }
+    {
+        let mut run = Run::start(self.alloc, question.dup(self.alloc)?, &self.abilities)?;
+        let mut reads = 0;
+        while let Some(key) = run.wants() {
+            let (number, content) = self.read(rt, key)?;
+            run.give(self.alloc, number, content)?;
+            reads += 1;
+            if gate.turn(rt, who, reads) == Go::Stop {
+                return Err(ServiceFault::Stopped);
+            }
+        }
+        Ok(run.finish().ok().unwrap())
+    }
+
+    // A copy of a key's set as it is, with its number.
+    fn read<R: Wait>(&self, rt: &R, key: &Key) -> Result<(u64, Sequence<Data>), ServiceFault>
+        ensures { IfOk result (λ read. IsSet key.now read.0 read.1) }
+    {
+        let mut shared = self.shared.lock(rt);
+        shared.check(&self.abilities)?;
+        Ok(shared.book.read(key)?)
+    }
+
+    /// The record sets that the targets of a question depend on, in the order of reading, as they are
+    /// read one after another. Keeps nothing.
+    ///
+    /// The fault is the first one: the service was stopped (L6), the book is for another client (L7).
+    pub fn deps<R: Wait>(&self, rt: &R, question: &Question) -> Result<Evidence, ServiceFault>
+        ensures { IfOk result
+            (λ items. AreDependencies question.now self.now.client items) }
+    {
+        self.shared.lock(rt).check(&self.abilities)?;
+        let finding = self.locate(rt, Who::Caller, question, &OpenGate)?;
+        Ok(finding.into_evidence())
+    }
+}

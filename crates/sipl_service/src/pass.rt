@@ -1,0 +1,71 @@
+ghost use Rattle.std.specs.Prelude.{◌≡◌, [], max};
+
+use crate::receipt::Receipt;
+use std::alloc::{AllocError, Global};
+use std::marker::Model;
+
+/// What a caller knows of a service: the receipts of its calls, in their order, and one more than the
+/// greatest number of an event that it has seen, its front. Each call of a pass has a number from the
+/// front on: what a caller is told is never older than what it did, or saw, before.
+#[derive(Drop)]
+pub struct Pass {
+    pub(crate) receipts: Vec<Receipt>,
+    pub(crate) front: u64,
+}
+
+impl Model for Pass {
+    ghost use Rattle.sipl_service.specs.Passes.{PassState};
+
+    ghost Value = { PassState };
+
+    ghost view = { λ pass. record { receipts = pass.receipts.items; front = pass.front } };
+}
+
+impl Pass {
+    // A pass that has seen nothing.
+    pub(crate) fn new(alloc: Global) -> Self
+        ensures { result ≡ record { receipts = []; front = 0 } }
+    {
+        Pass {
+            receipts: Vec::new(alloc),
+            front: 0,
+        }
+    }
+
+    /// The receipts of the calls, in their order.
+    pub fn receipts(&self) -> &[Receipt]
+        ensures { result.now ≡ self.now.receipts }
+    {
+        &self.receipts
+    }
+
+    /// One more than the greatest number of an event that was seen; at first 0.
+    pub fn front(&self) -> u64
+        ensures { result ≡ self.now.front }
+    {
+        self.front
+    }
+
+    // Reserves the space of one more receipt.
+    pub(crate) fn reserve(&mut self) -> Result<(), AllocError>
+        ensures { self.new ≡ self.old }
+    {
+        self.receipts.reserve(1)
+    }
+
+    /// Two callers meet: both have then seen what one of them had. Does not allocate.
+    pub fn meet(&mut self, other: &mut Pass)
+        ensures own { self.new ≡ record {
+          receipts = self.old.receipts;
+          front = max self.old.front other.old.front;
+        } }
+        ensures others { other.new ≡ record {
+          receipts = other.old.receipts;
+          front = max self.old.front other.old.front;
+        } }
+    {
+        let front = self.front.max(other.front);
+        self.front = front;
+        other.front = front;
+    }
+}

@@ -1,0 +1,151 @@
+// Repairs: outdated entries are looked up again, by a caller or by workers of their own.
+ghost use Rattle.std.specs.Prelude.{◌≡◌};
+
+use crate::fault::ServiceFault;
+use crate::gate::{Gate, OpenGate, Who};
+use crate::service::Service;
+use crate::steps;
+use sipl_book::BookFault;
+use sipl_plans::Finding;
+use sipl_repair::{Lease, QueueFault};
+use sipl_uri::Question;
+use std::sync::Wait;
+use std::thread;
+use std::thread::Threads;
+
+impl Service {
+    /// Looks the entries up again that are queued now, each once. One whose sets change meanwhile
+    /// stays queued.
+    ///
+    /// The fault is the first one: the service was stopped (L6), the book is for another client (L7).
+    /// What was repaired until then stays so, and the other entries stay queued.
+    pub fn repair<R: Wait>(&self, rt: &R) -> Result<(), ServiceFault> {
+        let repaired = self.repair_queued(rt);
+        self.woken.notify_all();
+        repaired
+    }
+
+    // Looks up again as many entries as are queued now, but none a second time: a stale one is put
+    // behind all that were queued.
+    fn repair_queued<R: Wait>(&self, rt: &R) -> Result<(), ServiceFault> {
+        let mut first_stale = None;
+        for _ in 0..self.queued(rt)? {
+            let Some((lease, question)) = self.lease(rt)? else {
+                break;
+            };
+            let id = lease.id();
+            if first_stale == Some(id) {
+                self.give_back(rt, lease);
+                break;
+            }
+            let is_settled = self.renew(rt, Who::Caller, lease, &question, &OpenGate)?;
+            if !is_settled && first_stale.is_none() {
+                first_stale = Some(id);
+            }
+        }
+        Ok(())
+    }
+
+    /// Runs so many repair workers, each in a thread, until the service is stopped. A worker whose
+    /// thread cannot be made is left out. After a run that was refused, or that the gate stopped, a
+    /// worker sleeps until the next edit.
+    pub fn run_workers<R: Threads + Wait + Sync, G: Gate + Sync>(
+        &self,
+        rt: &R,
+        workers: u64,
+        gate: &G,
+    ) {
+        thread::scope(thread::scope_env(), rt, |scope| {
+            for worker in 0..workers {
+                let _ = scope.spawn(move || self.work(rt, worker, gate));
+            }
+        });
+    }
+
+    // Looks queued entries up again until the service is stopped.
+    fn work<R: Wait, G: Gate>(&self, rt: &R, worker: u64, gate: &G) {
+        let mut is_refused = false;
+        for _ in rt.forever() {
+            let Some((lease, question)) = self.next_lease(rt, is_refused) else {
+                return;
+            };
+            is_refused = self
+                .renew(rt, Who::Repair(worker), lease, &question, gate)
+                .is_err();
+        }
+        unreachable!()
+    }
+
+    // Waits for a queued entry, and leases it; at first waits to be woken, if it is to. `None` where
+    // the service was stopped.
+    fn next_lease<R: Wait>(&self, rt: &R, is_to_wait: bool) -> Option<(Lease, Question)> {
+        let mut shared = self.shared.lock(rt);
+        if is_to_wait && !shared.is_stopped {
+            shared = self.woken.wait(rt, shared);
+        }
+        for _ in rt.forever() {
+            if shared.is_stopped {
+                return None;
+            }
+            if let Ok(leased) = shared.book.lease() {
+                return Some(leased);
+            }
+            shared = self.woken.wait(rt, shared);
+        }
+        unreachable!()
+    }
+
+    // Looks a leased entry up again. Whether it is current then: else a set has changed meanwhile, and
+    // it is queued. Where the run is refused the lease is given back.
+    fn renew<R: Wait, G: Gate>(
+        &self,
+        rt: &R,
+        who: Who,
+        lease: Lease,
+        question: &Question,
+        gate: &G,
+    ) -> Result<bool, ServiceFault> {
+        match self.locate(rt, who, question, gate) {
+            Ok(finding) => self.settle(rt, lease, finding),
+            Err(fault) => {
+                self.give_back(rt, lease);
+                Err(fault)
+            }
+        }
+    }
+
+    // How many entries are queued.
+    fn queued<R: Wait>(&self, rt: &R) -> Result<u64, ServiceFault> {
+        let shared = self.shared.lock(rt);
+        shared.check(&self.abilities)?;
+        Ok(shared.book.queued())
+    }
+
+    // Leases the first queued entry; `None` where none is queued.
+    fn lease<R: Wait>(&self, rt: &R) -> Result<Option<(Lease, Question)>, ServiceFault> {
+        let mut shared = self.shared.lock(rt);
+        shared.check(&self.abilities)?;
+        match shared.book.lease() {
+            Ok(leased) => Ok(Some(leased)),
+            Err(BookFault::Queue(QueueFault::Empty)) => Ok(None),
+            Err(fault) => Err(fault.into()),
+        }
+    }
+
+    // Settles a lease with a finding. Whether its sets are as they were read.
+    fn settle<R: Wait>(&self, rt: &R, lease: Lease, finding: Finding) -> Result<bool, ServiceFault>
+        requires { finding.client ≡ self.now.client }
+    {
+        let mut shared = self.shared.lock(rt);
+        if let Err(fault) = steps::check_client(&shared.book, &self.abilities) {
+            shared.book.give_back(lease);
+            return Err(fault);
+        }
+        Ok(shared.book.settle_checked(lease, finding).is_ok())
+    }
+
+    // Gives a lease back: its entry is the next one to be leased.
+    fn give_back<R: Wait>(&self, rt: &R, lease: Lease) {
+        self.shared.lock(rt).book.give_back(lease);
+    }
+}

@@ -1,0 +1,221 @@
+ghost use Rattle.std.specs.Prelude.{◌≡◌, ◌≤◌, ◌^◌, [], IfOk, IfErr, OnOk};
+ghost use Rattle.sipl_book.specs.Machine.{IsLegal, empty_state};
+ghost use Rattle.sipl_service.specs.Passes.{GetsReceipt};
+
+use crate::claims::Closing;
+use crate::fault::ServiceFault;
+use crate::pass::Pass;
+use crate::steps;
+use sipl_book::{Book, Done, Edit, Event, Limits};
+use sipl_choice::{Abilities, Endpoint};
+use std::alloc::{AllocError, Global};
+use std::marker::Model;
+use std::sync::{Condvar, Mutex, Wait};
+
+/// The greatest number of tries of a lookup.
+pub const MAX_TRIES: u64 = 16;
+
+// What is under the lock.
+#[derive(Drop)]
+pub(crate) struct Shared {
+    pub book: Book,
+    pub is_stopped: bool,
+}
+
+impl Shared {
+    // L6 where the service was stopped, L7 where the book is for a client of other abilities.
+    pub fn check(&self, abilities: &Abilities) -> Result<(), ServiceFault>
+        ensures { OnOk result (self.now.book.client ≡ abilities.now) }
+    {
+        if self.is_stopped {
+            return Err(ServiceFault::Stopped);
+        }
+        steps::check_client(&self.book, abilities)
+    }
+}
+
+/// A book that threads share (RFC 3263, 4), for one client. Contracts see the client's abilities and
+/// how often a lookup tries to commit.
+#[derive(Drop)]
+pub struct Service {
+    pub(crate) alloc: Global,
+    pub(crate) abilities: Abilities,
+    pub(crate) tries: u64,
+    pub(crate) shared: Mutex<Shared>,
+    // Repair workers wait here for entries to be queued, or for the end.
+    pub(crate) woken: Condvar,
+}
+
+impl Model for Service {
+    ghost use Rattle.sipl_service.specs.Services.{ServiceState};
+    ghost use Rattle.std.specs.Prelude.{◌≤◌};
+
+    ghost Value = { ServiceState };
+
+    ghost view = { λ service. record { client = service.abilities; tries = service.tries } };
+
+    ghost invariant = { λ service. 1 ≤ service.tries };
+}
+
+impl Service {
+    /// A service over a book without zones, holds, entries or events, at time 0. A lookup tries to
+    /// commit at most `tries` times, from 1 to 16.
+    pub fn new(
+        alloc: Global,
+        abilities: Abilities,
+        limits: &Limits,
+        tries: u64,
+    ) -> Result<Self, AllocError>
+        requires records { limits.now.records ≤ 1048576 }
+        requires entries { limits.now.entries ≤ 65536 }
+        requires journal { limits.now.journal ≤ 1048576 }
+        requires holds { limits.now.holds ≤ 4096 }
+        requires first { 1 ≤ limits.now.next }
+        requires last { limits.now.next ≤ 2 ^ 52 }
+        requires once { 1 ≤ tries }
+        requires most { tries ≤ 16 }
+        ensures { IfOk result
+            (λ service. service ≡ record { client = abilities; tries = tries }) }
+    {
+        let book = Book::new(alloc, abilities.dup(alloc)?, limits);
+        Ok(Service {
+            alloc,
+            abilities,
+            tries,
+            shared: Mutex::new(Shared {
+                book,
+                is_stopped: false,
+            }),
+            woken: Condvar::new(),
+        })
+    }
+
+    /// The abilities of the client.
+    pub fn abilities(&self) -> &Abilities
+        ensures { result.now ≡ self.now.client }
+    {
+        &self.abilities
+    }
+
+    /// A pass for one caller, which has seen nothing. Does not allocate.
+    pub fn pass(&self) -> Pass
+        ensures { result ≡ record { receipts = []; front = 0 } }
+    {
+        Pass::new(self.alloc)
+    }
+
+    /// Edits the zones, and wakes the repair workers for the entries that are outdated then.
+    ///
+    /// The fault is the first one: the service was stopped (L6), the pass is another service's (L2),
+    /// a fault of the book (B3, S1 to S8). Then nothing changes.
+    pub fn edit<R: Wait>(&self, rt: &R, pass: &mut Pass, edit: Edit) -> Result<Done, ServiceFault>
+        ensures { GetsReceipt (λ done. done.number) (λ done. Event.Change edit)
+            pass.old pass.new result }
+    {
+        pass.reserve()?;
+        let event = Event::Change(edit.dup(self.alloc)?);
+        let mut shared = self.shared.lock(rt);
+        if shared.is_stopped {
+            return Err(ServiceFault::Stopped);
+        }
+        let done = steps::change(&mut shared.book, pass, edit, event)?;
+        drop(shared);
+        self.woken.notify_all();
+        Ok(done)
+    }
+
+    /// Holds an endpoint for some milliseconds from now, as `Book::hold` does. Returns the event's
+    /// number.
+    ///
+    /// The fault is the first one: L6, L2, a fault of the book (B3, O2, O4). Then nothing changes.
+    pub fn hold<R: Wait>(
+        &self,
+        rt: &R,
+        pass: &mut Pass,
+        endpoint: &Endpoint,
+        ms: u64,
+    ) -> Result<u64, ServiceFault>
+        ensures { GetsReceipt (λ number. number) (λ number. Event.Hold endpoint.now ms)
+            pass.old pass.new result }
+    {
+        pass.reserve()?;
+        let mut shared = self.shared.lock(rt);
+        if shared.is_stopped {
+            return Err(ServiceFault::Stopped);
+        }
+        steps::hold(&mut shared.book, pass, endpoint, ms)
+    }
+
+    /// Ends the hold of an endpoint. Returns the event's number.
+    ///
+    /// The fault is the first one: L6, L2, a fault of the book (B3, O3). Then nothing changes.
+    pub fn release<R: Wait>(
+        &self,
+        rt: &R,
+        pass: &mut Pass,
+        endpoint: &Endpoint,
+    ) -> Result<u64, ServiceFault>
+        ensures { GetsReceipt (λ number. number) (λ number. Event.Release endpoint.now)
+            pass.old pass.new result }
+    {
+        pass.reserve()?;
+        let mut shared = self.shared.lock(rt);
+        if shared.is_stopped {
+            return Err(ServiceFault::Stopped);
+        }
+        steps::release(&mut shared.book, pass, endpoint)
+    }
+
+    /// Sets the time, in milliseconds, at most to 2^52. Returns the event's number.
+    ///
+    /// The fault is the first one: L6, L2, a fault of the book (B3, O1, O2). Then nothing changes.
+    pub fn advance<R: Wait>(&self, rt: &R, pass: &mut Pass, to: u64) -> Result<u64, ServiceFault>
+        ensures receipt { GetsReceipt (λ number. number) (λ number. Event.Advance to)
+            pass.old pass.new result }
+        ensures limit { OnOk result (to ≤ 2 ^ 52) }
+    {
+        pass.reserve()?;
+        let mut shared = self.shared.lock(rt);
+        if shared.is_stopped {
+            return Err(ServiceFault::Stopped);
+        }
+        steps::advance(&mut shared.book, pass, to)
+    }
+
+    /// The present time, in milliseconds, at most 2^52.
+    pub fn now<R: Wait>(&self, rt: &R) -> u64
+        ensures { result ≤ 2 ^ 52 }
+    {
+        self.shared.lock(rt).book.board().now()
+    }
+
+    /// Stops the service: the workers end, and calls that can be refused for it are (L6).
+    pub fn stop<R: Wait>(&self, rt: &R) {
+        self.shared.lock(rt).is_stopped = true;
+        self.woken.notify_all();
+    }
+
+    /// Takes the journal out, which is legal from the empty state. Does not allocate.
+    ///
+    /// The fault is a book for another client (L7); the service is returned with it.
+    pub fn close(self) -> Result<Closing, (ServiceFault, Service)>
+        ensures legal { IfOk result
+            (λ closing. IsLegal self.client closing.journal empty_state) }
+        ensures refused { IfErr result (λ refused. refused.1 ≡ self) }
+    {
+        let shared = self.shared.into_inner();
+        if shared.book.abilities() != &self.abilities {
+            let service = Service {
+                alloc: self.alloc,
+                abilities: self.abilities,
+                tries: self.tries,
+                shared: Mutex::new(shared),
+                woken: Condvar::new(),
+            };
+            return Err((ServiceFault::OtherBook, service));
+        }
+        Ok(Closing {
+            journal: shared.book.into_journal(),
+        })
+    }
+}

@@ -1,0 +1,228 @@
+// What a call does to the book that the lock lends it, and to the caller's pass. What was allocated
+// before the lock was taken is passed in.
+ghost use Rattle.std.specs.Prelude.{◌≡◌, ℕ, ◌+◌, ◌^◌, ◌<◌, ◌≤◌, ◌++◌, [], ◌∷◌, length, Ok, IfOk, OnOk, OnErr};
+ghost use Rattle.sipl_outages.specs.Holds.{BoardEvent};
+ghost use Rattle.sipl_outages.specs.Holds.BoardEvent.{Hold, Release, Advance};
+ghost use Rattle.sipl_book.specs.Book.{next_event};
+ghost use Rattle.sipl_book.specs.Calls.{IsChanged, MovesBoard, answer_event, recorded};
+ghost use Rattle.sipl_service.specs.Passes.{GetsReceipt};
+ghost use Rattle.sipl_service.specs.Telling.{event_of, IsAnswerTo};
+
+use crate::asked::Asked;
+use crate::fault::ServiceFault;
+use crate::pass::Pass;
+use crate::receipt::Receipt;
+use crate::told::Told;
+use sipl_book::{Book, BookFault, Done, Edit, Event, Uncommitted};
+use sipl_choice::{Abilities, Endpoint};
+use sipl_plans::Finding;
+use sipl_uri::Question;
+use std::alloc::Global;
+
+// The number of the next event. L2 where the pass has seen it.
+pub(crate) fn next_number(book: &Book, pass: &Pass) -> Result<u64, ServiceFault>
+    ensures number { IfOk result (λ number. number ≡ next_event book.now) }
+    ensures front { OnOk result (pass.now.front ≤ next_event book.now) }
+    ensures few { next_event book.now ≤ 1048576 }
+{
+    let events = book.journal().len() as u64;
+    let front = pass.front();
+    if front > events {
+        return Err(ServiceFault::PassAhead { events, front });
+    }
+    Ok(events)
+}
+
+// L7 where the book is for a client of other abilities.
+pub(crate) fn check_client(book: &Book, abilities: &Abilities) -> Result<(), ServiceFault>
+    ensures { OnOk result (book.now.client ≡ abilities.now) }
+{
+    if book.abilities() != abilities {
+        return Err(ServiceFault::OtherBook);
+    }
+    Ok(())
+}
+
+// Edits the zones. `event` is a copy of the edit.
+pub(crate) fn change(
+    book: &mut Book,
+    pass: &mut Pass,
+    edit: Edit,
+    event: Event,
+) -> Result<Done, ServiceFault>
+    requires { event ≡ Event.Change edit }
+    ensures receipt { GetsReceipt (λ done. done.number) (λ done. event) pass.old pass.new result }
+    ensures changed { IfOk result (λ done. IsChanged edit book.old book.new (Ok done)) }
+    ensures unchanged { OnErr result (book.new ≡ book.old) }
+{
+    next_number(book, pass)?;
+    pass.receipts.reserve(1)?;
+    let done = book.change(edit)?;
+    let number = done.number;
+    pass.receipts.push_reserved(Receipt { number, event });
+    pass.front = number + 1;
+    Ok(done)
+}
+
+// Holds an endpoint for some milliseconds from now.
+pub(crate) fn hold(
+    book: &mut Book,
+    pass: &mut Pass,
+    endpoint: &Endpoint,
+    ms: u64,
+) -> Result<u64, ServiceFault>
+    ensures receipt { GetsReceipt (λ number. number) (λ number. Event.Hold endpoint.now ms)
+        pass.old pass.new result }
+    ensures moved { IfOk result
+        (λ number. MovesBoard (Hold endpoint.now ms) book.old book.new (Ok number)) }
+    ensures unchanged { OnErr result (book.new ≡ book.old) }
+{
+    next_number(book, pass)?;
+    pass.receipts.reserve(1)?;
+    let number = book.hold(endpoint, ms)?;
+    let event = Event::Hold(*endpoint, ms);
+    pass.receipts.push_reserved(Receipt { number, event });
+    pass.front = number + 1;
+    Ok(number)
+}
+
+// Ends the hold of an endpoint.
+pub(crate) fn release(
+    book: &mut Book,
+    pass: &mut Pass,
+    endpoint: &Endpoint,
+) -> Result<u64, ServiceFault>
+    ensures receipt { GetsReceipt (λ number. number) (λ number. Event.Release endpoint.now)
+        pass.old pass.new result }
+    ensures moved { IfOk result
+        (λ number. MovesBoard (Release endpoint.now) book.old book.new (Ok number)) }
+    ensures unchanged { OnErr result (book.new ≡ book.old) }
+{
+    next_number(book, pass)?;
+    pass.receipts.reserve(1)?;
+    let number = book.release(endpoint)?;
+    let event = Event::Release(*endpoint);
+    pass.receipts.push_reserved(Receipt { number, event });
+    pass.front = number + 1;
+    Ok(number)
+}
+
+// Sets the time.
+pub(crate) fn advance(book: &mut Book, pass: &mut Pass, to: u64) -> Result<u64, ServiceFault>
+    ensures receipt { GetsReceipt (λ number. number) (λ number. Event.Advance to)
+        pass.old pass.new result }
+    ensures moved { IfOk result
+        (λ number. MovesBoard (Advance to) book.old book.new (Ok number)) }
+    ensures limit { OnOk result (to ≤ 2 ^ 52) }
+    ensures unchanged { OnErr result (book.new ≡ book.old) }
+{
+    next_number(book, pass)?;
+    pass.receipts.reserve(1)?;
+    let number = book.advance(to)?;
+    let event = Event::Advance(to);
+    pass.receipts.push_reserved(Receipt { number, event });
+    pass.front = number + 1;
+    Ok(number)
+}
+
+// The answer of the current entry of a question. `question` is a copy of it, for the receipt.
+pub(crate) fn hand(
+    alloc: Global,
+    book: &mut Book,
+    pass: &mut Pass,
+    asked: Asked,
+    question: Question,
+) -> Result<Told, ServiceFault>
+    requires { question ≡ asked.question }
+    ensures receipt { GetsReceipt (λ told. told.number) event_of pass.old pass.new result }
+    ensures asked { IfOk result (λ told. IsAnswerTo asked told) }
+    ensures number { IfOk result (λ told. told.number ≡ next_event book.old) }
+    ensures journal { IfOk result (λ told. book.new ≡ recorded (event_of told) book.old) }
+    ensures unchanged { OnErr result (book.new ≡ book.old) }
+{
+    let number = next_number(book, pass)?;
+    check_client(book, &asked.abilities)?;
+    if book.is_full() {
+        return Err(ServiceFault::Book(BookFault::JournalFull));
+    }
+    let told = tell_entry(alloc, book, number, asked)?;
+    let event = told.event(alloc, question)?;
+    pass.receipts.reserve(1)?;
+    book.hand(told.question(), told.draws())?;
+    pass.receipts.push_reserved(Receipt { number, event });
+    pass.front = number + 1;
+    Ok(told)
+}
+
+// The answer of the current entry of a question. B1 where there is none.
+fn tell_entry(alloc: Global, book: &Book, number: u64, asked: Asked) -> Result<Told, ServiceFault>
+    requires { book.now.client ≡ asked.abilities }
+    ensures number { IfOk result (λ told. told.number ≡ number) }
+    ensures asked { IfOk result (λ told. IsAnswerTo asked told) }
+    ensures answer { IfOk result
+        (λ told. event_of told ≡ answer_event book.now asked.question asked.draws) }
+{
+    match book.entry(&asked.question) {
+        Some(entry) if entry.is_current() => Ok(Told::of(
+            alloc,
+            number,
+            asked,
+            entry.layout(),
+            entry.evidence(),
+            book.board(),
+        )?),
+        _ => Err(ServiceFault::Book(BookFault::NotCurrent)),
+    }
+}
+
+// The answer of a finding, where the sets that it read are as they were. L1 with the key of the first
+// that is not. `question` is a copy of the finding's, for the receipt.
+pub(crate) fn commit(
+    alloc: Global,
+    book: &mut Book,
+    pass: &mut Pass,
+    asked: Asked,
+    question: Question,
+    finding: Finding,
+) -> Result<Told, ServiceFault>
+    requires question { question ≡ asked.question }
+    requires asked { finding.question ≡ asked.question }
+    requires client { finding.client ≡ asked.abilities }
+    ensures receipt { GetsReceipt (λ told. told.number) event_of pass.old pass.new result }
+    ensures asked { IfOk result (λ told. IsAnswerTo asked told) }
+    ensures number { IfOk result (λ told. told.number ≡ next_event book.old) }
+    ensures journal { IfOk result
+        (λ told. book.new.journal ≡ book.old.journal ++ event_of told ∷ []) }
+    ensures unchanged { OnErr result (book.new.journal ≡ book.old.journal) }
+{
+    let number = next_number(book, pass)?;
+    check_client(book, &asked.abilities)?;
+    let (layout, evidence) = (finding.layout(), finding.evidence());
+    let told = Told::of(alloc, number, asked, layout, evidence, book.board())?;
+    let event = told.event(alloc, question)?;
+    pass.receipts.reserve(1)?;
+    if let Err(uncommitted) = book.commit_checked(finding, told.draws()) {
+        return Err(commit_fault(alloc, uncommitted));
+    }
+    pass.receipts.push_reserved(Receipt { number, event });
+    pass.front = number + 1;
+    Ok(told)
+}
+
+// Why a finding was not committed.
+fn commit_fault(alloc: Global, uncommitted: Uncommitted) -> ServiceFault
+    requires within { (place : ℕ) → uncommitted.fault ≡ BookFault.Stale place
+        → place < length uncommitted.finding.items }
+{
+    let Uncommitted { fault, finding } = uncommitted;
+    let BookFault::Stale(place) = fault else {
+        return fault.into();
+    };
+    match finding.evidence().items().get(place) {
+        Some(item) => match item.key().dup(alloc) {
+            Ok(key) => ServiceFault::Contended(key),
+            Err(error) => error.into(),
+        },
+        None => unreachable!(),
+    }
+}

@@ -1,0 +1,153 @@
+ghost use Rattle.std.specs.Prelude.{◌≡◌, IfOk};
+ghost use Rattle.sipl_plans.specs.Findings.{IsSound};
+ghost use Rattle.sipl_plans.specs.Plan.{draw};
+ghost use Rattle.sipl_plans.specs.Servers.{HasFewServers};
+ghost use Rattle.sipl_service.specs.Telling.{IsDecided, event_of};
+
+use crate::asked::Asked;
+use sipl_book::Event;
+use sipl_choice::Abilities;
+use sipl_evidence::Evidence;
+use sipl_outages::Board;
+use sipl_plans::{Answer, Layout, draw};
+use sipl_srv::Draws;
+use sipl_uri::Question;
+use std::alloc::{AllocError, Global};
+use std::marker::Model;
+
+/// An answer, with the record sets and the holds that decide it: wherever the records agree with the
+/// evidence, and these endpoints are held, the answer to the question is this one (RFC 3263, 4).
+#[derive(Drop)]
+pub struct Told {
+    number: u64,
+    question: Question,
+    abilities: Abilities,
+    draws: Draws,
+    answer: Answer,
+    evidence: Evidence,
+    holds: Board,
+}
+
+impl Model for Told {
+    ghost use Rattle.sipl_service.specs.Telling.{ToldState};
+
+    ghost Value = { ToldState };
+
+    ghost use Rattle.sipl_service.specs.Told.{IsValidTold, told_of};
+
+    ghost view = { told_of };
+
+    ghost invariant = { IsValidTold };
+}
+
+impl Told {
+    // The answer of a layout, which this evidence decides, to what is asked; with the number of its
+    // event.
+    pub(crate) fn of(
+        alloc: Global,
+        number: u64,
+        asked: Asked,
+        layout: &Layout,
+        evidence: &Evidence,
+        board: &Board,
+    ) -> Result<Self, AllocError>
+        requires sound { IsSound (record {
+          question = asked.question;
+          client = asked.abilities;
+          layout = layout.now;
+          items = evidence.now;
+        }) }
+        requires few { HasFewServers layout.now }
+        ensures number { IfOk result (λ told. told.number ≡ number) }
+        ensures question { IfOk result (λ told. told.question ≡ asked.question) }
+        ensures client { IfOk result (λ told. told.client ≡ asked.abilities) }
+        ensures words { IfOk result (λ told. told.words ≡ asked.draws) }
+        ensures answer { IfOk result
+            (λ told. told.answer ≡ draw layout.now board.now.holds asked.draws) }
+        ensures evidence { IfOk result (λ told. told.items ≡ evidence.now) }
+        ensures board { IfOk result (λ told. told.board ≡ board.now) }
+    {
+        let Asked {
+            question,
+            abilities,
+            draws,
+        } = asked;
+        Ok(Told {
+            number,
+            question,
+            abilities,
+            draws,
+            answer: draw(alloc, layout, &draws, board)?,
+            evidence: evidence.dup(alloc)?,
+            holds: board.dup(alloc)?,
+        })
+    }
+
+    // The event of the answer, with a copy of its question.
+    pub(crate) fn event(&self, alloc: Global, question: Question) -> Result<Event, AllocError>
+        requires { question ≡ self.now.question }
+        ensures { IfOk result (λ event. event ≡ event_of self.now) }
+    {
+        Ok(Event::Answer(question, self.draws, self.answer.dup(alloc)?))
+    }
+
+    /// The number of its event.
+    pub fn number(&self) -> u64
+        ensures { result ≡ self.now.number }
+    {
+        self.number
+    }
+
+    /// The question.
+    pub fn question(&self) -> &Question
+        ensures { result.now ≡ self.now.question }
+    {
+        &self.question
+    }
+
+    /// The abilities of the client.
+    pub fn abilities(&self) -> &Abilities
+        ensures { result.now ≡ self.now.client }
+    {
+        &self.abilities
+    }
+
+    /// The random words.
+    pub fn draws(&self) -> &Draws
+        ensures { result.now ≡ self.now.words }
+    {
+        &self.draws
+    }
+
+    /// The targets, or the reason that there are none.
+    pub fn answer(&self) -> &Answer
+        ensures answer { result.now ≡ self.now.answer }
+        ensures decided { IsDecided self.now }
+    {
+        &self.answer
+    }
+
+    /// The targets, or the reason that there are none.
+    pub fn into_answer(self) -> Answer
+        ensures answer { result ≡ self.answer }
+        ensures decided { IsDecided self }
+    {
+        self.answer
+    }
+
+    /// The record sets that the answer depends on, in the order of reading.
+    pub fn evidence(&self) -> &Evidence
+        ensures evidence { result.now ≡ self.now.items }
+        ensures decided { IsDecided self.now }
+    {
+        &self.evidence
+    }
+
+    /// The endpoints that were held, and the time.
+    pub fn holds(&self) -> &Board
+        ensures holds { result.now ≡ self.now.board }
+        ensures decided { IsDecided self.now }
+    {
+        &self.holds
+    }
+}

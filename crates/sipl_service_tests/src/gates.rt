@@ -1,0 +1,105 @@
+// Gates that edit, stop, count or wait.
+use sipl_book::Edit;
+use sipl_records::Record;
+use sipl_service::{Gate, Go, Pass, Service, Who};
+use std::alloc::Global;
+use std::sync::atomic::{AtomicU64, Ordering};
+use std::sync::{Mutex, Wait};
+use std::thread;
+
+// Adds a record once, at the read of a number.
+#[derive(Drop)]
+pub(crate) struct Editing<'a> {
+    pub service: &'a Service,
+    pub pass: Mutex<Pass>,
+    pub record: Mutex<Option<Record>>,
+    pub at: u64,
+}
+
+impl Gate for Editing<'_> {
+    fn turn<R: Wait>(&self, rt: &R, _who: Who, reads: u64) -> Go {
+        if reads == self.at {
+            if let Some(record) = self.record.lock(rt).take() {
+                let mut pass = self.pass.lock(rt);
+                let _ = self.service.edit(rt, &mut pass, Edit::Add(record));
+            }
+        }
+        Go::On
+    }
+}
+
+// Stops each run at its first read.
+#[derive(Clone, Copy)]
+pub(crate) struct Closed;
+
+impl Gate for Closed {
+    fn turn<R: Wait>(&self, _rt: &R, _who: Who, _reads: u64) -> Go {
+        Go::Stop
+    }
+}
+
+// Counts the turns of callers, and those of the first worker.
+#[derive(Drop)]
+pub(crate) struct Turns {
+    pub callers: AtomicU64,
+    pub first_worker: AtomicU64,
+}
+
+impl Turns {
+    pub(crate) fn new() -> Self {
+        Turns {
+            callers: AtomicU64::new(0),
+            first_worker: AtomicU64::new(0),
+        }
+    }
+}
+
+impl Gate for Turns {
+    fn turn<R: Wait>(&self, _rt: &R, who: Who, _reads: u64) -> Go {
+        match who {
+            Who::Caller => self.callers.fetch_add(1, Ordering::SeqCst),
+            Who::Repair(0) => self.first_worker.fetch_add(1, Ordering::SeqCst),
+            Who::Repair(_) => 0,
+        };
+        Go::On
+    }
+}
+
+// Waits until a number is not 0, in so many turns at most. Whether it is.
+pub(crate) fn comes(number: &AtomicU64) -> bool {
+    for _ in 0..1000 {
+        if number.load(Ordering::SeqCst) != 0 {
+            return true;
+        }
+        rest();
+    }
+    false
+}
+
+// A turn of waiting: no clock is at hand.
+fn rest() {
+    for _ in 0..10_000 {
+        thread::yield_now();
+    }
+}
+
+// Holds a run after its first read until another lookup is answered; stops it where none is.
+#[derive(Drop)]
+pub(crate) struct Waiting {
+    pub is_held: AtomicU64,
+    pub is_answered: AtomicU64,
+}
+
+impl Gate for Waiting {
+    fn turn<R: Wait>(&self, _rt: &R, _who: Who, reads: u64) -> Go {
+        if reads > 1 {
+            return Go::On;
+        }
+        self.is_held.store(1, Ordering::SeqCst);
+        if comes(&self.is_answered) {
+            Go::On
+        } else {
+            Go::Stop
+        }
+    }
+}

@@ -1,0 +1,13 @@
+//! The tests of the service, by public calls alone.
+#![tactic(auto)]
+
+#[cfg(test)]
+mod calls;
+#[cfg(test)]
+mod gates;
+#[cfg(test)]
+mod readme;
+#[cfg(test)]
+mod threads;
+#[cfg(test)]
+mod values;

@@ -1,0 +1,47 @@
+// The README's example of threads: a zone is loaded by one caller, and asked for by another.
+use sipl_book::{Edit, Limits};
+use sipl_choice::{Abilities, Families, Transport};
+use sipl_masterfile::read_zone;
+use sipl_names::Name;
+use sipl_plans::Answer;
+use sipl_service::{OpenGate, Pass, Service, Told, claim};
+use sipl_srv::Draws;
+use sipl_uri::Uri;
+use std::alloc::Global;
+use std::sync::Wait;
+
+fn loads<R: Wait>(rt: &R, alloc: Global, service: &Service, pass: &mut Pass) -> anyhow::Result<()> {
+    let apex = Name::from_text(alloc, b"example.com.", &Name::root(alloc))?;
+    let zone = read_zone(alloc, b"server1 A 192.0.2.1\nserver1 A 192.0.2.2", &apex)?;
+    service.edit(rt, pass, Edit::Load(zone))?;
+    Ok(())
+}
+
+fn asks<R: Wait>(
+    rt: &R,
+    alloc: Global,
+    service: &Service,
+    pass: &mut Pass,
+) -> anyhow::Result<Told> {
+    let question = Uri::parse(alloc, b"sip:server1.example.com:5070")?;
+    Ok(service.lookup(rt, pass, &question, &Draws::from_seed(42), &OpenGate)?)
+}
+
+fn answered<R: Wait>(rt: &R, alloc: Global) -> anyhow::Result<Answer> {
+    let abilities = Abilities::new(vec![in alloc; Transport::Udp]?, Families::V4)?;
+    let service = Service::new(alloc, abilities, &Limits::greatest(), 4)?;
+    let (mut editor, mut caller) = (service.pass(), service.pass());
+    loads(rt, alloc, &service, &mut editor)?;
+    caller.meet(&mut editor);
+    let told = asks(rt, alloc, &service, &mut caller)?;
+    if let Ok(closing) = service.close() {
+        claim(alloc, &closing, vec![in alloc; editor, caller]?.as_slice())?;
+    }
+    Ok(told.into_answer())
+}
+
+#[test]
+fn readme_example_of_threads_finds_two_targets(rt: HostRuntime) {
+    let answer = answered(&rt, rt.alloc());
+    assert!(rt; matches!(&answer, Ok(Answer::Targets(targets)) if targets.len() == 2));
+}

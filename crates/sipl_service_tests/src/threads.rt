@@ -1,0 +1,188 @@
+// Calls of several threads.
+use crate::gates::{Turns, Waiting, comes};
+use crate::values::{
+    ADDRESS_2, BOB, OVER_TCP, SERVER_1, SERVER_2, add, close, draws, find, is_claimed, load_zone,
+    new_service, question, remove, targets,
+};
+use sipl_choice::Transport;
+use sipl_plans::Answer;
+use sipl_records::Address;
+use sipl_service::{ClaimFault, Closing, Pass, Service, claim};
+use std::alloc::Global;
+use std::process::Abort;
+use std::sync::Wait;
+use std::sync::atomic::{AtomicU64, Ordering};
+use std::test::*;
+use std::thread;
+use std::thread::Threads;
+
+// Adds a host and finds it.
+fn adds<R: Wait + Abort>(rt: &R, alloc: Global, service: &Service, mut pass: Pass) -> Pass {
+    add(
+        rt,
+        alloc,
+        service,
+        &mut pass,
+        b"other.example.com. A 192.0.2.50",
+    );
+    let told = find(
+        rt,
+        alloc,
+        service,
+        &mut pass,
+        b"sip:other.example.com:5060",
+        &[],
+    );
+    let expected = match told {
+        Ok(told) => is_other(told.answer()),
+        Err(_) => false,
+    };
+    assert!(rt; expected, "another answer");
+    pass
+}
+
+// Whether an answer is 192.0.2.50 over UDP at port 5060.
+fn is_other(answer: &Answer) -> bool {
+    match answer {
+        Answer::Targets(targets) => targets.len() == 1
+            && targets.iter().all(|target| {
+                target.transport == Transport::Udp
+                    && target.address == Address::V4(0xC000_0232)
+                    && target.port == 5060
+            }),
+        Answer::None(_) => false,
+    }
+}
+
+fn finds<R: Wait + Abort>(rt: &R, alloc: Global, service: &Service, mut pass: Pass) -> Pass {
+    targets(
+        rt,
+        find(rt, alloc, service, &mut pass, BOB, &[2, 0]),
+        &[SERVER_2, SERVER_1],
+    );
+    pass
+}
+
+// The journal of two callers in threads of their own, and their passes.
+fn two_callers<R: Threads + Wait + Abort + Sync>(
+    rt: &R,
+    alloc: Global,
+    service: &Service,
+) -> (Pass, Pass) {
+    let mut first = service.pass();
+    load_zone(rt, alloc, service, &mut first);
+    let second = service.pass();
+    thread::join(
+        rt,
+        || adds(rt, alloc, service, first),
+        || finds(rt, alloc, service, second),
+    )
+}
+
+// The claims of a journal: with all passes; with one missing; with one of another service first.
+fn claims(
+    rt: &impl Abort,
+    alloc: Global,
+    closing: &Closing,
+    first: Pass,
+    second: Pass,
+    other: Pass,
+) {
+    let number = second.receipts()[0].number;
+    let mut passes = Vec::new(alloc);
+    passes.push(first).expect(rt, "out of memory");
+    let without = claim(alloc, closing, passes.as_slice());
+    assert_eq!(rt; without.err(), Some(ClaimFault::Unclaimed(number)));
+    passes.push(second).expect(rt, "out of memory");
+    is_claimed(rt, alloc, closing, passes.as_slice(), 4);
+    passes.insert(0, other).expect(rt, "out of memory");
+    let others = claim(alloc, closing, passes.as_slice());
+    assert_eq!(rt; others.err(), Some(ClaimFault::NotOurs(0)));
+}
+
+fn pass_of_another<R: Wait + Abort>(rt: &R, alloc: Global) -> Pass {
+    let other = new_service(rt, alloc, 1);
+    let mut pass = other.pass();
+    other
+        .advance(rt, &mut pass, 1)
+        .expect(rt, "the time is refused");
+    pass
+}
+
+#[test]
+fn the_receipts_of_two_threads_are_the_journal(rt: HostRuntime) {
+    let service = new_service(&rt, rt.alloc(), 4);
+    let (first, second) = two_callers(&rt, rt.alloc(), &service);
+    let other = pass_of_another(&rt, rt.alloc());
+    let closing = close(&rt, service);
+    claims(&rt, rt.alloc(), &closing, first, second, other);
+}
+
+fn held<R: Wait + Abort>(rt: &R, alloc: Global, service: &Service, gate: &Waiting) {
+    let mut pass = service.pass();
+    let question = question(rt, alloc, OVER_TCP);
+    let told = service.lookup(rt, &mut pass, &question, &draws(rt, &[2, 0]), gate);
+    targets(rt, told, &[SERVER_2, SERVER_1]);
+}
+
+fn answered<R: Wait + Abort>(rt: &R, alloc: Global, service: &Service, gate: &Waiting) {
+    let mut pass = service.pass();
+    assert!(rt; comes(&gate.is_held), "no lookup is held");
+    targets(
+        rt,
+        find(rt, alloc, service, &mut pass, BOB, &[2, 0]),
+        &[SERVER_2, SERVER_1],
+    );
+    gate.is_answered.store(1, Ordering::SeqCst);
+}
+
+fn overtaken<R: Threads + Wait + Abort + Sync>(rt: &R, alloc: Global, service: &Service) {
+    let mut pass = service.pass();
+    load_zone(rt, alloc, service, &mut pass);
+    let gate = Waiting {
+        is_held: AtomicU64::new(0),
+        is_answered: AtomicU64::new(0),
+    };
+    thread::join(
+        rt,
+        || held(rt, alloc, service, &gate),
+        || answered(rt, alloc, service, &gate),
+    );
+}
+
+#[test]
+fn a_lookup_overtakes_one_that_is_held(rt: HostRuntime) {
+    let service = new_service(&rt, rt.alloc(), 4);
+    overtaken(&rt, rt.alloc(), &service);
+}
+
+// Removes an address of an answer, and waits for a worker to look it up again.
+fn outdates<R: Wait + Abort>(rt: &R, alloc: Global, service: &Service, turns: &Turns) {
+    let mut pass = service.pass();
+    load_zone(rt, alloc, service, &mut pass);
+    targets(
+        rt,
+        find(rt, alloc, service, &mut pass, BOB, &[2, 0]),
+        &[SERVER_2, SERVER_1],
+    );
+    remove(rt, alloc, service, &mut pass, ADDRESS_2);
+    let is_repaired = comes(&turns.first_worker);
+    service.stop(rt);
+    assert!(rt; is_repaired, "no worker has repaired the entry");
+}
+
+fn repaired<R: Threads + Wait + Abort + Sync>(rt: &R, alloc: Global, service: &Service) {
+    let turns = Turns::new();
+    thread::join(
+        rt,
+        || service.run_workers(rt, 1, &turns),
+        || outdates(rt, alloc, service, &turns),
+    );
+}
+
+#[test]
+fn workers_repair_until_the_service_is_stopped(rt: HostRuntime) {
+    let service = new_service(&rt, rt.alloc(), 4);
+    repaired(&rt, rt.alloc(), &service);
+    assert_eq!(rt; close(&rt, service).journal.len(), 3);
+}

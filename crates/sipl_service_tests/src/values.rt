@@ -1,0 +1,185 @@
+// A service over a zone of three NAPTR records, two SRV records and two addresses, and what its tests
+// need to write its calls.
+ghost use Rattle.std.specs.Prelude.{◌≤◌};
+
+use sipl_book::{Done, Edit, Limits};
+use sipl_choice::{Abilities, Endpoint, Families, Transport};
+use sipl_masterfile::{ZoneText, read_record, read_zone};
+use sipl_names::Name;
+use sipl_plans::Answer;
+use sipl_records::{Address, Record};
+use sipl_service::{Closing, OpenGate, Pass, Service, ServiceFault, Told, claim};
+use sipl_srv::Draws;
+use sipl_uri::{Question, Uri};
+use std::alloc::Global;
+use std::process::Abort;
+use std::sync::Wait;
+
+const ZONE: &[u8] = b"@ NAPTR 50 50 \"s\" \"SIPS+D2T\" \"\" _sips._tcp
+@ NAPTR 90 50 \"s\" \"SIP+D2T\" \"\" _sip._tcp
+@ NAPTR 100 50 \"s\" \"SIP+D2U\" \"\" _sip._udp
+_sip._tcp SRV 0 1 5060 server1
+_sip._tcp SRV 0 2 5060 server2
+server1 A 192.0.2.1
+server2 A 192.0.2.2
+";
+
+pub(crate) const SERVER_1: u32 = 0xC000_0201;
+
+pub(crate) const SERVER_2: u32 = 0xC000_0202;
+
+pub(crate) const SERVER_11: u32 = 0xC000_020B;
+
+pub(crate) const ADDRESS_2: &[u8] = b"server2.example.com. A 192.0.2.2";
+
+pub(crate) const ADDRESS_11: &[u8] = b"server1.example.com. A 192.0.2.11";
+
+pub(crate) const BOB: &[u8] = b"sip:bob@example.com";
+
+pub(crate) const OVER_TCP: &[u8] = b"sip:example.com;transport=tcp";
+
+// A service for a client of TCP and UDP over IPv4, with so many tries.
+pub(crate) fn new_service(rt: &impl Abort, alloc: Global, tries: u64) -> Service
+    requires once { 1 ≤ tries }
+    requires most { tries ≤ 16 }
+{
+    let preference = Vec::from_slice(alloc, &[Transport::Tcp, Transport::Udp]).expect(
+        rt,
+        "out of memory",
+    );
+    let abilities = Abilities::new(preference, Families::V4).expect(rt, "the abilities");
+    Service::new(alloc, abilities, &Limits::greatest(), tries).expect(rt, "out of memory")
+}
+
+pub(crate) fn question(rt: &impl Abort, alloc: Global, uri: &[u8]) -> Question {
+    Uri::parse(alloc, uri).expect(rt, "the URI is refused")
+}
+
+pub(crate) fn draws(rt: &impl Abort, words: &[u32]) -> Draws {
+    Draws::from_words(words).expect(rt, "the words are refused")
+}
+
+pub(crate) fn record(rt: &impl Abort, alloc: Global, text: &[u8]) -> Record {
+    read_record(alloc, text, &Name::root(alloc)).expect(rt, "the record is refused")
+}
+
+pub(crate) fn zone(rt: &impl Abort, alloc: Global) -> ZoneText {
+    let root = Name::root(alloc);
+    let apex = Name::from_text(alloc, b"example.com.", &root).expect(rt, "the name is refused");
+    read_zone(alloc, ZONE, &apex).expect(rt, "the zone is refused")
+}
+
+// A TCP endpoint at port 5060.
+pub(crate) fn tcp(number: u32) -> Endpoint {
+    Endpoint {
+        transport: Transport::Tcp,
+        address: Address::V4(number),
+        port: 5060,
+    }
+}
+
+// ---- calls of the service
+
+pub(crate) fn edit<R: Wait + Abort>(
+    rt: &R,
+    service: &Service,
+    pass: &mut Pass,
+    edit: Edit,
+) -> Done {
+    service
+        .edit(rt, pass, edit)
+        .expect(rt, "the edit is refused")
+}
+
+pub(crate) fn load_zone<R: Wait + Abort>(
+    rt: &R,
+    alloc: Global,
+    service: &Service,
+    pass: &mut Pass,
+) {
+    edit(rt, service, pass, Edit::Load(zone(rt, alloc)));
+}
+
+pub(crate) fn add<R: Wait + Abort>(
+    rt: &R,
+    alloc: Global,
+    service: &Service,
+    pass: &mut Pass,
+    text: &[u8],
+) {
+    edit(rt, service, pass, Edit::Add(record(rt, alloc, text)));
+}
+
+pub(crate) fn remove<R: Wait + Abort>(
+    rt: &R,
+    alloc: Global,
+    service: &Service,
+    pass: &mut Pass,
+    text: &[u8],
+) {
+    edit(rt, service, pass, Edit::Remove(record(rt, alloc, text)));
+}
+
+pub(crate) fn find<R: Wait + Abort>(
+    rt: &R,
+    alloc: Global,
+    service: &Service,
+    pass: &mut Pass,
+    uri: &[u8],
+    words: &[u32],
+) -> Result<Told, ServiceFault> {
+    let question = question(rt, alloc, uri);
+    service.lookup(rt, pass, &question, &draws(rt, words), &OpenGate)
+}
+
+// ---- what is expected
+
+// Whether an answer is these targets over TCP at port 5060.
+pub(crate) fn is_tcp(answer: &Answer, numbers: &[u32]) -> bool {
+    match answer {
+        Answer::Targets(targets) => {
+            targets.len() == numbers.len()
+                && targets
+                    .iter()
+                    .zip(numbers)
+                    .all(|(target, number)| *target == tcp(*number))
+        }
+        Answer::None(_) => false,
+    }
+}
+
+// The answer is these targets over TCP at port 5060.
+pub(crate) fn targets(rt: &impl Abort, told: Result<Told, ServiceFault>, numbers: &[u32]) {
+    let expected = match told {
+        Ok(told) => is_tcp(told.answer(), numbers),
+        Err(_) => false,
+    };
+    assert!(rt; expected, "other targets, or a fault");
+}
+
+pub(crate) fn fails(rt: &impl Abort, told: Result<Told, ServiceFault>, code: &str) {
+    let expected = match told {
+        Ok(_) => false,
+        Err(fault) => fault.code() == code,
+    };
+    assert!(rt; expected, "an answer, or another fault");
+}
+
+pub(crate) fn close(rt: &impl Abort, service: Service) -> Closing {
+    match service.close() {
+        Ok(closing) => closing,
+        Err(_) => panic!(rt; "not closed"),
+    }
+}
+
+// The journal has so many events, and is claimed with the passes.
+pub(crate) fn is_claimed(
+    rt: &impl Abort,
+    alloc: Global,
+    closing: &Closing,
+    passes: &[Pass],
+    events: usize,
+) {
+    assert_eq!(rt; closing.journal.len(), events);
+    assert!(rt; claim(alloc, closing, passes).is_ok(), "not claimed");
+}
