@@ -1,12 +1,13 @@
-//! A locator of SIP servers (RFC 3263): a session on standard input and output.
+//! A locator of SIP servers (RFC 3263): sessions on standard input and output, or over TCP.
 #![tactic(auto)]
 
 mod program;
+mod serve;
 #[cfg(test)]
 mod tests;
 
 use std::process::ExitCode;
 
 fn main(rt: HostRuntime) -> ExitCode {
-    program::start(&rt)
+    program::start(&rt, &rt)
 }

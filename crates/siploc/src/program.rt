@@ -1,6 +1,7 @@
 //! The program: its arguments, and what it does on its standard streams.
 ghost use Rattle.sipl_lines.specs.Settings.{IsWithinLimits};
 
+use crate::serve::{ServerFault, serve_connections};
 use sipl_book::Book;
 use sipl_lines::{
     Ended, ServeFault, Settings, SettingsFault, Tapped, check_zone, play_script, serve_book,
@@ -8,8 +9,11 @@ use sipl_lines::{
 use sipl_names::{Name, NameFault};
 use std::alloc::Global;
 use std::io::{ErrorKind, Input};
+use std::net::{Net, TcpListener, TcpStream};
 use std::process::ExitCode;
 use std::rt::Env;
+use std::sync::Wait;
+use std::thread::Threads;
 use std::{env, io};
 
 // The status of a call with wrong arguments.
@@ -24,6 +28,8 @@ enum Call {
     Check(Name),
     // `world [SETTINGS]`: plays a script.
     World(Option<String>),
+    // `serve [SETTINGS]`: serves sessions over TCP.
+    Serve(Option<String>),
 }
 
 // Why a call failed.
@@ -33,6 +39,10 @@ enum Fault {
     Settings(SettingsFault),
     // A stream failed, or an allocation.
     Serve(ServeFault),
+    // It cannot listen, or a connection was not accepted.
+    Listen,
+    // What closing a service is refused for: its code.
+    Close(&'static str),
 }
 
 impl From<ServeFault> for Fault {
@@ -50,12 +60,27 @@ impl From<SettingsFault> for Fault {
     }
 }
 
-// Does what the arguments ask for. The status is 0, 1 after a fault or for a text that is not a
-// zone, or 2 where the arguments are wrong; for a fault and for 2 one line on standard error gives
-// the reason.
-pub(crate) fn start<R: Env + Input + Print + Eprint + AllocGlobal>(rt: &R) -> ExitCode {
+impl From<ServerFault> for Fault {
+    fn from(fault: ServerFault) -> Fault {
+        match fault {
+            ServerFault::Listen => Fault::Listen,
+            ServerFault::Close(fault) => Fault::Close(fault.code()),
+            ServerFault::Claim(fault) => Fault::Close(fault.code()),
+            ServerFault::Memory => Fault::Serve(ServeFault::Memory),
+        }
+    }
+}
+
+// Does what the arguments of a process ask for, with the threads and the network of a host. The status
+// is 0, 1 after a fault or for a text that is not a zone, or 2 where the arguments are wrong; for a fault
+// and for 2 one line on standard error gives the reason.
+pub(crate) fn start<R, H>(rt: &R, host: &H) -> ExitCode
+where
+    R: Env + Input + Print + Eprint + AllocGlobal,
+    H: Net<Listener = TcpListener, Stream = TcpStream> + Threads + Wait + Sync,
+{
     let outcome = match read_arguments(rt) {
-        Ok(Some(call)) => perform(rt, call),
+        Ok(Some(call)) => perform(rt, host, call),
         Err(error) if error.kind() == ErrorKind::OutOfMemory => {
             Err(Fault::Serve(ServeFault::Memory))
         }
@@ -80,6 +105,8 @@ pub(crate) fn start<R: Env + Input + Print + Eprint + AllocGlobal>(rt: &R) -> Ex
 fn report<R: Eprint>(rt: &R, fault: &Fault) {
     let _ = match fault {
         Fault::Serve(fault) => eprintln!(rt; "fault {}", fault.code()),
+        Fault::Listen => eprintln!(rt; "fault listen"),
+        Fault::Close(code) => eprintln!(rt; "fault close {code}"),
         Fault::Settings(fault) => match fault {
             SettingsFault::UnknownKey(key) | SettingsFault::BadValue(key) => {
                 eprintln!(rt; "fault settings {} {key}", fault.code())
@@ -97,6 +124,7 @@ fn read_arguments<R: Env + AllocGlobal>(rt: &R) -> io::Result<Option<Call>> {
     let call = match words.next() {
         Some(word) if word.as_str() == "run" => Some(Call::Run(words.next())),
         Some(word) if word.as_str() == "world" => Some(Call::World(words.next())),
+        Some(word) if word.as_str() == "serve" => Some(Call::Serve(words.next())),
         Some(word) if word.as_str() == "check" => match words.next() {
             Some(apex) => read_apex(rt.alloc(), apex.as_bytes())?,
             None => None,
@@ -117,7 +145,11 @@ fn read_apex(alloc: Global, text: &[u8]) -> io::Result<Option<Call>> {
 }
 
 // Does what the arguments ask for. Returns whether a zone that was checked is one.
-fn perform<R: Input + Print + AllocGlobal>(rt: &R, call: Call) -> Result<bool, Fault> {
+fn perform<R, H>(rt: &R, host: &H, call: Call) -> Result<bool, Fault>
+where
+    R: Input + Print + AllocGlobal,
+    H: Net<Listener = TcpListener, Stream = TcpStream> + Threads + Wait + Sync,
+{
     match call {
         Call::Run(text) => {
             let text = text.as_deref().unwrap_or("");
@@ -128,6 +160,15 @@ fn perform<R: Input + Print + AllocGlobal>(rt: &R, call: Call) -> Result<bool, F
             let text = text.as_deref().unwrap_or("");
             play_streams(rt, Settings::from_toml(rt.alloc(), text)?)?;
             Ok(true)
+        }
+        Call::Serve(text) => {
+            let text = text.as_deref().unwrap_or("");
+            let settings = Settings::from_toml(rt.alloc(), text)?;
+            let events = serve_connections(rt.alloc(), host, settings)?;
+            match println!(rt; "closed {events}") {
+                Ok(()) => Ok(true),
+                Err(_) => Err(Fault::Serve(ServeFault::Write)),
+            }
         }
         Call::Check(apex) => Ok(check_streams(rt, &apex)?),
     }
@@ -177,8 +218,11 @@ mod tests {
         b"usage: siploc run [SETTINGS] | check APEX | world [SETTINGS] | serve [SETTINGS]\n";
 
     // Whether the process ends with this status, and with this on its standard output and error.
-    fn ends(process: Process<'_>, status: u8, output: &[u8], errors: &[u8]) -> bool {
-        let ended = start(&process) == ExitCode::from(status);
+    fn ends<H>(host: &H, process: Process<'_>, status: u8, output: &[u8], errors: &[u8]) -> bool
+    where
+        H: Net<Listener = TcpListener, Stream = TcpStream> + Threads + Wait + Sync,
+    {
+        let ended = start(&process, host) == ExitCode::from(status);
         let written = process.output.into_inner();
         let reported = process.errors.into_inner();
         ended && written.as_slice() == output && reported.as_slice() == errors
@@ -188,10 +232,10 @@ mod tests {
     fn faults_of_a_check_print_their_code(rt: HostRuntime) -> Result<(), Fail> {
         let mut process = Process::new(rt.alloc(), &[b"siploc", b"check", b"e."], b"x");
         process.input_fails = true;
-        assert!(rt; ends(process, 1, b"", b"fault read\n"));
+        assert!(rt; ends(&rt, process, 1, b"", b"fault read\n"));
         let mut process = Process::new(rt.alloc(), &[b"siploc", b"check", b"e."], b"");
         process.is_closed = true;
-        assert!(rt; ends(process, 1, b"", b"fault write\n"));
+        assert!(rt; ends(&rt, process, 1, b"", b"fault write\n"));
         Ok(())
     }
 
@@ -205,7 +249,7 @@ mod tests {
         ];
         for (number, words) in calls.iter().enumerate() {
             let process = Process::new(rt.alloc(), words, b"quit\n");
-            assert!(rt; ends(process, 2, b"", USAGE), "at {number}");
+            assert!(rt; ends(&rt, process, 2, b"", USAGE), "at {number}");
         }
         Ok(())
     }
@@ -214,10 +258,10 @@ mod tests {
     fn faults_of_the_streams_print_their_code(rt: HostRuntime) -> Result<(), Fail> {
         let mut process = Process::new(rt.alloc(), &[b"siploc", b"run"], b"find x\nfind");
         process.input_fails = true;
-        assert!(rt; ends(process, 1, b"err U1\n", b"fault read\n"));
+        assert!(rt; ends(&rt, process, 1, b"err U1\n", b"fault read\n"));
         let mut process = Process::new(rt.alloc(), &[b"siploc", b"run"], b"find x\n");
         process.is_closed = true;
-        assert!(rt; ends(process, 1, b"", b"fault write\n"));
+        assert!(rt; ends(&rt, process, 1, b"", b"fault write\n"));
         Ok(())
     }
 
@@ -225,10 +269,10 @@ mod tests {
     fn faults_of_the_streams_of_a_script_print_their_code(rt: HostRuntime) -> Result<(), Fail> {
         let mut process = Process::new(rt.alloc(), &[b"siploc", b"world"], b"x\nread");
         process.is_closed = true;
-        assert!(rt; ends(process, 1, b"", b"fault write\n"));
+        assert!(rt; ends(&rt, process, 1, b"", b"fault write\n"));
         let mut process = Process::new(rt.alloc(), &[b"siploc", b"world"], b"workers 1\nread");
         process.input_fails = true;
-        assert!(rt; ends(process, 1, b"", b"fault read\n"));
+        assert!(rt; ends(&rt, process, 1, b"", b"fault read\n"));
         Ok(())
     }
 }

@@ -1,0 +1,117 @@
+//! Sessions over TCP, each in a thread of its own, over one service.
+ghost use Rattle.sipl_lines.specs.Settings.{IsWithinLimits};
+
+use sipl_lines::{ServiceDesk, Settings, Tapped, serve};
+use sipl_service::{ClaimFault, OpenGate, Pass, Service, ServiceFault, claim};
+use std::alloc::{AllocError, Global};
+use std::net::{Net, SocketAddr, TcpListener, TcpStream};
+use std::sync::{Mutex, Wait};
+use std::thread;
+use std::thread::Threads;
+
+// Why a server ends with a fault.
+#[derive(Debug, Drop)]
+pub(crate) enum ServerFault {
+    // It cannot listen at its address, or a connection was not accepted.
+    Listen,
+    // The service cannot be closed.
+    Close(ServiceFault),
+    // The journal is not the union of the receipts of all sessions.
+    Claim(ClaimFault),
+    // An allocation failed before a connection was accepted.
+    Memory,
+}
+
+impl From<AllocError> for ServerFault {
+    fn from(_: AllocError) -> ServerFault {
+        ServerFault::Memory
+    }
+}
+
+// What the threads of a server share: the service, and the passes of the sessions that have ended.
+#[derive(Drop)]
+struct Server {
+    alloc: Global,
+    service: Service,
+    passes: Mutex<Vec<Pass>>,
+}
+
+// Serves as many connections as the settings say, beside the repair workers. When all sessions have
+// ended, closes the service, and claims its journal with the passes of all sessions. Returns how many
+// events it has.
+pub(crate) fn serve_connections<H>(
+    alloc: Global,
+    host: &H,
+    settings: Settings,
+) -> Result<u64, ServerFault>
+where
+    H: Net<Listener = TcpListener, Stream = TcpStream> + Threads + Wait + Sync,
+    requires { IsWithinLimits settings }
+{
+    let Ok(listener) = host.bind(SocketAddr::V4(settings.listen)) else {
+        return Err(ServerFault::Listen);
+    };
+    let (sessions, workers) = (settings.sessions, settings.workers as u64);
+    let (limits, tries) = (settings.limits(), settings.tries as u64);
+    let server = Server {
+        alloc,
+        service: Service::new(alloc, settings.abilities, &limits, tries)?,
+        // Space for the passes of all sessions, so that none is lost.
+        passes: Mutex::new(Vec::with_capacity(alloc, sessions)?),
+    };
+    let served = thread::scope(thread::scope_env(), host, |scope| {
+        let _ = scope.spawn(|| server.service.run_workers(host, workers, &OpenGate));
+        let served = server.accept_all(host, &listener, sessions);
+        server.service.stop(host);
+        served
+    });
+    served?;
+    server.close()
+}
+
+impl Server {
+    // Accepts so many connections, and serves each in a thread, or on this one where none can be made.
+    // Waits for the sessions to end.
+    fn accept_all<H: Threads + Wait + Sync>(
+        &self,
+        host: &H,
+        listener: &TcpListener,
+        sessions: usize,
+    ) -> Result<(), ServerFault> {
+        thread::scope(thread::scope_env(), host, |scope| {
+            for _ in 0..sessions {
+                let Ok((stream, _peer)) = listener.accept() else {
+                    return Err(ServerFault::Listen);
+                };
+                if let Err(refused) = scope.spawn(move || self.serve_connection(host, stream)) {
+                    let session = refused.value;
+                    session();
+                }
+            }
+            Ok(())
+        })
+    }
+
+    // Serves the session of a connection, and keeps its pass. A fault ends this session alone.
+    fn serve_connection<H: Wait>(&self, host: &H, stream: TcpStream) {
+        // Without this a short reply may wait until the client has acknowledged the one before.
+        let _ = stream.set_nodelay(true);
+        let mut desk = ServiceDesk::new(host, &self.service, self.service.pass());
+        let mut reader = Tapped::new(&stream);
+        let mut writer = Tapped::new(&stream);
+        let _ = serve(self.alloc, &mut reader, &mut writer, &mut desk);
+        let _ = self.passes.lock(host).push(desk.into_pass());
+    }
+
+    // Closes the service, and claims its journal. Returns how many events it has.
+    fn close(self) -> Result<u64, ServerFault> {
+        let passes = self.passes.into_inner();
+        match self.service.close() {
+            Ok(closing) => match claim(self.alloc, &closing, passes.as_slice()) {
+                Ok(()) => Ok(closing.journal.len() as u64),
+                Err(fault) => Err(ServerFault::Claim(fault)),
+            },
+            Err((fault, _service)) => Err(ServerFault::Close(fault)),
+        }
+    }
+}
