@@ -1,4 +1,5 @@
 -- What a command that was read asks for.
+use Rattle.std.specs.Prelude.{Option, None, Some}
 use Rattle.sipl_lines.specs.declared.command.Command.{Command}
 use Rattle.sipl_lines.specs.declared.command.Command.TheVariants.{Nothing, Unknown, TooLong, Zone, Drop, Add, Del, Find, Deps, Repair, Hold, Release, Clock, Call, Got, Broke, Quit}
 use Rattle.sipl_lines.specs.Requests.{Request, nothing, unknown, too_long, zone, drop, add, del, find, deps, repair, hold, release, clock, call, got, broke, quit}
@@ -22,3 +23,8 @@ meaning_of (Call kind base uri draws) = call kind base uri.now draws
 meaning_of (Got attempt code retry_after) = got attempt code retry_after
 meaning_of Broke = broke
 meaning_of Quit = quit
+
+-- the request of a command, if there is one
+abbrev pub meaning_if_read : Option Command → Request
+meaning_if_read (Some command) = meaning_of command
+meaning_if_read None = unknown

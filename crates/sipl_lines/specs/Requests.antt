@@ -148,38 +148,29 @@ abbrev pub quit_request : List Octets → Request
 quit_request [] = quit
 quit_request _ = unknown
 
--- `call`, `got` and `broke`
-abbrev pub call_command : Octets → List Octets → Request
-call_command word others =
-    if pointwise nat_eq word (codes "call") then call_request others
-    else (if pointwise nat_eq word (codes "got") then got_request others
-    else (if pointwise nat_eq word (codes "broke") then broke_request others else unknown))
-
--- `hold`, `release` and `clock`
-abbrev pub outage_request : Octets → List Octets → Request
-outage_request word others =
-    if pointwise nat_eq word (codes "hold") then hold_request others
-    else (if pointwise nat_eq word (codes "release") then release_request others
-    else (if pointwise nat_eq word (codes "clock") then clock_request others
-    else call_command word others))
-
--- what the command word asks for, with the fields after it, and the whole line for a record
+-- what the command word asks for, with the fields after it, or the rest of the line for a record
 abbrev pub command_request : Octets → List Octets → Octets → Request
-command_request word others line =
+command_request word others text =
     if pointwise nat_eq word (codes "zone") then zone_request others
     else (if pointwise nat_eq word (codes "drop") then drop_request others
-    else (if pointwise nat_eq word (codes "add") then add_request (trim_start (after_field line))
-    else (if pointwise nat_eq word (codes "del") then del_request (trim_start (after_field line))
+    else (if pointwise nat_eq word (codes "add") then add_request text
+    else (if pointwise nat_eq word (codes "del") then del_request text
     else (if pointwise nat_eq word (codes "find") then find_request others
     else (if pointwise nat_eq word (codes "deps") then deps_request others
     else (if pointwise nat_eq word (codes "repair") then repair_request others
-    else (if pointwise nat_eq word (codes "quit") then quit_request others
-    else outage_request word others)))))))
+    else (if pointwise nat_eq word (codes "hold") then hold_request others
+    else (if pointwise nat_eq word (codes "release") then release_request others
+    else (if pointwise nat_eq word (codes "clock") then clock_request others
+    else (if pointwise nat_eq word (codes "call") then call_request others
+    else (if pointwise nat_eq word (codes "got") then got_request others
+    else (if pointwise nat_eq word (codes "broke") then broke_request others
+    else (if pointwise nat_eq word (codes "quit") then quit_request others else unknown)))))))))))))
 
 -- what the fields of a line ask for
 abbrev pub fields_request : List Octets → Octets → Request
 fields_request [] line = nothing
-fields_request (word ∷ others) line = command_request word others line
+fields_request (word ∷ others) line =
+    command_request word others (trim_start (after_field line))
 
 -- what a line asks for: one of more than 65,536 octets is too long, a comment too
 abbrev pub request_of : Octets → Request

@@ -1,5 +1,5 @@
 -- A session: what each of its lines does, and the replies.
-use Rattle.std.specs.Prelude.{◌≡◌, ◌⊎◌, Bool, true, false, [], ◌++◌, Option, None, Some, codes, IsTrue, ◌==◌}
+use Rattle.std.specs.Prelude.{◌≡◌, ◌⊎◌, ◌≤◌, ℕ, Bool, true, false, [], ◌++◌, Option, None, Some, Result, OnOk, OnErr, Vec, vec_capacity, codes, IsTrue, ◌==◌}
 use Rattle.std.specs.Bool.{OnTrue, OnFalse}
 use Rattle.sipl_names.specs.Labels.{Octets}
 use Rattle.sipl_names.specs.NameText.{name_of}
@@ -170,3 +170,12 @@ session_protocol {D} rules =
 abbrev pub AppendsText : {S : Type 0} → (S → Octets → S → Type 0) → S → Octets → S → Octets → Type 0
 AppendsText Acts before old after new =
     (text : Octets) × Acts before text after × (new ≡ old ++ text)
+
+-- A command ended so: its reply was appended to an output; or an allocation failed, and nothing
+-- changed. The output's capacity does not shrink.
+pub record Replies {S X E : Type 0} (Acts : S → Octets → S → Type 0) (before : S) (out : Vec ℕ X)
+    (result : Result (Unit {0}) E) (after : S) (out' : Vec ℕ X) : Type 0 where
+  pub replied : OnOk result (AppendsText Acts before out.items after out'.items)
+  pub unchanged : OnErr result (after ≡ before)
+  pub unwritten : OnErr result (out'.items ≡ out.items)
+  pub capacity : vec_capacity out ≤ vec_capacity out'

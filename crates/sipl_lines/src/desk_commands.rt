@@ -1,5 +1,5 @@
 // What each command asks of a desk, and its reply.
-ghost use Rattle.std.specs.Prelude.{◌≡◌, ◌⊎◌, ◌+◌, ◌≤◌, [], ◌++◌, Ok, Err, length, codes, IfOk, IfErr, OnOk, OnErr, vec_len, vec_capacity};
+ghost use Rattle.std.specs.Prelude.{◌≡◌, ◌⊎◌, ◌+◌, ◌≤◌, [], ◌++◌, Ok, Err, length, codes, IfOk, IfErr, vec_len, vec_capacity};
 ghost use Rattle.sipl_masterfile.specs.RecordText.{record_of};
 ghost use Rattle.sipl_masterfile.specs.Zones.{zone_of};
 ghost use Rattle.sipl_names.specs.NameFault.{IfInvalid};
@@ -8,7 +8,7 @@ ghost use Rattle.sipl_records.specs.Addresses.{address_of};
 ghost use Rattle.sipl_uri.specs.Uris.{question_of};
 ghost use Rattle.sipl_lines.specs.Commands.{AnswersUri, Edits, EditsRecord, Holds, ListsUri, Loads, Releases, Repairs, Unloads, handed_text, result_text};
 ghost use Rattle.sipl_lines.specs.ReplyText.{counts_line, evidence_text, refusal_line};
-ghost use Rattle.sipl_lines.specs.Session.{AppendsText};
+ghost use Rattle.sipl_lines.specs.Session.{AppendsText, Replies};
 
 use crate::desk::Desk;
 use crate::gather::ZoneLines;
@@ -39,11 +39,8 @@ pub(crate) fn load_zone<D: Desk>(
     out: &mut Vec<u8>,
 ) -> Result<(), AllocError>
     requires space { vec_len out.old + MAX_SHORT_REPLY_LEN ≤ vec_capacity out.old }
-    ensures ok { OnOk result (AppendsText (Loads D.rules (zone_of zone.text zone.apex))
-        desk.old out.old.items desk.new out.new.items) }
-    ensures err { OnErr result (desk.new ≡ desk.old) }
-    ensures err_out { OnErr result (out.new.items ≡ out.old.items) }
-    ensures capacity { vec_capacity out.old ≤ vec_capacity out.new }
+    ensures { Replies (Loads D.rules (zone_of zone.now.text zone.now.apex))
+        desk.old out.old result desk.new out.new }
 {
     let read = read_zone(alloc, zone.text(), zone.apex());
     drop(zone);
@@ -72,11 +69,8 @@ pub(crate) fn unload_zone<D: Desk>(
     out: &mut Vec<u8>,
 ) -> Result<(), AllocError>
     requires space { vec_len out.old + MAX_SHORT_REPLY_LEN ≤ vec_capacity out.old }
-    ensures ok { OnOk result (AppendsText (Unloads D.rules (name_of apex.now []))
-        desk.old out.old.items desk.new out.new.items) }
-    ensures err { OnErr result (desk.new ≡ desk.old) }
-    ensures err_out { OnErr result (out.new.items ≡ out.old.items) }
-    ensures capacity { vec_capacity out.old ≤ vec_capacity out.new }
+    ensures { Replies (Unloads D.rules (name_of apex.now []))
+        desk.old out.old result desk.new out.new }
 {
     match read_absolute_name(alloc, apex) {
         Ok(apex) => edit(desk, Edit::Unload(apex), b"ok drop", out),
@@ -101,11 +95,8 @@ pub(crate) fn edit_record<D: Desk>(
     out: &mut Vec<u8>,
 ) -> Result<(), AllocError>
     requires space { vec_len out.old + MAX_SHORT_REPLY_LEN ≤ vec_capacity out.old }
-    ensures ok { OnOk result (AppendsText (EditsRecord D.rules kind (record_of text.now []))
-        desk.old out.old.items desk.new out.new.items) }
-    ensures err { OnErr result (desk.new ≡ desk.old) }
-    ensures err_out { OnErr result (out.new.items ≡ out.old.items) }
-    ensures capacity { vec_capacity out.old ≤ vec_capacity out.new }
+    ensures { Replies (EditsRecord D.rules kind (record_of text.now []))
+        desk.old out.old result desk.new out.new }
 {
     match read_absolute_record(alloc, text)? {
         Ok(record) => match kind {
@@ -125,11 +116,8 @@ fn edit<D: Desk>(
 ) -> Result<(), AllocError>
     requires space { vec_len out.old + MAX_SHORT_REPLY_LEN ≤ vec_capacity out.old }
     requires words { length words.now ≤ 7 }
-    ensures ok { OnOk result (AppendsText (Edits D.rules words.now [] edit)
-        desk.old out.old.items desk.new out.new.items) }
-    ensures err { OnErr result (desk.new ≡ desk.old) }
-    ensures err_out { OnErr result (out.new.items ≡ out.old.items) }
-    ensures capacity { vec_capacity out.old ≤ vec_capacity out.new }
+    ensures { Replies (Edits D.rules words.now [] edit)
+        desk.old out.old result desk.new out.new }
 {
     match desk.change(edit) {
         Ok(done) => {
@@ -149,11 +137,8 @@ pub(crate) fn find<D: Desk>(
     out: &mut Vec<u8>,
 ) -> Result<(), AllocError>
     requires space { vec_len out.old + MAX_SHORT_REPLY_LEN ≤ vec_capacity out.old }
-    ensures ok { OnOk result (AppendsText (AnswersUri D.rules (question_of uri.now) draws.now)
-        desk.old out.old.items desk.new out.new.items) }
-    ensures err { OnErr result (desk.new ≡ desk.old) }
-    ensures err_out { OnErr result (out.new.items ≡ out.old.items) }
-    ensures capacity { vec_capacity out.old ≤ vec_capacity out.new }
+    ensures { Replies (AnswersUri D.rules (question_of uri.now) draws.now)
+        desk.old out.old result desk.new out.new }
 {
     let question = match read_question(alloc, uri)? {
         Ok(question) => question,
@@ -192,11 +177,8 @@ pub(crate) fn list_evidence<D: Desk>(
     out: &mut Vec<u8>,
 ) -> Result<(), AllocError>
     requires space { vec_len out.old + MAX_SHORT_REPLY_LEN ≤ vec_capacity out.old }
-    ensures ok { OnOk result (AppendsText (ListsUri D.rules (question_of uri.now))
-        desk.old out.old.items desk.new out.new.items) }
-    ensures err { OnErr result (desk.new ≡ desk.old) }
-    ensures err_out { OnErr result (out.new.items ≡ out.old.items) }
-    ensures capacity { vec_capacity out.old ≤ vec_capacity out.new }
+    ensures { Replies (ListsUri D.rules (question_of uri.now))
+        desk.old out.old result desk.new out.new }
 {
     let question = match read_question(alloc, uri)? {
         Ok(question) => question,
