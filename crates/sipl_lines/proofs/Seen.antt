@@ -5,21 +5,19 @@ use Rattle.std.specs.Bool.{OnTrue, OnFalse}
 use Rattle.sipl_names.specs.Labels.{Octets, Labels}
 use Rattle.sipl_names.specs.NameText.{name_of}
 use Rattle.sipl_names.specs.declared.fault.InvalidName.{InvalidName}
-use Rattle.sipl_records.specs.Addresses.{address_of}
-use Rattle.sipl_records.specs.declared.address.Address.{Address}
+use Rattle.sipl_records.specs.declared.fault.AddressFault.{AddressFault}
 use Rattle.sipl_records.specs.declared.record.Record.{Record}
 use Rattle.sipl_masterfile.specs.Zones.{Zone, zone_of}
 use Rattle.sipl_masterfile.specs.RecordText.{record_of}
 use Rattle.sipl_masterfile.specs.declared.fault.ZoneFault.{ZoneFault}
 use Rattle.sipl_choice.specs.declared.endpoint.Endpoint.{Endpoint}
-use Rattle.sipl_choice.specs.declared.transport.Transport.{Transport}
 use Rattle.sipl_srv.specs.declared.fault.DrawsFault.{DrawsFault}
 use Rattle.sipl_uri.specs.Uris.{question_of}
 use Rattle.sipl_uri.specs.declared.fault.UriFault.{UriFault}
 use Rattle.sipl_uri.specs.declared.question.Question.{Question}
 use Rattle.sipl_evidence.specs.Items.{Item as Evidence}
 use Rattle.sipl_outages.specs.Holds.{BoardEvent}
-use Rattle.sipl_outages.specs.Holds.BoardEvent.{Hold, Release, Advance}
+use Rattle.sipl_outages.specs.Holds.BoardEvent.{Hold, Advance}
 use Rattle.sipl_tx.specs.declared.parts.Kind.{Kind}
 use Rattle.sipl_failover.specs.FailoverRun.{FailoverRun, Event, has_ended}
 use Rattle.sipl_failover.specs.FailoverRun.Event.{Received, Ticked, TransportFailed}
@@ -30,6 +28,8 @@ use Rattle.sipl_book.specs.declared.edit.Edit.TheVariants.{Load, Unload}
 use Rattle.sipl_book.specs.declared.fault.BookFault.{BookFault}
 use Rattle.sipl_book.specs.declared.outcome.Done.{Done}
 use Rattle.sipl_book.specs.declared.outcome.Handed.{Handed}
+use Rattle.sipl_lines.specs.declared.desk_commands.HoldChange.{HoldChange}
+use Rattle.sipl_lines.specs.declared.desk_commands.HoldChange.TheVariants as change
 use Rattle.sipl_lines.specs.declared.desk_commands.RecordEdit.{RecordEdit}
 use Rattle.sipl_lines.specs.declared.desk_commands.RecordEdit.TheVariants.{Add as AddRecord, Remove as RemoveRecord}
 use Rattle.sipl_lines.specs.declared.gather.Gathered.{Gathered}
@@ -40,7 +40,7 @@ use Rattle.sipl_lines.specs.declared.server.ServeFault.{ServeFault}
 use Rattle.sipl_lines.specs.declared.server.ServeFault.TheVariants.{Read, Write, TooManyTurns, Memory}
 use Rattle.sipl_lines.specs.declared.tapped.Tapped.{Tapped}
 use Rattle.sipl_lines.specs.Tapped.{tapped_inner}
-use Rattle.sipl_lines.specs.Commands.{Keeps, Loads, Unloads, EditsRecord, record_edit, AnswersUri, ListsUri, Repairs, MovesTo, Holds, Releases}
+use Rattle.sipl_lines.specs.Commands.{Keeps, Loads, Unloads, EditsRecord, record_edit, AnswersUri, ListsUri, Repairs, MovesTo, ChangesHold, change_words, change_event}
 use Rattle.sipl_lines.specs.Calls.{CallDesk, with_call, hold_in, MakesHold, GoesOn, Hears, HearsOf, Ticks, TellsTime, SetsClock, Opens, OpensFor, is_open, CallsUnlessOpen, CallsUri}
 use Rattle.sipl_lines.specs.Desk.{DeskRules}
 use Rattle.sipl_lines.specs.Gathering.{gathering_of, after_line, at_end, lost}
@@ -161,15 +161,10 @@ module _ {D E : Type 0} (seen : D → E) (R : DeskRules D) (R' : DeskRules E) (i
   moves_to : (reply : Octets) (event : BoardEvent) → Carries seen (MovesTo R reply event) (MovesTo R' reply event)
   moves_to reply event before text after done = (done.0, implies.moves event before done.0 after done.1, done.2)
 
-  holds : (transport : Transport) (address : Option Address) (port ms : ℕ) → Carries seen (Holds R transport address port ms) (Holds R' transport address port ms)
-  holds transport None port ms before text after kept = (kept.0, ap seen kept.1)
-  holds transport (Some address) port ms before text after done =
-      moves_to (counts_line (codes "ok hold") []) (Hold (record { transport = transport; address = address; port = port }) ms) before text after done
-
-  releases : (transport : Transport) (address : Option Address) (port : ℕ) → Carries seen (Releases R transport address port) (Releases R' transport address port)
-  releases transport None port before text after kept = (kept.0, ap seen kept.1)
-  releases transport (Some address) port before text after done =
-      moves_to (counts_line (codes "ok release") []) (Release (record { transport = transport; address = address; port = port })) before text after done
+  changes_hold : (change : HoldChange) (endpoint : Result Endpoint AddressFault) → Carries seen (ChangesHold R change endpoint) (ChangesHold R' change endpoint)
+  changes_hold change (Err fault) before text after kept = (kept.0, ap seen kept.1)
+  changes_hold change (Ok endpoint) before text after done =
+      moves_to (counts_line (change_words change) []) (change_event change endpoint) before text after done
 
   loads_gathered : (gathered : Gathered) → Carries seen (LoadsGathered R gathered) (LoadsGathered R' gathered)
   loads_gathered Lost before text after kept = (kept.0, ap seen kept.1)
@@ -260,10 +255,10 @@ module _ {D E : Type 0} (seen : D → E) (R : DeskRules D) (R' : DeskRules E) (i
   obeys (deps uri) before text after done =
       commands seen (ListsUri R (question_of uri)) (ListsUri R' (question_of uri)) (lists_uri (question_of uri)) before text after done
   obeys repair before text after done = on_desk seen (Repairs R) (Repairs R') repairs before text after done
-  obeys (hold transport address port ms) before text after done =
-      on_desk seen (Holds R transport (address_of address) port ms) (Holds R' transport (address_of address) port ms) (holds transport (address_of address) port ms) before text after done
-  obeys (release transport address port) before text after done =
-      on_desk seen (Releases R transport (address_of address) port) (Releases R' transport (address_of address) port) (releases transport (address_of address) port) before text after done
+  obeys (hold endpoint ms) before text after done =
+      on_desk seen (ChangesHold R (change.Hold ms) endpoint) (ChangesHold R' (change.Hold ms) endpoint) (changes_hold (change.Hold ms) endpoint) before text after done
+  obeys (release endpoint) before text after done =
+      on_desk seen (ChangesHold R change.Release endpoint) (ChangesHold R' change.Release endpoint) (changes_hold change.Release endpoint) before text after done
   obeys (clock ms) before text after done = on_call seen (SetsClock R ms) (SetsClock R' ms) (sets_clock ms) before text after done
   obeys (call kind base uri draws) before text after (inl done) =
       inl (on_call seen (CallsUri R kind base (question_of uri) draws) (CallsUri R' kind base (question_of uri) draws) (calls_uri kind base (question_of uri) draws) before text after done)

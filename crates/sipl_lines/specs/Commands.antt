@@ -3,12 +3,13 @@ use Rattle.std.specs.Prelude.{◌≡◌, ◌⊎◌, ℕ, List, [], ◌∷◌, �
 use Rattle.sipl_names.specs.Labels.{Octets, Labels}
 use Rattle.sipl_names.specs.InvalidName.{code_of as name_code}
 use Rattle.sipl_names.specs.declared.fault.InvalidName.{InvalidName}
-use Rattle.sipl_records.specs.declared.address.Address.{Address}
+use Rattle.sipl_records.specs.AddressFault.{code_of as address_code}
+use Rattle.sipl_records.specs.declared.fault.AddressFault.{AddressFault}
 use Rattle.sipl_records.specs.declared.record.Record.{Record}
 use Rattle.sipl_masterfile.specs.Zones.{Zone}
 use Rattle.sipl_masterfile.specs.ZoneFault.{code_of as zone_code}
 use Rattle.sipl_masterfile.specs.declared.fault.ZoneFault.{ZoneFault}
-use Rattle.sipl_choice.specs.declared.transport.Transport.{Transport}
+use Rattle.sipl_choice.specs.declared.endpoint.Endpoint.{Endpoint}
 use Rattle.sipl_srv.specs.DrawsFault.{code_of as draws_code}
 use Rattle.sipl_srv.specs.declared.fault.DrawsFault.{DrawsFault}
 use Rattle.sipl_uri.specs.declared.fault.UriFault.{UriFault}
@@ -22,6 +23,8 @@ use Rattle.sipl_book.specs.declared.edit.Edit.TheVariants.{Load, Unload, Add, Re
 use Rattle.sipl_book.specs.declared.fault.BookFault.{BookFault}
 use Rattle.sipl_book.specs.declared.outcome.Done.{Done}
 use Rattle.sipl_book.specs.declared.outcome.Handed.{Handed}
+use Rattle.sipl_lines.specs.declared.desk_commands.HoldChange.{HoldChange}
+use Rattle.sipl_lines.specs.declared.desk_commands.HoldChange.TheVariants as change
 use Rattle.sipl_lines.specs.declared.desk_commands.RecordEdit.{RecordEdit}
 use Rattle.sipl_lines.specs.declared.desk_commands.RecordEdit.TheVariants.{Add as AddRecord, Remove as RemoveRecord}
 use Rattle.sipl_lines.specs.Desk.{DeskRules}
@@ -136,16 +139,20 @@ abbrev pub MovesTo : {D : Type 0} → DeskRules D → Octets → BoardEvent → 
 MovesTo rules reply event before text after =
     Does (rules.Moves event) (λ number. reply) before text after
 
--- an endpoint is held for some milliseconds
-abbrev pub Holds : {D : Type 0} → DeskRules D → Transport → Option Address → ℕ → ℕ → D → Octets → D → Type 0
-Holds rules transport None port ms before text after = Refuses (codes "A1") before text after
-Holds rules transport (Some address) port ms before text after =
-    MovesTo rules (counts_line (codes "ok hold") [])
-    (Hold (record { transport = transport; address = address; port = port }) ms) before text after
+-- the words of the reply to an accepted change of a hold, and the event
+abbrev pub change_words : HoldChange → Octets
+change_words (change.Hold ms) = codes "ok hold"
+change_words change.Release = codes "ok release"
 
--- an endpoint's hold is ended
-abbrev pub Releases : {D : Type 0} → DeskRules D → Transport → Option Address → ℕ → D → Octets → D → Type 0
-Releases rules transport None port before text after = Refuses (codes "A1") before text after
-Releases rules transport (Some address) port before text after =
-    MovesTo rules (counts_line (codes "ok release") [])
-    (Release (record { transport = transport; address = address; port = port })) before text after
+abbrev pub change_event : HoldChange → Endpoint → BoardEvent
+change_event (change.Hold ms) endpoint = Hold endpoint ms
+change_event change.Release endpoint = Release endpoint
+
+-- an endpoint is held for some milliseconds, or its hold is ended
+abbrev pub ChangesHold : {D : Type 0} → DeskRules D → HoldChange → Result Endpoint AddressFault → D
+    → Octets → D → Type 0
+ChangesHold rules change (Err fault) before text after =
+    Refuses (address_code fault) before text after
+ChangesHold rules change (Ok endpoint) before text after =
+    MovesTo rules (counts_line (change_words change) []) (change_event change endpoint)
+    before text after

@@ -1,8 +1,12 @@
 -- What a line of a session asks for.
-use Rattle.std.specs.Prelude.{ℕ, Bool, false, List, [], ◌∷◌, Option, None, Some, Result, codes, nat_eq, nat_lt, length, option_map, if◌then◌else◌, ◌==◌}
+use Rattle.std.specs.Prelude.{ℕ, Bool, false, List, [], ◌∷◌, Option, None, Some, Result, Ok, Err, codes, nat_eq, nat_lt, length, option_map, if◌then◌else◌, ◌==◌}
 use lib.Pointwise.{pointwise}
 use Rattle.sipl_records.specs.Fields.{fields_of, trim_start, after_field}
 use Rattle.sipl_records.specs.Numbers.{number_of}
+use Rattle.sipl_records.specs.Addresses.{address_of}
+use Rattle.sipl_records.specs.declared.fault.AddressFault.{AddressFault}
+use Rattle.sipl_records.specs.declared.fault.AddressFault.TheVariants.{BadAddress}
+use Rattle.sipl_choice.specs.declared.endpoint.Endpoint.{Endpoint}
 use Rattle.sipl_choice.specs.declared.transport.Transport.{Transport}
 use Rattle.sipl_choice.specs.Transports.{transport_named}
 use Rattle.sipl_srv.specs.declared.fault.DrawsFault.{DrawsFault}
@@ -23,8 +27,8 @@ pub data Request : Type 0 where
   find : Octets → Result (List ℕ) DrawsFault → Request
   deps : Octets → Request
   repair : Request
-  hold : Transport → Octets → ℕ → ℕ → Request
-  release : Transport → Octets → ℕ → Request
+  hold : Result Endpoint AddressFault → ℕ → Request
+  release : Result Endpoint AddressFault → Request
   clock : ℕ → Request
   call : Kind → ℕ → Octets → Result (List ℕ) DrawsFault → Request
   got : ℕ → ℕ → Option ℕ → Request
@@ -73,27 +77,40 @@ abbrev pub repair_request : List Octets → Request
 repair_request [] = repair
 repair_request _ = unknown
 
--- a hold, if its transport and numbers are ones
-abbrev pub hold_of : Option Transport → Octets → Option ℕ → Option ℕ → Request
-hold_of (Some transport) address (Some port) (Some ms) = hold transport address port ms
-hold_of _ address _ _ = unknown
+-- the endpoint at an address, or the fault of the address's text
+abbrev pub endpoint_at : Transport → Octets → ℕ → Result Endpoint AddressFault
+endpoint_at transport text port =
+    elim (address_of text) [
+      | Some address ↦ Ok (record { transport = transport; address = address; port = port })
+      | None ↦ Err BadAddress
+    ]
+
+-- the endpoint of a transport, an address and a port of 16 bits, if the first and the last are ones
+abbrev pub endpoint_of : Option Transport → Octets → Option ℕ → Option (Result Endpoint AddressFault)
+endpoint_of (Some transport) text (Some port) = Some (endpoint_at transport text port)
+endpoint_of _ text _ = None
+
+-- a hold, if its endpoint and milliseconds are ones
+abbrev pub hold_of : Option (Result Endpoint AddressFault) → Option ℕ → Request
+hold_of (Some endpoint) (Some ms) = hold endpoint ms
+hold_of _ _ = unknown
 
 -- `hold TRANSPORT ADDRESS PORT MS`: a port of 16 bits, and milliseconds of 64 bits
 abbrev pub hold_request : List Octets → Request
 hold_request (transport ∷ address ∷ port ∷ ms ∷ []) =
-    hold_of (transport_named transport) address (number_of port 65535)
+    hold_of (endpoint_of (transport_named transport) address (number_of port 65535))
     (number_of ms 18446744073709551615)
 hold_request _ = unknown
 
--- a release, if its transport and port are ones
-abbrev pub release_of : Option Transport → Octets → Option ℕ → Request
-release_of (Some transport) address (Some port) = release transport address port
-release_of _ address _ = unknown
+-- a release, if its endpoint is one
+abbrev pub release_of : Option (Result Endpoint AddressFault) → Request
+release_of (Some endpoint) = release endpoint
+release_of None = unknown
 
 -- `release TRANSPORT ADDRESS PORT`: a port of 16 bits
 abbrev pub release_request : List Octets → Request
 release_request (transport ∷ address ∷ port ∷ []) =
-    release_of (transport_named transport) address (number_of port 65535)
+    release_of (endpoint_of (transport_named transport) address (number_of port 65535))
 release_request _ = unknown
 
 -- `clock MS`: milliseconds of 64 bits

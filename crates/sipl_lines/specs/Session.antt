@@ -4,14 +4,14 @@ use Rattle.std.specs.Bool.{OnTrue, OnFalse}
 use Rattle.sipl_names.specs.Labels.{Octets}
 use Rattle.sipl_names.specs.NameText.{name_of}
 use Rattle.sipl_names.specs.InvalidName.{code_of as name_code}
-use Rattle.sipl_records.specs.Addresses.{address_of}
 use Rattle.sipl_masterfile.specs.Zones.{zone_of}
 use Rattle.sipl_masterfile.specs.RecordText.{record_of}
 use Rattle.sipl_uri.specs.Uris.{question_of}
 use Rattle.sipl_failover.specs.FailoverRun.{FailoverRun}
 use Rattle.sipl_failover.specs.FailoverRun.Event.{Received, TransportFailed}
 use Rattle.sipl_lines.specs.declared.desk_commands.RecordEdit.TheVariants.{Add as AddRecord, Remove as RemoveRecord}
-use Rattle.sipl_lines.specs.Commands.{Keeps, Refuses, Fails, Loads, Unloads, EditsRecord, AnswersUri, ListsUri, Repairs, Holds, Releases}
+use Rattle.sipl_lines.specs.declared.desk_commands.HoldChange.TheVariants as change
+use Rattle.sipl_lines.specs.Commands.{Keeps, Refuses, Fails, Loads, Unloads, EditsRecord, AnswersUri, ListsUri, Repairs, ChangesHold}
 use Rattle.sipl_lines.specs.Calls.{CallDesk, CallsUri, HearsOf, SetsClock, with_call}
 use Rattle.sipl_lines.specs.Desk.{DeskRules}
 use Rattle.sipl_lines.specs.Items.{Item, line, end_of_input}
@@ -120,10 +120,10 @@ Obeys rules (find uri draws) before text after =
     Commands (AnswersUri rules (question_of uri) draws) before text after
 Obeys rules (deps uri) before text after = Commands (ListsUri rules (question_of uri)) before text after
 Obeys rules repair before text after = AtDesk (Repairs rules) before text after
-Obeys rules (hold transport address port ms) before text after =
-    AtDesk (Holds rules transport (address_of address) port ms) before text after
-Obeys rules (release transport address port) before text after =
-    AtDesk (Releases rules transport (address_of address) port) before text after
+Obeys rules (hold endpoint ms) before text after =
+    AtDesk (ChangesHold rules (change.Hold ms) endpoint) before text after
+Obeys rules (release endpoint) before text after =
+    AtDesk (ChangesHold rules change.Release endpoint) before text after
 Obeys rules (clock ms) before text after = AtCall (SetsClock rules ms) before text after
 Obeys rules (call kind base uri draws) before text after =
     AtCall (CallsUri rules kind base (question_of uri) draws) before text after

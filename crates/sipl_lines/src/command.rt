@@ -1,13 +1,17 @@
 // What a line of a session asks for.
 ghost use Rattle.std.specs.Prelude.{◌≡◌};
 ghost use Rattle.sipl_records.specs.Fields.{fields_of, trim_start};
+ghost use Rattle.sipl_records.specs.Numbers.{number_of};
+ghost use Rattle.sipl_choice.specs.Transports.{transport_named};
 ghost use Rattle.sipl_lines.specs.CommandMeaning.{meaning_of, meaning_if_read};
-ghost use Rattle.sipl_lines.specs.Requests.{add_request, broke_request, call_request, clock_request, command_request, del_request, deps_request, drop_request, find_request, got_request, hold_request, kind_named, quit_request, release_request, repair_request, request_of, retry_of, zone_request};
+ghost use Rattle.sipl_lines.specs.Requests.{add_request, broke_request, call_request, clock_request, command_request, del_request, deps_request, drop_request, endpoint_of, find_request, got_request, hold_request, kind_named, quit_request, release_request, repair_request, request_of, retry_of, zone_request};
+ghost use Rattle.sipl_lines.specs.ScriptLines.{as_in_session};
+ghost use Rattle.sipl_lines.specs.ScriptMeaning.{meaning_of_line};
 
 use crate::draws_field::read_draws;
 use crate::script_line::ScriptLine;
-use sipl_choice::Transport;
-use sipl_records::{next_field, read_number, trim_start};
+use sipl_choice::{Endpoint, Transport};
+use sipl_records::{Address, AddressFault, next_field, read_number, trim_start};
 use sipl_srv::{Draws, DrawsFault};
 use sipl_tx::Kind;
 
@@ -41,9 +45,9 @@ pub(crate) enum Command<'a> {
     // `repair`: looks up again what edits have changed.
     Repair,
     // `hold TRANSPORT ADDRESS PORT MS`: holds an endpoint for some milliseconds.
-    Hold(Transport, &'a [u8], u16, u64),
+    Hold(Result<Endpoint, AddressFault>, u64),
     // `release TRANSPORT ADDRESS PORT`: ends an endpoint's hold.
-    Release(Transport, &'a [u8], u16),
+    Release(Result<Endpoint, AddressFault>),
     // `clock MS`: sets the time, in milliseconds.
     Clock(u64),
     // `call invite|other BASE URI DRAWS`: opens a call to the targets of a URI. Its branches share
@@ -73,6 +77,24 @@ pub(crate) fn read_command(line: &[u8]) -> Command<'_>
     match read_fields(word, rest) {
         Some(command) => command,
         None => Command::Unknown,
+    }
+}
+
+// What a line of a session asks for in a script: a command that scripts do not have is unknown.
+pub(crate) fn read_shared_line(line: &[u8]) -> ScriptLine<'_>
+    ensures { meaning_of_line result ≡ as_in_session (request_of line.now) }
+{
+    match read_command(line) {
+        Command::Nothing => ScriptLine::Nothing,
+        Command::TooLong => ScriptLine::TooLong,
+        Command::Zone(apex, lines) => ScriptLine::Zone(apex, lines),
+        Command::Drop(apex) => ScriptLine::Drop(apex),
+        Command::Add(record) => ScriptLine::Add(record),
+        Command::Del(record) => ScriptLine::Del(record),
+        Command::Hold(endpoint, ms) => ScriptLine::Hold(endpoint, ms),
+        Command::Release(endpoint) => ScriptLine::Release(endpoint),
+        Command::Clock(to) => ScriptLine::Clock(to),
+        _ => ScriptLine::Unknown,
     }
 }
 
@@ -183,10 +205,8 @@ fn read_hold(rest: &[u8]) -> Option<Command<'_>>
     if next_field(rest).is_some() {
         return None;
     }
-    let transport = Transport::from_name(transport)?;
-    let port = read_number(port, u64::from(u16::MAX))?;
-    let ms = read_number(ms, u64::MAX)?;
-    Some(Command::Hold(transport, address, port as u16, ms))
+    let endpoint = read_endpoint(transport, address, port)?;
+    Some(Command::Hold(endpoint, read_number(ms, u64::MAX)?))
 }
 
 // `release TRANSPORT ADDRESS PORT`.
@@ -199,9 +219,7 @@ fn read_release(rest: &[u8]) -> Option<Command<'_>>
     if next_field(rest).is_some() {
         return None;
     }
-    let transport = Transport::from_name(transport)?;
-    let port = read_number(port, u64::from(u16::MAX))?;
-    Some(Command::Release(transport, address, port as u16))
+    Some(Command::Release(read_endpoint(transport, address, port)?))
 }
 
 // `clock MS`.
@@ -258,6 +276,29 @@ fn read_quit(rest: &[u8]) -> Option<Command<'_>>
         return None;
     }
     Some(Command::Quit)
+}
+
+// The endpoint of these fields, or the fault of its address, if the transport is one and the port a
+// number of 16 bits.
+fn read_endpoint(
+    transport: &[u8],
+    address: &[u8],
+    port: &[u8],
+) -> Option<Result<Endpoint, AddressFault>>
+    ensures { result ≡ endpoint_of (transport_named transport.now) address.now
+        (number_of port.now 65535) }
+{
+    let transport = Transport::from_name(transport)?;
+    let port = read_number(port, u64::from(u16::MAX))? as u16;
+    let address = match Address::from_text(address) {
+        Ok(address) => address,
+        Err(fault) => return Some(Err(fault)),
+    };
+    Some(Ok(Endpoint {
+        transport,
+        address,
+        port,
+    }))
 }
 
 // The kind of a request by its word.

@@ -4,9 +4,8 @@ ghost use Rattle.sipl_masterfile.specs.RecordText.{record_of};
 ghost use Rattle.sipl_masterfile.specs.Zones.{zone_of};
 ghost use Rattle.sipl_names.specs.NameFault.{IfInvalid};
 ghost use Rattle.sipl_names.specs.NameText.{name_of};
-ghost use Rattle.sipl_records.specs.Addresses.{address_of};
 ghost use Rattle.sipl_uri.specs.Uris.{question_of};
-ghost use Rattle.sipl_lines.specs.Commands.{AnswersUri, Edits, EditsRecord, Holds, ListsUri, Loads, Releases, Repairs, Unloads, handed_text, result_text};
+ghost use Rattle.sipl_lines.specs.Commands.{AnswersUri, ChangesHold, Edits, EditsRecord, ListsUri, Loads, Repairs, Unloads, handed_text, result_text};
 ghost use Rattle.sipl_lines.specs.ReplyText.{counts_line, evidence_text, refusal_line};
 ghost use Rattle.sipl_lines.specs.Session.{AppendsText, Replies};
 
@@ -14,11 +13,11 @@ use crate::desk::Desk;
 use crate::gather::ZoneLines;
 use crate::reply::{write_answer, write_counts, write_evidence, write_refusal, write_text_fault};
 use sipl_book::{BookFault, Edit, Handed};
-use sipl_choice::{Endpoint, Transport};
+use sipl_choice::Endpoint;
 use sipl_evidence::Evidence;
 use sipl_masterfile::{ZoneFault, read_record, read_zone};
 use sipl_names::{Name, NameFault};
-use sipl_records::{Address, Record};
+use sipl_records::{AddressFault, Record};
 use sipl_srv::{Draws, DrawsFault};
 use sipl_uri::{Question, Uri, UriFault};
 use std::alloc::{AllocError, Global};
@@ -218,55 +217,34 @@ pub(crate) fn repair<D: Desk>(alloc: Global, desk: &mut D, out: &mut Vec<u8>)
     }
 }
 
-// `hold TRANSPORT ADDRESS PORT MS`: holds an endpoint, and appends the reply.
-pub(crate) fn hold<D: Desk>(
-    desk: &mut D,
-    transport: Transport,
-    address: &[u8],
-    port: u16,
-    ms: u64,
-    out: &mut Vec<u8>,
-)
-    requires space { vec_len out.old + MAX_SHORT_REPLY_LEN ≤ vec_capacity out.old }
-    ensures done { AppendsText (Holds D.rules transport (address_of address.now) port ms)
-        desk.old out.old.items desk.new out.new.items }
-    ensures capacity { vec_capacity out.old ≤ vec_capacity out.new }
-{
-    let address = match Address::from_text(address) {
-        Ok(address) => address,
-        Err(fault) => return write_refusal(out, fault.code()).unwrap(),
-    };
-    let endpoint = Endpoint {
-        transport,
-        address,
-        port,
-    };
-    reply_moved(desk.hold(&endpoint, ms), b"ok hold", &[], out);
+// A change of an endpoint's hold: it is held for so many milliseconds, or its hold ends.
+#[derive(Clone, Copy)]
+pub(crate) enum HoldChange {
+    Hold(u64),
+    Release,
 }
 
-// `release TRANSPORT ADDRESS PORT`: ends the hold of an endpoint, and appends the reply.
-pub(crate) fn release<D: Desk>(
+// `hold TRANSPORT ADDRESS PORT MS` or `release TRANSPORT ADDRESS PORT`: holds an endpoint or ends its
+// hold, and appends the reply.
+pub(crate) fn change_hold<D: Desk>(
     desk: &mut D,
-    transport: Transport,
-    address: &[u8],
-    port: u16,
+    change: HoldChange,
+    endpoint: &Result<Endpoint, AddressFault>,
     out: &mut Vec<u8>,
 )
     requires space { vec_len out.old + MAX_SHORT_REPLY_LEN ≤ vec_capacity out.old }
-    ensures done { AppendsText (Releases D.rules transport (address_of address.now) port)
+    ensures done { AppendsText (ChangesHold D.rules change endpoint.now)
         desk.old out.old.items desk.new out.new.items }
     ensures capacity { vec_capacity out.old ≤ vec_capacity out.new }
 {
-    let address = match Address::from_text(address) {
-        Ok(address) => address,
+    let endpoint = match endpoint {
+        Ok(endpoint) => endpoint,
         Err(fault) => return write_refusal(out, fault.code()).unwrap(),
     };
-    let endpoint = Endpoint {
-        transport,
-        address,
-        port,
-    };
-    reply_moved(desk.release(&endpoint), b"ok release", &[], out);
+    match change {
+        HoldChange::Hold(ms) => reply_moved(desk.hold(endpoint, ms), b"ok hold", &[], out),
+        HoldChange::Release => reply_moved(desk.release(endpoint), b"ok release", &[], out),
+    }
 }
 
 // Appends the reply to a hold, a release or a move of the clock: words and numbers, or its fault.

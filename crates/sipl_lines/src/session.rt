@@ -9,8 +9,8 @@ use crate::calls::{hear_failure, hear_response, open_call, set_clock};
 use crate::command::{Command, read_command};
 use crate::desk::Desk;
 use crate::desk_commands::{
-    MAX_SHORT_REPLY_LEN, RecordEdit, edit_record, find, hold, list_evidence, load_zone, release,
-    repair, unload_zone,
+    HoldChange, MAX_SHORT_REPLY_LEN, RecordEdit, change_hold, edit_record, find, list_evidence,
+    load_zone, repair, unload_zone,
 };
 use crate::gather::{Gathered, Gathering};
 use crate::reply::write_refusal;
@@ -155,12 +155,12 @@ impl Session {
                 repair(alloc, desk, out);
                 Ok(())
             }
-            Command::Hold(transport, address, port, ms) => {
-                hold(desk, *transport, address, *port, *ms, out);
+            Command::Hold(endpoint, ms) => {
+                change_hold(desk, HoldChange::Hold(*ms), endpoint, out);
                 Ok(())
             }
-            Command::Release(transport, address, port) => {
-                release(desk, *transport, address, *port, out);
+            Command::Release(endpoint) => {
+                change_hold(desk, HoldChange::Release, endpoint, out);
                 Ok(())
             }
             Command::Clock(to) => {
