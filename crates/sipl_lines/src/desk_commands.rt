@@ -38,7 +38,7 @@ pub(crate) fn load_zone<D: Desk>(
     out: &mut Vec<u8>,
 ) -> Result<(), AllocError>
     requires space { vec_len out.old + MAX_SHORT_REPLY_LEN ≤ vec_capacity out.old }
-    ensures { Replies (Loads D.rules (zone_of zone.now.text zone.now.apex))
+    ensures { Replies (Loads D.rules (zone_of zone.text zone.apex))
         desk.old out.old result desk.new out.new }
 {
     let read = read_zone(alloc, zone.text(), zone.apex());
