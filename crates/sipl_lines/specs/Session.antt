@@ -77,7 +77,7 @@ MayFail (call kind base uri draws) = Unit {0}
 MayFail _ = ⊥
 
 -- `zone APEX COUNT`, once its lines are taken: the first of these that applies is reported
-abbrev pub LoadsGathered : {D : Type 0} → DeskRules D → Gathered → D → Octets → D → Type 0
+abbrev pub LoadsGathered : {D F : Type 0} → DeskRules D F → Gathered → D → Octets → D → Type 0
 LoadsGathered rules Lost before text after = Fails before text after
 LoadsGathered rules LongLine before text after = Refuses (codes "K2") before text after
 LoadsGathered rules (BadApex fault) before text after = Refuses (name_code fault) before text after
@@ -85,14 +85,14 @@ LoadsGathered rules (Lines lines) before text after =
     Loads rules (zone_of lines.text lines.apex) before text after
 
 -- while lines are left to be taken there is no reply; it comes with the last of them
-abbrev pub Gathers : {D : Type 0} → DeskRules D → Gathering → SessionState D → Octets → SessionState D → Type 0
+abbrev pub Gathers : {D F : Type 0} → DeskRules D F → Gathering → SessionState D → Octets → SessionState D → Type 0
 Gathers rules gathering before text after =
     OnTrue (gathering.left == 0)
     (AtDesk (LoadsGathered rules gathering.gathered) (with_gathering None before) text after)
     × OnFalse (gathering.left == 0) (Keeps [] (with_gathering (Some gathering) before) text after)
 
 -- lines are taken; where an allocation fails they are lost
-abbrev pub GathersOrLoses : {D : Type 0} → DeskRules D → Gathering → SessionState D → Octets → SessionState D → Type 0
+abbrev pub GathersOrLoses : {D F : Type 0} → DeskRules D F → Gathering → SessionState D → Octets → SessionState D → Type 0
 GathersOrLoses rules gathering before text after =
     Gathers rules gathering before text after
     ⊎ (IsTrue (keeps_lines gathering.gathered) × Gathers rules (lost gathering.left) before text after)
@@ -103,7 +103,7 @@ Commands Acts before text after =
     AtDesk Acts before text after ⊎ Fails before text after
 
 -- what a request does. Names and records are relative to the root
-abbrev pub Obeys : {D : Type 0} → DeskRules D → Request → SessionState D → Octets → SessionState D → Type 0
+abbrev pub Obeys : {D F : Type 0} → DeskRules D F → Request → SessionState D → Octets → SessionState D → Type 0
 Obeys rules nothing before text after = Keeps [] before text after
 Obeys rules unknown before text after = Refuses (codes "K1") before text after
 Obeys rules too_long before text after = Refuses (codes "K2") before text after
@@ -136,33 +136,33 @@ Obeys rules quit before text after =
     (text ≡ codes "ok quit\n") × (after ≡ record before { ended = true })
 
 -- what a line does: it is a command, or one of the lines that a zone takes
-abbrev pub TakesLine : {D : Type 0} → DeskRules D → Option Gathering → Octets → SessionState D → Octets → SessionState D
+abbrev pub TakesLine : {D F : Type 0} → DeskRules D F → Option Gathering → Octets → SessionState D → Octets → SessionState D
     → Type 0
 TakesLine rules None octets before text after = Obeys rules (request_of octets) before text after
 TakesLine rules (Some gathering) octets before text after =
     GathersOrLoses rules (after_line octets gathering) before text after
 
 -- what the end of the input does: a zone whose lines are being taken has its reply
-abbrev pub TakesEnd : {D : Type 0} → DeskRules D → Option Gathering → SessionState D → Octets → SessionState D → Type 0
+abbrev pub TakesEnd : {D F : Type 0} → DeskRules D F → Option Gathering → SessionState D → Octets → SessionState D → Type 0
 TakesEnd rules None before text after = Keeps [] before text after
 TakesEnd rules (Some gathering) before text after =
     GathersOrLoses rules (at_end gathering) before text after
 
 -- what an item does in a session that has not ended
-abbrev pub TakesItem : {D : Type 0} → DeskRules D → Item → SessionState D → Octets → SessionState D → Type 0
+abbrev pub TakesItem : {D F : Type 0} → DeskRules D F → Item → SessionState D → Octets → SessionState D → Type 0
 TakesItem rules (line octets) before text after =
     TakesLine rules before.gathering octets before text after
 TakesItem rules end_of_input before text after = TakesEnd rules before.gathering before text after
 
 -- which reply an item may have and which state it may leave; once a session has ended there is
 -- none, and nothing changes
-abbrev pub MayReply : {D : Type 0} → DeskRules D → SessionState D → Item → Octets → SessionState D → Type 0
+abbrev pub MayReply : {D F : Type 0} → DeskRules D F → SessionState D → Item → Octets → SessionState D → Type 0
 MayReply rules before item text after =
     OnTrue before.ended (Keeps [] before text after)
     × OnFalse before.ended (TakesItem rules item before text after)
 
 -- the protocol of a session
-abbrev pub session_protocol : {D : Type 0} → DeskRules D → Protocol
+abbrev pub session_protocol : {D F : Type 0} → DeskRules D F → Protocol
 session_protocol {D} rules =
     record { State = SessionState D; MayReply = MayReply rules; has_ended = λ state. state.ended }
 

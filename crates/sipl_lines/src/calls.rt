@@ -49,12 +49,10 @@ pub(crate) fn open_call<D: Desk>(
         return write_refusal(out, "K4");
     }
     match desk.find(alloc, question, draws) {
-        Ok(handed) => {
-            open_to(call, kind, base, desk.now(), handed.answer, out);
-            Ok(())
-        }
-        Err(fault) => write_refusal(out, fault.code()),
+        Ok(handed) => open_to(call, kind, base, desk.now(), handed.answer, out),
+        Err(fault) => D::write_fault(fault, out),
     }
+    Ok(())
 }
 
 // Whether there is a call that has not ended.
@@ -169,7 +167,7 @@ pub(crate) fn set_clock<D: Desk>(
     ensures capacity { vec_capacity out.old ≤ vec_capacity out.new }
 {
     if let Err(fault) = desk.advance(to) {
-        return write_refusal(out, fault.code()).unwrap();
+        return D::write_fault(fault, out);
     }
     match call {
         Some(failover) if !failover.has_ended() => tick(desk, failover, to, out),
@@ -213,7 +211,7 @@ fn report<D: Desk>(
     let steps = steps.as_slice();
     write_steps(out, failover, steps);
     match hold_of(steps) {
-        Some((endpoint, ms)) => reply_moved(desk.hold(&endpoint, ms), words, numbers, out),
+        Some((endpoint, ms)) => reply_moved::<D>(desk.hold(&endpoint, ms), words, numbers, out),
         None => write_counts(out, words, numbers),
     }
 }

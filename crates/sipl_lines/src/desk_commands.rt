@@ -9,10 +9,10 @@ ghost use Rattle.sipl_lines.specs.Commands.{AnswersUri, ChangesHold, Edits, Edit
 ghost use Rattle.sipl_lines.specs.ReplyText.{counts_line, evidence_text, refusal_line};
 ghost use Rattle.sipl_lines.specs.Session.{AppendsText, Replies};
 
-use crate::desk::Desk;
+use crate::desk::{Desk, MAX_REFUSAL_LEN};
 use crate::gather::ZoneLines;
 use crate::reply::{write_answer, write_counts, write_evidence, write_refusal, write_text_fault};
-use sipl_book::{BookFault, Edit, Handed};
+use sipl_book::{Edit, Handed};
 use sipl_choice::Endpoint;
 use sipl_evidence::Evidence;
 use sipl_masterfile::{ZoneFault, read_record, read_zone};
@@ -23,11 +23,9 @@ use sipl_uri::{Question, Uri, UriFault};
 use std::alloc::{AllocError, Global};
 
 // The maximum length of a short reply in octets: the lines of four steps of a call, each of at most
-// 128, and a last line. Space for one is reserved before each command.
-pub(crate) const MAX_SHORT_REPLY_LEN: usize = 640;
-
-// The maximum length in octets of the last line of a short reply.
-pub(crate) const MAX_LAST_LINE_LEN: usize = 128;
+// 128, and a last line, which is no longer than a refusal. Space for one is reserved before each
+// command.
+pub(crate) const MAX_SHORT_REPLY_LEN: usize = 1_552;
 
 // Loads the zone of a text, and appends the reply. The text is dropped as soon as it is read, so that
 // it takes no memory beside the loaded zone.
@@ -54,10 +52,10 @@ pub(crate) fn load_zone<D: Desk>(
         Ok(done) => {
             let [records, outside, repeated] = counts;
             write_counts(out, b"ok zone", &[records, outside, repeated, done.changed]);
-            Ok(())
         }
-        Err(fault) => write_refusal(out, fault.code()),
+        Err(fault) => D::write_fault(fault, out),
     }
+    Ok(())
 }
 
 // `drop APEX`: unloads a zone, and appends the reply.
@@ -119,12 +117,10 @@ fn edit<D: Desk>(
         desk.old out.old result desk.new out.new }
 {
     match desk.change(edit) {
-        Ok(done) => {
-            write_counts(out, words, &[done.changed]);
-            Ok(())
-        }
-        Err(fault) => write_refusal(out, fault.code()),
+        Ok(done) => write_counts(out, words, &[done.changed]),
+        Err(fault) => D::write_fault(fault, out),
     }
+    Ok(())
 }
 
 // `find URI DRAWS`: appends a URI's targets for these random words, or why there are none.
@@ -148,17 +144,15 @@ pub(crate) fn find<D: Desk>(
         Err(fault) => return write_refusal(out, fault.code()),
     };
     match desk.find(alloc, question, draws) {
-        Ok(handed) => {
-            reply_handed(&handed, out);
-            Ok(())
-        }
-        Err(fault) => write_refusal(out, fault.code()),
+        Ok(handed) => reply_handed(&handed, out),
+        Err(fault) => D::write_fault(fault, out),
     }
+    Ok(())
 }
 
 // Appends the reply to a question, or `err Memory` where there is no space for it.
 pub(crate) fn reply_handed(handed: &Handed, out: &mut Vec<u8>)
-    requires space { vec_len out.old + MAX_SHORT_REPLY_LEN ≤ vec_capacity out.old }
+    requires space { vec_len out.old + MAX_REFUSAL_LEN ≤ vec_capacity out.old }
     ensures text { (out.new.items ≡ out.old.items ++ handed_text handed.now)
         ⊎ (out.new.items ≡ out.old.items ++ refusal_line (codes "Memory")) }
     ensures capacity { vec_capacity out.old ≤ vec_capacity out.new }
@@ -184,17 +178,15 @@ pub(crate) fn list_evidence<D: Desk>(
         Err(fault) => return write_refusal(out, fault.code()),
     };
     match desk.deps(alloc, question) {
-        Ok(evidence) => {
-            reply_evidence(&evidence, out);
-            Ok(())
-        }
-        Err(fault) => write_refusal(out, fault.code()),
+        Ok(evidence) => reply_evidence(&evidence, out),
+        Err(fault) => D::write_fault(fault, out),
     }
+    Ok(())
 }
 
 // Appends the record sets of evidence, or `err Memory` where there is no space for them.
 fn reply_evidence(evidence: &Evidence, out: &mut Vec<u8>)
-    requires space { vec_len out.old + MAX_SHORT_REPLY_LEN ≤ vec_capacity out.old }
+    requires space { vec_len out.old + MAX_REFUSAL_LEN ≤ vec_capacity out.old }
     ensures text { (out.new.items ≡ out.old.items ++ evidence_text evidence.now)
         ⊎ (out.new.items ≡ out.old.items ++ refusal_line (codes "Memory")) }
     ensures capacity { vec_capacity out.old ≤ vec_capacity out.new }
@@ -213,7 +205,7 @@ pub(crate) fn repair<D: Desk>(alloc: Global, desk: &mut D, out: &mut Vec<u8>)
 {
     match desk.repair(alloc) {
         Ok(()) => write_counts(out, b"ok repair", &[]),
-        Err(fault) => write_refusal(out, fault.code()).unwrap(),
+        Err(fault) => D::write_fault(fault, out),
     }
 }
 
@@ -242,28 +234,28 @@ pub(crate) fn change_hold<D: Desk>(
         Err(fault) => return write_refusal(out, fault.code()).unwrap(),
     };
     match change {
-        HoldChange::Hold(ms) => reply_moved(desk.hold(endpoint, ms), b"ok hold", &[], out),
-        HoldChange::Release => reply_moved(desk.release(endpoint), b"ok release", &[], out),
+        HoldChange::Hold(ms) => reply_moved::<D>(desk.hold(endpoint, ms), b"ok hold", &[], out),
+        HoldChange::Release => reply_moved::<D>(desk.release(endpoint), b"ok release", &[], out),
     }
 }
 
 // Appends the reply to a hold, a release or a move of the clock: words and numbers, or its fault.
-pub(crate) fn reply_moved(
-    outcome: Result<u64, BookFault>,
+pub(crate) fn reply_moved<D: Desk>(
+    outcome: Result<u64, D::Fault>,
     words: &[u8],
     numbers: &[u64],
     out: &mut Vec<u8>,
 )
-    requires space { vec_len out.old + MAX_LAST_LINE_LEN ≤ vec_capacity out.old }
+    requires space { vec_len out.old + MAX_REFUSAL_LEN ≤ vec_capacity out.old }
     requires words { length words.now ≤ 10 }
     requires numbers { length numbers.now ≤ 1 }
     ensures done { out.new.items ≡ out.old.items
-        ++ result_text (λ number. counts_line words.now numbers.now) outcome }
+        ++ result_text D.rules (λ number. counts_line words.now numbers.now) outcome }
     ensures capacity { vec_capacity out.old ≤ vec_capacity out.new }
 {
     match outcome {
         Ok(_) => write_counts(out, words, numbers),
-        Err(fault) => write_refusal(out, fault.code()).unwrap(),
+        Err(fault) => D::write_fault(fault, out),
     }
 }
 
