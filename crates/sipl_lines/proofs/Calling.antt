@@ -11,7 +11,6 @@ use Rattle.sipl_failover.specs.declared.fault.FailoverFault.{FailoverFault}
 use Rattle.sipl_failover.specs.declared.step.Step.{Step}
 use Rattle.sipl_failover.specs.declared.step.Step.TheVariants.{Send}
 use Rattle.sipl_tx.specs.declared.parts.Kind.{Kind}
-use Rattle.sipl_book.specs.declared.fault.BookFault.{BookFault}
 use Rattle.sipl_lines.specs.Commands.{result_text}
 use Rattle.sipl_lines.specs.Calls.{CallDesk, GoesOn, Hears, MakesHold, OpensOver, Reports, hold_in, steps_text, with_call}
 use Rattle.sipl_lines.specs.Desk.{DeskRules}
@@ -25,7 +24,7 @@ pub at_call : {D : Type 0} (Acts : CallDesk D → Octets → CallDesk D → Type
     → AppendsText (AtCall Acts) (at_desk before session) old (at_desk after (record session { call = call })) new
 at_call Acts before after session call old new done = (done.0, (done.1, refl), done.2)
 
-module _ {D : Type 0} (rules : DeskRules D) (reply : Octets) where
+module _ {D F : Type 0} (rules : DeskRules D F) (reply : Octets) where
   -- steps among which there is no hold
   pub reported : (run : FailoverRun) (steps : List Step) (desk : D) (old between new : Octets)
       → hold_in steps ≡ None → between ≡ old ++ steps_text run steps → new ≡ between ++ reply
@@ -38,13 +37,13 @@ module _ {D : Type 0} (rules : DeskRules D) (reply : Octets) where
       )
 
   -- steps with a hold, and what the desk did
-  pub reported_hold : (run : FailoverRun) (steps : List Step) (hold : Endpoint × ℕ) (outcome : Result ℕ BookFault) (before after : D) (old between new : Octets)
+  pub reported_hold : (run : FailoverRun) (steps : List Step) (hold : Endpoint × ℕ) (outcome : Result ℕ F) (before after : D) (old between new : Octets)
       → hold_in steps ≡ Some hold → rules.Moves (HoldFor hold.0 hold.1) before outcome after
-      → between ≡ old ++ steps_text run steps → new ≡ between ++ result_text (λ number. reply) outcome
+      → between ≡ old ++ steps_text run steps → new ≡ between ++ result_text rules (λ number. reply) outcome
       → AppendsText (Reports rules reply run steps) before old after new
   reported_hold run steps hold outcome before after old between new some moves written last =
       let text = steps_text run steps in
-      let end = result_text (λ number. reply) outcome in (
+      let end = result_text rules (λ number. reply) outcome in (
         text ++ end,
         (end, subst (λ h. MakesHold rules reply h before end after) (sym some) (outcome, moves, refl), refl),
         last ∙ ap (λ (l : Octets). l ++ end) written ∙ append_assoc old text end,

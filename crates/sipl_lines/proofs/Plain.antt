@@ -160,4 +160,4 @@ repairs old (Ok done) new is = inl (refl, ap plain_of is.renewed.others)
 repairs old (Err e) new is = inr (ap Err is.failed, ap plain_of is.renewed.others)
 
 pub book_implies_plain : Implies plain_of book_rules plain_rules
-book_implies_plain = record { finds = finds; changes = changes; moves = moves; depends = depends; repairs = repairs; time = λ book. refl }
+book_implies_plain = record { finds = finds; changes = changes; moves = moves; depends = depends; repairs = repairs; time = λ book now is. is; fault = λ fault. refl }

@@ -1,25 +1,23 @@
 -- A session at a desk whose states are seen as those of another desk: where each rule of the one
 -- implies that of the other, the same text is that of a session at the other.
-use Rattle.std.proofs.Common.{◌≡◌, ℕ, List, [], ◌∷◌, Bool, true, false, Option, None, Some, Result, Ok, Err, OnOk, OnErr, ◌==◌, ◌++◌, ap, subst, inl, inr, codes}
+use Rattle.std.proofs.Common.{◌≡◌, ℕ, List, [], ◌∷◌, Bool, true, false, Option, None, Some, Result, Ok, Err, OnOk, OnErr, ◌==◌, ◌++◌, ap, ◌∙◌, inl, inr, codes}
 use Rattle.std.specs.Bool.{OnTrue, OnFalse}
 use Rattle.sipl_names.specs.Labels.{Octets, Labels}
 use Rattle.sipl_names.specs.NameText.{name_of}
 use Rattle.sipl_names.specs.declared.fault.InvalidName.{InvalidName}
-use Rattle.sipl_records.specs.Addresses.{address_of}
-use Rattle.sipl_records.specs.declared.address.Address.{Address}
+use Rattle.sipl_records.specs.declared.fault.AddressFault.{AddressFault}
 use Rattle.sipl_records.specs.declared.record.Record.{Record}
 use Rattle.sipl_masterfile.specs.Zones.{Zone, zone_of}
 use Rattle.sipl_masterfile.specs.RecordText.{record_of}
 use Rattle.sipl_masterfile.specs.declared.fault.ZoneFault.{ZoneFault}
 use Rattle.sipl_choice.specs.declared.endpoint.Endpoint.{Endpoint}
-use Rattle.sipl_choice.specs.declared.transport.Transport.{Transport}
 use Rattle.sipl_srv.specs.declared.fault.DrawsFault.{DrawsFault}
 use Rattle.sipl_uri.specs.Uris.{question_of}
 use Rattle.sipl_uri.specs.declared.fault.UriFault.{UriFault}
 use Rattle.sipl_uri.specs.declared.question.Question.{Question}
 use Rattle.sipl_evidence.specs.Items.{Item as Evidence}
 use Rattle.sipl_outages.specs.Holds.{BoardEvent}
-use Rattle.sipl_outages.specs.Holds.BoardEvent.{Hold, Release, Advance}
+use Rattle.sipl_outages.specs.Holds.BoardEvent.{Hold, Advance}
 use Rattle.sipl_tx.specs.declared.parts.Kind.{Kind}
 use Rattle.sipl_failover.specs.FailoverRun.{FailoverRun, Event, has_ended}
 use Rattle.sipl_failover.specs.FailoverRun.Event.{Received, Ticked, TransportFailed}
@@ -27,9 +25,10 @@ use Rattle.sipl_failover.specs.Rules.{after as after_event, refusal_of}
 use Rattle.sipl_failover.specs.declared.fault.FailoverFault.{FailoverFault}
 use Rattle.sipl_book.specs.declared.edit.Edit.{Edit}
 use Rattle.sipl_book.specs.declared.edit.Edit.TheVariants.{Load, Unload}
-use Rattle.sipl_book.specs.declared.fault.BookFault.{BookFault}
 use Rattle.sipl_book.specs.declared.outcome.Done.{Done}
 use Rattle.sipl_book.specs.declared.outcome.Handed.{Handed}
+use Rattle.sipl_lines.specs.declared.desk_commands.HoldChange.{HoldChange}
+use Rattle.sipl_lines.specs.declared.desk_commands.HoldChange.TheVariants as change
 use Rattle.sipl_lines.specs.declared.desk_commands.RecordEdit.{RecordEdit}
 use Rattle.sipl_lines.specs.declared.desk_commands.RecordEdit.TheVariants.{Add as AddRecord, Remove as RemoveRecord}
 use Rattle.sipl_lines.specs.declared.gather.Gathered.{Gathered}
@@ -40,32 +39,34 @@ use Rattle.sipl_lines.specs.declared.server.ServeFault.{ServeFault}
 use Rattle.sipl_lines.specs.declared.server.ServeFault.TheVariants.{Read, Write, TooManyTurns, Memory}
 use Rattle.sipl_lines.specs.declared.tapped.Tapped.{Tapped}
 use Rattle.sipl_lines.specs.Tapped.{tapped_inner}
-use Rattle.sipl_lines.specs.Commands.{Keeps, Loads, Unloads, EditsRecord, record_edit, AnswersUri, ListsUri, Repairs, MovesTo, Holds, Releases}
-use Rattle.sipl_lines.specs.Calls.{CallDesk, with_call, hold_in, MakesHold, GoesOn, Hears, HearsOf, Ticks, TellsTime, SetsClock, Opens, OpensFor, is_open, CallsUnlessOpen, CallsUri}
+use Rattle.sipl_lines.specs.Commands.{Keeps, Loads, Unloads, EditsRecord, record_edit, AnswersUri, ListsUri, Repairs, MovesTo, ChangesHold, change_words, change_event, result_text}
+use Rattle.sipl_lines.specs.Calls.{CallDesk, with_call, hold_in, MakesHold, GoesOn, Hears, HearsOf, Ticks, TellsTime, SetsClock, OpensFor, is_open, CallsUnlessOpen, CallsUri}
 use Rattle.sipl_lines.specs.Desk.{DeskRules}
 use Rattle.sipl_lines.specs.Gathering.{gathering_of, after_line, at_end, lost}
 use Rattle.sipl_lines.specs.Items.{Item, line, end_of_input, items_of, complete_items}
 use Rattle.sipl_lines.specs.Replies.{Serves}
-use Rattle.sipl_lines.specs.ReplyText.{counts_line}
+use Rattle.sipl_lines.specs.ReplyText.{counts_line, refusal_line}
 use Rattle.sipl_lines.specs.Requests.{Request, nothing, unknown, too_long, zone, drop, add, del, find, deps, repair, hold, release, clock, call, got, broke, quit, request_of}
 use Rattle.sipl_lines.specs.Serving.{ServesWithin, ServesDesk}
 use Rattle.sipl_lines.specs.ServeFault.{OnReadFault, OnTooManyTurns}
 use Rattle.sipl_lines.specs.Session.{SessionState, with_gathering, AtCall, AtDesk, Commands, Gathers, GathersOrLoses, LoadsGathered, MayReply, Obeys, TakesEnd, TakesItem, TakesLine, new_session, session_protocol}
 use Rattle.sipl_lines.specs.Streams.{ServesAll, ServesPrefix, ServesRead}
 
--- each rule of a desk implies that of another, where the states are seen so
-pub record Implies {D E : Type 0} (seen : D → E) (R : DeskRules D) (R' : DeskRules E) : Type 0 where
-  pub finds : (question : Question) (words : List ℕ) (before : D) (outcome : Result Handed BookFault) (after : D)
+-- each rule of a desk implies that of another, where the states are seen so, and the faults have the
+-- same texts
+pub record Implies {D E F : Type 0} (seen : D → E) (R : DeskRules D F) (R' : DeskRules E F) : Type 0 where
+  pub finds : (question : Question) (words : List ℕ) (before : D) (outcome : Result Handed F) (after : D)
       → R.Finds question words before outcome after → R'.Finds question words (seen before) outcome (seen after)
-  pub changes : (edit : Edit) (before : D) (outcome : Result Done BookFault) (after : D)
+  pub changes : (edit : Edit) (before : D) (outcome : Result Done F) (after : D)
       → R.Changes edit before outcome after → R'.Changes edit (seen before) outcome (seen after)
-  pub moves : (event : BoardEvent) (before : D) (outcome : Result ℕ BookFault) (after : D)
+  pub moves : (event : BoardEvent) (before : D) (outcome : Result ℕ F) (after : D)
       → R.Moves event before outcome after → R'.Moves event (seen before) outcome (seen after)
-  pub depends : (question : Question) (before : D) (outcome : Result (List Evidence) BookFault) (after : D)
+  pub depends : (question : Question) (before : D) (outcome : Result (List Evidence) F) (after : D)
       → R.Depends question before outcome after → R'.Depends question (seen before) outcome (seen after)
-  pub repairs : (before : D) (outcome : Result (Unit {0}) BookFault) (after : D)
+  pub repairs : (before : D) (outcome : Result (Unit {0}) F) (after : D)
       → R.Repairs before outcome after → R'.Repairs (seen before) outcome (seen after)
-  pub time : (state : D) → R.time state ≡ R'.time (seen state)
+  pub time : (state : D) (now : ℕ) → R.IsTime state now → R'.IsTime (seen state) now
+  pub fault : (fault : F) → R.fault_text fault ≡ R'.fault_text fault
 
 -- what is done in a state, with this text, is done in the state that is seen
 abbrev Carries : {D E : Type 0} → (D → E) → (D → Octets → D → Type 0) → (E → Octets → E → Type 0) → Type 0
@@ -129,47 +130,47 @@ on_too_many_turns (Err Write) weaker fact = tt
 on_too_many_turns (Err TooManyTurns) weaker fact = weaker fact
 on_too_many_turns (Err Memory) weaker fact = tt
 
-module _ {D E : Type 0} (seen : D → E) (R : DeskRules D) (R' : DeskRules E) (implies : Implies seen R R') where
+module _ {D E F : Type 0} (seen : D → E) (R : DeskRules D F) (R' : DeskRules E F) (implies : Implies seen R R') where
   -- ---- what a command asks of the desk
+
+  -- the reply to what the desk did
+  told : {A : Type 0} (reply_of : A → Octets) (outcome : Result A F) (text : Octets) → text ≡ result_text R reply_of outcome → text ≡ result_text R' reply_of outcome
+  told reply_of (Ok value) text is = is
+  told reply_of (Err fault) text is = is ∙ ap refusal_line (implies.fault fault)
 
   loads : (read : Result Zone ZoneFault) → Carries seen (Loads R read) (Loads R' read)
   loads (Err fault) before text after kept = (kept.0, ap seen kept.1)
-  loads (Ok loaded) before text after done = (done.0, implies.changes (Load loaded) before done.0 after done.1, done.2)
+  loads (Ok loaded) before text after done = (done.0, implies.changes (Load loaded) before done.0 after done.1, told _ done.0 text done.2)
 
   unloads : (name : Result Labels InvalidName) → Carries seen (Unloads R name) (Unloads R' name)
   unloads (Err fault) before text after kept = (kept.0, ap seen kept.1)
-  unloads (Ok apex) before text after done = (done.0, implies.changes (Unload apex) before done.0 after done.1, done.2)
+  unloads (Ok apex) before text after done = (done.0, implies.changes (Unload apex) before done.0 after done.1, told _ done.0 text done.2)
 
   edits_record : (kind : RecordEdit) (r : Result Record ZoneFault) → Carries seen (EditsRecord R kind r) (EditsRecord R' kind r)
   edits_record kind (Err fault) before text after kept = (kept.0, ap seen kept.1)
-  edits_record kind (Ok r) before text after done = (done.0, implies.changes (record_edit kind r) before done.0 after done.1, done.2)
+  edits_record kind (Ok r) before text after done = (done.0, implies.changes (record_edit kind r) before done.0 after done.1, told _ done.0 text done.2)
 
   answers_uri : (asked : Result Question UriFault) (draws : Result (List ℕ) DrawsFault) → Carries seen (AnswersUri R asked draws) (AnswersUri R' asked draws)
   answers_uri (Err fault) draws before text after kept = (kept.0, ap seen kept.1)
   answers_uri (Ok question) (Err fault) before text after kept = (kept.0, ap seen kept.1)
-  answers_uri (Ok question) (Ok words) before text after (inl done) = inl (done.0, implies.finds question words before done.0 after done.1, done.2)
-  answers_uri (Ok question) (Ok words) before text after (inr done) = inr (done.0, implies.finds question words before done.0 after done.1, done.2)
+  answers_uri (Ok question) (Ok words) before text after (inl done) = inl (done.0, implies.finds question words before done.0 after done.1, told _ done.0 text done.2)
+  answers_uri (Ok question) (Ok words) before text after (inr done) = inr (done.0, implies.finds question words before done.0 after done.1, told _ done.0 text done.2)
 
   lists_uri : (asked : Result Question UriFault) → Carries seen (ListsUri R asked) (ListsUri R' asked)
   lists_uri (Err fault) before text after kept = (kept.0, ap seen kept.1)
-  lists_uri (Ok question) before text after (inl done) = inl (done.0, implies.depends question before done.0 after done.1, done.2)
-  lists_uri (Ok question) before text after (inr done) = inr (done.0, implies.depends question before done.0 after done.1, done.2)
+  lists_uri (Ok question) before text after (inl done) = inl (done.0, implies.depends question before done.0 after done.1, told _ done.0 text done.2)
+  lists_uri (Ok question) before text after (inr done) = inr (done.0, implies.depends question before done.0 after done.1, told _ done.0 text done.2)
 
   repairs : Carries seen (Repairs R) (Repairs R')
-  repairs before text after done = (done.0, implies.repairs before done.0 after done.1, done.2)
+  repairs before text after done = (done.0, implies.repairs before done.0 after done.1, told _ done.0 text done.2)
 
   moves_to : (reply : Octets) (event : BoardEvent) → Carries seen (MovesTo R reply event) (MovesTo R' reply event)
-  moves_to reply event before text after done = (done.0, implies.moves event before done.0 after done.1, done.2)
+  moves_to reply event before text after done = (done.0, implies.moves event before done.0 after done.1, told _ done.0 text done.2)
 
-  holds : (transport : Transport) (address : Option Address) (port ms : ℕ) → Carries seen (Holds R transport address port ms) (Holds R' transport address port ms)
-  holds transport None port ms before text after kept = (kept.0, ap seen kept.1)
-  holds transport (Some address) port ms before text after done =
-      moves_to (counts_line (codes "ok hold") []) (Hold (record { transport = transport; address = address; port = port }) ms) before text after done
-
-  releases : (transport : Transport) (address : Option Address) (port : ℕ) → Carries seen (Releases R transport address port) (Releases R' transport address port)
-  releases transport None port before text after kept = (kept.0, ap seen kept.1)
-  releases transport (Some address) port before text after done =
-      moves_to (counts_line (codes "ok release") []) (Release (record { transport = transport; address = address; port = port })) before text after done
+  changes_hold : (change : HoldChange) (endpoint : Result Endpoint AddressFault) → Carries seen (ChangesHold R change endpoint) (ChangesHold R' change endpoint)
+  changes_hold change (Err fault) before text after kept = (kept.0, ap seen kept.1)
+  changes_hold change (Ok endpoint) before text after done =
+      moves_to (counts_line (change_words change) []) (change_event change endpoint) before text after done
 
   loads_gathered : (gathered : Gathered) → Carries seen (LoadsGathered R gathered) (LoadsGathered R' gathered)
   loads_gathered Lost before text after kept = (kept.0, ap seen kept.1)
@@ -203,19 +204,18 @@ module _ {D E : Type 0} (seen : D → E) (R : DeskRules D) (R' : DeskRules E) (i
     on_false (has_ended run) (λ goes. goes_on reply run (Ticked ms) (refusal_of run (Ticked ms)) before text after goes) done.1,
   )
 
-  tells_time : (ms : ℕ) (outcome : Result ℕ BookFault) → Carries (call_seen seen) (TellsTime R ms outcome) (TellsTime R' ms outcome)
-  tells_time ms (Err fault) before text after kept = (kept.0, ap (call_seen seen) kept.1)
+  tells_time : (ms : ℕ) (outcome : Result ℕ F) → Carries (call_seen seen) (TellsTime R ms outcome) (TellsTime R' ms outcome)
+  tells_time ms (Err fault) before text after kept = (kept.0 ∙ ap refusal_line (implies.fault fault), ap (call_seen seen) kept.1)
   tells_time ms (Ok number) before text after done = ticks (counts_line (codes "ok clock") (ms ∷ [])) ms before.call before text after done
 
   sets_clock : (ms : ℕ) → Carries (call_seen seen) (SetsClock R ms) (SetsClock R' ms)
   sets_clock ms before text after done =
       (done.0, seen done.1, implies.moves (Advance ms) before.desk done.0 done.1 done.2, tells_time ms done.0 (with_call done.1 before.call) text after done.3)
 
-  opens_for : (kind : Kind) (base : ℕ) (outcome : Result Handed BookFault) (earlier : Option FailoverRun) (text : Octets) (after : CallDesk D)
+  opens_for : (kind : Kind) (base : ℕ) (outcome : Result Handed F) (earlier : Option FailoverRun) (text : Octets) (after : CallDesk D)
       → OpensFor R kind base outcome earlier text after → OpensFor R' kind base outcome earlier text (call_seen seen after)
-  opens_for kind base (Err fault) earlier text after kept = kept
-  opens_for kind base (Ok handed) earlier text after opens =
-      subst (λ moment. Opens kind base moment handed.answer earlier text after.call) (implies.time after.desk) opens
+  opens_for kind base (Err fault) earlier text after kept = (kept.0 ∙ ap refusal_line (implies.fault fault), kept.1)
+  opens_for kind base (Ok handed) earlier text after opens = (opens.0, implies.time after.desk opens.0 opens.1, opens.2)
 
   calls_unless_open : (kind : Kind) (base : ℕ) (question : Question) (words : List ℕ)
       → Carries (call_seen seen) (CallsUnlessOpen R kind base question words) (CallsUnlessOpen R' kind base question words)
@@ -260,10 +260,10 @@ module _ {D E : Type 0} (seen : D → E) (R : DeskRules D) (R' : DeskRules E) (i
   obeys (deps uri) before text after done =
       commands seen (ListsUri R (question_of uri)) (ListsUri R' (question_of uri)) (lists_uri (question_of uri)) before text after done
   obeys repair before text after done = on_desk seen (Repairs R) (Repairs R') repairs before text after done
-  obeys (hold transport address port ms) before text after done =
-      on_desk seen (Holds R transport (address_of address) port ms) (Holds R' transport (address_of address) port ms) (holds transport (address_of address) port ms) before text after done
-  obeys (release transport address port) before text after done =
-      on_desk seen (Releases R transport (address_of address) port) (Releases R' transport (address_of address) port) (releases transport (address_of address) port) before text after done
+  obeys (hold endpoint ms) before text after done =
+      on_desk seen (ChangesHold R (change.Hold ms) endpoint) (ChangesHold R' (change.Hold ms) endpoint) (changes_hold (change.Hold ms) endpoint) before text after done
+  obeys (release endpoint) before text after done =
+      on_desk seen (ChangesHold R change.Release endpoint) (ChangesHold R' change.Release endpoint) (changes_hold change.Release endpoint) before text after done
   obeys (clock ms) before text after done = on_call seen (SetsClock R ms) (SetsClock R' ms) (sets_clock ms) before text after done
   obeys (call kind base uri draws) before text after (inl done) =
       inl (on_call seen (CallsUri R kind base (question_of uri) draws) (CallsUri R' kind base (question_of uri) draws) (calls_uri kind base (question_of uri) draws) before text after done)

@@ -4,25 +4,25 @@ use Rattle.std.proofs.Common.{◌≡◌, ◌⊎◌, ℕ, List, ◌++◌, ◌==�
 use Rattle.std.specs.Prelude.{None, Some, Result, Ok, [], IsTrue, codes}
 use Rattle.std.specs.Bool.{OnTrue, OnFalse}
 use Rattle.sipl_names.specs.Labels.{Octets}
-use Rattle.sipl_records.specs.Addresses.{address_of}
-use Rattle.sipl_choice.specs.declared.transport.Transport.{Transport}
+use Rattle.sipl_records.specs.declared.fault.AddressFault.{AddressFault}
+use Rattle.sipl_choice.specs.declared.endpoint.Endpoint.{Endpoint}
 use Rattle.sipl_srv.specs.declared.fault.DrawsFault.{DrawsFault}
 use Rattle.sipl_uri.specs.declared.fault.UriFault.{UriFault}
 use Rattle.sipl_uri.specs.declared.question.Question.{Question}
 use Rattle.sipl_book.specs.declared.outcome.Handed.{Handed}
 use Rattle.sipl_evidence.specs.Items.{Item}
-use Rattle.sipl_book.specs.declared.fault.BookFault.{BookFault}
-use Rattle.sipl_lines.specs.Commands.{Keeps, Holds, Releases, DoesInSpace, AnswersUri, ListsUri, handed_text}
+use Rattle.sipl_lines.specs.Commands.{Keeps, ChangesHold, DoesInSpace, AnswersUri, ListsUri, handed_text}
 use Rattle.sipl_lines.specs.Desk.{DeskRules}
 use Rattle.sipl_lines.specs.ReplyText.{evidence_text, refusal_line}
 use Rattle.sipl_lines.specs.Requests.{hold, release}
 use Rattle.sipl_lines.specs.Gathering.{lost, keeps_lines}
+use Rattle.sipl_lines.specs.declared.desk_commands.HoldChange.TheVariants as change
 use Rattle.sipl_lines.specs.declared.gather.Gathering.{Gathering}
 use Rattle.sipl_lines.specs.declared.gather.Gathered.TheVariants.{Lost}
 use Rattle.sipl_lines.specs.declared.session.Session.{Session}
 use Rattle.sipl_lines.specs.Session.{SessionState, AppendsText, AtDesk, LoadsGathered, GathersOrLoses, Obeys, at_desk, with_gathering}
 
-pub all_lost : {D : Type 0} (rules : DeskRules D) (gathering : Gathering) (before after : SessionState D) (old new : Octets)
+pub all_lost : {D F : Type 0} (rules : DeskRules D F) (gathering : Gathering) (before after : SessionState D) (old new : Octets)
     → (gathering.left == 0) ≡ true → IsTrue (keeps_lines gathering.gathered)
     → new ≡ old ++ refusal_line (codes "Memory") → after ≡ with_gathering None before
     → AppendsText (GathersOrLoses rules gathering) before old after new
@@ -39,21 +39,21 @@ all_lost rules gathering before after old new all kept reply state = (
   reply,
 )
 
-module _ {D : Type 0} (rules : DeskRules D) (before after : D) (old new : Octets) where
-  pub held_at_desk : (session : Session) (transport : Transport) (address : Octets) (port ms : ℕ)
-      → AppendsText (Holds rules transport (address_of address) port ms) before old after new
-      → AppendsText (Obeys rules (hold transport address port ms)) (at_desk before session) old (at_desk after session) new
-  held_at_desk session transport address port ms done = (done.0, (done.1, refl), done.2)
+module _ {D F : Type 0} (rules : DeskRules D F) (before after : D) (old new : Octets) where
+  pub held_at_desk : (session : Session) (endpoint : Result Endpoint AddressFault) (ms : ℕ)
+      → AppendsText (ChangesHold rules (change.Hold ms) endpoint) before old after new
+      → AppendsText (Obeys rules (hold endpoint ms)) (at_desk before session) old (at_desk after session) new
+  held_at_desk session endpoint ms done = (done.0, (done.1, refl), done.2)
 
-  pub released_at_desk : (session : Session) (transport : Transport) (address : Octets) (port : ℕ)
-      → AppendsText (Releases rules transport (address_of address) port) before old after new
-      → AppendsText (Obeys rules (release transport address port)) (at_desk before session) old (at_desk after session) new
-  released_at_desk session transport address port done = (done.0, (done.1, refl), done.2)
+  pub released_at_desk : (session : Session) (endpoint : Result Endpoint AddressFault)
+      → AppendsText (ChangesHold rules change.Release endpoint) before old after new
+      → AppendsText (Obeys rules (release endpoint)) (at_desk before session) old (at_desk after session) new
+  released_at_desk session endpoint done = (done.0, (done.1, refl), done.2)
 
   -- the desk has done its part, and the reply stands, or `err Memory` where there was no space
-  done_in_space : {A : Type 0} (Acts : D → Result A BookFault → D → Type 0) (reply_of : A → Octets) (value : A) → Acts before (Ok value) after
+  done_in_space : {A : Type 0} (Acts : D → Result A F → D → Type 0) (reply_of : A → Octets) (value : A) → Acts before (Ok value) after
       → (new ≡ old ++ reply_of value) ⊎ (new ≡ old ++ refusal_line (codes "Memory"))
-      → AppendsText (DoesInSpace Acts reply_of) before old after new
+      → AppendsText (DoesInSpace rules Acts reply_of) before old after new
   done_in_space Acts reply_of value acts (inl whole) = (reply_of value, inl (Ok value, acts, refl), whole)
   done_in_space Acts reply_of value acts (inr none) = (refusal_line (codes "Memory"), inr (Ok value, acts, refl), none)
 

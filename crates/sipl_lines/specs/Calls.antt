@@ -25,8 +25,6 @@ use Rattle.sipl_failover.specs.declared.fault.FailoverFault.{FailoverFault}
 use Rattle.sipl_failover.specs.declared.fault.FailoverFault.TheVariants.{NoTargets}
 use Rattle.sipl_failover.specs.declared.step.Step.{Step}
 use Rattle.sipl_failover.specs.declared.step.Step.TheVariants.{Send, Resend, Ack, Hold, Deliver, Exhausted}
-use Rattle.sipl_book.specs.BookFault.{code_of as book_code}
-use Rattle.sipl_book.specs.declared.fault.BookFault.{BookFault}
 use Rattle.sipl_book.specs.declared.outcome.Handed.{Handed}
 use Rattle.sipl_lines.specs.Commands.{Keeps, Refuses, MovesTo}
 use Rattle.sipl_lines.specs.Desk.{DeskRules}
@@ -88,21 +86,21 @@ hold_in (_ ∷ steps) = hold_in steps
 
 -- an endpoint is held at the desk, if there is a hold; the last line is the reply, or why the hold
 -- was refused
-abbrev pub MakesHold : {D : Type 0} → DeskRules D → Octets → Option (Endpoint × ℕ) → D → Octets → D
+abbrev pub MakesHold : {D F : Type 0} → DeskRules D F → Octets → Option (Endpoint × ℕ) → D → Octets → D
     → Type 0
 MakesHold rules reply None before text after = Keeps reply before text after
 MakesHold rules reply (Some hold) before text after =
     MovesTo rules reply (HoldFor hold.0 hold.1) before text after
 
 -- the steps of a run are reported, with the hold among them made, and then comes the last line
-abbrev pub Reports : {D : Type 0} → DeskRules D → Octets → FailoverRun → List Step → D → Octets → D
+abbrev pub Reports : {D F : Type 0} → DeskRules D F → Octets → FailoverRun → List Step → D → Octets → D
     → Type 0
 Reports rules reply run steps before text after =
     (last : Octets) × MakesHold rules reply (hold_in steps) before last after
     × (text ≡ steps_text run steps ++ last)
 
 -- an event of a run, which may be refused: else the run goes on, and its steps are reported
-abbrev pub GoesOn : {D : Type 0} → DeskRules D → Octets → FailoverRun → Event → Option FailoverFault
+abbrev pub GoesOn : {D F : Type 0} → DeskRules D F → Octets → FailoverRun → Event → Option FailoverFault
     → CallDesk D → Octets → CallDesk D → Type 0
 GoesOn rules reply run event (Some fault) before text after =
     Refuses (failover_code fault) before text after
@@ -113,20 +111,20 @@ GoesOn rules reply run event None before text after =
 -- ---- the commands
 
 -- an event is reported to a call, which may have ended
-abbrev pub Hears : {D : Type 0} → DeskRules D → Octets → Event → Option FailoverRun → CallDesk D
+abbrev pub Hears : {D F : Type 0} → DeskRules D F → Octets → Event → Option FailoverRun → CallDesk D
     → Octets → CallDesk D → Type 0
 Hears rules reply event None before text after = Refuses (codes "K3") before text after
 Hears rules reply event (Some run) before text after =
     GoesOn rules reply run event (refusal_of run event) before text after
 
 -- `got` and `broke`
-abbrev pub HearsOf : {D : Type 0} → DeskRules D → Octets → Event → CallDesk D → Octets → CallDesk D
+abbrev pub HearsOf : {D F : Type 0} → DeskRules D F → Octets → Event → CallDesk D → Octets → CallDesk D
     → Type 0
 HearsOf rules words event before text after =
     Hears rules (counts_line words []) event before.call before text after
 
 -- a call that has not ended is told the time, before the reply
-abbrev pub Ticks : {D : Type 0} → DeskRules D → Octets → ℕ → Option FailoverRun → CallDesk D → Octets
+abbrev pub Ticks : {D F : Type 0} → DeskRules D F → Octets → ℕ → Option FailoverRun → CallDesk D → Octets
     → CallDesk D → Type 0
 Ticks rules reply ms None before text after = Keeps reply before text after
 Ticks rules reply ms (Some run) before text after =
@@ -135,16 +133,17 @@ Ticks rules reply ms (Some run) before text after =
     (GoesOn rules reply run (Ticked ms) (refusal_of run (Ticked ms)) before text after)
 
 -- once the clock is set a call is told; if that was refused, nothing else happens
-abbrev pub TellsTime : {D : Type 0} → DeskRules D → ℕ → Result ℕ BookFault → CallDesk D → Octets
+abbrev pub TellsTime : {D F : Type 0} → DeskRules D F → ℕ → Result ℕ F → CallDesk D → Octets
     → CallDesk D → Type 0
-TellsTime rules ms (Err fault) before text after = Refuses (book_code fault) before text after
+TellsTime rules ms (Err fault) before text after =
+    Refuses (rules.fault_text fault) before text after
 TellsTime rules ms (Ok number) before text after =
     Ticks rules (counts_line (codes "ok clock") (ms ∷ [])) ms before.call before text after
 
 -- `clock`
-abbrev pub SetsClock : {D : Type 0} → DeskRules D → ℕ → CallDesk D → Octets → CallDesk D → Type 0
-SetsClock {D} rules ms before text after =
-    (outcome : Result ℕ BookFault) × (between : D)
+abbrev pub SetsClock : {D F : Type 0} → DeskRules D F → ℕ → CallDesk D → Octets → CallDesk D → Type 0
+SetsClock {D} {F} rules ms before text after =
+    (outcome : Result ℕ F) × (between : D)
     × rules.Moves (Advance ms) before.desk outcome between
     × TellsTime rules ms outcome (with_call between before.call) text after
 
@@ -164,13 +163,14 @@ Opens kind base moment (NoTarget reason) before text after =
 Opens kind base moment (Targets targets) before text after =
     OpensOver kind base moment targets before text after
 
--- the call that the desk's answer opens at the desk's time
-abbrev pub OpensFor : {D : Type 0} → DeskRules D → Kind → ℕ → Result Handed BookFault
+-- the call that the desk's answer opens at the time that the desk tells
+abbrev pub OpensFor : {D F : Type 0} → DeskRules D F → Kind → ℕ → Result Handed F
     → Option FailoverRun → Octets → CallDesk D → Type 0
 OpensFor rules kind base (Err fault) before text after =
-    Refuses (book_code fault) before text after.call
+    Refuses (rules.fault_text fault) before text after.call
 OpensFor rules kind base (Ok handed) before text after =
-    Opens kind base (rules.time after.desk) handed.answer before text after.call
+    (moment : ℕ) × rules.IsTime after.desk moment
+    × Opens kind base moment handed.answer before text after.call
 
 -- a call was made and has not ended
 abbrev pub is_open : Option FailoverRun → Bool
@@ -178,21 +178,21 @@ is_open None = false
 is_open (Some run) = not (has_ended run)
 
 -- the targets of a question are asked for, and a call to them is opened
-abbrev pub CallsTargets : {D : Type 0} → DeskRules D → Kind → ℕ → Question → List ℕ → CallDesk D
+abbrev pub CallsTargets : {D F : Type 0} → DeskRules D F → Kind → ℕ → Question → List ℕ → CallDesk D
     → Octets → CallDesk D → Type 0
-CallsTargets rules kind base question words before text after =
-    (outcome : Result Handed BookFault) × rules.Finds question words before.desk outcome after.desk
+CallsTargets {D} {F} rules kind base question words before text after =
+    (outcome : Result Handed F) × rules.Finds question words before.desk outcome after.desk
     × OpensFor rules kind base outcome before.call text after
 
 -- a call is opened, unless one is open and has not ended
-abbrev pub CallsUnlessOpen : {D : Type 0} → DeskRules D → Kind → ℕ → Question → List ℕ → CallDesk D
+abbrev pub CallsUnlessOpen : {D F : Type 0} → DeskRules D F → Kind → ℕ → Question → List ℕ → CallDesk D
     → Octets → CallDesk D → Type 0
 CallsUnlessOpen rules kind base question words before text after =
     OnTrue (is_open before.call) (Refuses (codes "K4") before text after)
     × OnFalse (is_open before.call) (CallsTargets rules kind base question words before text after)
 
 -- a call for the words that were given, if they are good
-abbrev pub CallsWith : {D : Type 0} → DeskRules D → Kind → ℕ → Question
+abbrev pub CallsWith : {D F : Type 0} → DeskRules D F → Kind → ℕ → Question
     → Result (List ℕ) DrawsFault → CallDesk D → Octets → CallDesk D → Type 0
 CallsWith rules kind base question (Err fault) before text after =
     Refuses (draws_code fault) before text after
@@ -200,7 +200,7 @@ CallsWith rules kind base question (Ok words) before text after =
     CallsUnlessOpen rules kind base question words before text after
 
 -- `call`: a fault of the URI is reported before that of the words
-abbrev pub CallsUri : {D : Type 0} → DeskRules D → Kind → ℕ → Result Question UriFault
+abbrev pub CallsUri : {D F : Type 0} → DeskRules D F → Kind → ℕ → Result Question UriFault
     → Result (List ℕ) DrawsFault → CallDesk D → Octets → CallDesk D → Type 0
 CallsUri rules kind base (Err fault) draws before text after =
     Refuses (uri_code fault) before text after

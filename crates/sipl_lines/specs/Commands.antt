@@ -3,12 +3,13 @@ use Rattle.std.specs.Prelude.{◌≡◌, ◌⊎◌, ℕ, List, [], ◌∷◌, �
 use Rattle.sipl_names.specs.Labels.{Octets, Labels}
 use Rattle.sipl_names.specs.InvalidName.{code_of as name_code}
 use Rattle.sipl_names.specs.declared.fault.InvalidName.{InvalidName}
-use Rattle.sipl_records.specs.declared.address.Address.{Address}
+use Rattle.sipl_records.specs.AddressFault.{code_of as address_code}
+use Rattle.sipl_records.specs.declared.fault.AddressFault.{AddressFault}
 use Rattle.sipl_records.specs.declared.record.Record.{Record}
 use Rattle.sipl_masterfile.specs.Zones.{Zone}
 use Rattle.sipl_masterfile.specs.ZoneFault.{code_of as zone_code}
 use Rattle.sipl_masterfile.specs.declared.fault.ZoneFault.{ZoneFault}
-use Rattle.sipl_choice.specs.declared.transport.Transport.{Transport}
+use Rattle.sipl_choice.specs.declared.endpoint.Endpoint.{Endpoint}
 use Rattle.sipl_srv.specs.DrawsFault.{code_of as draws_code}
 use Rattle.sipl_srv.specs.declared.fault.DrawsFault.{DrawsFault}
 use Rattle.sipl_uri.specs.declared.fault.UriFault.{UriFault}
@@ -16,12 +17,12 @@ use Rattle.sipl_uri.specs.declared.question.Question.{Question}
 use Rattle.sipl_uri.specs.UriFault.{code_of as uri_code}
 use Rattle.sipl_outages.specs.Holds.{BoardEvent}
 use Rattle.sipl_outages.specs.Holds.BoardEvent.{Hold, Release}
-use Rattle.sipl_book.specs.BookFault.{code_of as book_code}
 use Rattle.sipl_book.specs.declared.edit.Edit.{Edit}
 use Rattle.sipl_book.specs.declared.edit.Edit.TheVariants.{Load, Unload, Add, Remove}
-use Rattle.sipl_book.specs.declared.fault.BookFault.{BookFault}
 use Rattle.sipl_book.specs.declared.outcome.Done.{Done}
 use Rattle.sipl_book.specs.declared.outcome.Handed.{Handed}
+use Rattle.sipl_lines.specs.declared.desk_commands.HoldChange.{HoldChange}
+use Rattle.sipl_lines.specs.declared.desk_commands.HoldChange.TheVariants as change
 use Rattle.sipl_lines.specs.declared.desk_commands.RecordEdit.{RecordEdit}
 use Rattle.sipl_lines.specs.declared.desk_commands.RecordEdit.TheVariants.{Add as AddRecord, Remove as RemoveRecord}
 use Rattle.sipl_lines.specs.Desk.{DeskRules}
@@ -39,23 +40,23 @@ Refuses code before text after = Keeps (refusal_line code) before text after
 abbrev pub Fails : {D : Type 0} → D → Octets → D → Type 0
 Fails before text after = Refuses (codes "Memory") before text after
 
--- the reply to what a desk did: that of its result, or its fault
-abbrev pub result_text : {A : Type 0} → (A → Octets) → Result A BookFault → Octets
-result_text reply_of (Ok value) = reply_of value
-result_text reply_of (Err fault) = refusal_line (book_code fault)
+-- the reply to what a desk did: that of its result, or the text of its fault
+abbrev pub result_text : {D F A : Type 0} → DeskRules D F → (A → Octets) → Result A F → Octets
+result_text rules reply_of (Ok value) = reply_of value
+result_text rules reply_of (Err fault) = refusal_line (rules.fault_text fault)
 
 -- the desk does its part, and the reply is that of how it ended
-abbrev pub Does : {D A : Type 0} → (D → Result A BookFault → D → Type 0) → (A → Octets) → D
+abbrev pub Does : {D F A : Type 0} → DeskRules D F → (D → Result A F → D → Type 0) → (A → Octets) → D
     → Octets → D → Type 0
-Does {D} {A} Acts reply_of before text after =
-    (outcome : Result A BookFault) × Acts before outcome after × (text ≡ result_text reply_of outcome)
+Does {D} {F} {A} rules Acts reply_of before text after =
+    (outcome : Result A F) × Acts before outcome after × (text ≡ result_text rules reply_of outcome)
 
 -- the desk does its part; where there is no space for its reply, this is `err Memory`
-abbrev pub DoesInSpace : {D A : Type 0} → (D → Result A BookFault → D → Type 0) → (A → Octets) → D
-    → Octets → D → Type 0
-DoesInSpace Acts reply_of before text after =
-    Does Acts reply_of before text after
-    ⊎ Does Acts (λ value. refusal_line (codes "Memory")) before text after
+abbrev pub DoesInSpace : {D F A : Type 0} → DeskRules D F → (D → Result A F → D → Type 0)
+    → (A → Octets) → D → Octets → D → Type 0
+DoesInSpace rules Acts reply_of before text after =
+    Does rules Acts reply_of before text after
+    ⊎ Does rules Acts (λ value. refusal_line (codes "Memory")) before text after
 
 -- the reply to an accepted edit: words, counts, and how many sets changed
 abbrev pub changed_text : Octets → List ℕ → Done → Octets
@@ -66,12 +67,12 @@ abbrev pub handed_text : Handed → Octets
 handed_text handed = answer_text handed.answer
 
 -- an edit, and the words and counts of its reply
-abbrev pub Edits : {D : Type 0} → DeskRules D → Octets → List ℕ → Edit → D → Octets → D → Type 0
+abbrev pub Edits : {D F : Type 0} → DeskRules D F → Octets → List ℕ → Edit → D → Octets → D → Type 0
 Edits rules words counts edit before text after =
-    Does (rules.Changes edit) (changed_text words counts) before text after
+    Does rules (rules.Changes edit) (changed_text words counts) before text after
 
 -- a zone's text is loaded; a fault in it is reported with its line
-abbrev pub Loads : {D : Type 0} → DeskRules D → Result Zone ZoneFault → D → Octets → D → Type 0
+abbrev pub Loads : {D F : Type 0} → DeskRules D F → Result Zone ZoneFault → D → Octets → D → Type 0
 Loads rules (Err fault) before text after =
     Keeps (text_fault_line (codes "err zone") fault.line (zone_code fault)) before text after
 Loads rules (Ok zone) before text after =
@@ -79,7 +80,7 @@ Loads rules (Ok zone) before text after =
     (Load zone) before text after
 
 -- the zone of an apex is unloaded
-abbrev pub Unloads : {D : Type 0} → DeskRules D → Result Labels InvalidName → D → Octets → D → Type 0
+abbrev pub Unloads : {D F : Type 0} → DeskRules D F → Result Labels InvalidName → D → Octets → D → Type 0
 Unloads rules (Err fault) before text after = Refuses (name_code fault) before text after
 Unloads rules (Ok apex) before text after = Edits rules (codes "ok drop") [] (Unload apex) before text after
 
@@ -93,7 +94,7 @@ record_edit AddRecord r = Add r
 record_edit RemoveRecord r = Remove r
 
 -- the record of a text is added or removed
-abbrev pub EditsRecord : {D : Type 0} → DeskRules D → RecordEdit → Result Record ZoneFault → D → Octets → D
+abbrev pub EditsRecord : {D F : Type 0} → DeskRules D F → RecordEdit → Result Record ZoneFault → D → Octets → D
     → Type 0
 EditsRecord rules kind (Err fault) before text after = Refuses (zone_code fault) before text after
 EditsRecord rules kind (Ok r) before text after =
@@ -101,51 +102,55 @@ EditsRecord rules kind (Ok r) before text after =
 
 -- the targets of a question for random words; they are handed out also where there is no space for
 -- their text
-abbrev pub Answers : {D : Type 0} → DeskRules D → Question → List ℕ → D → Octets → D → Type 0
+abbrev pub Answers : {D F : Type 0} → DeskRules D F → Question → List ℕ → D → Octets → D → Type 0
 Answers rules question words before text after =
-    DoesInSpace (rules.Finds question words) handed_text before text after
+    DoesInSpace rules (rules.Finds question words) handed_text before text after
 
 -- the targets of a question for the words that were given, if they are good
-abbrev pub AnswersWith : {D : Type 0} → DeskRules D → Question → Result (List ℕ) DrawsFault → D → Octets → D → Type 0
+abbrev pub AnswersWith : {D F : Type 0} → DeskRules D F → Question → Result (List ℕ) DrawsFault → D → Octets → D → Type 0
 AnswersWith rules question (Err fault) before text after = Refuses (draws_code fault) before text after
 AnswersWith rules question (Ok words) before text after = Answers rules question words before text after
 
 -- the targets of a URI: its fault is reported before that of the words
-abbrev pub AnswersUri : {D : Type 0} → DeskRules D → Result Question UriFault → Result (List ℕ) DrawsFault → D → Octets → D
+abbrev pub AnswersUri : {D F : Type 0} → DeskRules D F → Result Question UriFault → Result (List ℕ) DrawsFault → D → Octets → D
     → Type 0
 AnswersUri rules (Err fault) draws before text after = Refuses (uri_code fault) before text after
 AnswersUri rules (Ok question) draws before text after = AnswersWith rules question draws before text after
 
 -- the record sets that a question depends on
-abbrev pub Lists : {D : Type 0} → DeskRules D → Question → D → Octets → D → Type 0
+abbrev pub Lists : {D F : Type 0} → DeskRules D F → Question → D → Octets → D → Type 0
 Lists rules question before text after =
-    DoesInSpace (rules.Depends question) evidence_text before text after
+    DoesInSpace rules (rules.Depends question) evidence_text before text after
 
 -- the record sets that a URI's targets depend on
-abbrev pub ListsUri : {D : Type 0} → DeskRules D → Result Question UriFault → D → Octets → D → Type 0
+abbrev pub ListsUri : {D F : Type 0} → DeskRules D F → Result Question UriFault → D → Octets → D → Type 0
 ListsUri rules (Err fault) before text after = Refuses (uri_code fault) before text after
 ListsUri rules (Ok question) before text after = Lists rules question before text after
 
 -- what edits have changed is looked up again
-abbrev pub Repairs : {D : Type 0} → DeskRules D → D → Octets → D → Type 0
+abbrev pub Repairs : {D F : Type 0} → DeskRules D F → D → Octets → D → Type 0
 Repairs rules before text after =
-    Does rules.Repairs (λ done. counts_line (codes "ok repair") []) before text after
+    Does rules rules.Repairs (λ done. counts_line (codes "ok repair") []) before text after
 
 -- a hold, a release or a move of the clock, and its reply
-abbrev pub MovesTo : {D : Type 0} → DeskRules D → Octets → BoardEvent → D → Octets → D → Type 0
+abbrev pub MovesTo : {D F : Type 0} → DeskRules D F → Octets → BoardEvent → D → Octets → D → Type 0
 MovesTo rules reply event before text after =
-    Does (rules.Moves event) (λ number. reply) before text after
+    Does rules (rules.Moves event) (λ number. reply) before text after
 
--- an endpoint is held for some milliseconds
-abbrev pub Holds : {D : Type 0} → DeskRules D → Transport → Option Address → ℕ → ℕ → D → Octets → D → Type 0
-Holds rules transport None port ms before text after = Refuses (codes "A1") before text after
-Holds rules transport (Some address) port ms before text after =
-    MovesTo rules (counts_line (codes "ok hold") [])
-    (Hold (record { transport = transport; address = address; port = port }) ms) before text after
+-- the words of the reply to an accepted change of a hold, and the event
+abbrev pub change_words : HoldChange → Octets
+change_words (change.Hold ms) = codes "ok hold"
+change_words change.Release = codes "ok release"
 
--- an endpoint's hold is ended
-abbrev pub Releases : {D : Type 0} → DeskRules D → Transport → Option Address → ℕ → D → Octets → D → Type 0
-Releases rules transport None port before text after = Refuses (codes "A1") before text after
-Releases rules transport (Some address) port before text after =
-    MovesTo rules (counts_line (codes "ok release") [])
-    (Release (record { transport = transport; address = address; port = port })) before text after
+abbrev pub change_event : HoldChange → Endpoint → BoardEvent
+change_event (change.Hold ms) endpoint = Hold endpoint ms
+change_event change.Release endpoint = Release endpoint
+
+-- an endpoint is held for some milliseconds, or its hold is ended
+abbrev pub ChangesHold : {D F : Type 0} → DeskRules D F → HoldChange → Result Endpoint AddressFault → D
+    → Octets → D → Type 0
+ChangesHold rules change (Err fault) before text after =
+    Refuses (address_code fault) before text after
+ChangesHold rules change (Ok endpoint) before text after =
+    MovesTo rules (counts_line (change_words change) []) (change_event change endpoint)
+    before text after

@@ -1,9 +1,11 @@
 -- What a desk does for a session, and the desk of a book.
-use Rattle.std.specs.Prelude.{ℕ, List, Result}
+use Rattle.std.specs.Prelude.{◌≡◌, ℕ, List, Result}
+use Rattle.sipl_names.specs.Labels.{Octets}
 use Rattle.sipl_evidence.specs.Items.{Item}
 use Rattle.sipl_uri.specs.declared.question.Question.{Question}
 use Rattle.sipl_outages.specs.Holds.{BoardEvent}
 use Rattle.sipl_book.specs.Book.{BookState}
+use Rattle.sipl_book.specs.BookFault.{code_of as book_code}
 use Rattle.sipl_book.specs.Calls.{IsChanged, MovesBoard}
 use Rattle.sipl_book.specs.Lookups.{AreDependencies, IsFound, IsRepaired}
 use Rattle.sipl_book.specs.declared.edit.Edit.{Edit}
@@ -11,19 +13,20 @@ use Rattle.sipl_book.specs.declared.fault.BookFault.{BookFault}
 use Rattle.sipl_book.specs.declared.outcome.Done.{Done}
 use Rattle.sipl_book.specs.declared.outcome.Handed.{Handed}
 
--- what the calls of a desk may do, from a state to a state: find the targets of a question for random
--- words, edit, hold, release or set the clock, tell a question's dependencies, and repair; and the
--- time of a state, in milliseconds
-pub record DeskRules (D : Type 0) : Type 1 where
-  pub Finds : Question → List ℕ → D → Result Handed BookFault → D → Type 0
-  pub Changes : Edit → D → Result Done BookFault → D → Type 0
-  pub Moves : BoardEvent → D → Result ℕ BookFault → D → Type 0
-  pub Depends : Question → D → Result (List Item) BookFault → D → Type 0
-  pub Repairs : D → Result (Unit {0}) BookFault → D → Type 0
-  pub time : D → ℕ
+-- what the calls of a desk may do, from a state to a state, with a result or a fault: find the targets
+-- of a question for random words, edit, hold, release or set the clock, tell a question's dependencies,
+-- and repair; which time it may tell in a state, in milliseconds; and what a refusal says of a fault
+pub record DeskRules (D F : Type 0) : Type 1 where
+  pub Finds : Question → List ℕ → D → Result Handed F → D → Type 0
+  pub Changes : Edit → D → Result Done F → D → Type 0
+  pub Moves : BoardEvent → D → Result ℕ F → D → Type 0
+  pub Depends : Question → D → Result (List Item) F → D → Type 0
+  pub Repairs : D → Result (Unit {0}) F → D → Type 0
+  pub IsTime : D → ℕ → Type 0
+  pub fault_text : F → Octets
 
 -- what the calls of a book's desk do: those of the book
-abbrev pub book_rules : DeskRules BookState
+abbrev pub book_rules : DeskRules BookState BookFault
 book_rules =
     record {
       Finds = λ question words old outcome new. IsFound question words old new outcome;
@@ -31,5 +34,6 @@ book_rules =
       Moves = λ event old outcome new. MovesBoard event old new outcome;
       Depends = λ question old outcome new. AreDependencies question old new outcome;
       Repairs = λ old outcome new. IsRepaired old new outcome;
-      time = λ book. book.board.holds.now;
+      IsTime = λ book now. now ≡ book.board.holds.now;
+      fault_text = book_code;
     }

@@ -16,6 +16,7 @@ use Rattle.sipl_zonestore.specs.Edits.{refusal_of as zones_refusal, after as zon
 use Rattle.sipl_zonestore.specs.Changes.{changed_keys}
 use Rattle.sipl_zonestore.specs.Numbers.{next_after, number_refusal}
 use Rattle.sipl_book.specs.Book.{BookState}
+use Rattle.sipl_book.specs.BookFault.{code_of as book_code}
 use Rattle.sipl_book.specs.Machine.{zone_edit}
 use Rattle.sipl_book.specs.declared.edit.Edit.{Edit}
 use Rattle.sipl_book.specs.declared.fault.BookFault.{BookFault}
@@ -139,7 +140,7 @@ EndsSo ending before outcome after =
     ((outcome ≡ ending.0) × (after ≡ ending.1)) ⊎ ((outcome ≡ Err Memory) × (after ≡ before))
 
 -- what the calls of the plain machine do; there is nothing that a repair has to look up again
-abbrev pub plain_rules : DeskRules PlainState
+abbrev pub plain_rules : DeskRules PlainState BookFault
 plain_rules =
     record {
       Finds = λ question words before outcome after. EndsSo (find_ending question words before) before outcome after;
@@ -148,5 +149,6 @@ plain_rules =
       Depends = λ question before outcome after.
           EndsSo (Ok (sets_read question before), before) before (sets_listed outcome) after;
       Repairs = λ before outcome after. EndsSo (Ok tt, before) before outcome after;
-      time = λ plain. plain.holds.now;
+      IsTime = λ plain now. now ≡ plain.holds.now;
+      fault_text = book_code;
     }

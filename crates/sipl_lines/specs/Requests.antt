@@ -1,8 +1,12 @@
 -- What a line of a session asks for.
-use Rattle.std.specs.Prelude.{ℕ, Bool, false, List, [], ◌∷◌, Option, None, Some, Result, codes, nat_eq, nat_lt, length, option_map, if◌then◌else◌, ◌==◌}
+use Rattle.std.specs.Prelude.{ℕ, Bool, false, List, [], ◌∷◌, Option, None, Some, Result, Ok, Err, codes, nat_eq, nat_lt, length, option_map, if◌then◌else◌, ◌==◌}
 use lib.Pointwise.{pointwise}
 use Rattle.sipl_records.specs.Fields.{fields_of, trim_start, after_field}
 use Rattle.sipl_records.specs.Numbers.{number_of}
+use Rattle.sipl_records.specs.Addresses.{address_of}
+use Rattle.sipl_records.specs.declared.fault.AddressFault.{AddressFault}
+use Rattle.sipl_records.specs.declared.fault.AddressFault.TheVariants.{BadAddress}
+use Rattle.sipl_choice.specs.declared.endpoint.Endpoint.{Endpoint}
 use Rattle.sipl_choice.specs.declared.transport.Transport.{Transport}
 use Rattle.sipl_choice.specs.Transports.{transport_named}
 use Rattle.sipl_srv.specs.declared.fault.DrawsFault.{DrawsFault}
@@ -23,8 +27,8 @@ pub data Request : Type 0 where
   find : Octets → Result (List ℕ) DrawsFault → Request
   deps : Octets → Request
   repair : Request
-  hold : Transport → Octets → ℕ → ℕ → Request
-  release : Transport → Octets → ℕ → Request
+  hold : Result Endpoint AddressFault → ℕ → Request
+  release : Result Endpoint AddressFault → Request
   clock : ℕ → Request
   call : Kind → ℕ → Octets → Result (List ℕ) DrawsFault → Request
   got : ℕ → ℕ → Option ℕ → Request
@@ -73,27 +77,40 @@ abbrev pub repair_request : List Octets → Request
 repair_request [] = repair
 repair_request _ = unknown
 
--- a hold, if its transport and numbers are ones
-abbrev pub hold_of : Option Transport → Octets → Option ℕ → Option ℕ → Request
-hold_of (Some transport) address (Some port) (Some ms) = hold transport address port ms
-hold_of _ address _ _ = unknown
+-- the endpoint at an address, or the fault of the address's text
+abbrev pub endpoint_at : Transport → Octets → ℕ → Result Endpoint AddressFault
+endpoint_at transport text port =
+    elim (address_of text) [
+      | Some address ↦ Ok (record { transport = transport; address = address; port = port })
+      | None ↦ Err BadAddress
+    ]
+
+-- the endpoint of a transport, an address and a port of 16 bits, if the first and the last are ones
+abbrev pub endpoint_of : Option Transport → Octets → Option ℕ → Option (Result Endpoint AddressFault)
+endpoint_of (Some transport) text (Some port) = Some (endpoint_at transport text port)
+endpoint_of _ text _ = None
+
+-- a hold, if its endpoint and milliseconds are ones
+abbrev pub hold_of : Option (Result Endpoint AddressFault) → Option ℕ → Request
+hold_of (Some endpoint) (Some ms) = hold endpoint ms
+hold_of _ _ = unknown
 
 -- `hold TRANSPORT ADDRESS PORT MS`: a port of 16 bits, and milliseconds of 64 bits
 abbrev pub hold_request : List Octets → Request
 hold_request (transport ∷ address ∷ port ∷ ms ∷ []) =
-    hold_of (transport_named transport) address (number_of port 65535)
+    hold_of (endpoint_of (transport_named transport) address (number_of port 65535))
     (number_of ms 18446744073709551615)
 hold_request _ = unknown
 
--- a release, if its transport and port are ones
-abbrev pub release_of : Option Transport → Octets → Option ℕ → Request
-release_of (Some transport) address (Some port) = release transport address port
-release_of _ address _ = unknown
+-- a release, if its endpoint is one
+abbrev pub release_of : Option (Result Endpoint AddressFault) → Request
+release_of (Some endpoint) = release endpoint
+release_of None = unknown
 
 -- `release TRANSPORT ADDRESS PORT`: a port of 16 bits
 abbrev pub release_request : List Octets → Request
 release_request (transport ∷ address ∷ port ∷ []) =
-    release_of (transport_named transport) address (number_of port 65535)
+    release_of (endpoint_of (transport_named transport) address (number_of port 65535))
 release_request _ = unknown
 
 -- `clock MS`: milliseconds of 64 bits
@@ -148,38 +165,29 @@ abbrev pub quit_request : List Octets → Request
 quit_request [] = quit
 quit_request _ = unknown
 
--- `call`, `got` and `broke`
-abbrev pub call_command : Octets → List Octets → Request
-call_command word others =
-    if pointwise nat_eq word (codes "call") then call_request others
-    else (if pointwise nat_eq word (codes "got") then got_request others
-    else (if pointwise nat_eq word (codes "broke") then broke_request others else unknown))
-
--- `hold`, `release` and `clock`
-abbrev pub outage_request : Octets → List Octets → Request
-outage_request word others =
-    if pointwise nat_eq word (codes "hold") then hold_request others
-    else (if pointwise nat_eq word (codes "release") then release_request others
-    else (if pointwise nat_eq word (codes "clock") then clock_request others
-    else call_command word others))
-
--- what the command word asks for, with the fields after it, and the whole line for a record
+-- what the command word asks for, with the fields after it, or the rest of the line for a record
 abbrev pub command_request : Octets → List Octets → Octets → Request
-command_request word others line =
+command_request word others text =
     if pointwise nat_eq word (codes "zone") then zone_request others
     else (if pointwise nat_eq word (codes "drop") then drop_request others
-    else (if pointwise nat_eq word (codes "add") then add_request (trim_start (after_field line))
-    else (if pointwise nat_eq word (codes "del") then del_request (trim_start (after_field line))
+    else (if pointwise nat_eq word (codes "add") then add_request text
+    else (if pointwise nat_eq word (codes "del") then del_request text
     else (if pointwise nat_eq word (codes "find") then find_request others
     else (if pointwise nat_eq word (codes "deps") then deps_request others
     else (if pointwise nat_eq word (codes "repair") then repair_request others
-    else (if pointwise nat_eq word (codes "quit") then quit_request others
-    else outage_request word others)))))))
+    else (if pointwise nat_eq word (codes "hold") then hold_request others
+    else (if pointwise nat_eq word (codes "release") then release_request others
+    else (if pointwise nat_eq word (codes "clock") then clock_request others
+    else (if pointwise nat_eq word (codes "call") then call_request others
+    else (if pointwise nat_eq word (codes "got") then got_request others
+    else (if pointwise nat_eq word (codes "broke") then broke_request others
+    else (if pointwise nat_eq word (codes "quit") then quit_request others else unknown)))))))))))))
 
 -- what the fields of a line ask for
 abbrev pub fields_request : List Octets → Octets → Request
 fields_request [] line = nothing
-fields_request (word ∷ others) line = command_request word others line
+fields_request (word ∷ others) line =
+    command_request word others (trim_start (after_field line))
 
 -- what a line asks for: one of more than 65,536 octets is too long, a comment too
 abbrev pub request_of : Octets → Request

@@ -3,7 +3,8 @@ use Rattle.std.specs.Prelude.{ℕ, zero, suc, List, [], ◌∷◌, Option, None,
 use lib.Pointwise.{pointwise}
 use Rattle.sipl_records.specs.Fields.{fields_of}
 use Rattle.sipl_records.specs.Numbers.{number_of}
-use Rattle.sipl_choice.specs.declared.transport.Transport.{Transport}
+use Rattle.sipl_records.specs.declared.fault.AddressFault.{AddressFault}
+use Rattle.sipl_choice.specs.declared.endpoint.Endpoint.{Endpoint}
 use Rattle.sipl_srv.specs.declared.fault.DrawsFault.{DrawsFault}
 use Rattle.sipl_names.specs.Labels.{Octets}
 use Rattle.sipl_lines.specs.DrawsField.{draws_of}
@@ -20,8 +21,8 @@ pub data ScriptRequest : Type 0 where
   drop : Octets → ScriptRequest
   add : Octets → ScriptRequest
   del : Octets → ScriptRequest
-  hold : Transport → Octets → ℕ → ℕ → ScriptRequest
-  release : Transport → Octets → ℕ → ScriptRequest
+  hold : Result Endpoint AddressFault → ℕ → ScriptRequest
+  release : Result Endpoint AddressFault → ScriptRequest
   clock : ℕ → ScriptRequest
   hand : Octets → Result (List ℕ) DrawsFault → ScriptRequest
   start : ℕ → Octets → ScriptRequest
@@ -40,8 +41,8 @@ as_in_session (session.zone apex lines) = zone apex lines
 as_in_session (session.drop apex) = drop apex
 as_in_session (session.add r) = add r
 as_in_session (session.del r) = del r
-as_in_session (session.hold transport address port ms) = hold transport address port ms
-as_in_session (session.release transport address port) = release transport address port
+as_in_session (session.hold endpoint ms) = hold endpoint ms
+as_in_session (session.release endpoint) = release endpoint
 as_in_session (session.clock ms) = clock ms
 as_in_session _ = unknown
 

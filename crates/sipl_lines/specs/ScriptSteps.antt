@@ -3,13 +3,12 @@ use Rattle.std.specs.Prelude.{ℕ, List, [], Option, None, Some, Result, Ok, Err
 use Rattle.sipl_names.specs.Labels.{Octets, Labels}
 use Rattle.sipl_names.specs.NameText.{name_of}
 use Rattle.sipl_names.specs.InvalidName.{code_of as name_code}
-use Rattle.sipl_records.specs.Addresses.{address_of}
-use Rattle.sipl_records.specs.declared.address.Address.{Address}
+use Rattle.sipl_records.specs.AddressFault.{code_of as address_code}
+use Rattle.sipl_records.specs.declared.fault.AddressFault.{AddressFault}
 use Rattle.sipl_records.specs.declared.record.Record.{Record}
 use Rattle.sipl_masterfile.specs.RecordText.{record_of}
 use Rattle.sipl_masterfile.specs.ZoneFault.{code_of as zone_code}
 use Rattle.sipl_choice.specs.declared.endpoint.Endpoint.{Endpoint}
-use Rattle.sipl_choice.specs.declared.transport.Transport.{Transport}
 use Rattle.sipl_srv.specs.DrawsFault.{code_of as draws_code}
 use Rattle.sipl_srv.specs.declared.fault.DrawsFault.{DrawsFault}
 use Rattle.sipl_uri.specs.Uris.{question_of}
@@ -28,12 +27,6 @@ abbrev pub with_code : {A E : Type 0} → (E → Octets) → Result A E → Valu
 with_code code_of (Ok value) = Ok value
 with_code code_of (Err fault) = Err (code_of fault)
 
--- the endpoint of an address, if it is one
-abbrev pub endpoint_of : Transport → Option Address → ℕ → ValueOrCode Endpoint
-endpoint_of transport (Some address) port =
-    Ok (record { transport = transport; address = address; port = port })
-endpoint_of transport None port = Err (codes "A1")
-
 -- the step for a value
 abbrev pub step_for : {A : Type 0} → (A → Step) → ValueOrCode A → ValueOrCode Step
 step_for step (Ok value) = Ok (step value)
@@ -44,12 +37,16 @@ abbrev pub hand_step : ValueOrCode Question → ValueOrCode (List ℕ) → Value
 hand_step (Ok question) words = step_for (Hand question) words
 hand_step (Err code) words = Err code
 
--- the name, the record, the question and the random words of a line; names are relative to the root
+-- the name, the record, the endpoint, the question and the random words of a line; names are relative
+-- to the root
 abbrev pub apex_of : Octets → ValueOrCode Labels
 apex_of text = with_code name_code (name_of text [])
 
 abbrev pub record_in : Octets → ValueOrCode Record
 record_in text = with_code zone_code (record_of text [])
+
+abbrev pub endpoint_in : Result Endpoint AddressFault → ValueOrCode Endpoint
+endpoint_in endpoint = with_code address_code endpoint
 
 abbrev pub question_in : Octets → ValueOrCode Question
 question_in uri = with_code uri_code (question_of uri)
@@ -62,10 +59,8 @@ abbrev pub step_of : ScriptRequest → ValueOrCode Step
 step_of (drop apex) = step_for (λ name. Change (Unload name)) (apex_of apex)
 step_of (add text) = step_for (λ r. Change (Add r)) (record_in text)
 step_of (del text) = step_for (λ r. Change (Remove r)) (record_in text)
-step_of (hold transport address port ms) =
-    step_for (λ endpoint. Hold endpoint ms) (endpoint_of transport (address_of address) port)
-step_of (release transport address port) =
-    step_for Release (endpoint_of transport (address_of address) port)
+step_of (hold endpoint ms) = step_for (λ it. Hold it ms) (endpoint_in endpoint)
+step_of (release endpoint) = step_for Release (endpoint_in endpoint)
 step_of (clock ms) = Ok (Advance ms)
 step_of (hand uri draws) = hand_step (question_in uri) (words_in draws)
 step_of (start w uri) = step_for (Start w) (question_in uri)

@@ -44,7 +44,7 @@ pub record ServesWithin {A B : Type 0} (p : Protocol) (limit : ℕ) (result : Re
 
 -- Serving a session at a desk went so, from a session that has had no line to one at the desk as it
 -- is then.
-pub record ServesDesk {A B D : Type 0} (rules : DeskRules D) (limit : ℕ)
+pub record ServesDesk {A B D F : Type 0} (rules : DeskRules D F) (limit : ℕ)
     (result : Result Ended ServeFault) (remaining : A → Option Octets) (contents : B → Option Octets)
     (before after : D) (reader reader' : Tapped A) (writer writer' : Tapped B) : Type 0 where
   pub session : SessionState D

@@ -1,17 +1,17 @@
 -- A session: what each of its lines does, and the replies.
-use Rattle.std.specs.Prelude.{◌≡◌, ◌⊎◌, Bool, true, false, [], ◌++◌, Option, None, Some, codes, IsTrue, ◌==◌}
+use Rattle.std.specs.Prelude.{◌≡◌, ◌⊎◌, ◌≤◌, ℕ, Bool, true, false, [], ◌++◌, Option, None, Some, Result, OnOk, OnErr, Vec, vec_capacity, codes, IsTrue, ◌==◌}
 use Rattle.std.specs.Bool.{OnTrue, OnFalse}
 use Rattle.sipl_names.specs.Labels.{Octets}
 use Rattle.sipl_names.specs.NameText.{name_of}
 use Rattle.sipl_names.specs.InvalidName.{code_of as name_code}
-use Rattle.sipl_records.specs.Addresses.{address_of}
 use Rattle.sipl_masterfile.specs.Zones.{zone_of}
 use Rattle.sipl_masterfile.specs.RecordText.{record_of}
 use Rattle.sipl_uri.specs.Uris.{question_of}
 use Rattle.sipl_failover.specs.FailoverRun.{FailoverRun}
 use Rattle.sipl_failover.specs.FailoverRun.Event.{Received, TransportFailed}
 use Rattle.sipl_lines.specs.declared.desk_commands.RecordEdit.TheVariants.{Add as AddRecord, Remove as RemoveRecord}
-use Rattle.sipl_lines.specs.Commands.{Keeps, Refuses, Fails, Loads, Unloads, EditsRecord, AnswersUri, ListsUri, Repairs, Holds, Releases}
+use Rattle.sipl_lines.specs.declared.desk_commands.HoldChange.TheVariants as change
+use Rattle.sipl_lines.specs.Commands.{Keeps, Refuses, Fails, Loads, Unloads, EditsRecord, AnswersUri, ListsUri, Repairs, ChangesHold}
 use Rattle.sipl_lines.specs.Calls.{CallDesk, CallsUri, HearsOf, SetsClock, with_call}
 use Rattle.sipl_lines.specs.Desk.{DeskRules}
 use Rattle.sipl_lines.specs.Items.{Item, line, end_of_input}
@@ -77,7 +77,7 @@ MayFail (call kind base uri draws) = Unit {0}
 MayFail _ = ⊥
 
 -- `zone APEX COUNT`, once its lines are taken: the first of these that applies is reported
-abbrev pub LoadsGathered : {D : Type 0} → DeskRules D → Gathered → D → Octets → D → Type 0
+abbrev pub LoadsGathered : {D F : Type 0} → DeskRules D F → Gathered → D → Octets → D → Type 0
 LoadsGathered rules Lost before text after = Fails before text after
 LoadsGathered rules LongLine before text after = Refuses (codes "K2") before text after
 LoadsGathered rules (BadApex fault) before text after = Refuses (name_code fault) before text after
@@ -85,14 +85,14 @@ LoadsGathered rules (Lines lines) before text after =
     Loads rules (zone_of lines.text lines.apex) before text after
 
 -- while lines are left to be taken there is no reply; it comes with the last of them
-abbrev pub Gathers : {D : Type 0} → DeskRules D → Gathering → SessionState D → Octets → SessionState D → Type 0
+abbrev pub Gathers : {D F : Type 0} → DeskRules D F → Gathering → SessionState D → Octets → SessionState D → Type 0
 Gathers rules gathering before text after =
     OnTrue (gathering.left == 0)
     (AtDesk (LoadsGathered rules gathering.gathered) (with_gathering None before) text after)
     × OnFalse (gathering.left == 0) (Keeps [] (with_gathering (Some gathering) before) text after)
 
 -- lines are taken; where an allocation fails they are lost
-abbrev pub GathersOrLoses : {D : Type 0} → DeskRules D → Gathering → SessionState D → Octets → SessionState D → Type 0
+abbrev pub GathersOrLoses : {D F : Type 0} → DeskRules D F → Gathering → SessionState D → Octets → SessionState D → Type 0
 GathersOrLoses rules gathering before text after =
     Gathers rules gathering before text after
     ⊎ (IsTrue (keeps_lines gathering.gathered) × Gathers rules (lost gathering.left) before text after)
@@ -103,7 +103,7 @@ Commands Acts before text after =
     AtDesk Acts before text after ⊎ Fails before text after
 
 -- what a request does. Names and records are relative to the root
-abbrev pub Obeys : {D : Type 0} → DeskRules D → Request → SessionState D → Octets → SessionState D → Type 0
+abbrev pub Obeys : {D F : Type 0} → DeskRules D F → Request → SessionState D → Octets → SessionState D → Type 0
 Obeys rules nothing before text after = Keeps [] before text after
 Obeys rules unknown before text after = Refuses (codes "K1") before text after
 Obeys rules too_long before text after = Refuses (codes "K2") before text after
@@ -120,10 +120,10 @@ Obeys rules (find uri draws) before text after =
     Commands (AnswersUri rules (question_of uri) draws) before text after
 Obeys rules (deps uri) before text after = Commands (ListsUri rules (question_of uri)) before text after
 Obeys rules repair before text after = AtDesk (Repairs rules) before text after
-Obeys rules (hold transport address port ms) before text after =
-    AtDesk (Holds rules transport (address_of address) port ms) before text after
-Obeys rules (release transport address port) before text after =
-    AtDesk (Releases rules transport (address_of address) port) before text after
+Obeys rules (hold endpoint ms) before text after =
+    AtDesk (ChangesHold rules (change.Hold ms) endpoint) before text after
+Obeys rules (release endpoint) before text after =
+    AtDesk (ChangesHold rules change.Release endpoint) before text after
 Obeys rules (clock ms) before text after = AtCall (SetsClock rules ms) before text after
 Obeys rules (call kind base uri draws) before text after =
     AtCall (CallsUri rules kind base (question_of uri) draws) before text after
@@ -136,33 +136,33 @@ Obeys rules quit before text after =
     (text ≡ codes "ok quit\n") × (after ≡ record before { ended = true })
 
 -- what a line does: it is a command, or one of the lines that a zone takes
-abbrev pub TakesLine : {D : Type 0} → DeskRules D → Option Gathering → Octets → SessionState D → Octets → SessionState D
+abbrev pub TakesLine : {D F : Type 0} → DeskRules D F → Option Gathering → Octets → SessionState D → Octets → SessionState D
     → Type 0
 TakesLine rules None octets before text after = Obeys rules (request_of octets) before text after
 TakesLine rules (Some gathering) octets before text after =
     GathersOrLoses rules (after_line octets gathering) before text after
 
 -- what the end of the input does: a zone whose lines are being taken has its reply
-abbrev pub TakesEnd : {D : Type 0} → DeskRules D → Option Gathering → SessionState D → Octets → SessionState D → Type 0
+abbrev pub TakesEnd : {D F : Type 0} → DeskRules D F → Option Gathering → SessionState D → Octets → SessionState D → Type 0
 TakesEnd rules None before text after = Keeps [] before text after
 TakesEnd rules (Some gathering) before text after =
     GathersOrLoses rules (at_end gathering) before text after
 
 -- what an item does in a session that has not ended
-abbrev pub TakesItem : {D : Type 0} → DeskRules D → Item → SessionState D → Octets → SessionState D → Type 0
+abbrev pub TakesItem : {D F : Type 0} → DeskRules D F → Item → SessionState D → Octets → SessionState D → Type 0
 TakesItem rules (line octets) before text after =
     TakesLine rules before.gathering octets before text after
 TakesItem rules end_of_input before text after = TakesEnd rules before.gathering before text after
 
 -- which reply an item may have and which state it may leave; once a session has ended there is
 -- none, and nothing changes
-abbrev pub MayReply : {D : Type 0} → DeskRules D → SessionState D → Item → Octets → SessionState D → Type 0
+abbrev pub MayReply : {D F : Type 0} → DeskRules D F → SessionState D → Item → Octets → SessionState D → Type 0
 MayReply rules before item text after =
     OnTrue before.ended (Keeps [] before text after)
     × OnFalse before.ended (TakesItem rules item before text after)
 
 -- the protocol of a session
-abbrev pub session_protocol : {D : Type 0} → DeskRules D → Protocol
+abbrev pub session_protocol : {D F : Type 0} → DeskRules D F → Protocol
 session_protocol {D} rules =
     record { State = SessionState D; MayReply = MayReply rules; has_ended = λ state. state.ended }
 
@@ -170,3 +170,12 @@ session_protocol {D} rules =
 abbrev pub AppendsText : {S : Type 0} → (S → Octets → S → Type 0) → S → Octets → S → Octets → Type 0
 AppendsText Acts before old after new =
     (text : Octets) × Acts before text after × (new ≡ old ++ text)
+
+-- A command ended so: its reply was appended to an output; or an allocation failed, and nothing
+-- changed. The output's capacity does not shrink.
+pub record Replies {S X E : Type 0} (Acts : S → Octets → S → Type 0) (before : S) (out : Vec ℕ X)
+    (result : Result (Unit {0}) E) (after : S) (out' : Vec ℕ X) : Type 0 where
+  pub replied : OnOk result (AppendsText Acts before out.items after out'.items)
+  pub unchanged : OnErr result (after ≡ before)
+  pub unwritten : OnErr result (out'.items ≡ out.items)
+  pub capacity : vec_capacity out ≤ vec_capacity out'

@@ -16,7 +16,7 @@ use Rattle.sipl_lines.specs.declared.gather.Gathering.{Gathering}
 use Rattle.sipl_lines.specs.Session.{SessionState, Obeys, GathersOrLoses, TakesLine, TakesItem, MayReply, session_protocol}
 
 -- once a session has ended an item has no reply
-ended_silent : {D : Type 0} (rules : DeskRules D) (s : SessionState D) (item : Item) → s.ended ≡ true → MayReply rules s item [] s
+ended_silent : {D F : Type 0} (rules : DeskRules D F) (s : SessionState D) (item : Item) → s.ended ≡ true → MayReply rules s item [] s
 ended_silent rules s item ended =
     subst (λ b. OnTrue b (Keeps [] s [] s) × OnFalse b (TakesItem rules item s [] s)) (sym ended) ((refl, refl), tt {0})
 
@@ -29,7 +29,7 @@ pub gathered_after-long : (octets : Octets) (gathered : Gathered) → 65536 < le
 gathered_after-long octets gathered long =
     ap (λ b. if b then after_long_line gathered else after_short_line octets gathered) (lt-ltb 65536 (length octets) long)
 
-takes_line-long : {D : Type 0} (rules : DeskRules D) (gathering : Option Gathering) (a b text : Octets) (s u : SessionState D) → 65536 < length a → 65536 < length b → OnFalse s.ended (TakesLine rules gathering a s text u) → OnFalse s.ended (TakesLine rules gathering b s text u)
+takes_line-long : {D F : Type 0} (rules : DeskRules D F) (gathering : Option Gathering) (a b text : Octets) (s u : SessionState D) → 65536 < length a → 65536 < length b → OnFalse s.ended (TakesLine rules gathering a s text u) → OnFalse s.ended (TakesLine rules gathering b s text u)
 takes_line-long rules None a b text s u long long' takes =
     subst (λ r. OnFalse s.ended (Obeys rules r s text u)) (request_of-long a long ∙ sym (request_of-long b long')) takes
 takes_line-long rules (Some gathering) a b text s u long long' takes =
@@ -37,9 +37,9 @@ takes_line-long rules (Some gathering) a b text s u long long' takes =
     (gathered_after-long a gathering.gathered long ∙ sym (gathered_after-long b gathering.gathered long')) takes
 
 -- two lines that are too long have the same replies
-long_alike : {D : Type 0} (rules : DeskRules D) (s u : SessionState D) (a b text : Octets) → 65536 < length a → 65536 < length b → MayReply rules s (line a) text u → MayReply rules s (line b) text u
+long_alike : {D F : Type 0} (rules : DeskRules D F) (s u : SessionState D) (a b text : Octets) → 65536 < length a → 65536 < length b → MayReply rules s (line a) text u → MayReply rules s (line b) text u
 long_alike rules s u a b text long long' reply =
     (reply.0, takes_line-long rules s.gathering a b text s u long long' reply.1)
 
-pub session_rules : {D : Type 0} (rules : DeskRules D) → IsLineProtocol (session_protocol rules)
+pub session_rules : {D F : Type 0} (rules : DeskRules D F) → IsLineProtocol (session_protocol rules)
 session_rules rules = record { silent = ended_silent rules; long = long_alike rules }

@@ -1,11 +1,11 @@
 // What `call`, `got`, `broke` and `clock` do with a session's call, and their replies.
-ghost use Rattle.std.specs.Prelude.{◌≡◌, ◌+◌, ◌^◌, ◌≤◌, [], ◌∷◌, length, codes, Some, OnOk, OnErr, vec_len, vec_capacity};
+ghost use Rattle.std.specs.Prelude.{◌≡◌, ◌+◌, ◌^◌, ◌≤◌, [], ◌∷◌, length, codes, Some, vec_len, vec_capacity};
 ghost use Rattle.sipl_uri.specs.Uris.{question_of};
 ghost use Rattle.sipl_failover.specs.FailoverRun.{Event};
 ghost use Rattle.sipl_failover.specs.Rules.{refusal_of};
 ghost use Rattle.sipl_lines.specs.Calls.{CallsUri, GoesOn, HearsOf, Opens, OpensOver, Reports, SetsClock, is_open, with_call};
 ghost use Rattle.sipl_lines.specs.ReplyText.{counts_line};
-ghost use Rattle.sipl_lines.specs.Session.{AppendsText};
+ghost use Rattle.sipl_lines.specs.Session.{AppendsText, Replies};
 
 use crate::desk::Desk;
 use crate::desk_commands::{MAX_SHORT_REPLY_LEN, read_question, reply_moved};
@@ -34,11 +34,8 @@ pub(crate) fn open_call<D: Desk>(
     out: &mut Vec<u8>,
 ) -> Result<(), AllocError>
     requires space { vec_len out.old + MAX_SHORT_REPLY_LEN ≤ vec_capacity out.old }
-    ensures ok { OnOk result (AppendsText (CallsUri D.rules kind base (question_of uri.now) draws.now)
-        (with_call desk.old call.old) out.old.items (with_call desk.new call.new) out.new.items) }
-    ensures err { OnErr result (with_call desk.new call.new ≡ with_call desk.old call.old) }
-    ensures err_out { OnErr result (out.new.items ≡ out.old.items) }
-    ensures capacity { vec_capacity out.old ≤ vec_capacity out.new }
+    ensures { Replies (CallsUri D.rules kind base (question_of uri.now) draws.now)
+        (with_call desk.old call.old) out.old result (with_call desk.new call.new) out.new }
 {
     let question = match read_question(alloc, uri)? {
         Ok(question) => question,
@@ -52,12 +49,10 @@ pub(crate) fn open_call<D: Desk>(
         return write_refusal(out, "K4");
     }
     match desk.find(alloc, question, draws) {
-        Ok(handed) => {
-            open_to(call, kind, base, desk.now(), handed.answer, out);
-            Ok(())
-        }
-        Err(fault) => write_refusal(out, fault.code()),
+        Ok(handed) => open_to(call, kind, base, desk.now(), handed.answer, out),
+        Err(fault) => D::write_fault(fault, out),
     }
+    Ok(())
 }
 
 // Whether there is a call that has not ended.
@@ -172,7 +167,7 @@ pub(crate) fn set_clock<D: Desk>(
     ensures capacity { vec_capacity out.old ≤ vec_capacity out.new }
 {
     if let Err(fault) = desk.advance(to) {
-        return write_refusal(out, fault.code()).unwrap();
+        return D::write_fault(fault, out);
     }
     match call {
         Some(failover) if !failover.has_ended() => tick(desk, failover, to, out),
@@ -216,7 +211,7 @@ fn report<D: Desk>(
     let steps = steps.as_slice();
     write_steps(out, failover, steps);
     match hold_of(steps) {
-        Some((endpoint, ms)) => reply_moved(desk.hold(&endpoint, ms), words, numbers, out),
+        Some((endpoint, ms)) => reply_moved::<D>(desk.hold(&endpoint, ms), words, numbers, out),
         None => write_counts(out, words, numbers),
     }
 }

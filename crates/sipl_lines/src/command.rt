@@ -1,16 +1,17 @@
 // What a line of a session asks for.
 ghost use Rattle.std.specs.Prelude.{◌≡◌};
 ghost use Rattle.sipl_records.specs.Fields.{fields_of, trim_start};
-ghost use Rattle.sipl_lines.specs.Requests.{add_request, broke_request, call_command, call_request, del_request, deps_request, got_request, kind_named, retry_of, drop_request, find_request, hold_request, release_request, repair_request, clock_request, outage_request, quit_request, request_of, zone_request, unknown};
-ghost use Rattle.std.specs.Option.{option_map_or};
-ghost use Rattle.sipl_lines.specs.CommandMeaning.{meaning_of};
+ghost use Rattle.sipl_records.specs.Numbers.{number_of};
+ghost use Rattle.sipl_choice.specs.Transports.{transport_named};
+ghost use Rattle.sipl_lines.specs.CommandMeaning.{meaning_of, meaning_if_read};
+ghost use Rattle.sipl_lines.specs.Requests.{add_request, broke_request, call_request, clock_request, command_request, del_request, deps_request, drop_request, endpoint_of, find_request, got_request, hold_request, kind_named, quit_request, release_request, repair_request, request_of, retry_of, zone_request};
 ghost use Rattle.sipl_lines.specs.ScriptLines.{as_in_session};
 ghost use Rattle.sipl_lines.specs.ScriptMeaning.{meaning_of_line};
 
 use crate::draws_field::read_draws;
 use crate::script_line::ScriptLine;
-use sipl_choice::Transport;
-use sipl_records::{next_field, read_number, trim_start};
+use sipl_choice::{Endpoint, Transport};
+use sipl_records::{Address, AddressFault, next_field, read_number, trim_start};
 use sipl_srv::{Draws, DrawsFault};
 use sipl_tx::Kind;
 
@@ -44,9 +45,9 @@ pub(crate) enum Command<'a> {
     // `repair`: looks up again what edits have changed.
     Repair,
     // `hold TRANSPORT ADDRESS PORT MS`: holds an endpoint for some milliseconds.
-    Hold(Transport, &'a [u8], u16, u64),
+    Hold(Result<Endpoint, AddressFault>, u64),
     // `release TRANSPORT ADDRESS PORT`: ends an endpoint's hold.
-    Release(Transport, &'a [u8], u16),
+    Release(Result<Endpoint, AddressFault>),
     // `clock MS`: sets the time, in milliseconds.
     Clock(u64),
     // `call invite|other BASE URI DRAWS`: opens a call to the targets of a URI. Its branches share
@@ -73,24 +74,9 @@ pub(crate) fn read_command(line: &[u8]) -> Command<'_>
     let Some((word, rest)) = next_field(line) else {
         return Command::Nothing;
     };
-    if word == b"zone".as_slice() {
-        zone_command(rest)
-    } else if word == b"drop".as_slice() {
-        drop_command(rest)
-    } else if word == b"add".as_slice() {
-        add_command(trim_start(rest))
-    } else if word == b"del".as_slice() {
-        del_command(trim_start(rest))
-    } else if word == b"find".as_slice() {
-        find_command(rest)
-    } else if word == b"deps".as_slice() {
-        deps_command(rest)
-    } else if word == b"repair".as_slice() {
-        repair_command(rest)
-    } else if word == b"quit".as_slice() {
-        quit_command(rest)
-    } else {
-        outage_command(word, rest)
+    match read_fields(word, rest) {
+        Some(command) => command,
+        None => Command::Unknown,
     }
 }
 
@@ -105,145 +91,112 @@ pub(crate) fn read_shared_line(line: &[u8]) -> ScriptLine<'_>
         Command::Drop(apex) => ScriptLine::Drop(apex),
         Command::Add(record) => ScriptLine::Add(record),
         Command::Del(record) => ScriptLine::Del(record),
-        Command::Hold(transport, address, port, ms) => {
-            ScriptLine::Hold(transport, address, port, ms)
-        }
-        Command::Release(transport, address, port) => ScriptLine::Release(transport, address, port),
+        Command::Hold(endpoint, ms) => ScriptLine::Hold(endpoint, ms),
+        Command::Release(endpoint) => ScriptLine::Release(endpoint),
         Command::Clock(to) => ScriptLine::Clock(to),
         _ => ScriptLine::Unknown,
     }
 }
 
-// `zone APEX COUNT`.
-fn zone_command(rest: &[u8]) -> Command<'_>
-    ensures { meaning_of result ≡ zone_request (fields_of rest.now) }
+// The command of a word, if there is one and the rest of its line is as the command takes it.
+fn read_fields<'a>(word: &[u8], rest: &'a [u8]) -> Option<Command<'a>>
+    ensures { meaning_if_read result
+        ≡ command_request word.now (fields_of rest.now) (trim_start rest.now) }
 {
-    let Some((apex, rest)) = next_field(rest) else {
-        return Command::Unknown;
-    };
-    let Some((count, rest)) = next_field(rest) else {
-        return Command::Unknown;
-    };
+    match word {
+        b"zone" => read_zone(rest),
+        b"drop" => read_drop(rest),
+        b"add" => read_add(trim_start(rest)),
+        b"del" => read_del(trim_start(rest)),
+        b"find" => read_find(rest),
+        b"deps" => read_deps(rest),
+        b"repair" => read_repair(rest),
+        b"hold" => read_hold(rest),
+        b"release" => read_release(rest),
+        b"clock" => read_clock(rest),
+        b"call" => read_call(rest),
+        b"got" => read_got(rest),
+        b"broke" => read_broke(rest),
+        b"quit" => read_quit(rest),
+        _ => None,
+    }
+}
+
+// `zone APEX COUNT`.
+fn read_zone(rest: &[u8]) -> Option<Command<'_>>
+    ensures { meaning_if_read result ≡ zone_request (fields_of rest.now) }
+{
+    let (apex, rest) = next_field(rest)?;
+    let (count, rest) = next_field(rest)?;
     if next_field(rest).is_some() {
-        return Command::Unknown;
+        return None;
     }
-    match read_number(count, MAX_ZONE_LINES) {
-        Some(lines) => Command::Zone(apex, lines),
-        None => Command::Unknown,
-    }
+    Some(Command::Zone(apex, read_number(count, MAX_ZONE_LINES)?))
 }
 
 // `drop APEX`.
-fn drop_command(rest: &[u8]) -> Command<'_>
-    ensures { meaning_of result ≡ drop_request (fields_of rest.now) }
+fn read_drop(rest: &[u8]) -> Option<Command<'_>>
+    ensures { meaning_if_read result ≡ drop_request (fields_of rest.now) }
 {
-    match next_field(rest) {
-        Some((apex, rest)) if next_field(rest).is_none() => Command::Drop(apex),
-        _ => Command::Unknown,
+    let (apex, rest) = next_field(rest)?;
+    if next_field(rest).is_some() {
+        return None;
     }
+    Some(Command::Drop(apex))
 }
 
 // `add RECORD`, where this is the line from the record on.
-fn add_command(text: &[u8]) -> Command<'_>
-    ensures { meaning_of result ≡ add_request text.now }
+fn read_add(text: &[u8]) -> Option<Command<'_>>
+    ensures { meaning_if_read result ≡ add_request text.now }
 {
     if text.is_empty() {
-        Command::Unknown
-    } else {
-        Command::Add(text)
+        return None;
     }
+    Some(Command::Add(text))
 }
 
 // `del RECORD`, where this is the line from the record on.
-fn del_command(text: &[u8]) -> Command<'_>
-    ensures { meaning_of result ≡ del_request text.now }
+fn read_del(text: &[u8]) -> Option<Command<'_>>
+    ensures { meaning_if_read result ≡ del_request text.now }
 {
     if text.is_empty() {
-        Command::Unknown
-    } else {
-        Command::Del(text)
+        return None;
     }
+    Some(Command::Del(text))
 }
 
 // `find URI DRAWS`.
-fn find_command(rest: &[u8]) -> Command<'_>
-    ensures { meaning_of result ≡ find_request (fields_of rest.now) }
+fn read_find(rest: &[u8]) -> Option<Command<'_>>
+    ensures { meaning_if_read result ≡ find_request (fields_of rest.now) }
 {
-    let Some((uri, rest)) = next_field(rest) else {
-        return Command::Unknown;
-    };
-    match read_draws(rest) {
-        Some(draws) => Command::Find(uri, draws),
-        None => Command::Unknown,
-    }
+    let (uri, rest) = next_field(rest)?;
+    Some(Command::Find(uri, read_draws(rest)?))
 }
 
 // `deps URI`.
-fn deps_command(rest: &[u8]) -> Command<'_>
-    ensures { meaning_of result ≡ deps_request (fields_of rest.now) }
+fn read_deps(rest: &[u8]) -> Option<Command<'_>>
+    ensures { meaning_if_read result ≡ deps_request (fields_of rest.now) }
 {
-    match next_field(rest) {
-        Some((uri, rest)) if next_field(rest).is_none() => Command::Deps(uri),
-        _ => Command::Unknown,
+    let (uri, rest) = next_field(rest)?;
+    if next_field(rest).is_some() {
+        return None;
     }
+    Some(Command::Deps(uri))
 }
 
 // `repair`.
-fn repair_command(rest: &[u8]) -> Command<'_>
-    ensures { meaning_of result ≡ repair_request (fields_of rest.now) }
+fn read_repair(rest: &[u8]) -> Option<Command<'_>>
+    ensures { meaning_if_read result ≡ repair_request (fields_of rest.now) }
 {
     if next_field(rest).is_some() {
-        Command::Unknown
-    } else {
-        Command::Repair
+        return None;
     }
+    Some(Command::Repair)
 }
 
-// `hold`, `release` or `clock`.
-fn outage_command<'a>(word: &[u8], rest: &'a [u8]) -> Command<'a>
-    ensures { meaning_of result ≡ outage_request word.now (fields_of rest.now) }
-{
-    match read_outage(word, rest) {
-        Some(command) => command,
-        None => Command::Unknown,
-    }
-}
-
-// `hold`, `release` or `clock`, if the fields are so.
-fn read_outage<'a>(word: &[u8], rest: &'a [u8]) -> Option<Command<'a>>
-    ensures { option_map_or meaning_of result unknown
-        ≡ outage_request word.now (fields_of rest.now) }
-{
-    if word == b"hold".as_slice() {
-        hold_command(rest)
-    } else if word == b"release".as_slice() {
-        release_command(rest)
-    } else if word == b"clock".as_slice() {
-        clock_command(rest)
-    } else {
-        read_call(word, rest)
-    }
-}
-
-// `call`, `got` or `broke`, if the fields are so.
-fn read_call<'a>(word: &[u8], rest: &'a [u8]) -> Option<Command<'a>>
-    ensures { option_map_or meaning_of result unknown
-        ≡ call_command word.now (fields_of rest.now) }
-{
-    if word == b"call".as_slice() {
-        call_fields(rest)
-    } else if word == b"got".as_slice() {
-        got_fields(rest)
-    } else if word == b"broke".as_slice() {
-        broke_fields(rest)
-    } else {
-        None
-    }
-}
-
-// `hold TRANSPORT ADDRESS PORT MS`, if the fields are so.
-fn hold_command(rest: &[u8]) -> Option<Command<'_>>
-    ensures { option_map_or meaning_of result unknown ≡ hold_request (fields_of rest.now) }
+// `hold TRANSPORT ADDRESS PORT MS`.
+fn read_hold(rest: &[u8]) -> Option<Command<'_>>
+    ensures { meaning_if_read result ≡ hold_request (fields_of rest.now) }
 {
     let (transport, rest) = next_field(rest)?;
     let (address, rest) = next_field(rest)?;
@@ -252,15 +205,13 @@ fn hold_command(rest: &[u8]) -> Option<Command<'_>>
     if next_field(rest).is_some() {
         return None;
     }
-    let transport = Transport::from_name(transport)?;
-    let port = read_number(port, u64::from(u16::MAX))?;
-    let ms = read_number(ms, u64::MAX)?;
-    Some(Command::Hold(transport, address, port as u16, ms))
+    let endpoint = read_endpoint(transport, address, port)?;
+    Some(Command::Hold(endpoint, read_number(ms, u64::MAX)?))
 }
 
-// `release TRANSPORT ADDRESS PORT`, if the fields are so.
-fn release_command(rest: &[u8]) -> Option<Command<'_>>
-    ensures { option_map_or meaning_of result unknown ≡ release_request (fields_of rest.now) }
+// `release TRANSPORT ADDRESS PORT`.
+fn read_release(rest: &[u8]) -> Option<Command<'_>>
+    ensures { meaning_if_read result ≡ release_request (fields_of rest.now) }
 {
     let (transport, rest) = next_field(rest)?;
     let (address, rest) = next_field(rest)?;
@@ -268,14 +219,12 @@ fn release_command(rest: &[u8]) -> Option<Command<'_>>
     if next_field(rest).is_some() {
         return None;
     }
-    let transport = Transport::from_name(transport)?;
-    let port = read_number(port, u64::from(u16::MAX))?;
-    Some(Command::Release(transport, address, port as u16))
+    Some(Command::Release(read_endpoint(transport, address, port)?))
 }
 
-// `clock MS`, if the fields are so.
-fn clock_command(rest: &[u8]) -> Option<Command<'_>>
-    ensures { option_map_or meaning_of result unknown ≡ clock_request (fields_of rest.now) }
+// `clock MS`.
+fn read_clock(rest: &[u8]) -> Option<Command<'_>>
+    ensures { meaning_if_read result ≡ clock_request (fields_of rest.now) }
 {
     let (ms, rest) = next_field(rest)?;
     if next_field(rest).is_some() {
@@ -284,9 +233,9 @@ fn clock_command(rest: &[u8]) -> Option<Command<'_>>
     Some(Command::Clock(read_number(ms, u64::MAX)?))
 }
 
-// `call invite|other BASE URI DRAWS`, if the fields are so.
-fn call_fields(rest: &[u8]) -> Option<Command<'_>>
-    ensures { option_map_or meaning_of result unknown ≡ call_request (fields_of rest.now) }
+// `call invite|other BASE URI DRAWS`.
+fn read_call(rest: &[u8]) -> Option<Command<'_>>
+    ensures { meaning_if_read result ≡ call_request (fields_of rest.now) }
 {
     let (kind, rest) = next_field(rest)?;
     let (base, rest) = next_field(rest)?;
@@ -297,9 +246,9 @@ fn call_fields(rest: &[u8]) -> Option<Command<'_>>
     Some(Command::Call(kind, base, uri, draws))
 }
 
-// `got ATTEMPT CODE [retry SECONDS]`, if the fields are so.
-fn got_fields(rest: &[u8]) -> Option<Command<'_>>
-    ensures { option_map_or meaning_of result unknown ≡ got_request (fields_of rest.now) }
+// `got ATTEMPT CODE [retry SECONDS]`.
+fn read_got(rest: &[u8]) -> Option<Command<'_>>
+    ensures { meaning_if_read result ≡ got_request (fields_of rest.now) }
 {
     let (attempt, rest) = next_field(rest)?;
     let (code, rest) = next_field(rest)?;
@@ -309,27 +258,57 @@ fn got_fields(rest: &[u8]) -> Option<Command<'_>>
     Some(Command::Got(attempt as u32, code as u16, retry_after))
 }
 
-// `broke`, if there are no more fields.
-fn broke_fields(rest: &[u8]) -> Option<Command<'_>>
-    ensures { option_map_or meaning_of result unknown ≡ broke_request (fields_of rest.now) }
+// `broke`.
+fn read_broke(rest: &[u8]) -> Option<Command<'_>>
+    ensures { meaning_if_read result ≡ broke_request (fields_of rest.now) }
 {
     if next_field(rest).is_some() {
-        None
-    } else {
-        Some(Command::Broke)
+        return None;
     }
+    Some(Command::Broke)
+}
+
+// `quit`.
+fn read_quit(rest: &[u8]) -> Option<Command<'_>>
+    ensures { meaning_if_read result ≡ quit_request (fields_of rest.now) }
+{
+    if next_field(rest).is_some() {
+        return None;
+    }
+    Some(Command::Quit)
+}
+
+// The endpoint of these fields, or the fault of its address, if the transport is one and the port a
+// number of 16 bits.
+fn read_endpoint(
+    transport: &[u8],
+    address: &[u8],
+    port: &[u8],
+) -> Option<Result<Endpoint, AddressFault>>
+    ensures { result ≡ endpoint_of (transport_named transport.now) address.now
+        (number_of port.now 65535) }
+{
+    let transport = Transport::from_name(transport)?;
+    let port = read_number(port, u64::from(u16::MAX))? as u16;
+    let address = match Address::from_text(address) {
+        Ok(address) => address,
+        Err(fault) => return Some(Err(fault)),
+    };
+    Some(Ok(Endpoint {
+        transport,
+        address,
+        port,
+    }))
 }
 
 // The kind of a request by its word.
 fn read_kind(word: &[u8]) -> Option<Kind>
     ensures { result ≡ kind_named word.now }
 {
-    if word == b"invite".as_slice() {
-        Some(Kind::Invite)
-    } else if word == b"other".as_slice() {
-        Some(Kind::Other)
-    } else {
-        None
+    match word {
+        b"invite" => Some(Kind::Invite),
+        b"other" => Some(Kind::Other),
+        _ => None,
     }
 }
 
@@ -346,15 +325,4 @@ fn read_retry(fields: &[u8]) -> Option<Option<u32>>
     }
     let seconds = read_number(seconds, u64::from(u32::MAX))?;
     Some(Some(seconds as u32))
-}
-
-// `quit`.
-fn quit_command(rest: &[u8]) -> Command<'_>
-    ensures { meaning_of result ≡ quit_request (fields_of rest.now) }
-{
-    if next_field(rest).is_some() {
-        Command::Unknown
-    } else {
-        Command::Quit
-    }
 }

@@ -1,8 +1,10 @@
 //! What a session's commands act on.
-ghost use Rattle.std.specs.Prelude.{◌≡◌, ◌≤◌, ◌^◌, OnOk};
+ghost use Rattle.std.specs.Prelude.{◌≡◌, ◌+◌, ◌++◌, ◌≤◌, ◌^◌, OnOk, vec_len, vec_capacity};
 ghost use Rattle.sipl_outages.specs.Holds.BoardEvent.{Hold, Release, Advance};
 ghost use Rattle.sipl_lines.specs.Desk.{DeskRules};
+ghost use Rattle.sipl_lines.specs.ReplyText.{refusal_line};
 
+use crate::reply::write_refusal;
 use sipl_book::{Book, BookFault, Done, Edit, Handed};
 use sipl_choice::Endpoint;
 use sipl_evidence::Evidence;
@@ -10,10 +12,17 @@ use sipl_srv::Draws;
 use sipl_uri::Question;
 use std::alloc::Global;
 
+/// The maximum length in octets of the reply to a refused command: the longest has a code, a name of
+/// at most 1,020 octets, and a kind.
+pub const MAX_REFUSAL_LEN: usize = 1_040;
+
 /// Where a session's commands are carried out, such as at a book. What the calls do is in its
 /// rules; the session's replies follow from them, whatever the desk is.
 pub trait Desk {
-    ghost rules: { DeskRules Self };
+    /// Why a call is refused.
+    type Fault;
+
+    ghost rules: { DeskRules Self Self.Fault };
 
     /// The answer to a question, for these random words.
     fn find(
@@ -21,43 +30,52 @@ pub trait Desk {
         alloc: Global,
         question: Question,
         draws: &Draws,
-    ) -> Result<Handed, BookFault>
+    ) -> Result<Handed, Self::Fault>
         ensures { rules.Finds question draws.now self.old result self.new };
 
     /// Edits the zones.
-    fn change(&mut self, edit: Edit) -> Result<Done, BookFault>
+    fn change(&mut self, edit: Edit) -> Result<Done, Self::Fault>
         ensures { rules.Changes edit self.old result self.new };
 
     /// Holds an endpoint for some milliseconds from now. Returns the event's number.
-    fn hold(&mut self, endpoint: &Endpoint, ms: u64) -> Result<u64, BookFault>
+    fn hold(&mut self, endpoint: &Endpoint, ms: u64) -> Result<u64, Self::Fault>
         ensures { rules.Moves (Hold endpoint.now ms) self.old result self.new };
 
     /// Ends the hold of an endpoint. Returns the event's number.
-    fn release(&mut self, endpoint: &Endpoint) -> Result<u64, BookFault>
+    fn release(&mut self, endpoint: &Endpoint) -> Result<u64, Self::Fault>
         ensures { rules.Moves (Release endpoint.now) self.old result self.new };
 
     /// Sets the time, in milliseconds, at most to 2^52. Returns the event's number.
-    fn advance(&mut self, to: u64) -> Result<u64, BookFault>
+    fn advance(&mut self, to: u64) -> Result<u64, Self::Fault>
         ensures moved { rules.Moves (Advance to) self.old result self.new }
         ensures limit { OnOk result (to ≤ 2 ^ 52) };
 
     /// The present time, in milliseconds, at most 2^52.
     fn now(&self) -> u64
-        ensures time { result ≡ rules.time self.now }
+        ensures time { rules.IsTime self.now result }
         ensures limit { result ≤ 2 ^ 52 };
 
     /// The record sets that a question's targets depend on, in the order of reading. Keeps nothing.
-    fn deps(&mut self, alloc: Global, question: Question) -> Result<Evidence, BookFault>
+    fn deps(&mut self, alloc: Global, question: Question) -> Result<Evidence, Self::Fault>
         ensures { rules.Depends question self.old result self.new };
 
     /// Looks up again what edits have changed.
-    fn repair(&mut self, alloc: Global) -> Result<(), BookFault>
+    fn repair(&mut self, alloc: Global) -> Result<(), Self::Fault>
         ensures { rules.Repairs self.old result self.new };
+
+    /// Appends the reply to a command that is refused for this fault, to space that is reserved: it
+    /// does not allocate.
+    fn write_fault(fault: Self::Fault, out: &mut Vec<u8>)
+        requires space { vec_len out.old + MAX_REFUSAL_LEN ≤ vec_capacity out.old }
+        ensures text { out.new.items ≡ out.old.items ++ refusal_line (rules.fault_text fault) }
+        ensures capacity { vec_capacity out.old ≤ vec_capacity out.new };
 }
 
 /// A book as a desk: the calls are those of the book, which has its own allocator.
 impl Desk for Book {
     ghost use Rattle.sipl_lines.specs.Desk.{book_rules};
+
+    type Fault = BookFault;
 
     ghost rules = { book_rules };
 
@@ -96,5 +114,9 @@ impl Desk for Book {
 
     fn repair(&mut self, _alloc: Global) -> Result<(), BookFault> {
         Book::repair(self)
+    }
+
+    fn write_fault(fault: BookFault, out: &mut Vec<u8>) {
+        write_refusal(out, fault.code()).unwrap();
     }
 }

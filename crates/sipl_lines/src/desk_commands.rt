@@ -1,34 +1,31 @@
 // What each command asks of a desk, and its reply.
-ghost use Rattle.std.specs.Prelude.{◌≡◌, ◌⊎◌, ◌+◌, ◌≤◌, [], ◌++◌, Ok, Err, length, codes, IfOk, IfErr, OnOk, OnErr, vec_len, vec_capacity};
+ghost use Rattle.std.specs.Prelude.{◌≡◌, ◌⊎◌, ◌+◌, ◌≤◌, [], ◌++◌, Ok, Err, length, codes, IfOk, IfErr, vec_len, vec_capacity};
 ghost use Rattle.sipl_masterfile.specs.RecordText.{record_of};
 ghost use Rattle.sipl_masterfile.specs.Zones.{zone_of};
 ghost use Rattle.sipl_names.specs.NameFault.{IfInvalid};
 ghost use Rattle.sipl_names.specs.NameText.{name_of};
-ghost use Rattle.sipl_records.specs.Addresses.{address_of};
 ghost use Rattle.sipl_uri.specs.Uris.{question_of};
-ghost use Rattle.sipl_lines.specs.Commands.{AnswersUri, Edits, EditsRecord, Holds, ListsUri, Loads, Releases, Repairs, Unloads, handed_text, result_text};
+ghost use Rattle.sipl_lines.specs.Commands.{AnswersUri, ChangesHold, Edits, EditsRecord, ListsUri, Loads, Repairs, Unloads, handed_text, result_text};
 ghost use Rattle.sipl_lines.specs.ReplyText.{counts_line, evidence_text, refusal_line};
-ghost use Rattle.sipl_lines.specs.Session.{AppendsText};
+ghost use Rattle.sipl_lines.specs.Session.{AppendsText, Replies};
 
-use crate::desk::Desk;
+use crate::desk::{Desk, MAX_REFUSAL_LEN};
 use crate::gather::ZoneLines;
 use crate::reply::{write_answer, write_counts, write_evidence, write_refusal, write_text_fault};
-use sipl_book::{BookFault, Edit, Handed};
-use sipl_choice::{Endpoint, Transport};
+use sipl_book::{Edit, Handed};
+use sipl_choice::Endpoint;
 use sipl_evidence::Evidence;
 use sipl_masterfile::{ZoneFault, read_record, read_zone};
 use sipl_names::{Name, NameFault};
-use sipl_records::{Address, Record};
+use sipl_records::{AddressFault, Record};
 use sipl_srv::{Draws, DrawsFault};
 use sipl_uri::{Question, Uri, UriFault};
 use std::alloc::{AllocError, Global};
 
 // The maximum length of a short reply in octets: the lines of four steps of a call, each of at most
-// 128, and a last line. Space for one is reserved before each command.
-pub(crate) const MAX_SHORT_REPLY_LEN: usize = 640;
-
-// The maximum length in octets of the last line of a short reply.
-pub(crate) const MAX_LAST_LINE_LEN: usize = 128;
+// 128, and a last line, which is no longer than a refusal. Space for one is reserved before each
+// command.
+pub(crate) const MAX_SHORT_REPLY_LEN: usize = 1_552;
 
 // Loads the zone of a text, and appends the reply. The text is dropped as soon as it is read, so that
 // it takes no memory beside the loaded zone.
@@ -39,11 +36,8 @@ pub(crate) fn load_zone<D: Desk>(
     out: &mut Vec<u8>,
 ) -> Result<(), AllocError>
     requires space { vec_len out.old + MAX_SHORT_REPLY_LEN ≤ vec_capacity out.old }
-    ensures ok { OnOk result (AppendsText (Loads D.rules (zone_of zone.text zone.apex))
-        desk.old out.old.items desk.new out.new.items) }
-    ensures err { OnErr result (desk.new ≡ desk.old) }
-    ensures err_out { OnErr result (out.new.items ≡ out.old.items) }
-    ensures capacity { vec_capacity out.old ≤ vec_capacity out.new }
+    ensures { Replies (Loads D.rules (zone_of zone.text zone.apex))
+        desk.old out.old result desk.new out.new }
 {
     let read = read_zone(alloc, zone.text(), zone.apex());
     drop(zone);
@@ -58,10 +52,10 @@ pub(crate) fn load_zone<D: Desk>(
         Ok(done) => {
             let [records, outside, repeated] = counts;
             write_counts(out, b"ok zone", &[records, outside, repeated, done.changed]);
-            Ok(())
         }
-        Err(fault) => write_refusal(out, fault.code()),
+        Err(fault) => D::write_fault(fault, out),
     }
+    Ok(())
 }
 
 // `drop APEX`: unloads a zone, and appends the reply.
@@ -72,11 +66,8 @@ pub(crate) fn unload_zone<D: Desk>(
     out: &mut Vec<u8>,
 ) -> Result<(), AllocError>
     requires space { vec_len out.old + MAX_SHORT_REPLY_LEN ≤ vec_capacity out.old }
-    ensures ok { OnOk result (AppendsText (Unloads D.rules (name_of apex.now []))
-        desk.old out.old.items desk.new out.new.items) }
-    ensures err { OnErr result (desk.new ≡ desk.old) }
-    ensures err_out { OnErr result (out.new.items ≡ out.old.items) }
-    ensures capacity { vec_capacity out.old ≤ vec_capacity out.new }
+    ensures { Replies (Unloads D.rules (name_of apex.now []))
+        desk.old out.old result desk.new out.new }
 {
     match read_absolute_name(alloc, apex) {
         Ok(apex) => edit(desk, Edit::Unload(apex), b"ok drop", out),
@@ -101,11 +92,8 @@ pub(crate) fn edit_record<D: Desk>(
     out: &mut Vec<u8>,
 ) -> Result<(), AllocError>
     requires space { vec_len out.old + MAX_SHORT_REPLY_LEN ≤ vec_capacity out.old }
-    ensures ok { OnOk result (AppendsText (EditsRecord D.rules kind (record_of text.now []))
-        desk.old out.old.items desk.new out.new.items) }
-    ensures err { OnErr result (desk.new ≡ desk.old) }
-    ensures err_out { OnErr result (out.new.items ≡ out.old.items) }
-    ensures capacity { vec_capacity out.old ≤ vec_capacity out.new }
+    ensures { Replies (EditsRecord D.rules kind (record_of text.now []))
+        desk.old out.old result desk.new out.new }
 {
     match read_absolute_record(alloc, text)? {
         Ok(record) => match kind {
@@ -125,19 +113,14 @@ fn edit<D: Desk>(
 ) -> Result<(), AllocError>
     requires space { vec_len out.old + MAX_SHORT_REPLY_LEN ≤ vec_capacity out.old }
     requires words { length words.now ≤ 7 }
-    ensures ok { OnOk result (AppendsText (Edits D.rules words.now [] edit)
-        desk.old out.old.items desk.new out.new.items) }
-    ensures err { OnErr result (desk.new ≡ desk.old) }
-    ensures err_out { OnErr result (out.new.items ≡ out.old.items) }
-    ensures capacity { vec_capacity out.old ≤ vec_capacity out.new }
+    ensures { Replies (Edits D.rules words.now [] edit)
+        desk.old out.old result desk.new out.new }
 {
     match desk.change(edit) {
-        Ok(done) => {
-            write_counts(out, words, &[done.changed]);
-            Ok(())
-        }
-        Err(fault) => write_refusal(out, fault.code()),
+        Ok(done) => write_counts(out, words, &[done.changed]),
+        Err(fault) => D::write_fault(fault, out),
     }
+    Ok(())
 }
 
 // `find URI DRAWS`: appends a URI's targets for these random words, or why there are none.
@@ -149,11 +132,8 @@ pub(crate) fn find<D: Desk>(
     out: &mut Vec<u8>,
 ) -> Result<(), AllocError>
     requires space { vec_len out.old + MAX_SHORT_REPLY_LEN ≤ vec_capacity out.old }
-    ensures ok { OnOk result (AppendsText (AnswersUri D.rules (question_of uri.now) draws.now)
-        desk.old out.old.items desk.new out.new.items) }
-    ensures err { OnErr result (desk.new ≡ desk.old) }
-    ensures err_out { OnErr result (out.new.items ≡ out.old.items) }
-    ensures capacity { vec_capacity out.old ≤ vec_capacity out.new }
+    ensures { Replies (AnswersUri D.rules (question_of uri.now) draws.now)
+        desk.old out.old result desk.new out.new }
 {
     let question = match read_question(alloc, uri)? {
         Ok(question) => question,
@@ -164,17 +144,15 @@ pub(crate) fn find<D: Desk>(
         Err(fault) => return write_refusal(out, fault.code()),
     };
     match desk.find(alloc, question, draws) {
-        Ok(handed) => {
-            reply_handed(&handed, out);
-            Ok(())
-        }
-        Err(fault) => write_refusal(out, fault.code()),
+        Ok(handed) => reply_handed(&handed, out),
+        Err(fault) => D::write_fault(fault, out),
     }
+    Ok(())
 }
 
 // Appends the reply to a question, or `err Memory` where there is no space for it.
 pub(crate) fn reply_handed(handed: &Handed, out: &mut Vec<u8>)
-    requires space { vec_len out.old + MAX_SHORT_REPLY_LEN ≤ vec_capacity out.old }
+    requires space { vec_len out.old + MAX_REFUSAL_LEN ≤ vec_capacity out.old }
     ensures text { (out.new.items ≡ out.old.items ++ handed_text handed.now)
         ⊎ (out.new.items ≡ out.old.items ++ refusal_line (codes "Memory")) }
     ensures capacity { vec_capacity out.old ≤ vec_capacity out.new }
@@ -192,28 +170,23 @@ pub(crate) fn list_evidence<D: Desk>(
     out: &mut Vec<u8>,
 ) -> Result<(), AllocError>
     requires space { vec_len out.old + MAX_SHORT_REPLY_LEN ≤ vec_capacity out.old }
-    ensures ok { OnOk result (AppendsText (ListsUri D.rules (question_of uri.now))
-        desk.old out.old.items desk.new out.new.items) }
-    ensures err { OnErr result (desk.new ≡ desk.old) }
-    ensures err_out { OnErr result (out.new.items ≡ out.old.items) }
-    ensures capacity { vec_capacity out.old ≤ vec_capacity out.new }
+    ensures { Replies (ListsUri D.rules (question_of uri.now))
+        desk.old out.old result desk.new out.new }
 {
     let question = match read_question(alloc, uri)? {
         Ok(question) => question,
         Err(fault) => return write_refusal(out, fault.code()),
     };
     match desk.deps(alloc, question) {
-        Ok(evidence) => {
-            reply_evidence(&evidence, out);
-            Ok(())
-        }
-        Err(fault) => write_refusal(out, fault.code()),
+        Ok(evidence) => reply_evidence(&evidence, out),
+        Err(fault) => D::write_fault(fault, out),
     }
+    Ok(())
 }
 
 // Appends the record sets of evidence, or `err Memory` where there is no space for them.
 fn reply_evidence(evidence: &Evidence, out: &mut Vec<u8>)
-    requires space { vec_len out.old + MAX_SHORT_REPLY_LEN ≤ vec_capacity out.old }
+    requires space { vec_len out.old + MAX_REFUSAL_LEN ≤ vec_capacity out.old }
     ensures text { (out.new.items ≡ out.old.items ++ evidence_text evidence.now)
         ⊎ (out.new.items ≡ out.old.items ++ refusal_line (codes "Memory")) }
     ensures capacity { vec_capacity out.old ≤ vec_capacity out.new }
@@ -232,78 +205,57 @@ pub(crate) fn repair<D: Desk>(alloc: Global, desk: &mut D, out: &mut Vec<u8>)
 {
     match desk.repair(alloc) {
         Ok(()) => write_counts(out, b"ok repair", &[]),
-        Err(fault) => write_refusal(out, fault.code()).unwrap(),
+        Err(fault) => D::write_fault(fault, out),
     }
 }
 
-// `hold TRANSPORT ADDRESS PORT MS`: holds an endpoint, and appends the reply.
-pub(crate) fn hold<D: Desk>(
-    desk: &mut D,
-    transport: Transport,
-    address: &[u8],
-    port: u16,
-    ms: u64,
-    out: &mut Vec<u8>,
-)
-    requires space { vec_len out.old + MAX_SHORT_REPLY_LEN ≤ vec_capacity out.old }
-    ensures done { AppendsText (Holds D.rules transport (address_of address.now) port ms)
-        desk.old out.old.items desk.new out.new.items }
-    ensures capacity { vec_capacity out.old ≤ vec_capacity out.new }
-{
-    let address = match Address::from_text(address) {
-        Ok(address) => address,
-        Err(fault) => return write_refusal(out, fault.code()).unwrap(),
-    };
-    let endpoint = Endpoint {
-        transport,
-        address,
-        port,
-    };
-    reply_moved(desk.hold(&endpoint, ms), b"ok hold", &[], out);
+// A change of an endpoint's hold: it is held for so many milliseconds, or its hold ends.
+#[derive(Clone, Copy)]
+pub(crate) enum HoldChange {
+    Hold(u64),
+    Release,
 }
 
-// `release TRANSPORT ADDRESS PORT`: ends the hold of an endpoint, and appends the reply.
-pub(crate) fn release<D: Desk>(
+// `hold TRANSPORT ADDRESS PORT MS` or `release TRANSPORT ADDRESS PORT`: holds an endpoint or ends its
+// hold, and appends the reply.
+pub(crate) fn change_hold<D: Desk>(
     desk: &mut D,
-    transport: Transport,
-    address: &[u8],
-    port: u16,
+    change: HoldChange,
+    endpoint: &Result<Endpoint, AddressFault>,
     out: &mut Vec<u8>,
 )
     requires space { vec_len out.old + MAX_SHORT_REPLY_LEN ≤ vec_capacity out.old }
-    ensures done { AppendsText (Releases D.rules transport (address_of address.now) port)
+    ensures done { AppendsText (ChangesHold D.rules change endpoint.now)
         desk.old out.old.items desk.new out.new.items }
     ensures capacity { vec_capacity out.old ≤ vec_capacity out.new }
 {
-    let address = match Address::from_text(address) {
-        Ok(address) => address,
+    let endpoint = match endpoint {
+        Ok(endpoint) => endpoint,
         Err(fault) => return write_refusal(out, fault.code()).unwrap(),
     };
-    let endpoint = Endpoint {
-        transport,
-        address,
-        port,
-    };
-    reply_moved(desk.release(&endpoint), b"ok release", &[], out);
+    match change {
+        HoldChange::Hold(ms) => reply_moved::<D>(desk.hold(endpoint, ms), b"ok hold", &[], out),
+        HoldChange::Release => reply_moved::<D>(desk.release(endpoint), b"ok release", &[], out),
+    }
 }
 
 // Appends the reply to a hold, a release or a move of the clock: words and numbers, or its fault.
-pub(crate) fn reply_moved(
-    outcome: Result<u64, BookFault>,
+pub(crate) fn reply_moved<D: Desk>(
+    outcome: Result<u64, D::Fault>,
     words: &[u8],
     numbers: &[u64],
     out: &mut Vec<u8>,
 )
-    requires space { vec_len out.old + MAX_LAST_LINE_LEN ≤ vec_capacity out.old }
+    requires space { vec_len out.old + MAX_REFUSAL_LEN ≤ vec_capacity out.old }
     requires words { length words.now ≤ 10 }
     requires numbers { length numbers.now ≤ 1 }
     ensures done { out.new.items ≡ out.old.items
-        ++ result_text (λ number. counts_line words.now numbers.now) outcome }
+        ++ result_text D.rules (λ number. counts_line words.now numbers.now) outcome }
     ensures capacity { vec_capacity out.old ≤ vec_capacity out.new }
 {
     match outcome {
         Ok(_) => write_counts(out, words, numbers),
-        Err(fault) => write_refusal(out, fault.code()).unwrap(),
+        Err(fault) => D::write_fault(fault, out),
     }
 }
 

@@ -28,7 +28,7 @@ mod tapped;
 pub use book::serve_book;
 pub use check::check_zone;
 pub use command::{MAX_LINE_LEN, MAX_ZONE_LINES};
-pub use desk::Desk;
+pub use desk::{Desk, MAX_REFUSAL_LEN};
 pub use script::play_script;
 pub use service_desk::ServiceDesk;
 pub use server::{Ended, MAX_READS, ServeFault, serve, serve_within};

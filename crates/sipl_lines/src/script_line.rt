@@ -8,9 +8,9 @@ ghost use Rattle.sipl_lines.specs.ScriptMeaning.{meaning_of_line};
 
 use crate::command::{MAX_LINE_LEN, read_shared_line};
 use crate::draws_field::read_draws;
-use sipl_choice::Transport;
+use sipl_choice::Endpoint;
 use sipl_interleave::MAX_WORKERS;
-use sipl_records::{next_field, read_number};
+use sipl_records::{AddressFault, next_field, read_number};
 use sipl_srv::{Draws, DrawsFault};
 
 // A line of a script, once there is a world, with its fields as they are in the line. Workers are
@@ -32,9 +32,9 @@ pub(crate) enum ScriptLine<'a> {
     // `del RECORD`: removes a record.
     Del(&'a [u8]),
     // `hold TRANSPORT ADDRESS PORT MS`: holds an endpoint for some milliseconds.
-    Hold(Transport, &'a [u8], u16, u64),
+    Hold(Result<Endpoint, AddressFault>, u64),
     // `release TRANSPORT ADDRESS PORT`: ends an endpoint's hold.
-    Release(Transport, &'a [u8], u16),
+    Release(Result<Endpoint, AddressFault>),
     // `clock MS`: sets the time, in milliseconds.
     Clock(u64),
     // `hand URI DRAWS`: asks for the kept answer to a URI, for these random words.

@@ -1,16 +1,14 @@
 // The step of the world that a line of a script asks for.
 ghost use Rattle.std.specs.Prelude.{◌≡◌, ◌⊎◌, ◌≤◌, Ok, Err, codes, length, IfOk, IfErr};
-ghost use Rattle.sipl_records.specs.Addresses.{address_of};
 ghost use Rattle.sipl_lines.specs.ScriptMeaning.{meaning_of_line};
-ghost use Rattle.sipl_lines.specs.ScriptSteps.{MayFail, apex_of, endpoint_of, question_in, record_in, step_of};
+ghost use Rattle.sipl_lines.specs.ScriptSteps.{MayFail, apex_of, question_in, record_in, step_of};
 
 use crate::desk_commands::{read_absolute_name, read_absolute_record, read_question};
 use crate::script_line::ScriptLine;
 use sipl_book::Edit;
-use sipl_choice::{Endpoint, Transport};
 use sipl_interleave::Step;
 use sipl_names::{Name, NameFault};
-use sipl_records::{Address, Record};
+use sipl_records::Record;
 use sipl_uri::Question;
 use std::alloc::Global;
 
@@ -26,12 +24,9 @@ pub(crate) fn read_step(alloc: Global, line: &ScriptLine<'_>) -> Result<Step, &'
         ScriptLine::Drop(apex) => Ok(Step::Change(Edit::Unload(read_apex(alloc, apex)?))),
         ScriptLine::Add(text) => Ok(Step::Change(Edit::Add(read_record(alloc, text)?))),
         ScriptLine::Del(text) => Ok(Step::Change(Edit::Remove(read_record(alloc, text)?))),
-        ScriptLine::Hold(transport, address, port, ms) => {
-            Ok(Step::Hold(read_endpoint(*transport, address, *port)?, *ms))
-        }
-        ScriptLine::Release(transport, address, port) => {
-            Ok(Step::Release(read_endpoint(*transport, address, *port)?))
-        }
+        ScriptLine::Hold(Ok(endpoint), ms) => Ok(Step::Hold(*endpoint, *ms)),
+        ScriptLine::Release(Ok(endpoint)) => Ok(Step::Release(*endpoint)),
+        ScriptLine::Hold(Err(fault), _) | ScriptLine::Release(Err(fault)) => Err(fault.code()),
         ScriptLine::Clock(to) => Ok(Step::Advance(*to)),
         ScriptLine::Hand(uri, draws) => Ok(Step::Hand(read_uri(alloc, uri)?, *draws)),
         ScriptLine::HandFault(uri, fault) => {
@@ -90,23 +85,5 @@ fn read_uri(alloc: Global, uri: &[u8]) -> Result<Question, &'static str>
         Ok(Ok(question)) => Ok(question),
         Ok(Err(fault)) => Err(fault.code()),
         Err(_) => Err("Memory"),
-    }
-}
-
-// The endpoint of an address's text, or the code of its fault.
-fn read_endpoint(transport: Transport, address: &[u8], port: u16) -> Result<Endpoint, &'static str>
-    ensures ok { IfOk result
-        (λ endpoint. endpoint_of transport (address_of address.now) port ≡ Ok endpoint) }
-    ensures err { IfErr result
-        (λ code. endpoint_of transport (address_of address.now) port ≡ Err code.now) }
-    ensures short { IfErr result (λ code. length code.now ≤ 6) }
-{
-    match Address::from_text(address) {
-        Ok(address) => Ok(Endpoint {
-            transport,
-            address,
-            port,
-        }),
-        Err(fault) => Err(fault.code()),
     }
 }

@@ -3,14 +3,14 @@ ghost use Rattle.sipl_lines.specs.CommandMeaning.{meaning_of};
 ghost use Rattle.sipl_lines.specs.Gathering.{keeps_lines};
 ghost use Rattle.sipl_lines.specs.Items.{Item};
 ghost use Rattle.sipl_lines.specs.Replies.{AppendsReply};
-ghost use Rattle.sipl_lines.specs.Session.{AppendsText, GathersOrLoses, LoadsGathered, MayFail, Obeys, at_desk, session_protocol};
+ghost use Rattle.sipl_lines.specs.Session.{AppendsText, GathersOrLoses, LoadsGathered, MayFail, Obeys, Replies, at_desk, session_protocol};
 
 use crate::calls::{hear_failure, hear_response, open_call, set_clock};
 use crate::command::{Command, read_command};
 use crate::desk::Desk;
 use crate::desk_commands::{
-    MAX_SHORT_REPLY_LEN, RecordEdit, edit_record, find, hold, list_evidence, load_zone, release,
-    repair, unload_zone,
+    HoldChange, MAX_SHORT_REPLY_LEN, RecordEdit, change_hold, edit_record, find, list_evidence,
+    load_zone, repair, unload_zone,
 };
 use crate::gather::{Gathered, Gathering};
 use crate::reply::write_refusal;
@@ -134,12 +134,9 @@ impl Session {
         out: &mut Vec<u8>,
     ) -> Result<(), AllocError>
         requires { vec_len out.old + MAX_SHORT_REPLY_LEN ≤ vec_capacity out.old }
-        ensures ok { OnOk result (AppendsText (Obeys D.rules (meaning_of command.now))
-            (at_desk desk.old self.old) out.old.items (at_desk desk.new self.new) out.new.items) }
-        ensures err { OnErr result (at_desk desk.new self.new ≡ at_desk desk.old self.old) }
-        ensures err_out { OnErr result (out.new.items ≡ out.old.items) }
+        ensures replies { Replies (Obeys D.rules (meaning_of command.now))
+            (at_desk desk.old self.old) out.old result (at_desk desk.new self.new) out.new }
         ensures allocates { OnErr result (MayFail (meaning_of command.now)) }
-        ensures capacity { vec_capacity out.old ≤ vec_capacity out.new }
     {
         match command {
             Command::Nothing => Ok(()),
@@ -158,12 +155,12 @@ impl Session {
                 repair(alloc, desk, out);
                 Ok(())
             }
-            Command::Hold(transport, address, port, ms) => {
-                hold(desk, *transport, address, *port, *ms, out);
+            Command::Hold(endpoint, ms) => {
+                change_hold(desk, HoldChange::Hold(*ms), endpoint, out);
                 Ok(())
             }
-            Command::Release(transport, address, port) => {
-                release(desk, *transport, address, *port, out);
+            Command::Release(endpoint) => {
+                change_hold(desk, HoldChange::Release, endpoint, out);
                 Ok(())
             }
             Command::Clock(to) => {
@@ -220,12 +217,9 @@ fn load_gathered<D: Desk>(
     out: &mut Vec<u8>,
 ) -> Result<(), AllocError>
     requires { vec_len out.old + MAX_SHORT_REPLY_LEN ≤ vec_capacity out.old }
-    ensures ok { OnOk result (AppendsText (LoadsGathered D.rules gathered)
-        desk.old out.old.items desk.new out.new.items) }
-    ensures err { OnErr result (desk.new ≡ desk.old) }
-    ensures err_out { OnErr result (out.new.items ≡ out.old.items) }
+    ensures replies { Replies (LoadsGathered D.rules gathered)
+        desk.old out.old result desk.new out.new }
     ensures allocates { OnErr result (IsTrue (keeps_lines gathered)) }
-    ensures capacity { vec_capacity out.old ≤ vec_capacity out.new }
 {
     match gathered {
         Gathered::Lines(zone) => load_zone(alloc, desk, zone, out),

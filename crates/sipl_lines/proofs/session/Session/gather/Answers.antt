@@ -13,7 +13,7 @@ returns-then-is_err-clause-done g c =
     let before = at_desk c.args.desk.now c.args.self.now in
     let failed : is_err c.load_gathered.result ≡ true = search rules in
     let same : c.load_gathered.new.desk ≡ c.args.desk.now =
-    at_error c.load_gathered.result (c.load_gathered.new.desk ≡ c.args.desk.now) failed c.load_gathered.ensures.err in
+    at_error c.load_gathered.result (c.load_gathered.new.desk ≡ c.args.desk.now) failed c.load_gathered.ensures.replies.unchanged in
     let reply : c.write_refusal.new.out.items ≡ c.args.out.now.items ++ refusal_line (codes "Memory") = search rules in
     let all : (c.args.gathering.left == 0) ≡ true = search rules in
     let kept : IsTrue (keeps_lines c.args.gathering.gathered) =
