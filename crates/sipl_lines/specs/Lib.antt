@@ -16,6 +16,7 @@ pub mod Gathering
 pub mod CommandMeaning
 pub mod ReplyText
 pub mod Desk
+pub mod ServiceDesk
 pub mod PlainDesk
 pub mod Commands
 pub mod Calls

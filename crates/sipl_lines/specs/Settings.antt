@@ -59,6 +59,8 @@ pub record IsWithinLimits (settings : Settings) : Type 0 where
   pub entries : settings.entries ≤ 65536
   pub journal : settings.journal ≤ 1048576
   pub holds : settings.holds ≤ 4096
+  pub once : 1 ≤ settings.tries
+  pub tries : settings.tries ≤ 16
 
 -- what a book with these settings keeps at most; its sets are numbered from 1
 abbrev pub limits_of : Settings → Limits

@@ -30,7 +30,7 @@ pub use check::check_zone;
 pub use command::{MAX_LINE_LEN, MAX_ZONE_LINES};
 pub use desk::{Desk, MAX_REFUSAL_LEN};
 pub use script::play_script;
-pub use service_desk::ServiceDesk;
 pub use server::{Ended, MAX_READS, ServeFault, serve, serve_within};
+pub use service_desk::ServiceDesk;
 pub use settings::{Settings, SettingsFault};
 pub use tapped::Tapped;

@@ -1,13 +1,15 @@
 // How replies are written.
 ghost use Rattle.std.specs.Prelude.{◌≡◌, ◌+◌, ◌*◌, ◌≤◌, [], ◌∷◌, ◌++◌, length, take, codes, IsOk, OnOk, OnErr, vec_len, vec_capacity};
 ghost use Rattle.sipl_lines.specs.ReplyText.{answer_text, evidence_line, evidence_text, max_answer_len, counts_line, refusal_line, text_fault_line, number_field, target_line, target_lines, word_field};
+ghost use Rattle.sipl_names.specs.NamePrint.{text_of};
 ghost use Rattle.sipl_records.specs.Kinds.{text_of_kind};
 
 use itoa::Buffer;
 use sipl_choice::Endpoint;
 use sipl_evidence::Item;
+use sipl_names::Name;
 use sipl_plans::Answer;
-use sipl_records::Kind;
+use sipl_records::{Key, Kind};
 use std::alloc::AllocError;
 
 // The maximum length in octets of a number below 2^64 with a space before it.
@@ -65,6 +67,33 @@ pub(crate) fn write_word(out: &mut Vec<u8>, word: &[u8])
 {
     out.push_reserved(b' ');
     out.extend_from_slice(word).unwrap();
+}
+
+// Appends a space, an owner, a space and a kind to space that is reserved.
+#[tactic(auto, using(crate::proofs::Lengths::kind_text_is_short))]
+pub(crate) fn write_key(out: &mut Vec<u8>, key: &Key)
+    requires { vec_len out.old + 1_028 ≤ vec_capacity out.old }
+    ensures ok { out.new.items ≡ out.old.items
+        ++ (word_field (text_of key.now.name) ++ word_field (text_of_kind key.now.kind)) }
+    ensures len { vec_len out.new ≤ vec_len out.old + 1_028 }
+    ensures capacity { vec_capacity out.old ≤ vec_capacity out.new }
+{
+    write_name(out, &key.name);
+    write_word(out, key.kind.name().as_bytes());
+}
+
+// Appends a space and a name to space that is reserved.
+#[tactic(auto, using(crate::proofs::Lengths::name_text_is_short))]
+pub(crate) fn write_name(out: &mut Vec<u8>, name: &Name)
+    requires { vec_len out.old + 1_021 ≤ vec_capacity out.old }
+    ensures ok { out.new.items ≡ out.old.items ++ word_field (text_of name.now) }
+    ensures len { vec_len out.new ≤ vec_len out.old + 1_021 }
+    ensures capacity { vec_capacity out.old ≤ vec_capacity out.new }
+{
+    out.push_reserved(b' ');
+    // each octet of the wire form is printed in at most four
+    out.reserve(4 * name.wire_len()).unwrap();
+    name.write(out).unwrap();
 }
 
 // Appends the reply to a command that is refused. An error leaves `out` as it was.

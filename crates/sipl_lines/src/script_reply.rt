@@ -1,20 +1,16 @@
 // How the replies of a script are written.
 ghost use Rattle.std.specs.Prelude.{◌≡◌, ◌+◌, ◌≤◌, ◌++◌, vec_len, vec_capacity};
 ghost use Rattle.std.specs.List.{slice_get};
-ghost use Rattle.sipl_names.specs.NamePrint.{text_of};
-ghost use Rattle.sipl_records.specs.Kinds.{text_of_kind};
 ghost use Rattle.sipl_lines.specs.ReplyText.{word_field};
 ghost use Rattle.sipl_lines.specs.ScriptText.{Shows, changed_text, lease_text, moved_text, port_field, read_text, scheme_text, shown_of, stale_text, target_text, transport_field, uncommitted_text};
 ghost use Rattle.sipl_lines.specs.Session.{AppendsText};
 
 use crate::desk_commands::reply_handed;
-use crate::reply::{write_counts, write_number, write_refusal, write_word};
+use crate::reply::{write_counts, write_key, write_name, write_number, write_refusal, write_word};
 use sipl_book::{BookFault, Edit, Uncommitted};
 use sipl_choice::Transport;
 use sipl_evidence::Item;
 use sipl_interleave::{Reply, Step};
-use sipl_names::Name;
-use sipl_records::Key;
 use sipl_uri::{Question, Target};
 
 // The maximum length in octets of a script's reply, but for one with targets: the longest is that of
@@ -122,33 +118,6 @@ fn write_read(item: &Item, out: &mut Vec<u8>)
     write_key(out, item.key());
     write_number(out, item.content().len() as u64);
     out.push_reserved(b'\n');
-}
-
-// Appends a space, an owner, a space and a kind to space that is reserved.
-#[tactic(auto, using(crate::proofs::Lengths::kind_text_is_short))]
-fn write_key(out: &mut Vec<u8>, key: &Key)
-    requires { vec_len out.old + 1_028 ≤ vec_capacity out.old }
-    ensures ok { out.new.items ≡ out.old.items
-        ++ (word_field (text_of key.now.name) ++ word_field (text_of_kind key.now.kind)) }
-    ensures len { vec_len out.new ≤ vec_len out.old + 1_028 }
-    ensures capacity { vec_capacity out.old ≤ vec_capacity out.new }
-{
-    write_name(out, &key.name);
-    write_word(out, key.kind.name().as_bytes());
-}
-
-// Appends a space and a name to space that is reserved.
-#[tactic(auto, using(crate::proofs::Lengths::name_text_is_short))]
-fn write_name(out: &mut Vec<u8>, name: &Name)
-    requires { vec_len out.old + 1_021 ≤ vec_capacity out.old }
-    ensures ok { out.new.items ≡ out.old.items ++ word_field (text_of name.now) }
-    ensures len { vec_len out.new ≤ vec_len out.old + 1_021 }
-    ensures capacity { vec_capacity out.old ≤ vec_capacity out.new }
-{
-    out.push_reserved(b' ');
-    // each octet of the wire form is printed in at most four
-    out.reserve(4 * name.wire_len()).unwrap();
-    name.write(out).unwrap();
 }
 
 // Appends the question of the entry that a worker leased.

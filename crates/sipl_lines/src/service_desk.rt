@@ -1,12 +1,16 @@
 //! A service as a desk.
+ghost use Rattle.std.specs.Prelude.{◌≡◌};
+
 use crate::desk::Desk;
-use sipl_book::{BookFault, Done, Edit, Handed};
+use crate::reply::{write_key, write_refusal};
+use sipl_book::{Done, Edit, Handed};
 use sipl_choice::Endpoint;
 use sipl_evidence::Evidence;
 use sipl_service::{OpenGate, Pass, Service, ServiceFault};
 use sipl_srv::Draws;
 use sipl_uri::Question;
 use std::alloc::Global;
+use std::marker::Model;
 use std::sync::Wait;
 
 /// A service that threads share, as the desk of one caller: the calls are those of the service, with
@@ -18,71 +22,87 @@ pub struct ServiceDesk<'a, R: Wait> {
     pass: Pass,
 }
 
+impl<'a, R: Wait> Model for ServiceDesk<'a, R> {
+    ghost use Rattle.sipl_lines.specs.ServiceDesk.{CallerState};
+
+    ghost Value = { CallerState };
+
+    ghost view = { λ desk. record { client = desk.service.now.client; pass = desk.pass } };
+}
+
 impl<'a, R: Wait> ServiceDesk<'a, R> {
     /// The desk of the caller who has this pass.
-    pub fn new(rt: &'a R, service: &'a Service, pass: Pass) -> Self {
+    pub fn new(rt: &'a R, service: &'a Service, pass: Pass) -> Self
+        ensures { result ≡ record { client = service.now.client; pass = pass } }
+    {
         ServiceDesk { rt, service, pass }
     }
 
     /// The pass, with the receipts of all calls.
-    pub fn into_pass(self) -> Pass {
+    pub fn into_pass(self) -> Pass
+        ensures { result ≡ self.entry.pass }
+    {
         self.pass
     }
 }
 
-fn hack(fault: ServiceFault) -> BookFault {
-    match fault {
-        ServiceFault::Book(fault) => fault,
-        _ => BookFault::Memory,
-    }
-}
+impl<'a, R: Wait> Desk for ServiceDesk<'a, R> {
+    ghost use Rattle.sipl_lines.specs.ServiceDesk.{caller_rules};
 
-impl<R: Wait> Desk for ServiceDesk<'_, R> {
-    ghost use Rattle.sipl_lines.specs.Desk.{book_rules};
+    type Fault = ServiceFault;
 
-    ghost rules = { book_rules };
+    ghost rules = { caller_rules };
 
     fn find(
         &mut self,
         _alloc: Global,
         question: Question,
         draws: &Draws,
-    ) -> Result<Handed, BookFault> {
-        let told = match self.service.lookup(self.rt, &mut self.pass, &question, draws, &OpenGate) {
-            Ok(told) => told,
-            Err(fault) => return Err(hack(fault)),
-        };
+    ) -> Result<Handed, ServiceFault> {
+        let (rt, pass) = (self.rt, &mut self.pass);
+        let told = self.service.lookup(rt, pass, &question, draws, &OpenGate)?;
         Ok(Handed {
             number: told.number(),
             answer: told.into_answer(),
         })
     }
 
-    fn change(&mut self, edit: Edit) -> Result<Done, BookFault> {
-        self.service.edit(self.rt, &mut self.pass, edit).map_err(hack)
+    fn change(&mut self, edit: Edit) -> Result<Done, ServiceFault> {
+        self.service.edit(self.rt, &mut self.pass, edit)
     }
 
-    fn hold(&mut self, endpoint: &Endpoint, ms: u64) -> Result<u64, BookFault> {
-        self.service.hold(self.rt, &mut self.pass, endpoint, ms).map_err(hack)
+    fn hold(&mut self, endpoint: &Endpoint, ms: u64) -> Result<u64, ServiceFault> {
+        self.service.hold(self.rt, &mut self.pass, endpoint, ms)
     }
 
-    fn release(&mut self, endpoint: &Endpoint) -> Result<u64, BookFault> {
-        self.service.release(self.rt, &mut self.pass, endpoint).map_err(hack)
+    fn release(&mut self, endpoint: &Endpoint) -> Result<u64, ServiceFault> {
+        self.service.release(self.rt, &mut self.pass, endpoint)
     }
 
-    fn advance(&mut self, to: u64) -> Result<u64, BookFault> {
-        self.service.advance(self.rt, &mut self.pass, to).map_err(hack)
+    fn advance(&mut self, to: u64) -> Result<u64, ServiceFault> {
+        self.service.advance(self.rt, &mut self.pass, to)
     }
 
     fn now(&self) -> u64 {
         self.service.now(self.rt)
     }
 
-    fn deps(&mut self, _alloc: Global, question: Question) -> Result<Evidence, BookFault> {
-        self.service.deps(self.rt, &question).map_err(hack)
+    fn deps(&mut self, _alloc: Global, question: Question) -> Result<Evidence, ServiceFault> {
+        self.service.deps(self.rt, &question)
     }
 
-    fn repair(&mut self, _alloc: Global) -> Result<(), BookFault> {
-        self.service.repair(self.rt).map_err(hack)
+    fn repair(&mut self, _alloc: Global) -> Result<(), ServiceFault> {
+        self.service.repair(self.rt)
+    }
+
+    fn write_fault(fault: ServiceFault, out: &mut Vec<u8>) {
+        match fault {
+            ServiceFault::Contended(key) => {
+                out.extend_from_slice(b"err L1").unwrap();
+                write_key(out, &key);
+                out.push_reserved(b'\n');
+            }
+            fault => write_refusal(out, fault.code()).unwrap(),
+        }
     }
 }

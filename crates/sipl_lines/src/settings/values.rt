@@ -14,6 +14,7 @@ use toml::Value;
 // A whole number from `min` to `max`.
 pub(super) fn number(value: &Value, min: usize, max: usize) -> Result<usize, Refusal>
     ensures read { result ≡ ok_or (number_from min max (view value.now)) Refusal.BadValue }
+    ensures least { IfOk result (λ number. min ≤ number) }
     ensures within { IfOk result (λ number. number ≤ max) }
 {
     let Some(integer) = value.as_integer() else {

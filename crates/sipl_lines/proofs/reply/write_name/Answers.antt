@@ -1,7 +1,7 @@
 use Rattle.std.proofs.Common.{rules, ◌≡◌, ◌++◌, length, OnOk, ap, subst, length-append}
 use Rattle.sipl_names.specs.NamePrint.{text_of}
 use Rattle.sipl_lines.proofs.Lengths.{name_text_is_short}
-use Rattle.sipl_lines.proofs.script_reply.write_name.Goals as goal
+use Rattle.sipl_lines.proofs.reply.write_name.Goals as goal
 
 pub returns-clause-len : goal.returns-clause-len
 returns-clause-len c =
