@@ -80,7 +80,8 @@ Loads rules (Ok zone) before text after =
     (Load zone) before text after
 
 -- the zone of an apex is unloaded
-abbrev pub Unloads : {D F : Type 0} → DeskRules D F → Result Labels InvalidName → D → Octets → D → Type 0
+abbrev pub Unloads : {D F : Type 0} → DeskRules D F → Result Labels InvalidName → D → Octets → D
+    → Type 0
 Unloads rules (Err fault) before text after = Refuses (name_code fault) before text after
 Unloads rules (Ok apex) before text after = Edits rules (codes "ok drop") [] (Unload apex) before text after
 
@@ -94,26 +95,26 @@ record_edit AddRecord r = Add r
 record_edit RemoveRecord r = Remove r
 
 -- the record of a text is added or removed
-abbrev pub EditsRecord : {D F : Type 0} → DeskRules D F → RecordEdit → Result Record ZoneFault → D → Octets → D
-    → Type 0
+abbrev pub EditsRecord : {D F : Type 0} → DeskRules D F → RecordEdit → Result Record ZoneFault → D
+    → Octets → D → Type 0
 EditsRecord rules kind (Err fault) before text after = Refuses (zone_code fault) before text after
 EditsRecord rules kind (Ok r) before text after =
     Edits rules (record_words kind) [] (record_edit kind r) before text after
 
--- the targets of a question for random words; they are handed out also where there is no space for
--- their text
+-- the targets of a question for random words, handed out also where there is no space for their text
 abbrev pub Answers : {D F : Type 0} → DeskRules D F → Question → List ℕ → D → Octets → D → Type 0
 Answers rules question words before text after =
     DoesInSpace rules (rules.Finds question words) handed_text before text after
 
 -- the targets of a question for the words that were given, if they are good
-abbrev pub AnswersWith : {D F : Type 0} → DeskRules D F → Question → Result (List ℕ) DrawsFault → D → Octets → D → Type 0
+abbrev pub AnswersWith : {D F : Type 0} → DeskRules D F → Question → Result (List ℕ) DrawsFault → D
+    → Octets → D → Type 0
 AnswersWith rules question (Err fault) before text after = Refuses (draws_code fault) before text after
 AnswersWith rules question (Ok words) before text after = Answers rules question words before text after
 
 -- the targets of a URI: its fault is reported before that of the words
-abbrev pub AnswersUri : {D F : Type 0} → DeskRules D F → Result Question UriFault → Result (List ℕ) DrawsFault → D → Octets → D
-    → Type 0
+abbrev pub AnswersUri : {D F : Type 0} → DeskRules D F → Result Question UriFault
+    → Result (List ℕ) DrawsFault → D → Octets → D → Type 0
 AnswersUri rules (Err fault) draws before text after = Refuses (uri_code fault) before text after
 AnswersUri rules (Ok question) draws before text after = AnswersWith rules question draws before text after
 
@@ -123,7 +124,8 @@ Lists rules question before text after =
     DoesInSpace rules (rules.Depends question) evidence_text before text after
 
 -- the record sets that a URI's targets depend on
-abbrev pub ListsUri : {D F : Type 0} → DeskRules D F → Result Question UriFault → D → Octets → D → Type 0
+abbrev pub ListsUri : {D F : Type 0} → DeskRules D F → Result Question UriFault → D → Octets → D
+    → Type 0
 ListsUri rules (Err fault) before text after = Refuses (uri_code fault) before text after
 ListsUri rules (Ok question) before text after = Lists rules question before text after
 
@@ -147,8 +149,8 @@ change_event (change.Hold ms) endpoint = Hold endpoint ms
 change_event change.Release endpoint = Release endpoint
 
 -- an endpoint is held for some milliseconds, or its hold is ended
-abbrev pub ChangesHold : {D F : Type 0} → DeskRules D F → HoldChange → Result Endpoint AddressFault → D
-    → Octets → D → Type 0
+abbrev pub ChangesHold : {D F : Type 0} → DeskRules D F → HoldChange → Result Endpoint AddressFault
+    → D → Octets → D → Type 0
 ChangesHold rules change (Err fault) before text after =
     Refuses (address_code fault) before text after
 ChangesHold rules change (Ok endpoint) before text after =

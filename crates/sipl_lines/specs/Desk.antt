@@ -13,9 +13,8 @@ use Rattle.sipl_book.specs.declared.fault.BookFault.{BookFault}
 use Rattle.sipl_book.specs.declared.outcome.Done.{Done}
 use Rattle.sipl_book.specs.declared.outcome.Handed.{Handed}
 
--- what the calls of a desk may do, from a state to a state, with a result or a fault: find the targets
--- of a question for random words, edit, hold, release or set the clock, tell a question's dependencies,
--- and repair; which time it may tell in a state, in milliseconds; and what a refusal says of a fault
+-- what the calls of a desk may do, from a state to a state, with a value or a fault; which times, in
+-- milliseconds, it may tell in a state; and what a refusal says of a fault
 pub record DeskRules (D F : Type 0) : Type 1 where
   pub Finds : Question → List ℕ → D → Result Handed F → D → Type 0
   pub Changes : Edit → D → Result Done F → D → Type 0

@@ -85,14 +85,16 @@ LoadsGathered rules (Lines lines) before text after =
     Loads rules (zone_of lines.text lines.apex) before text after
 
 -- while lines are left to be taken there is no reply; it comes with the last of them
-abbrev pub Gathers : {D F : Type 0} → DeskRules D F → Gathering → SessionState D → Octets → SessionState D → Type 0
+abbrev pub Gathers : {D F : Type 0} → DeskRules D F → Gathering → SessionState D → Octets
+    → SessionState D → Type 0
 Gathers rules gathering before text after =
     OnTrue (gathering.left == 0)
     (AtDesk (LoadsGathered rules gathering.gathered) (with_gathering None before) text after)
     × OnFalse (gathering.left == 0) (Keeps [] (with_gathering (Some gathering) before) text after)
 
 -- lines are taken; where an allocation fails they are lost
-abbrev pub GathersOrLoses : {D F : Type 0} → DeskRules D F → Gathering → SessionState D → Octets → SessionState D → Type 0
+abbrev pub GathersOrLoses : {D F : Type 0} → DeskRules D F → Gathering → SessionState D → Octets
+    → SessionState D → Type 0
 GathersOrLoses rules gathering before text after =
     Gathers rules gathering before text after
     ⊎ (IsTrue (keeps_lines gathering.gathered) × Gathers rules (lost gathering.left) before text after)
@@ -103,7 +105,8 @@ Commands Acts before text after =
     AtDesk Acts before text after ⊎ Fails before text after
 
 -- what a request does. Names and records are relative to the root
-abbrev pub Obeys : {D F : Type 0} → DeskRules D F → Request → SessionState D → Octets → SessionState D → Type 0
+abbrev pub Obeys : {D F : Type 0} → DeskRules D F → Request → SessionState D → Octets
+    → SessionState D → Type 0
 Obeys rules nothing before text after = Keeps [] before text after
 Obeys rules unknown before text after = Refuses (codes "K1") before text after
 Obeys rules too_long before text after = Refuses (codes "K2") before text after
@@ -136,27 +139,29 @@ Obeys rules quit before text after =
     (text ≡ codes "ok quit\n") × (after ≡ record before { ended = true })
 
 -- what a line does: it is a command, or one of the lines that a zone takes
-abbrev pub TakesLine : {D F : Type 0} → DeskRules D F → Option Gathering → Octets → SessionState D → Octets → SessionState D
-    → Type 0
+abbrev pub TakesLine : {D F : Type 0} → DeskRules D F → Option Gathering → Octets → SessionState D
+    → Octets → SessionState D → Type 0
 TakesLine rules None octets before text after = Obeys rules (request_of octets) before text after
 TakesLine rules (Some gathering) octets before text after =
     GathersOrLoses rules (after_line octets gathering) before text after
 
 -- what the end of the input does: a zone whose lines are being taken has its reply
-abbrev pub TakesEnd : {D F : Type 0} → DeskRules D F → Option Gathering → SessionState D → Octets → SessionState D → Type 0
+abbrev pub TakesEnd : {D F : Type 0} → DeskRules D F → Option Gathering → SessionState D → Octets
+    → SessionState D → Type 0
 TakesEnd rules None before text after = Keeps [] before text after
 TakesEnd rules (Some gathering) before text after =
     GathersOrLoses rules (at_end gathering) before text after
 
 -- what an item does in a session that has not ended
-abbrev pub TakesItem : {D F : Type 0} → DeskRules D F → Item → SessionState D → Octets → SessionState D → Type 0
+abbrev pub TakesItem : {D F : Type 0} → DeskRules D F → Item → SessionState D → Octets
+    → SessionState D → Type 0
 TakesItem rules (line octets) before text after =
     TakesLine rules before.gathering octets before text after
 TakesItem rules end_of_input before text after = TakesEnd rules before.gathering before text after
 
--- which reply an item may have and which state it may leave; once a session has ended there is
--- none, and nothing changes
-abbrev pub MayReply : {D F : Type 0} → DeskRules D F → SessionState D → Item → Octets → SessionState D → Type 0
+-- the replies and the states after an item: once a session has ended, no reply and the same state
+abbrev pub MayReply : {D F : Type 0} → DeskRules D F → SessionState D → Item → Octets
+    → SessionState D → Type 0
 MayReply rules before item text after =
     OnTrue before.ended (Keeps [] before text after)
     × OnFalse before.ended (TakesItem rules item before text after)
