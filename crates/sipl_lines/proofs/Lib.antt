@@ -14,3 +14,4 @@ pub mod Plain
 pub mod Calling
 pub mod Scripts
 pub mod Reading
+pub mod Asking

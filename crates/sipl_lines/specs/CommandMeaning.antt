@@ -1,5 +1,5 @@
 -- What a command that was read asks for.
-use Rattle.std.specs.Prelude.{Option, None, Some}
+use Rattle.std.specs.Prelude.{Option, unwrap_or}
 use Rattle.sipl_lines.specs.declared.command.Command.{Command}
 use Rattle.sipl_lines.specs.declared.command.Command.TheVariants.{Nothing, Unknown, TooLong, Zone, Drop, Add, Del, Find, Deps, Repair, Hold, Release, Clock, Call, Got, Broke, Quit}
 use Rattle.sipl_lines.specs.Requests.{Request, nothing, unknown, too_long, zone, drop, add, del, find, deps, repair, hold, release, clock, call, got, broke, quit}
@@ -26,5 +26,4 @@ meaning_of Quit = quit
 
 -- the request of a command, if there is one
 abbrev pub meaning_if_read : Option Command → Request
-meaning_if_read (Some command) = meaning_of command
-meaning_if_read None = unknown
+meaning_if_read command = meaning_of (unwrap_or command Unknown)

@@ -1,5 +1,5 @@
 -- The step of the world that a line of a script asks for.
-use Rattle.std.specs.Prelude.{ℕ, List, [], Option, None, Some, Result, Ok, Err, codes}
+use Rattle.std.specs.Prelude.{ℕ, List, [], Result, Ok, Err, codes}
 use Rattle.sipl_names.specs.Labels.{Octets, Labels}
 use Rattle.sipl_names.specs.NameText.{name_of}
 use Rattle.sipl_names.specs.InvalidName.{code_of as name_code}

@@ -74,6 +74,9 @@ pub(crate) fn read_command(line: &[u8]) -> Command<'_>
     let Some((word, rest)) = next_field(line) else {
         return Command::Nothing;
     };
+    let Ok(word) = str::from_utf8(word) else {
+        return Command::Unknown;
+    };
     match read_fields(word, rest) {
         Some(command) => command,
         None => Command::Unknown,
@@ -99,25 +102,25 @@ pub(crate) fn read_shared_line(line: &[u8]) -> ScriptLine<'_>
 }
 
 // The command of a word, if there is one and the rest of its line is as the command takes it.
-fn read_fields<'a>(word: &[u8], rest: &'a [u8]) -> Option<Command<'a>>
+fn read_fields<'a>(word: &str, rest: &'a [u8]) -> Option<Command<'a>>
     ensures { meaning_if_read result
         ≡ command_request word.now (fields_of rest.now) (trim_start rest.now) }
 {
     match word {
-        b"zone" => read_zone(rest),
-        b"drop" => read_drop(rest),
-        b"add" => read_add(trim_start(rest)),
-        b"del" => read_del(trim_start(rest)),
-        b"find" => read_find(rest),
-        b"deps" => read_deps(rest),
-        b"repair" => read_repair(rest),
-        b"hold" => read_hold(rest),
-        b"release" => read_release(rest),
-        b"clock" => read_clock(rest),
-        b"call" => read_call(rest),
-        b"got" => read_got(rest),
-        b"broke" => read_broke(rest),
-        b"quit" => read_quit(rest),
+        "zone" => read_zone(rest),
+        "drop" => read_drop(rest),
+        "add" => read_add(trim_start(rest)),
+        "del" => read_del(trim_start(rest)),
+        "find" => read_find(rest),
+        "deps" => read_deps(rest),
+        "repair" => read_repair(rest),
+        "hold" => read_hold(rest),
+        "release" => read_release(rest),
+        "clock" => read_clock(rest),
+        "call" => read_call(rest),
+        "got" => read_got(rest),
+        "broke" => read_broke(rest),
+        "quit" => read_quit(rest),
         _ => None,
     }
 }
@@ -305,10 +308,12 @@ fn read_endpoint(
 fn read_kind(word: &[u8]) -> Option<Kind>
     ensures { result ≡ kind_named word.now }
 {
-    match word {
-        b"invite" => Some(Kind::Invite),
-        b"other" => Some(Kind::Other),
-        _ => None,
+    if word == b"invite".as_slice() {
+        Some(Kind::Invite)
+    } else if word == b"other".as_slice() {
+        Some(Kind::Other)
+    } else {
+        None
     }
 }
 

@@ -15,6 +15,6 @@ returns-in-Hold-clause-replies g c =
 pub returns-in-Release-clause-replies : goal.returns-in-Release-clause-replies
 returns-in-Release-clause-replies g c =
     let is : meaning_of c.args.command.now ≡ release c.in-Release.endpoint = ap meaning_of c.in-Release.is in
-    let done = subst (λ r. AppendsText (Obeys g.D.Desk.rules r) (at_desk c.args.desk.now c.args.self.now) c.args.out.now.items (at_desk c.change_hold.new.desk c.args.self.now) c.change_hold.new.out.items) (sym is)
-    (released_at_desk g.D.Desk.rules c.args.desk.now c.change_hold.new.desk c.args.out.now.items c.change_hold.new.out.items c.args.self.now c.in-Release.endpoint c.change_hold.ensures.done) in
-    record { replied = done; unchanged = tt; unwritten = tt; capacity = c.change_hold.ensures.capacity }
+    let done = subst (λ r. AppendsText (Obeys g.D.Desk.rules r) (at_desk c.args.desk.now c.args.self.now) c.args.out.now.items (at_desk c.change_hold-in-Release.new.desk c.args.self.now) c.change_hold-in-Release.new.out.items) (sym is)
+    (released_at_desk g.D.Desk.rules c.args.desk.now c.change_hold-in-Release.new.desk c.args.out.now.items c.change_hold-in-Release.new.out.items c.args.self.now c.in-Release.endpoint c.change_hold-in-Release.ensures.done) in
+    record { replied = done; unchanged = tt; unwritten = tt; capacity = c.change_hold-in-Release.ensures.capacity }
