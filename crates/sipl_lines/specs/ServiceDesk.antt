@@ -33,7 +33,7 @@ handed_of told = record { number = told.number; answer = told.answer }
 pub record IsTold (question : Question) (words : List ℕ) (old new : CallerState)
     (told : Result ToldState ServiceFault) : Type 0 where
   pub receipt : GetsReceipt (λ told. told.number) event_of old.pass new.pass told
-  pub question : IfOk told (IsToldFor question old.client words)
+  pub asked : IfOk told (IsToldFor question old.client words)
   pub decided : IfOk told IsDecided
   pub client : new.client ≡ old.client
 

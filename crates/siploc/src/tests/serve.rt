@@ -3,13 +3,12 @@ use super::process::Process;
 use super::streams::ZONE;
 use crate::program::start;
 use std::alloc::Global;
-use std::io;
 use std::io::{Read, Write};
 use std::net::{Net, Shutdown, SocketAddr, TcpListener, TcpStream};
 use std::process::ExitCode;
 use std::test::Fail;
-use std::thread;
 use std::time::{Clock, Duration};
+use std::{io, thread};
 
 const REPLIES: &[u8] = b"ok zone 7 0 0 4
 target 1 tcp 192.0.2.2 5060
@@ -51,8 +50,7 @@ where
 #[test]
 fn a_session_over_tcp_is_claimed_when_it_has_ended(rt: HostRuntime) -> Result<(), Fail> {
     let port = free_port(&rt)?;
-    let settings = format!(
-        rt.alloc();
+    let settings = format!(rt.alloc();
         "transports = [\"tcp\", \"udp\"]\nlisten = \"127.0.0.1:{port}\""
     )?;
     let lines = format!(rt.alloc(); "{ZONE}find sip:bob@example.com words 2,0\n")?;
@@ -65,7 +63,10 @@ fn a_session_over_tcp_is_claimed_when_it_has_ended(rt: HostRuntime) -> Result<()
     );
     assert_eq!(rt; replies?.as_slice(), REPLIES);
     assert!(rt; status == ExitCode::SUCCESS);
-    assert_eq!(rt; process.output.into_inner().as_slice(), b"closed 2\n".as_slice());
+    assert_eq!(rt;
+        process.output.into_inner().as_slice(),
+        b"closed 2\n".as_slice()
+    );
     assert!(rt; process.errors.into_inner().is_empty());
     Ok(())
 }
@@ -79,6 +80,9 @@ fn an_address_in_use_is_a_fault(rt: HostRuntime) -> Result<(), Fail> {
     let process = Process::new(rt.alloc(), &words, b"");
     assert!(rt; start(&process, &rt) == ExitCode::FAILURE);
     assert!(rt; process.output.into_inner().is_empty());
-    assert_eq!(rt; process.errors.into_inner().as_slice(), b"fault listen\n".as_slice());
+    assert_eq!(rt;
+        process.errors.into_inner().as_slice(),
+        b"fault listen\n".as_slice()
+    );
     Ok(())
 }
