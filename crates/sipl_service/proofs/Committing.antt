@@ -1,5 +1,5 @@
 -- What is journalled where a finding is committed.
-use Rattle.std.proofs.Common.{◌≡◌, ◌<◌, ℕ, Bool, true, false, cond, List, [], ◌∷◌, ◌++◌, length, nat_le, position, Option, None, Some, refl, sym, ap, subst, ◌∙◌}
+use Rattle.std.proofs.Common.{◌≡◌, ◌<◌, ℕ, Bool, true, false, List, [], ◌∷◌, ◌++◌, length, nat_le, position, Option, None, Some, refl, sym, ap, subst, ◌∙◌}
 use Rattle.std.specs.Prelude.{option_map}
 use Rattle.std.proofs.lemmas.Bool.{cond-true, cond-false}
 use Rattle.std.proofs.lemmas.List.Quantifiers.{position-Some}
@@ -50,6 +50,13 @@ answer-fresh found words book sound client none =
     let same : route look found.question book.client ≡ found.layout =
     ap (λ (c : Client). route look found.question c) (sym client) ∙ sound.route look (current-fresh book.store found.items none).agrees in
     ap (λ (layout : Layout). draw layout book.board.holds words) same
+
+-- the answer of a committed finding is what it draws
+pub answer-committed : (found : Found) (words : List ℕ) (old : BookState) → IsSound found → found.client ≡ old.client
+    → commit_refusal is_stale found old ≡ None → answer_now old found.question words ≡ draw found.layout old.board.holds words
+answer-committed found words old sound client none =
+    let has = space old (option_map Stale (position (is_stale old.store) found.items)) none in
+    answer-fresh found words old sound client (no_place (position (is_stale old.store) found.items) has.1)
 
 -- what a committed finding draws is the event
 pub journal-committed : (found : Found) (words : List ℕ) (old new : BookState) → IsSound found → found.client ≡ old.client

@@ -1,3 +1,4 @@
 pub mod Marks
 pub mod Committing
 pub mod Ours
+pub mod Entries

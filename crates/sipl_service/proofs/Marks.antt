@@ -1,5 +1,5 @@
 -- Marks at the numbers of receipts.
-use Rattle.std.proofs.Common.{suc, zero, ◌≡◌, ◌≢◌, ◌<◌, ◌≤◌, ◌+◌, ◌||◌, ◌⊎◌, ℕ, Bool, true, false, List, [], ◌∷◌, ◌++◌, length, take, drop, get_or, set, nat_eq, slice_get, slice_set, slice_index_or, Some, refl, sym, ap, subst, ◌∙◌, arith, length-append, All, AllPairs, replicate, flat_map, append_assoc, append-nil, take_all}
+use Rattle.std.proofs.Common.{suc, zero, ◌≡◌, ◌≢◌, ◌<◌, ◌≤◌, ◌+◌, ◌||◌, ◌⊎◌, ℕ, Bool, true, false, List, [], ◌∷◌, ◌++◌, length, take, drop, get_or, nat_eq, slice_get, slice_set, slice_index_or, Some, refl, sym, ap, subst, ◌∙◌, arith, length-append, replicate, append_assoc, append-nil, take_all}
 use Rattle.std.proofs.lemmas.Option.{slice_get_within}
 use mathlib.Core.Logic.{⊎_elim}
 use Rattle.std.proofs.lemmas.Bool.{cases_Bool, true≢false}
@@ -9,7 +9,6 @@ use Rattle.std.proofs.lemmas.List.{take-append-drop, take_more}
 use Rattle.std.proofs.lemmas.Grind.{flat_map-append}
 use Rattle.sipl_service.specs.declared.fault.ClaimFault.{ClaimFault}
 use Rattle.std.proofs.lemmas.Grind.{common_steps}
-use Rattle.std.specs.List.{list_any}
 use Rattle.std.proofs.lemmas.List.Quantifiers.{all_pairs_push}
 use Rattle.sipl_book.specs.declared.event.Event.{Event}
 use Rattle.sipl_service.specs.declared.receipt.Receipt.{Receipt}

@@ -1,5 +1,5 @@
 -- When a journal is the union of receipts.
-use Rattle.std.specs.Prelude.{◌≡◌, ◌≢◌, ◌<◌, ℕ, Bool, true, false, List, [], ◌∷◌, ◌++◌, length, slice_get, Some, nat_eq}
+use Rattle.std.specs.Prelude.{◌≡◌, ◌≢◌, ◌<◌, ℕ, Bool, true, false, List, ◌∷◌, ◌++◌, length, slice_get, Some, nat_eq}
 use Rattle.std.specs.List.{All, AllPairs, list_any}
 use Rattle.sipl_book.specs.declared.event.Event.{Event}
 use Rattle.sipl_service.specs.declared.receipt.Receipt.{Receipt}

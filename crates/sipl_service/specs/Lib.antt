@@ -1,5 +1,6 @@
 pub mod Faults
 pub mod Passes
+pub mod Refusals
 pub mod Claims
 pub mod Telling
 pub mod Told

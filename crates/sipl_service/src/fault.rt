@@ -72,6 +72,17 @@ impl From<AllocError> for ServiceFault {
     }
 }
 
+impl<T: Drop> From<AllocFailed<T>> for ServiceFault {
+    ghost use Rattle.std.specs.Prelude.{◌≡◌};
+    ghost use Rattle.sipl_service.specs.declared.fault.ServiceFault.TheVariants.{Memory};
+
+    ghost from_gives = { λ _ fault. fault ≡ Memory };
+
+    fn from(_: AllocFailed<T>) -> ServiceFault {
+        ServiceFault::Memory
+    }
+}
+
 /// Why a journal is not the union of the receipts of some passes.
 #[derive(Clone, Copy, Debug, PartialEq, Eq, Hash, Error)]
 pub enum ClaimFault {

@@ -110,11 +110,20 @@ impl Service {
         pass.reserve()?;
         let asked = Asked::of(self.alloc, finding.question(), &self.abilities, draws)?;
         let copy = finding.question().dup(self.alloc)?;
+        let evidence = finding.evidence().dup(self.alloc)?;
         let mut shared = self.shared.lock(rt);
         if shared.is_stopped {
             return Err(ServiceFault::Stopped);
         }
-        steps::commit(self.alloc, &mut shared.book, pass, asked, copy, finding)
+        steps::commit(
+            self.alloc,
+            &mut shared.book,
+            pass,
+            asked,
+            copy,
+            evidence,
+            finding,
+        )
     }
 
     // The route of a question on the sets as they are read one after another, which may be of

@@ -14,8 +14,8 @@ use std::thread;
 use std::thread::Threads;
 
 impl Service {
-    /// Looks the entries up again that are queued now, each once. One whose sets change meanwhile
-    /// stays queued.
+    /// Looks queued entries up again, at most as many as are queued now. One whose sets change
+    /// meanwhile stays queued, and is not looked up a second time.
     ///
     /// The fault is the first one: the service was stopped (L6), the book is for another client (L7).
     /// What was repaired until then stays so, and the other entries stay queued.
@@ -25,22 +25,21 @@ impl Service {
         repaired
     }
 
-    // Looks up again as many entries as are queued now, but none a second time: a stale one is put
-    // behind all that were queued.
+    // Looks up again as many entries as are queued now. A stale one is put after all that are queued:
+    // where it is the first again, those are done.
     fn repair_queued<R: Wait>(&self, rt: &R) -> Result<(), ServiceFault> {
-        let mut first_stale = None;
+        let mut stale = Vec::new(self.alloc);
         for _ in 0..self.queued(rt)? {
             let Some((lease, question)) = self.lease(rt)? else {
                 break;
             };
             let id = lease.id();
-            if first_stale == Some(id) {
+            if stale.contains(&id) {
                 self.give_back(rt, lease);
                 break;
             }
-            let is_settled = self.renew(rt, Who::Caller, lease, &question, &OpenGate)?;
-            if !is_settled && first_stale.is_none() {
-                first_stale = Some(id);
+            if !self.renew(rt, Who::Caller, lease, &question, &OpenGate)? {
+                stale.push(id)?;
             }
         }
         Ok(())

@@ -1,11 +1,14 @@
 // What a call does to the book that the lock lends it, and to the caller's pass. What was allocated
 // before the lock was taken is passed in.
-ghost use Rattle.std.specs.Prelude.{◌≡◌, ℕ, ◌+◌, ◌^◌, ◌<◌, ◌≤◌, ◌++◌, [], ◌∷◌, length, Ok, IfOk, OnOk, OnErr};
+ghost use Rattle.std.specs.Prelude.{◌≡◌, ◌≢◌, ℕ, ◌+◌, ◌^◌, ◌<◌, ◌≤◌, ◌++◌, [], ◌∷◌, length, false, Some, None, Ok, IfOk, IfErr, OnOk, OnErr};
 ghost use Rattle.sipl_outages.specs.Holds.{BoardEvent};
 ghost use Rattle.sipl_outages.specs.Holds.BoardEvent.{Hold, Release, Advance};
+ghost use Rattle.sipl_plans.specs.Findings.{IsSound};
 ghost use Rattle.sipl_book.specs.Book.{next_event};
-ghost use Rattle.sipl_book.specs.Calls.{IsChanged, MovesBoard, answer_event, recorded};
+ghost use Rattle.sipl_book.specs.Calls.{IsChanged, MovesBoard, answer_event, board_refusal, change_refusal, recorded};
+ghost use Rattle.sipl_book.specs.Entries.{has_current_entry};
 ghost use Rattle.sipl_service.specs.Passes.{GetsReceipt};
+ghost use Rattle.sipl_service.specs.Refusals.{change_fault, contended, unless_ahead, unless_other};
 ghost use Rattle.sipl_service.specs.Telling.{event_of, IsAnswerTo};
 
 use crate::asked::Asked;
@@ -15,6 +18,7 @@ use crate::receipt::Receipt;
 use crate::told::Told;
 use sipl_book::{Book, BookFault, Done, Edit, Event, Uncommitted};
 use sipl_choice::{Abilities, Endpoint};
+use sipl_evidence::Evidence;
 use sipl_plans::Finding;
 use sipl_uri::Question;
 use std::alloc::Global;
@@ -23,7 +27,8 @@ use std::alloc::Global;
 pub(crate) fn next_number(book: &Book, pass: &Pass) -> Result<u64, ServiceFault>
     ensures number { IfOk result (λ number. number ≡ next_event book.now) }
     ensures front { OnOk result (pass.now.front ≤ next_event book.now) }
-    ensures few { next_event book.now ≤ 1048576 }
+    ensures ahead { IfErr result
+        (λ fault. unless_ahead pass.now book.now None ≡ Some fault) }
 {
     let events = book.journal().len() as u64;
     let front = pass.front();
@@ -35,7 +40,9 @@ pub(crate) fn next_number(book: &Book, pass: &Pass) -> Result<u64, ServiceFault>
 
 // L7 where the book is for a client of other abilities.
 pub(crate) fn check_client(book: &Book, abilities: &Abilities) -> Result<(), ServiceFault>
-    ensures { OnOk result (book.now.client ≡ abilities.now) }
+    ensures same { OnOk result (book.now.client ≡ abilities.now) }
+    ensures other { IfErr result
+        (λ fault. unless_other abilities.now book.now None ≡ Some fault) }
 {
     if book.abilities() != abilities {
         return Err(ServiceFault::OtherBook);
@@ -53,6 +60,8 @@ pub(crate) fn change(
     requires { event ≡ Event.Change edit }
     ensures receipt { GetsReceipt (λ done. done.number) (λ done. event) pass.old pass.new result }
     ensures changed { IfOk result (λ done. IsChanged edit book.old book.new (Ok done)) }
+    ensures refused { IfErr result (λ fault. fault ≢ ServiceFault.Memory
+        → change_fault pass.old book.old (change_refusal edit book.old) ≡ Some fault) }
     ensures unchanged { OnErr result (book.new ≡ book.old) }
 {
     next_number(book, pass)?;
@@ -60,7 +69,7 @@ pub(crate) fn change(
     let done = book.change(edit)?;
     let number = done.number;
     pass.receipts.push_reserved(Receipt { number, event });
-    pass.front = number + 1;
+    pass.front = book.journal().len() as u64;
     Ok(done)
 }
 
@@ -75,6 +84,8 @@ pub(crate) fn hold(
         pass.old pass.new result }
     ensures moved { IfOk result
         (λ number. MovesBoard (Hold endpoint.now ms) book.old book.new (Ok number)) }
+    ensures refused { IfErr result (λ fault. fault ≢ ServiceFault.Memory
+        → change_fault pass.old book.old (board_refusal (Hold endpoint.now ms) book.old) ≡ Some fault) }
     ensures unchanged { OnErr result (book.new ≡ book.old) }
 {
     next_number(book, pass)?;
@@ -82,7 +93,7 @@ pub(crate) fn hold(
     let number = book.hold(endpoint, ms)?;
     let event = Event::Hold(*endpoint, ms);
     pass.receipts.push_reserved(Receipt { number, event });
-    pass.front = number + 1;
+    pass.front = book.journal().len() as u64;
     Ok(number)
 }
 
@@ -96,6 +107,8 @@ pub(crate) fn release(
         pass.old pass.new result }
     ensures moved { IfOk result
         (λ number. MovesBoard (Release endpoint.now) book.old book.new (Ok number)) }
+    ensures refused { IfErr result (λ fault. fault ≢ ServiceFault.Memory
+        → change_fault pass.old book.old (board_refusal (Release endpoint.now) book.old) ≡ Some fault) }
     ensures unchanged { OnErr result (book.new ≡ book.old) }
 {
     next_number(book, pass)?;
@@ -103,7 +116,7 @@ pub(crate) fn release(
     let number = book.release(endpoint)?;
     let event = Event::Release(*endpoint);
     pass.receipts.push_reserved(Receipt { number, event });
-    pass.front = number + 1;
+    pass.front = book.journal().len() as u64;
     Ok(number)
 }
 
@@ -114,6 +127,8 @@ pub(crate) fn advance(book: &mut Book, pass: &mut Pass, to: u64) -> Result<u64, 
     ensures moved { IfOk result
         (λ number. MovesBoard (Advance to) book.old book.new (Ok number)) }
     ensures limit { OnOk result (to ≤ 2 ^ 52) }
+    ensures refused { IfErr result (λ fault. fault ≢ ServiceFault.Memory
+        → change_fault pass.old book.old (board_refusal (Advance to) book.old) ≡ Some fault) }
     ensures unchanged { OnErr result (book.new ≡ book.old) }
 {
     next_number(book, pass)?;
@@ -121,7 +136,7 @@ pub(crate) fn advance(book: &mut Book, pass: &mut Pass, to: u64) -> Result<u64, 
     let number = book.advance(to)?;
     let event = Event::Advance(to);
     pass.receipts.push_reserved(Receipt { number, event });
-    pass.front = number + 1;
+    pass.front = book.journal().len() as u64;
     Ok(number)
 }
 
@@ -145,13 +160,17 @@ pub(crate) fn hand(
     if book.is_full() {
         return Err(ServiceFault::Book(BookFault::JournalFull));
     }
-    let told = tell_entry(alloc, book, number, asked)?;
-    let event = told.event(alloc, question)?;
     pass.receipts.reserve(1)?;
-    book.hand(told.question(), told.draws())?;
-    pass.receipts.push_reserved(Receipt { number, event });
-    pass.front = number + 1;
-    Ok(told)
+    let told = tell_entry(alloc, book, number, asked)?;
+    match book.hand(told.question(), told.draws()) {
+        Ok(handed) => {
+            let event = Event::Answer(question, *told.draws(), handed.answer);
+            pass.receipts.push_reserved(Receipt { number, event });
+            pass.front = book.journal().len() as u64;
+            Ok(told)
+        }
+        Err(fault) => Err(fault.into()),
+    }
 }
 
 // The answer of the current entry of a question. B1 where there is none.
@@ -161,33 +180,36 @@ fn tell_entry(alloc: Global, book: &Book, number: u64, asked: Asked) -> Result<T
     ensures asked { IfOk result (λ told. IsAnswerTo asked told) }
     ensures answer { IfOk result
         (λ told. event_of told ≡ answer_event book.now asked.question asked.draws) }
+    ensures refused { IfErr result (λ fault. fault ≢ ServiceFault.Memory
+        → (fault ≡ ServiceFault.Book BookFault.NotCurrent)
+        × (has_current_entry book.now.entries asked.question ≡ false)) }
 {
-    match book.entry(&asked.question) {
-        Some(entry) if entry.is_current() => Ok(Told::of(
-            alloc,
-            number,
-            asked,
-            entry.layout(),
-            entry.evidence(),
-            book.board(),
-        )?),
-        _ => Err(ServiceFault::Book(BookFault::NotCurrent)),
+    let Some(entry) = book.entry(&asked.question) else {
+        return Err(ServiceFault::Book(BookFault::NotCurrent));
+    };
+    if !entry.is_current() {
+        return Err(ServiceFault::Book(BookFault::NotCurrent));
     }
+    let evidence = entry.evidence().dup(alloc)?;
+    Ok(Told::of(alloc, number, asked, entry.layout(), evidence, book.board())?)
 }
 
 // The answer of a finding, where the sets that it read are as they were. L1 with the key of the first
-// that is not. `question` is a copy of the finding's, for the receipt.
+// that is not. `question` and `evidence` are copies of the finding's, for the receipt and for `Told`.
 pub(crate) fn commit(
     alloc: Global,
     book: &mut Book,
     pass: &mut Pass,
     asked: Asked,
     question: Question,
+    evidence: Evidence,
     finding: Finding,
 ) -> Result<Told, ServiceFault>
     requires question { question ≡ asked.question }
+    requires evidence { evidence ≡ finding.items }
     requires asked { finding.question ≡ asked.question }
     requires client { finding.client ≡ asked.abilities }
+    requires sound { IsSound finding }
     ensures receipt { GetsReceipt (λ told. told.number) event_of pass.old pass.new result }
     ensures asked { IfOk result (λ told. IsAnswerTo asked told) }
     ensures number { IfOk result (λ told. told.number ≡ next_event book.old) }
@@ -197,22 +219,32 @@ pub(crate) fn commit(
 {
     let number = next_number(book, pass)?;
     check_client(book, &asked.abilities)?;
-    let (layout, evidence) = (finding.layout(), finding.evidence());
-    let told = Told::of(alloc, number, asked, layout, evidence, book.board())?;
-    let event = told.event(alloc, question)?;
     pass.receipts.reserve(1)?;
-    if let Err(uncommitted) = book.commit_checked(finding, told.draws()) {
-        return Err(commit_fault(alloc, uncommitted));
+    let told = Told::of(
+        alloc,
+        number,
+        asked,
+        finding.layout(),
+        evidence,
+        book.board(),
+    )?;
+    match book.commit_checked(finding, told.draws()) {
+        Ok(handed) => {
+            let event = Event::Answer(question, *told.draws(), handed.answer);
+            pass.receipts.push_reserved(Receipt { number, event });
+            pass.front = book.journal().len() as u64;
+            Ok(told)
+        }
+        Err(uncommitted) => Err(fault_of(alloc, uncommitted)),
     }
-    pass.receipts.push_reserved(Receipt { number, event });
-    pass.front = number + 1;
-    Ok(told)
 }
 
 // Why a finding was not committed.
-fn commit_fault(alloc: Global, uncommitted: Uncommitted) -> ServiceFault
+fn fault_of(alloc: Global, uncommitted: Uncommitted) -> ServiceFault
     requires within { (place : ℕ) → uncommitted.fault ≡ BookFault.Stale place
         → place < length uncommitted.finding.items }
+    ensures { result ≢ ServiceFault.Memory
+        → result ≡ contended uncommitted.finding.items uncommitted.fault }
 {
     let Uncommitted { fault, finding } = uncommitted;
     let BookFault::Stale(place) = fault else {

@@ -2,10 +2,9 @@ ghost use Rattle.std.specs.Prelude.{◌≡◌, IfOk};
 ghost use Rattle.sipl_plans.specs.Findings.{IsSound};
 ghost use Rattle.sipl_plans.specs.Plan.{draw};
 ghost use Rattle.sipl_plans.specs.Servers.{HasFewServers};
-ghost use Rattle.sipl_service.specs.Telling.{IsDecided, event_of};
+ghost use Rattle.sipl_service.specs.Telling.{IsDecided};
 
 use crate::asked::Asked;
-use sipl_book::Event;
 use sipl_choice::Abilities;
 use sipl_evidence::Evidence;
 use sipl_outages::Board;
@@ -48,14 +47,14 @@ impl Told {
         number: u64,
         asked: Asked,
         layout: &Layout,
-        evidence: &Evidence,
+        evidence: Evidence,
         board: &Board,
     ) -> Result<Self, AllocError>
         requires sound { IsSound (record {
           question = asked.question;
           client = asked.abilities;
           layout = layout.now;
-          items = evidence.now;
+          items = evidence;
         }) }
         requires few { HasFewServers layout.now }
         ensures number { IfOk result (λ told. told.number ≡ number) }
@@ -64,7 +63,7 @@ impl Told {
         ensures words { IfOk result (λ told. told.words ≡ asked.draws) }
         ensures answer { IfOk result
             (λ told. told.answer ≡ draw layout.now board.now.holds asked.draws) }
-        ensures evidence { IfOk result (λ told. told.items ≡ evidence.now) }
+        ensures evidence { IfOk result (λ told. told.items ≡ evidence) }
         ensures board { IfOk result (λ told. told.board ≡ board.now) }
     {
         let Asked {
@@ -78,17 +77,9 @@ impl Told {
             abilities,
             draws,
             answer: draw(alloc, layout, &draws, board)?,
-            evidence: evidence.dup(alloc)?,
+            evidence,
             holds: board.dup(alloc)?,
         })
-    }
-
-    // The event of the answer, with a copy of its question.
-    pub(crate) fn event(&self, alloc: Global, question: Question) -> Result<Event, AllocError>
-        requires { question ≡ self.now.question }
-        ensures { IfOk result (λ event. event ≡ event_of self.now) }
-    {
-        Ok(Event::Answer(question, self.draws, self.answer.dup(alloc)?))
     }
 
     /// The number of its event.

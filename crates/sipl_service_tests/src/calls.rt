@@ -102,32 +102,49 @@ fn two_receipts_of_one_event_are_no_claim(rt: HostRuntime) {
     assert_eq!(rt; fault, Some(ClaimFault::Doubled(0)));
 }
 
-fn stopped<R: Wait + Abort>(rt: &R, alloc: Global, service: &Service) {
-    let mut pass = service.pass();
-    load_zone(rt, alloc, service, &mut pass);
+// A lookup is stopped by its gate, and another one is answered.
+fn gate_stops<R: Wait + Abort>(rt: &R, alloc: Global, service: &Service, pass: &mut Pass) {
+    load_zone(rt, alloc, service, pass);
     let question = question(rt, alloc, BOB);
-    let told = service.lookup(rt, &mut pass, &question, &draws(rt, &[]), &Closed);
+    let told = service.lookup(rt, pass, &question, &draws(rt, &[]), &Closed);
     fails(rt, told, "L6");
     targets(
         rt,
-        find(rt, alloc, service, &mut pass, BOB, &[2, 0]),
+        find(rt, alloc, service, pass, BOB, &[2, 0]),
         &[SERVER_2, SERVER_1],
     );
-    service.stop(rt);
-    fails(rt, find(rt, alloc, service, &mut pass, BOB, &[]), "L6");
+}
+
+fn is_stopped(rt: &impl Abort, result: Result<u64, ServiceFault>) {
+    assert!(rt; matches!(result, Err(ServiceFault::Stopped)), "not stopped");
+}
+
+// The calls that are refused after `stop`; one of them would be refused for another reason as well.
+fn stopped<R: Wait + Abort>(rt: &R, alloc: Global, service: &Service, pass: &mut Pass) {
+    fails(rt, find(rt, alloc, service, pass, BOB, &[]), "L6");
     let edit = Edit::Add(record(rt, alloc, ADDRESS_11));
-    let refused = service.edit(rt, &mut pass, edit);
-    assert!(rt; matches!(refused, Err(ServiceFault::Stopped)));
-    assert!(rt; matches!(service.repair(rt), Err(ServiceFault::Stopped)));
-    assert!(rt; matches!(service.deps(rt, &question), Err(ServiceFault::Stopped)));
-    assert_eq!(rt; pass.receipts().len(), 2);
+    is_stopped(rt, service.edit(rt, pass, edit).map(|done| done.number));
+    is_stopped(rt, service.hold(rt, pass, &tcp(SERVER_1), 1));
+    is_stopped(rt, service.release(rt, pass, &tcp(SERVER_1)));
+    is_stopped(rt, service.advance(rt, pass, 1));
+    is_stopped(rt, service.repair(rt).map(|_| 0));
+    let question = question(rt, alloc, BOB);
+    is_stopped(rt, service.deps(rt, &question).map(|_| 0));
+}
+
+fn stops<R: Wait + Abort>(rt: &R, alloc: Global, service: &Service) -> usize {
+    let mut pass = service.pass();
+    gate_stops(rt, alloc, service, &mut pass);
+    service.stop(rt);
+    stopped(rt, alloc, service, &mut pass);
+    pass.receipts().len()
 }
 
 #[test]
 fn a_stopped_service_refuses(rt: HostRuntime) {
     let service = new_service(&rt, rt.alloc(), 1);
-    stopped(&rt, rt.alloc(), &service);
-    assert_eq!(rt; close(&rt, service).journal.len(), 2);
+    let receipts = stops(&rt, rt.alloc(), &service);
+    assert_eq!(rt; (receipts, close(&rt, service).journal.len()), (2, 2));
 }
 
 fn repaired<R: Wait + Abort>(rt: &R, alloc: Global, service: &Service) {

@@ -1,4 +1,4 @@
-use Rattle.std.proofs.Common.{◌≡◌, ◌<◌, ◌++◌, take}
+use Rattle.std.proofs.Common.{◌++◌, take}
 use Rattle.sipl_service.specs.Passes.{receipts_of}
 use Rattle.sipl_service.proofs.Marks.{IsMarked}
 use Rattle.sipl_service.proofs.claims.claim.Given as goal

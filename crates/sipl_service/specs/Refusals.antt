@@ -1,0 +1,30 @@
+-- Why a call that records an event is refused, by the book and the caller's pass.
+use Rattle.std.specs.Prelude.{nat_lt, if◌then◌else◌, List, slice_get, Option, None, Some, option_map}
+use Rattle.sipl_choice.specs.Abilities.{Client, same_client}
+use Rattle.sipl_evidence.specs.Items.{Item}
+use Rattle.sipl_book.specs.Book.{BookState, next_event}
+use Rattle.sipl_book.specs.declared.fault.BookFault.{BookFault}
+use Rattle.sipl_book.specs.declared.fault.BookFault.TheVariants.{Stale}
+use Rattle.sipl_service.specs.Passes.{PassState}
+use Rattle.sipl_service.specs.declared.fault.ServiceFault.{ServiceFault}
+use Rattle.sipl_service.specs.declared.fault.ServiceFault.TheVariants.{Contended, PassAhead, OtherBook, Book}
+
+-- the fault where the pass has seen an event that the book has not, before all others
+abbrev pub unless_ahead : PassState → BookState → Option ServiceFault → Option ServiceFault
+unless_ahead pass book fault =
+    if nat_lt (next_event book) pass.front
+    then Some (PassAhead (next_event book) pass.front) else fault
+
+-- the fault where the book is for another client, before those of the book
+abbrev pub unless_other : Client → BookState → Option ServiceFault → Option ServiceFault
+unless_other client book fault = if same_client book.client client then fault else Some OtherBook
+
+-- the fault of a change to the book that the book refuses so
+abbrev pub change_fault : PassState → BookState → Option BookFault → Option ServiceFault
+change_fault pass book refusal = unless_ahead pass book (option_map Book refusal)
+
+-- the fault of a commit that the book refuses so: a changed set is named by its key
+abbrev pub contended : List Item → BookFault → ServiceFault
+contended items (Stale place) =
+    elim (slice_get items place) [ Some item ↦ Contended item.key | None ↦ Book (Stale place) ]
+contended items fault = Book fault
