@@ -1,11 +1,11 @@
 // Calls of one thread.
 use crate::gates::{Closed, Editing, Turns};
 use crate::values::{
-    ADDRESS_2, ADDRESS_11, BOB, OVER_TCP, SERVER_1, SERVER_2, SERVER_11, close, draws, fails, find,
-    is_claimed, load_zone, new_service, question, record, remove, targets, tcp,
+    ADDRESS_11, BOB, OVER_TCP, SERVER_1, SERVER_2, SERVER_11, close, draws, events, fails, find,
+    hold, is_claimed, is_no_claim, load_zone, new_service, outdate, question, record, targets, tcp,
 };
 use sipl_book::Edit;
-use sipl_service::{ClaimFault, Pass, Service, ServiceFault, Told, claim};
+use sipl_service::{ClaimFault, Closing, Pass, Service, ServiceFault, Told};
 use std::alloc::Global;
 use std::process::Abort;
 use std::sync::atomic::Ordering;
@@ -43,11 +43,19 @@ fn contended_key(rt: &impl Abort, alloc: Global, told: Result<Told, ServiceFault
     text
 }
 
+// An L1 with this key.
+fn is_contended(rt: &impl Abort, alloc: Global, told: Result<Told, ServiceFault>, key: &[u8]) {
+    assert!(rt;
+        contended_key(rt, alloc, told).as_slice() == key,
+        "another key"
+    );
+}
+
 #[test]
 fn a_lookup_is_refused_where_a_set_changes_in_each_try(rt: HostRuntime) {
     let service = new_service(&rt, rt.alloc(), 1);
-    let text = contended_key(&rt, rt.alloc(), contended(&rt, rt.alloc(), &service));
-    assert!(rt; text.as_slice() == b"server1.example.com. A".as_slice());
+    let told = contended(&rt, rt.alloc(), &service);
+    is_contended(&rt, rt.alloc(), told, b"server1.example.com. A");
 }
 
 #[test]
@@ -61,45 +69,40 @@ fn a_lookup_is_tried_again_where_a_set_changes(rt: HostRuntime) {
 fn pass_of_another<R: Wait + Abort>(rt: &R, alloc: Global) -> Pass {
     let other = new_service(rt, alloc, 1);
     let mut pass = other.pass();
-    other
-        .hold(rt, &mut pass, &tcp(SERVER_1), 1)
-        .expect(rt, "the hold is refused");
+    hold(rt, &other, &mut pass);
     pass
+}
+
+// An L2 of a service without events, for a pass with front 1.
+fn is_ahead(rt: &impl Abort, told: Result<Told, ServiceFault>) {
+    let expected = match told {
+        Err(ServiceFault::PassAhead { events, front }) => events == 0 && front == 1,
+        _ => false,
+    };
+    assert!(rt; expected, "an answer, or another fault");
 }
 
 #[test]
 fn a_pass_that_has_seen_more_is_refused(rt: HostRuntime) {
     let mut pass = pass_of_another(&rt, rt.alloc());
     let service = new_service(&rt, rt.alloc(), 1);
-    let told = find(&rt, rt.alloc(), &service, &mut pass, BOB, &[]);
-    let expected = match told {
-        Err(ServiceFault::PassAhead { events, front }) => events == 0 && front == 1,
-        _ => false,
-    };
-    assert!(rt; expected);
+    is_ahead(&rt, find(&rt, rt.alloc(), &service, &mut pass, BOB, &[]));
 }
 
-// The fault of a claim of a journal of one hold with its own pass, and that of another service.
-fn doubled<R: Wait + Abort>(rt: &R, alloc: Global) -> Option<ClaimFault> {
-    let service = new_service(rt, alloc, 1);
-    let mut pass = service.pass();
-    service
-        .hold(rt, &mut pass, &tcp(SERVER_1), 1)
-        .expect(rt, "the hold is refused");
-    let mut passes = Vec::new(alloc);
-    passes.push(pass).expect(rt, "out of memory");
-    let closing = close(rt, service);
-    is_claimed(rt, alloc, &closing, passes.as_slice(), 1);
-    passes
-        .push(pass_of_another(rt, alloc))
-        .expect(rt, "out of memory");
-    claim(alloc, &closing, passes.as_slice()).err()
+// The claims of a journal of one hold with its own pass, and with that of another service as well.
+fn claims(rt: &impl Abort, alloc: Global, closing: &Closing, passes: &[Pass; 2]) {
+    assert_eq!(rt; closing.journal.len(), 1);
+    is_claimed(rt, alloc, closing, &passes[..1]);
+    is_no_claim(rt, alloc, closing, passes, ClaimFault::Doubled(0));
 }
 
 #[test]
 fn two_receipts_of_one_event_are_no_claim(rt: HostRuntime) {
-    let fault = doubled(&rt, rt.alloc());
-    assert_eq!(rt; fault, Some(ClaimFault::Doubled(0)));
+    let service = new_service(&rt, rt.alloc(), 1);
+    let mut pass = service.pass();
+    hold(&rt, &service, &mut pass);
+    let passes = [pass, pass_of_another(&rt, rt.alloc())];
+    claims(&rt, rt.alloc(), &close(&rt, service), &passes);
 }
 
 // A lookup is stopped by its gate, and another one is answered.
@@ -115,8 +118,11 @@ fn gate_stops<R: Wait + Abort>(rt: &R, alloc: Global, service: &Service, pass: &
     );
 }
 
-fn is_stopped(rt: &impl Abort, result: Result<u64, ServiceFault>) {
-    assert!(rt; matches!(result, Err(ServiceFault::Stopped)), "not stopped");
+fn is_stopped(rt: &impl Abort, refused: Result<u64, ServiceFault>) {
+    assert!(rt;
+        matches!(refused, Err(ServiceFault::Stopped)),
+        "not stopped"
+    );
 }
 
 // The calls that are refused after `stop`; one of them would be refused for another reason as well.
@@ -144,26 +150,46 @@ fn stops<R: Wait + Abort>(rt: &R, alloc: Global, service: &Service) -> usize {
 fn a_stopped_service_refuses(rt: HostRuntime) {
     let service = new_service(&rt, rt.alloc(), 1);
     let receipts = stops(&rt, rt.alloc(), &service);
-    assert_eq!(rt; (receipts, close(&rt, service).journal.len()), (2, 2));
+    let events = events(&rt, service);
+    assert_eq!(rt; (receipts, events), (2, 2));
+}
+
+// Bob's question is answered by one target, and its lookup calls no gate.
+fn is_current<R: Wait + Abort>(rt: &R, alloc: Global, service: &Service, pass: &mut Pass) {
+    let turns = Turns::new();
+    let question = question(rt, alloc, BOB);
+    let told = service.lookup(rt, pass, &question, &draws(rt, &[2, 0]), &turns);
+    targets(rt, told, &[SERVER_1]);
+    is_not_called(rt, &turns);
+}
+
+fn is_not_called(rt: &impl Abort, turns: &Turns) {
+    assert_eq!(rt; turns.callers.load(Ordering::SeqCst), 0);
+}
+
+// The number of record sets that the targets of Bob's question depend on.
+fn dependencies<R: Wait + Abort>(rt: &R, alloc: Global, service: &Service) -> usize {
+    let question = question(rt, alloc, BOB);
+    match service.deps(rt, &question) {
+        Ok(deps) => deps.items().len(),
+        Err(_) => 0,
+    }
 }
 
 fn repaired<R: Wait + Abort>(rt: &R, alloc: Global, service: &Service) {
     let mut pass = service.pass();
-    load_zone(rt, alloc, service, &mut pass);
-    targets(
-        rt,
-        find(rt, alloc, service, &mut pass, BOB, &[2, 0]),
-        &[SERVER_2, SERVER_1],
-    );
-    remove(rt, alloc, service, &mut pass, ADDRESS_2);
-    assert!(rt; service.repair(rt).is_ok());
-    let turns = Turns::new();
-    let question = question(rt, alloc, BOB);
-    let told = service.lookup(rt, &mut pass, &question, &draws(rt, &[2, 0]), &turns);
-    targets(rt, told, &[SERVER_1]);
-    assert_eq!(rt; turns.callers.load(Ordering::SeqCst), 0);
-    let deps = service.deps(rt, &question).expect(rt, "no dependencies");
-    assert_eq!(rt; deps.items().len(), 5);
+    outdate(rt, alloc, service, &mut pass);
+    repair(rt, service);
+    is_current(rt, alloc, service, &mut pass);
+    has_five_dependencies(rt, alloc, service);
+}
+
+fn repair<R: Wait + Abort>(rt: &R, service: &Service) {
+    assert!(rt; service.repair(rt).is_ok(), "not repaired");
+}
+
+fn has_five_dependencies<R: Wait + Abort>(rt: &R, alloc: Global, service: &Service) {
+    assert_eq!(rt; dependencies(rt, alloc, service), 5);
 }
 
 #[test]

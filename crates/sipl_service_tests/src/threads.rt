@@ -1,13 +1,13 @@
 // Calls of several threads.
 use crate::gates::{Turns, Waiting, comes};
 use crate::values::{
-    ADDRESS_2, BOB, OVER_TCP, SERVER_1, SERVER_2, add, close, draws, find, is_claimed, load_zone,
-    new_service, question, remove, targets,
+    BOB, OVER_TCP, SERVER_1, SERVER_2, add, close, draws, events, find, is_claimed, is_no_claim,
+    load_zone, new_service, outdate, question, targets,
 };
 use sipl_choice::Transport;
 use sipl_plans::Answer;
 use sipl_records::Address;
-use sipl_service::{ClaimFault, Closing, Pass, Service, claim};
+use sipl_service::{ClaimFault, Closing, Pass, Service};
 use std::alloc::Global;
 use std::process::Abort;
 use std::sync::Wait;
@@ -17,27 +17,18 @@ use std::thread;
 use std::thread::Threads;
 
 // Adds a host and finds it.
-fn adds<R: Wait + Abort>(rt: &R, alloc: Global, service: &Service, mut pass: Pass) -> Pass {
-    add(
-        rt,
-        alloc,
-        service,
-        &mut pass,
-        b"other.example.com. A 192.0.2.50",
-    );
-    let told = find(
-        rt,
-        alloc,
-        service,
-        &mut pass,
-        b"sip:other.example.com:5060",
-        &[],
-    );
+fn add_and_find<R: Wait + Abort>(rt: &R, alloc: Global, service: &Service, pass: &mut Pass) {
+    add(rt, alloc, service, pass, b"other.example.com. A 192.0.2.50");
+    let told = find(rt, alloc, service, pass, b"sip:other.example.com:5060", &[]);
     let expected = match told {
         Ok(told) => is_other(told.answer()),
         Err(_) => false,
     };
     assert!(rt; expected, "another answer");
+}
+
+fn adds<R: Wait + Abort>(rt: &R, alloc: Global, service: &Service, mut pass: Pass) -> Pass {
+    add_and_find(rt, alloc, service, &mut pass);
     pass
 }
 
@@ -79,33 +70,42 @@ fn two_callers<R: Threads + Wait + Abort + Sync>(
     )
 }
 
-// The claims of a journal: with all passes; with one missing; with one of another service first.
-fn claims(
-    rt: &impl Abort,
-    alloc: Global,
-    closing: &Closing,
-    first: Pass,
-    second: Pass,
-    other: Pass,
-) {
-    let number = second.receipts()[0].number;
-    let mut passes = Vec::new(alloc);
-    passes.push(first).expect(rt, "out of memory");
-    let without = claim(alloc, closing, passes.as_slice());
-    assert_eq!(rt; without.err(), Some(ClaimFault::Unclaimed(number)));
-    passes.push(second).expect(rt, "out of memory");
-    is_claimed(rt, alloc, closing, passes.as_slice(), 4);
-    passes.insert(0, other).expect(rt, "out of memory");
-    let others = claim(alloc, closing, passes.as_slice());
-    assert_eq!(rt; others.err(), Some(ClaimFault::NotOurs(0)));
+// The number of the first event of a pass.
+fn first_number(rt: &impl Abort, pass: &Pass) -> u64 {
+    match pass.receipts().first() {
+        Some(receipt) => receipt.number,
+        None => panic!(rt; "no receipt"),
+    }
+}
+
+// The claims of a journal of four events with a pass of another service and the two that have its
+// receipts: with these two; with one of them missing; with the other service's first.
+fn claims(rt: &impl Abort, alloc: Global, closing: &Closing, passes: &[Pass; 3]) {
+    assert_eq!(rt; closing.journal.len(), 4);
+    let number = first_number(rt, &passes[2]);
+    let all = &passes[..];
+    is_claimed(rt, alloc, closing, &all[1..]);
+    is_no_claim(
+        rt,
+        alloc,
+        closing,
+        &all[1..2],
+        ClaimFault::Unclaimed(number),
+    );
+    is_no_claim(rt, alloc, closing, &all[2..], ClaimFault::Unclaimed(0));
+    is_no_claim(rt, alloc, closing, all, ClaimFault::NotOurs(0));
+}
+
+fn advance<R: Wait + Abort>(rt: &R, service: &Service, pass: &mut Pass) {
+    service
+        .advance(rt, pass, 1)
+        .expect(rt, "the time is refused");
 }
 
 fn pass_of_another<R: Wait + Abort>(rt: &R, alloc: Global) -> Pass {
     let other = new_service(rt, alloc, 1);
     let mut pass = other.pass();
-    other
-        .advance(rt, &mut pass, 1)
-        .expect(rt, "the time is refused");
+    advance(rt, &other, &mut pass);
     pass
 }
 
@@ -115,7 +115,7 @@ fn the_receipts_of_two_threads_are_the_journal(rt: HostRuntime) {
     let (first, second) = two_callers(&rt, rt.alloc(), &service);
     let other = pass_of_another(&rt, rt.alloc());
     let closing = close(&rt, service);
-    claims(&rt, rt.alloc(), &closing, first, second, other);
+    claims(&rt, rt.alloc(), &closing, &[other, first, second]);
 }
 
 fn held<R: Wait + Abort>(rt: &R, alloc: Global, service: &Service, gate: &Waiting) {
@@ -126,8 +126,8 @@ fn held<R: Wait + Abort>(rt: &R, alloc: Global, service: &Service, gate: &Waitin
 }
 
 fn answered<R: Wait + Abort>(rt: &R, alloc: Global, service: &Service, gate: &Waiting) {
-    let mut pass = service.pass();
     assert!(rt; comes(&gate.is_held), "no lookup is held");
+    let mut pass = service.pass();
     targets(
         rt,
         find(rt, alloc, service, &mut pass, BOB, &[2, 0]),
@@ -156,16 +156,15 @@ fn a_lookup_overtakes_one_that_is_held(rt: HostRuntime) {
     overtaken(&rt, rt.alloc(), &service);
 }
 
-// Removes an address of an answer, and waits for a worker to look it up again.
-fn outdates<R: Wait + Abort>(rt: &R, alloc: Global, service: &Service, turns: &Turns) {
+// An entry becomes outdated.
+fn outdates<R: Wait + Abort>(rt: &R, alloc: Global, service: &Service) {
     let mut pass = service.pass();
-    load_zone(rt, alloc, service, &mut pass);
-    targets(
-        rt,
-        find(rt, alloc, service, &mut pass, BOB, &[2, 0]),
-        &[SERVER_2, SERVER_1],
-    );
-    remove(rt, alloc, service, &mut pass, ADDRESS_2);
+    outdate(rt, alloc, service, &mut pass);
+}
+
+// An entry becomes outdated, and a worker looks it up again.
+fn waits<R: Wait + Abort>(rt: &R, alloc: Global, service: &Service, turns: &Turns) {
+    outdates(rt, alloc, service);
     let is_repaired = comes(&turns.first_worker);
     service.stop(rt);
     assert!(rt; is_repaired, "no worker has repaired the entry");
@@ -176,7 +175,7 @@ fn repaired<R: Threads + Wait + Abort + Sync>(rt: &R, alloc: Global, service: &S
     thread::join(
         rt,
         || service.run_workers(rt, 1, &turns),
-        || outdates(rt, alloc, service, &turns),
+        || waits(rt, alloc, service, &turns),
     );
 }
 
@@ -184,5 +183,5 @@ fn repaired<R: Threads + Wait + Abort + Sync>(rt: &R, alloc: Global, service: &S
 fn workers_repair_until_the_service_is_stopped(rt: HostRuntime) {
     let service = new_service(&rt, rt.alloc(), 4);
     repaired(&rt, rt.alloc(), &service);
-    assert_eq!(rt; close(&rt, service).journal.len(), 3);
+    assert_eq!(rt; events(&rt, service), 3);
 }

@@ -8,7 +8,7 @@ use sipl_masterfile::{ZoneText, read_record, read_zone};
 use sipl_names::Name;
 use sipl_plans::Answer;
 use sipl_records::{Address, Record};
-use sipl_service::{Closing, OpenGate, Pass, Service, ServiceFault, Told, claim};
+use sipl_service::{ClaimFault, Closing, OpenGate, Pass, Service, ServiceFault, Told, claim};
 use sipl_srv::Draws;
 use sipl_uri::{Question, Uri};
 use std::alloc::Global;
@@ -63,10 +63,12 @@ pub(crate) fn record(rt: &impl Abort, alloc: Global, text: &[u8]) -> Record {
     read_record(alloc, text, &Name::root(alloc)).expect(rt, "the record is refused")
 }
 
-pub(crate) fn zone(rt: &impl Abort, alloc: Global) -> ZoneText {
-    let root = Name::root(alloc);
-    let apex = Name::from_text(alloc, b"example.com.", &root).expect(rt, "the name is refused");
-    read_zone(alloc, ZONE, &apex).expect(rt, "the zone is refused")
+fn apex(rt: &impl Abort, alloc: Global) -> Name {
+    Name::from_text(alloc, b"example.com.", &Name::root(alloc)).expect(rt, "the name is refused")
+}
+
+fn zone(rt: &impl Abort, alloc: Global) -> ZoneText {
+    read_zone(alloc, ZONE, &apex(rt, alloc)).expect(rt, "the zone is refused")
 }
 
 // A TCP endpoint at port 5060.
@@ -80,12 +82,7 @@ pub(crate) fn tcp(number: u32) -> Endpoint {
 
 // ---- calls of the service
 
-pub(crate) fn edit<R: Wait + Abort>(
-    rt: &R,
-    service: &Service,
-    pass: &mut Pass,
-    edit: Edit,
-) -> Done {
+fn edit<R: Wait + Abort>(rt: &R, service: &Service, pass: &mut Pass, edit: Edit) -> Done {
     service
         .edit(rt, pass, edit)
         .expect(rt, "the edit is refused")
@@ -132,6 +129,24 @@ pub(crate) fn find<R: Wait + Abort>(
     service.lookup(rt, pass, &question, &draws(rt, words), &OpenGate)
 }
 
+// Holds server1's endpoint for a millisecond.
+pub(crate) fn hold<R: Wait + Abort>(rt: &R, service: &Service, pass: &mut Pass) {
+    service
+        .hold(rt, pass, &tcp(SERVER_1), 1)
+        .expect(rt, "the hold is refused");
+}
+
+// Finds the two targets of an entry, and removes an address of theirs.
+pub(crate) fn outdate<R: Wait + Abort>(rt: &R, alloc: Global, service: &Service, pass: &mut Pass) {
+    load_zone(rt, alloc, service, pass);
+    targets(
+        rt,
+        find(rt, alloc, service, pass, BOB, &[2, 0]),
+        &[SERVER_2, SERVER_1],
+    );
+    remove(rt, alloc, service, pass, ADDRESS_2);
+}
+
 // ---- what is expected
 
 // Whether an answer is these targets over TCP at port 5060.
@@ -172,14 +187,23 @@ pub(crate) fn close(rt: &impl Abort, service: Service) -> Closing {
     }
 }
 
-// The journal has so many events, and is claimed with the passes.
-pub(crate) fn is_claimed(
+// The number of events of a service, which is closed.
+pub(crate) fn events(rt: &impl Abort, service: Service) -> usize {
+    close(rt, service).journal.len()
+}
+
+// The journal is claimed with the passes.
+pub(crate) fn is_claimed(rt: &impl Abort, alloc: Global, closing: &Closing, passes: &[Pass]) {
+    assert!(rt; claim(alloc, closing, passes).is_ok(), "not claimed");
+}
+
+// The claim of a journal with the passes is refused so.
+pub(crate) fn is_no_claim(
     rt: &impl Abort,
     alloc: Global,
     closing: &Closing,
     passes: &[Pass],
-    events: usize,
+    fault: ClaimFault,
 ) {
-    assert_eq!(rt; closing.journal.len(), events);
-    assert!(rt; claim(alloc, closing, passes).is_ok(), "not claimed");
+    assert_eq!(rt; claim(alloc, closing, passes).err(), Some(fault));
 }

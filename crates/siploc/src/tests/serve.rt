@@ -1,14 +1,30 @@
 // The program over TCP: a client in another thread of the process.
+ghost use Rattle.std.specs.Prelude.{IfOk};
+ghost use Rattle.sipl_lines.specs.Settings.{IsWithinLimits};
+
 use super::process::Process;
-use super::streams::ZONE;
 use crate::program::start;
+use crate::serve::serve_connections;
+use sipl_lines::Settings;
 use std::alloc::Global;
 use std::io::{Read, Write};
 use std::net::{Net, Shutdown, SocketAddr, TcpListener, TcpStream};
-use std::process::ExitCode;
+use std::process::{Abort, ExitCode};
 use std::test::Fail;
 use std::time::{Clock, Duration};
 use std::{io, thread};
+
+// The example of RFC 3263, 4.1 and 4.2, and a question.
+const LINES: &[u8] = b"zone example.com. 7
+@ NAPTR 50 50 \"s\" \"SIPS+D2T\" \"\" _sips._tcp
+@ NAPTR 90 50 \"s\" \"SIP+D2T\" \"\" _sip._tcp
+@ NAPTR 100 50 \"s\" \"SIP+D2U\" \"\" _sip._udp
+_sip._tcp SRV 0 1 5060 server1
+_sip._tcp SRV 0 2 5060 server2
+server1 A 192.0.2.1
+server2 A 192.0.2.2
+find sip:bob@example.com words 2,0
+";
 
 const REPLIES: &[u8] = b"ok zone 7 0 0 4
 target 1 tcp 192.0.2.2 5060
@@ -16,14 +32,28 @@ target 2 tcp 192.0.2.1 5060
 ok find 2
 ";
 
+// The settings of a server at a port, whose client has TCP and UDP.
+fn settings_at<R: Abort>(rt: &R, alloc: Global, port: u16) -> io::Result<Settings>
+    ensures { IfOk result IsWithinLimits }
+{
+    let text = format!(in alloc; "transports = [\"tcp\", \"udp\"]\nlisten = \"127.0.0.1:{port}\"")?;
+    Ok(Settings::from_toml(alloc, text.as_str()).expect(rt, "the settings are refused"))
+}
+
 // A port that was free a moment ago.
-fn free_port<H: Net<Listener = TcpListener>>(host: &H) -> io::Result<u16> {
+fn free_port<H>(host: &H) -> io::Result<u16>
+where
+    H: Net<Listener = TcpListener, Stream = TcpStream>,
+{
     let listener = TcpListener::bind(host, "127.0.0.1:0")?;
     Ok(listener.local_addr()?.port())
 }
 
 // Connects as soon as a server listens at the port, which is tried for ten seconds.
-fn connect<H: Net<Stream = TcpStream> + Clock>(host: &H, port: u16) -> io::Result<TcpStream> {
+fn connect<H>(host: &H, port: u16) -> io::Result<TcpStream>
+where
+    H: Net<Listener = TcpListener, Stream = TcpStream> + Clock,
+{
     let server = SocketAddr::from(([127, 0, 0, 1], port));
     for _ in 0..1_000 {
         match host.connect(server) {
@@ -37,7 +67,7 @@ fn connect<H: Net<Stream = TcpStream> + Clock>(host: &H, port: u16) -> io::Resul
 // What a server replies to some lines, after which the client sends no more.
 fn ask<H>(host: &H, alloc: Global, port: u16, lines: &[u8]) -> io::Result<Vec<u8>>
 where
-    H: Net<Stream = TcpStream> + Clock,
+    H: Net<Listener = TcpListener, Stream = TcpStream> + Clock,
 {
     let mut stream = connect(host, port)?;
     stream.write_all(lines)?;
@@ -50,24 +80,14 @@ where
 #[test]
 fn a_session_over_tcp_is_claimed_when_it_has_ended(rt: HostRuntime) -> Result<(), Fail> {
     let port = free_port(&rt)?;
-    let settings = format!(rt.alloc();
-        "transports = [\"tcp\", \"udp\"]\nlisten = \"127.0.0.1:{port}\""
-    )?;
-    let lines = format!(rt.alloc(); "{ZONE}find sip:bob@example.com words 2,0\n")?;
-    let words: [&[u8]; 3] = [b"siploc", b"serve", settings.as_bytes()];
-    let process = Process::new(rt.alloc(), &words, b"");
-    let (replies, status) = thread::join(
+    let settings = settings_at(&rt, rt.alloc(), port)?;
+    let (replies, events) = thread::join(
         &rt,
-        || ask(&rt, rt.alloc(), port, lines.as_bytes()),
-        || start(&process, &rt),
+        || ask(&rt, rt.alloc(), port, LINES),
+        || serve_connections(rt.alloc(), &rt, settings),
     );
     assert_eq!(rt; replies?.as_slice(), REPLIES);
-    assert!(rt; status == ExitCode::SUCCESS);
-    assert_eq!(rt;
-        process.output.into_inner().as_slice(),
-        b"closed 2\n".as_slice()
-    );
-    assert!(rt; process.errors.into_inner().is_empty());
+    assert!(rt; matches!(events, Ok(2)));
     Ok(())
 }
 
@@ -75,7 +95,7 @@ fn a_session_over_tcp_is_claimed_when_it_has_ended(rt: HostRuntime) -> Result<()
 fn an_address_in_use_is_a_fault(rt: HostRuntime) -> Result<(), Fail> {
     let listener = TcpListener::bind(&rt, "127.0.0.1:0")?;
     let port = listener.local_addr()?.port();
-    let settings = format!(rt.alloc(); "listen = \"127.0.0.1:{port}\"")?;
+    let settings = format!(in rt.alloc(); "listen = \"127.0.0.1:{port}\"")?;
     let words: [&[u8]; 3] = [b"siploc", b"serve", settings.as_bytes()];
     let process = Process::new(rt.alloc(), &words, b"");
     assert!(rt; start(&process, &rt) == ExitCode::FAILURE);
