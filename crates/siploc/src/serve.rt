@@ -10,7 +10,7 @@ use std::thread;
 use std::thread::Threads;
 
 // Why a server ends with a fault.
-#[derive(Debug, Drop)]
+#[derive(Drop)]
 pub(crate) enum ServerFault {
     // It cannot listen at its address, or a connection was not accepted.
     Listen,

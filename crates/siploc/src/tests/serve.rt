@@ -1,7 +1,4 @@
 // The program over TCP: a client in another thread of the process.
-ghost use Rattle.std.specs.Prelude.{IfOk};
-ghost use Rattle.sipl_lines.specs.Settings.{IsWithinLimits};
-
 use super::process::Process;
 use crate::program::start;
 use crate::serve::serve_connections;
@@ -10,6 +7,7 @@ use std::alloc::Global;
 use std::io::{Read, Write};
 use std::net::{Net, Shutdown, SocketAddr, TcpListener, TcpStream};
 use std::process::{Abort, ExitCode};
+use std::sync::Wait;
 use std::test::Fail;
 use std::time::{Clock, Duration};
 use std::{io, thread};
@@ -32,12 +30,17 @@ target 2 tcp 192.0.2.1 5060
 ok find 2
 ";
 
-// The settings of a server at a port, whose client has TCP and UDP.
-fn settings_at<R: Abort>(rt: &R, alloc: Global, port: u16) -> io::Result<Settings>
-    ensures { IfOk result IsWithinLimits }
+// Serves a session at a port, for a client that has TCP and UDP. Returns how many events there were.
+fn serve_at<H>(host: &H, alloc: Global, port: u16) -> io::Result<Option<u64>>
+where
+    H: Net<Listener = TcpListener, Stream = TcpStream> + Threads + Wait + Sync + Abort,
 {
     let text = format!(in alloc; "transports = [\"tcp\", \"udp\"]\nlisten = \"127.0.0.1:{port}\"")?;
-    Ok(Settings::from_toml(alloc, text.as_str()).expect(rt, "the settings are refused"))
+    let settings = Settings::from_toml(alloc, text.as_str()).expect(
+        host,
+        "the settings are refused",
+    );
+    Ok(serve_connections(alloc, host, settings).ok())
 }
 
 // A port that was free a moment ago.
@@ -80,14 +83,13 @@ where
 #[test]
 fn a_session_over_tcp_is_claimed_when_it_has_ended(rt: HostRuntime) -> Result<(), Fail> {
     let port = free_port(&rt)?;
-    let settings = settings_at(&rt, rt.alloc(), port)?;
     let (replies, events) = thread::join(
         &rt,
         || ask(&rt, rt.alloc(), port, LINES),
-        || serve_connections(rt.alloc(), &rt, settings),
+        || serve_at(&rt, rt.alloc(), port),
     );
     assert_eq!(rt; replies?.as_slice(), REPLIES);
-    assert!(rt; matches!(events, Ok(2)));
+    assert_eq!(rt; events?, Some(2));
     Ok(())
 }
 
