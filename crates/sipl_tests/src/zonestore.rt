@@ -1,6 +1,7 @@
 // Sessions with a store of zones: each step is an edit with its result, or what the store then has.
 mod edits;
 mod numbers;
+mod seeds;
 
 ghost use Rattle.std.specs.Prelude.{◌^◌, ◌≤◌};
 
