@@ -362,7 +362,7 @@ fn expects(rt: &impl Abort, is_so: bool, what: &str) {
 }
 
 // Makes an edit of the store and of the list.
-fn edit(rt: &impl Abort, alloc: Global, store: &mut ZoneStore, plain: &mut Plain, edit: Edit) {
+fn make_edit(rt: &impl Abort, alloc: Global, store: &mut ZoneStore, plain: &mut Plain, edit: Edit) {
     let new = edited(rt, alloc, &plain.records, edit);
     let sets = changed_by(rt, alloc, &plain.records, &new, edit);
     expects(
@@ -428,7 +428,7 @@ fn do_act(
         Act::Compare => compare(rt, alloc, store, plain, draw(seed, SETS)),
         _ => {
             let made = edit_of(seed, &plain.records, act);
-            edit(rt, alloc, store, plain, made);
+            make_edit(rt, alloc, store, plain, made);
         }
     }
 }
