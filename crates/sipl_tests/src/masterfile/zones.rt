@@ -1,7 +1,7 @@
 // Zones: which records are taken in, and which fault is the first.
 use super::{
-    ADDRESS, EMPTY_LABEL, are_empty, counts_of, has_at, has_counts, has_counts_each, has_fault_each,
-    has_owner_each, name, push, reads_as, zone,
+    ADDRESS, EMPTY_LABEL, are_empty, counts_of, has_at, has_counts, has_counts_each,
+    has_fault_each, has_owner_each, name, push, reads_as, zone,
 };
 use sipl_masterfile::{ZoneCause, ZoneFault, ZoneText};
 use sipl_records::Data;

@@ -19,7 +19,10 @@ fn parse_reads_hostnames(rt: HostRuntime) {
 
 fn ask_for_addresses(rt: &impl Abort, alloc: Global, rows: &[(&[u8], Address)]) {
     for (uri, address) in rows {
-        assert!(rt; asks_for(alloc, uri, Target::Numeric(*address)), "at {uri:?}");
+        assert!(rt;
+            asks_for(alloc, uri, Target::Numeric(*address)),
+            "at {uri:?}"
+        );
     }
 }
 
