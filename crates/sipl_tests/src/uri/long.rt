@@ -2,7 +2,13 @@
 use super::*;
 
 // That this is printed of a URI of a beginning, 65,530 semicolons and an end.
-fn prints_long(rt: &impl Abort, alloc: Global, start: &[u8], end: &[u8], printed: &[u8]) {
+fn prints_long(
+    rt: &impl Abort,
+    alloc: Global,
+    start: &'static [u8],
+    end: &'static [u8],
+    printed: &[u8],
+) {
     let pieces = [(start, 1), (b";", 65_530), (end, 1)];
     assert!(rt; prints_repeated(alloc, &pieces, printed), "at {end:?}");
 }
