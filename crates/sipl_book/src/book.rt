@@ -26,10 +26,9 @@ use crate::fault::BookFault;
 use crate::limits::Limits;
 use crate::outcome::{Done, Handed, Uncommitted};
 use sipl_choice::{Abilities, Endpoint};
-use sipl_evidence::dup_data;
 use sipl_outages::Board;
 use sipl_plans::{Answer, Finding, Layout, draw};
-use sipl_records::{Data, Key, Sequence};
+use sipl_records::{Key, SetData};
 use sipl_repair::Lease;
 use sipl_srv::Draws;
 use sipl_uri::Question;
@@ -156,9 +155,10 @@ impl Book {
         Ok(record_event(&mut self.journal, Event::Advance(to)))
     }
 
-    /// A copy of the key's set, with its number: 0 and no data where it is empty. Counts one look,
-    /// also where an allocation fails, which is the only error.
-    pub fn read(&mut self, key: &Key) -> Result<(u64, Sequence<Data>), AllocError>
+    /// The key's set as it is, with its number: 0 and no data where it is empty. The data are shared,
+    /// and no edit changes them. Counts one look, also where there is an error. Does not allocate: the
+    /// only error is that data have 2^63 copies.
+    pub fn read(&mut self, key: &Key) -> Result<(u64, SetData), AllocError>
         ensures number { IfOk result (λ read. read.0 ≡ number_in self.old.store key.now) }
         ensures value { IfOk result
             (λ read. read.1 ≡ set_of self.old.store.zones.records key.now) }
@@ -167,9 +167,7 @@ impl Book {
         ensures consistent { IsConsistentStore self.old.store }
         ensures looked { self.new ≡ after_look self.old }
     {
-        let (number, content) = self.store.set(key);
-        let copy = dup_data(self.alloc, content)?;
-        Ok((number, Sequence::from_vec(copy)))
+        self.store.share(key)
     }
 
     /// Returns the answer to a question that has a current entry, for these random words: that of

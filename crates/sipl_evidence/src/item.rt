@@ -1,7 +1,7 @@
 ghost use Rattle.std.specs.Prelude.{◌≡◌, ◌↔◌, [], IfOk};
 ghost use Rattle.sipl_evidence.specs.Items.{IsItem};
 
-use sipl_records::{Data, Key, Sequence};
+use sipl_records::{Data, Key, SetData};
 use std::alloc::{AllocError, Global};
 use std::marker::Model;
 
@@ -11,7 +11,7 @@ use std::marker::Model;
 pub struct Item {
     key: Key,
     number: u64,
-    content: Sequence<Data>,
+    content: SetData,
 }
 
 impl Model for Item {
@@ -26,7 +26,7 @@ impl Model for Item {
 
 impl Item {
     /// The set of a key with its number. Does not allocate.
-    pub fn new(key: Key, number: u64, content: Sequence<Data>) -> Self
+    pub fn new(key: Key, number: u64, content: SetData) -> Self
         requires { (number ≡ 0) ↔ (content ≡ []) }
         ensures { result ≡ record { key = key; number = number; content = content } }
     {
@@ -68,25 +68,14 @@ impl Item {
         self.content.as_slice()
     }
 
-    /// A copy of the item.
+    /// A copy of the item, which shares the data.
     pub fn dup(&self, alloc: Global) -> Result<Self, AllocError>
         ensures { IfOk result (λ copy. copy ≡ self.now) }
     {
         Ok(Item {
             key: self.key.dup(alloc)?,
             number: self.number,
-            content: Sequence::from_vec(dup_data(alloc, self.content.as_slice())?),
+            content: self.content.dup()?,
         })
     }
-}
-
-/// A copy of the data, in their order. The only error is an allocation failure.
-pub fn dup_data(alloc: Global, values: &[Data]) -> Result<Vec<Data>, AllocError>
-    ensures { IfOk result (λ copy. copy.items ≡ values.now) }
-{
-    let mut copy = Vec::with_capacity(alloc, values.len())?;
-    for datum in values {
-        copy.push(datum.dup(alloc)?)?;
-    }
-    Ok(copy)
 }

@@ -17,5 +17,5 @@ mod walk;
 pub use dependents::Dependents;
 pub use evidence::{Evidence, Refused};
 pub use fault::EvidenceFault;
-pub use item::{Item, dup_data};
+pub use item::Item;
 pub use walk::{MAX_ALIASES, Reached, Walk};

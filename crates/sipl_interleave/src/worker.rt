@@ -8,7 +8,7 @@ ghost use Rattle.sipl_interleave.specs.Jobs.{fault_of, lease_of, run_of, wanted_
 use crate::act::Act;
 use crate::fault::WorldFault;
 use sipl_plans::{Finding, Run};
-use sipl_records::{Data, Key, Sequence};
+use sipl_records::{Key, SetData};
 use sipl_repair::Lease;
 use std::alloc::{AllocError, Global};
 use std::marker::Model;
@@ -105,7 +105,7 @@ impl Worker {
         &mut self,
         alloc: Global,
         number: u64,
-        content: Sequence<Data>,
+        content: SetData,
     ) -> Result<(), AllocError>
         requires { IsWanted (wanted_by self.old) number content }
         ensures ok { OnOk result (option_map

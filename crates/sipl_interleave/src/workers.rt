@@ -11,7 +11,7 @@ use crate::fault::WorldFault;
 use crate::worker::Worker;
 use sipl_book::Book;
 use sipl_plans::{Finding, Run};
-use sipl_records::{Data, Key, Sequence};
+use sipl_records::{Key, SetData};
 use sipl_repair::Lease;
 use std::alloc::{AllocError, Global};
 use std::marker::Model;
@@ -86,7 +86,7 @@ impl Workers {
         number: usize,
         alloc: Global,
         set_number: u64,
-        content: Sequence<Data>,
+        content: SetData,
     ) -> Result<(), AllocError>
         requires allowed { refusal_of number Act.Read self.old ≡ None }
         requires wanted { IsWanted (wanted_by (job_at self.old number)) set_number content }

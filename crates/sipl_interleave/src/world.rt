@@ -13,9 +13,8 @@ use crate::step::Step;
 use crate::workers::Workers;
 use sipl_book::{Book, BookFault, Edit, Limits, Uncommitted};
 use sipl_choice::{Abilities, Endpoint};
-use sipl_evidence::{Item, dup_data};
+use sipl_evidence::Item;
 use sipl_plans::Run;
-use sipl_records::Sequence;
 use sipl_srv::Draws;
 use sipl_uri::Question;
 use std::alloc::{AllocError, Global};
@@ -244,9 +243,8 @@ impl World {
             None => unreachable!(),
         };
         let (number, content) = self.book.read(&key)?;
-        let copy = dup_data(self.alloc, content.as_slice())?;
-        self.workers
-            .give(worker, self.alloc, number, Sequence::from_vec(copy))?;
+        let copy = content.dup()?;
+        self.workers.give(worker, self.alloc, number, copy)?;
         Ok(Item::new(key, number, content))
     }
 

@@ -14,7 +14,7 @@ use crate::layout::Layout;
 use crate::stage::{Progress, Stage, advance};
 use sipl_choice::Abilities;
 use sipl_evidence::{Evidence, Item};
-use sipl_records::{Data, Key, Sequence};
+use sipl_records::{Key, SetData};
 use sipl_uri::Question;
 use std::alloc::{AllocError, Global};
 use std::marker::Model;
@@ -85,12 +85,7 @@ impl Run {
 
     /// Takes the set of the key that the run wants, and the number of the set. The only error is an
     /// allocation failure; the run is then as it was.
-    pub fn give(
-        &mut self,
-        alloc: Global,
-        number: u64,
-        content: Sequence<Data>,
-    ) -> Result<(), AllocError>
+    pub fn give(&mut self, alloc: Global, number: u64, content: SetData) -> Result<(), AllocError>
         requires set { IsWanted (wanted self.old) number content }
         ensures ok { OnOk result (IsGiven self.old self.new number content) }
         ensures err { OnErr result (self.new ≡ self.old) }

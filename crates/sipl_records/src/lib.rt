@@ -16,6 +16,7 @@ mod number;
 mod octets;
 mod record;
 mod sequence;
+mod set_data;
 mod split;
 
 pub use address::{Address, MAX_ADDRESS_TEXT_LEN, read_ipv4, read_ipv6};
@@ -29,4 +30,5 @@ pub use number::read_number;
 pub use octets::{are_digits, begins_with_letter};
 pub use record::{Key, MAX_SET_LEN, Record};
 pub use sequence::Sequence;
+pub use set_data::SetData;
 pub use split::split_once;

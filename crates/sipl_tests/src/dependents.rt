@@ -1,7 +1,7 @@
 // Steps with the index from record sets to the entries that depend on them.
 use sipl_evidence::{Dependents, Evidence, Item};
 use sipl_names::Name;
-use sipl_records::{Key, Kind, Sequence};
+use sipl_records::{Key, Kind, SetData};
 use std::alloc::Global;
 use std::process::Abort;
 
@@ -55,11 +55,7 @@ fn push_each(rt: &impl Abort, alloc: Global, evidence: &mut Evidence, owners: &[
 }
 
 fn push_empty(rt: &impl Abort, alloc: Global, evidence: &mut Evidence, owner: &str) {
-    let set = Item::new(
-        key(rt, alloc, owner),
-        0,
-        Sequence::from_vec(Vec::new(alloc)),
-    );
+    let set = Item::new(key(rt, alloc, owner), 0, SetData::new());
     let is_pushed = evidence.push(set).is_ok();
     assert!(rt; is_pushed, "the set was not pushed");
 }

@@ -2,7 +2,7 @@
 // evidence then has.
 use sipl_evidence::{Evidence, EvidenceFault, Item, Walk};
 use sipl_names::Name;
-use sipl_records::{Data, Key, Kind, Sequence};
+use sipl_records::{Data, Key, Kind, SetData};
 use std::alloc::Global;
 use std::process::Abort;
 
@@ -120,34 +120,30 @@ fn key(rt: &impl Abort, alloc: Global, owner: &str, kind: Kind) -> Key {
 
 fn item(rt: &impl Abort, alloc: Global, set: Set) -> Item {
     match set {
-        Set::Empty(owner, kind) => Item::new(
-            key(rt, alloc, owner, kind),
-            0,
-            Sequence::from_vec(Vec::new(alloc)),
-        ),
+        Set::Empty(owner, kind) => Item::new(key(rt, alloc, owner, kind), 0, SetData::new()),
         Set::Address(owner, address, number) => single(
             rt,
             key(rt, alloc, owner, A),
             number,
-            Sequence::from_vec(only(rt, alloc, Data::Address4(address))),
+            only(rt, alloc, Data::Address4(address)),
         ),
         Set::Alias(owner, target) => single(
             rt,
             key(rt, alloc, owner, Kind::Alias),
             1,
-            Sequence::from_vec(only(rt, alloc, Data::Alias(name(rt, alloc, target)))),
+            only(rt, alloc, Data::Alias(name(rt, alloc, target))),
         ),
     }
 }
 
-fn only(rt: &impl Abort, alloc: Global, datum: Data) -> Vec<Data> {
-    let mut data = Vec::new(alloc);
-    data.push(datum).expect(rt, "out of memory");
+fn only(rt: &impl Abort, alloc: Global, datum: Data) -> SetData {
+    let mut data = SetData::new();
+    data.push(alloc, datum).expect(rt, "out of memory");
     data
 }
 
 // The set of a key that is not empty.
-fn single(rt: &impl Abort, key: Key, number: u64, content: Sequence<Data>) -> Item {
+fn single(rt: &impl Abort, key: Key, number: u64, content: SetData) -> Item {
     assert!(rt; number > 0 && !content.is_empty());
     Item::new(key, number, content)
 }

@@ -28,7 +28,7 @@ use crate::set_numbers::{
 use crate::sets::SetTable;
 use indexmap::IndexSet;
 use sipl_names::Name;
-use sipl_records::{Data, Key, Record, Sequence};
+use sipl_records::{Data, Key, Record, Sequence, SetData};
 use std::alloc::{AllocError, Global};
 use std::marker::Model;
 
@@ -99,6 +99,14 @@ impl IndexedRecords {
         ensures values { result.1.now ≡ set_of self.now.records key.now }
     {
         self.sets.get(&key.name, key.kind)
+    }
+
+    // The number of the key's set, and its data, which are shared.
+    pub(crate) fn share(&self, key: &Key) -> Result<(u64, SetData), AllocError>
+        ensures number { IfOk result (λ shared. shared.0 ≡ number_of self.now.numbers key.now) }
+        ensures values { IfOk result (λ shared. shared.1 ≡ set_of self.now.records key.now) }
+    {
+        self.sets.share(&key.name, key.kind)
     }
 
     // The number of the key's set.
@@ -204,7 +212,7 @@ impl IndexedRecords {
         let count = removed_count(&self.sets, old);
         check_numbers(self.next, count)?;
         let keys = own_key(self.alloc, old)?;
-        remove_from_set(&mut self.sets, self.next, old);
+        remove_from_set(self.alloc, &mut self.sets, self.next, old)?;
         remove_owner(&mut self.bare, old);
         self.records.remove(old);
         self.next += count as u64;

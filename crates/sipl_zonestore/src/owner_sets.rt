@@ -21,15 +21,15 @@ pub(crate) struct OwnerSets {
 
 impl OwnerSets {
     // Empty sets. Does not allocate.
-    pub(crate) fn new(alloc: Global) -> Self
+    pub(crate) fn new() -> Self
         ensures { result ≡ no_sets }
     {
         OwnerSets {
-            address4: RecordSet::new(alloc),
-            address6: RecordSet::new(alloc),
-            alias: RecordSet::new(alloc),
-            service: RecordSet::new(alloc),
-            pointer: RecordSet::new(alloc),
+            address4: RecordSet::new(),
+            address6: RecordSet::new(),
+            alias: RecordSet::new(),
+            service: RecordSet::new(),
+            pointer: RecordSet::new(),
         }
     }
 
@@ -61,20 +61,32 @@ impl OwnerSets {
     }
 
     // Appends a datum to the set of this kind, which gets this number.
-    pub(crate) fn push(&mut self, kind: Kind, number: u64, value: Data) -> Result<(), AllocError>
+    pub(crate) fn push(
+        &mut self,
+        alloc: Global,
+        kind: Kind,
+        number: u64,
+        value: Data,
+    ) -> Result<(), AllocError>
         ensures pushed { OnOk result
             (self.new ≡ with_set kind (pushed number value (set_at kind self.old)) self.old) }
         ensures unchanged { OnErr result (self.new ≡ self.old) }
     {
-        self.set_mut(kind).push(number, value)
+        self.set_mut(kind).push(alloc, number, value)
     }
 
     // Removes a datum from the set of this kind.
-    pub(crate) fn remove(&mut self, kind: Kind, value: &Data)
-        ensures { self.new
-            ≡ with_set kind (data_without value.now (set_at kind self.old)) self.old }
+    pub(crate) fn remove(
+        &mut self,
+        alloc: Global,
+        kind: Kind,
+        value: &Data,
+    ) -> Result<(), AllocError>
+        ensures removed { OnOk result
+            (self.new ≡ with_set kind (data_without value.now (set_at kind self.old)) self.old) }
+        ensures unchanged { OnErr result (self.new ≡ self.old) }
     {
-        self.set_mut(kind).remove(value);
+        self.set_mut(kind).remove(alloc, value)
     }
 
     // Numbers the set of this kind.

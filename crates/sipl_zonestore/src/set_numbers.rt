@@ -105,18 +105,25 @@ pub(crate) fn push_to_set(
 }
 
 // Removes the record's datum from its set, if it is in one, which gets this number where it has other
-// data. Does not allocate.
-pub(crate) fn remove_from_set(sets: &mut SetTable, number: u64, old: &Record)
-    ensures { (key : Key) → content_of sets.new key
+// data.
+pub(crate) fn remove_from_set(
+    alloc: Global,
+    sets: &mut SetTable,
+    number: u64,
+    old: &Record,
+) -> Result<(), AllocError>
+    ensures content { OnOk result ((key : Key) → content_of sets.new key
         ≡ (if has_key key old.now
         then renumbered number (without old.now.value (content_of sets.old key))
-        else content_of sets.old key) }
+        else content_of sets.old key)) }
+    ensures unchanged { OnErr result (sets.new ≡ sets.old) }
 {
     let Some(kind) = old.value.kind() else {
-        return;
+        return Ok(());
     };
-    sets.remove(&old.owner, kind, &old.value);
+    sets.remove(alloc, &old.owner, kind, &old.value)?;
     sets.set_number(&old.owner, kind, number);
+    Ok(())
 }
 
 // Whether the set has a datum that is not this one.

@@ -1,5 +1,5 @@
 //! The record sets of a store (RFC 2181, 5) by their owners and kinds, with their numbers.
-ghost use Rattle.std.specs.Prelude.{◌≡◌, [], false, OnOk, OnErr, if◌then◌else◌};
+ghost use Rattle.std.specs.Prelude.{◌≡◌, [], false, IfOk, OnOk, OnErr, if◌then◌else◌};
 ghost use Rattle.sipl_names.specs.Labels.{is_within};
 ghost use Rattle.sipl_records.specs.declared.record.Key.{Key};
 ghost use Rattle.sipl_records.specs.Sets.{same_key};
@@ -9,7 +9,7 @@ ghost use Rattle.sipl_zonestore.specs.SetTable.{content_of, has_set};
 use crate::owner_sets::OwnerSets;
 use indexmap::IndexMap;
 use sipl_names::Name;
-use sipl_records::{Data, Kind};
+use sipl_records::{Data, Kind, SetData};
 use std::alloc::{AllocError, Global};
 use std::marker::Model;
 
@@ -55,6 +55,20 @@ impl SetTable {
         }
     }
 
+    // The number of a set and its data, which are shared, 0 and none where it is empty. Constant time
+    // but for hashing. Does not allocate.
+    pub(crate) fn share(&self, owner: &Name, kind: Kind) -> Result<(u64, SetData), AllocError>
+        ensures number { IfOk result (λ shared. shared.0
+            ≡ (content_of self.now (record { name = owner.now; kind = kind })).number) }
+        ensures values { IfOk result (λ shared. shared.1
+            ≡ (content_of self.now (record { name = owner.now; kind = kind })).values) }
+    {
+        match self.owners.get(owner) {
+            Some(sets) => sets.set(kind).share(),
+            None => Ok((0, SetData::new())),
+        }
+    }
+
     // The data of a set.
     pub(crate) fn values(&self, owner: &Name, kind: Kind) -> &[Data]
         ensures { result.now
@@ -87,30 +101,37 @@ impl SetTable {
         ensures unchanged { OnErr result (self.new ≡ self.old) }
     {
         if let Some(sets) = self.owners.get_mut(owner) {
-            return sets.push(kind, number, value);
+            return sets.push(alloc, kind, number, value);
         }
-        let mut sets = OwnerSets::new(alloc);
-        sets.push(kind, number, value)?;
+        let mut sets = OwnerSets::new();
+        sets.push(alloc, kind, number, value)?;
         let name = owner.dup(alloc)?;
         self.owners.insert(name, sets)?;
         Ok(())
     }
 
-    // Removes a datum from a set. Constant time but for hashing and the data of the set. Does not
-    // allocate.
-    pub(crate) fn remove(&mut self, owner: &Name, kind: Kind, value: &Data)
-        ensures { (key : Key) → content_of self.new key
+    // Removes a datum from a set. Constant time but for hashing and the data of the set.
+    pub(crate) fn remove(
+        &mut self,
+        alloc: Global,
+        owner: &Name,
+        kind: Kind,
+        value: &Data,
+    ) -> Result<(), AllocError>
+        ensures removed { OnOk result ((key : Key) → content_of self.new key
             ≡ (if same_key (record { name = owner.now; kind = kind }) key
             then without value.now (content_of self.old key)
-            else content_of self.old key) }
+            else content_of self.old key)) }
+        ensures unchanged { OnErr result (self.new ≡ self.old) }
     {
         let Some(sets) = self.owners.get_mut(owner) else {
-            return;
+            return Ok(());
         };
-        sets.remove(kind, value);
+        sets.remove(alloc, kind, value)?;
         if sets.is_empty() {
             self.owners.swap_remove(owner);
         }
+        Ok(())
     }
 
     // Numbers a set, unless it is empty, and returns whether it is not. Constant time but for

@@ -1,4 +1,4 @@
-ghost use Rattle.std.specs.Prelude.{◌≡◌, ◌≢◌, ◌^◌, ◌≤◌, [], Err};
+ghost use Rattle.std.specs.Prelude.{◌≡◌, ◌≢◌, ◌^◌, ◌≤◌, [], Err, IfOk};
 ghost use Rattle.std.specs.Borrow.{sem};
 ghost use Rattle.std.specs.Io.BufRead.{Rests};
 ghost use Rattle.sipl_records.specs.Sets.{set_of};
@@ -15,8 +15,8 @@ use crate::fault::StoreFault;
 use crate::indexed_records::IndexedRecords;
 use sipl_masterfile::ZoneText;
 use sipl_names::Name;
-use sipl_records::{Data, Key, Record, Sequence};
-use std::alloc::Global;
+use sipl_records::{Data, Key, Record, Sequence, SetData};
+use std::alloc::{AllocError, Global};
 use std::marker::Model;
 
 /// The loaded zones and their records, seen as the list of their apexes, the list of all records,
@@ -162,6 +162,19 @@ impl ZoneStore {
     {
         self.looks = self.looks.saturating_add(1);
         self.records.set(key)
+    }
+
+    /// The number of the key's set and its data, which are shared, as they are: no edit changes what
+    /// was shared. 0 and no data where it is empty. Counts one look. Constant time but for hashing.
+    /// Does not allocate: the only error is that data have 2^63 copies.
+    pub fn share(&mut self, key: &Key) -> Result<(u64, SetData), AllocError>
+        ensures number { IfOk result (λ shared. shared.0 ≡ number_in self.old key.now) }
+        ensures value { IfOk result (λ shared. shared.1 ≡ set_of self.old.zones.records key.now) }
+        ensures consistent { IsConsistent self.old }
+        ensures looks { self.new ≡ looked self.old }
+    {
+        self.looks = self.looks.saturating_add(1);
+        self.records.share(key)
     }
 
     /// The number of the key's set, 0 where it is empty. Counts no look. Constant time but for

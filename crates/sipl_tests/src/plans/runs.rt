@@ -11,7 +11,7 @@ use sipl_outages::Board;
 use sipl_plans::Reason::{NoTransport, NotAvailable};
 use sipl_plans::{Answer, Finding, Run, Unfinished, draw};
 use sipl_records::Kind::{Address4, Address6, Alias, Pointer, Service};
-use sipl_records::{Data, Key, Kind, MAX_SET_LEN, Record, Sequence};
+use sipl_records::{Data, Key, Kind, MAX_SET_LEN, Record, SetData};
 use sipl_srv::Draws;
 use sipl_uri::Question;
 use std::alloc::Global;
@@ -88,7 +88,8 @@ fn give_next(rt: &impl Abort, alloc: Global, run: &mut Run, records: &[Record]) 
     for record in records {
         push_if_wanted(rt, alloc, &mut content, record, run);
     }
-    give(rt, alloc, run, Sequence::from_vec(content));
+    let content = SetData::from_vec(alloc, content).expect(rt, "out of memory");
+    give(rt, alloc, run, content);
 }
 
 // Appends the record's data where they are of the set that the run wants.
@@ -120,7 +121,7 @@ fn are_of_kind(kind: Kind, content: &[Data]) -> bool
 }
 
 // Gives the run these data as the set that it wants, with their count as its number.
-fn give(rt: &impl Abort, alloc: Global, run: &mut Run, content: Sequence<Data>) {
+fn give(rt: &impl Abort, alloc: Global, run: &mut Run, content: SetData) {
     let kind = run.wants().expect(rt, "a key").kind;
     if !are_of_kind(kind, content.as_slice()) || content.len() > MAX_SET_LEN {
         panic!(rt; "data of another kind, or too many");
