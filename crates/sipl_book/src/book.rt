@@ -28,7 +28,7 @@ use crate::outcome::{Done, Handed, Uncommitted};
 use sipl_choice::{Abilities, Endpoint};
 use sipl_outages::Board;
 use sipl_plans::{Answer, Finding, Layout, draw};
-use sipl_records::{Key, SetData};
+use sipl_records::{Key, Sequence, SetData};
 use sipl_repair::Lease;
 use sipl_srv::Draws;
 use sipl_uri::Question;

@@ -95,7 +95,8 @@ impl SetData {
                 return Ok(());
             }
         }
-        let values = copy_and_push(alloc, self.as_slice(), value)?;
+        let mut values = copy_with_space(alloc, self.as_slice())?;
+        values.push(value)?;
         self.shared = Some(Arc::new(alloc, values)?);
         Ok(())
     }
@@ -113,15 +114,14 @@ impl SetData {
     }
 }
 
-// A copy of the data with one more.
-fn copy_and_push(alloc: Global, values: &[Data], last: Data) -> Result<Vec<Data>, AllocError>
-    ensures { IfOk result (λ copy. copy.items ≡ values.now ++ last ∷ []) }
+// A copy of the data, with space for one more.
+fn copy_with_space(alloc: Global, values: &[Data]) -> Result<Vec<Data>, AllocError>
+    ensures { IfOk result (λ copy. copy.items ≡ values.now) }
 {
     let mut copy = Vec::with_capacity(alloc, values.len() + 1)?;
     for value in values {
         copy.push(value.dup(alloc)?)?;
     }
-    copy.push(last)?;
     Ok(copy)
 }
 
