@@ -14,7 +14,7 @@ use Rattle.sipl_zonestore.proofs.indexed_records.IndexedRecords.remove.Goals as 
 pub invariant_of-self : goal.invariant_of-self
 invariant_of-self c =
     record {
-      has_sets = λ key. removed-sets c.self.inside.records.records c.args.old.now c.self.inside.next c.self.inside.sets c.remove_from_set.new.sets c.self.invariant.has_sets c.remove_from_set.ensures key ∙ ap (λ rs. set_of rs key) (sym c.remove.ensures);
+      has_sets = λ key. removed-sets c.self.inside.records.records c.args.old.now c.self.inside.next c.self.inside.sets c.remove_from_set.new.sets c.self.invariant.has_sets c.in_ok-remove_from_set.ensures.content key ∙ ap (λ rs. set_of rs key) (sym c.remove.ensures);
       has_bare = λ name.
           bare-removed c.self.inside.records.records c.args.old.now (contains same_name c.self.inside.bare) (contains same_name c.remove_owner.new.owners) c.self.invariant.has_bare c.remove_owner.ensures name
           ∙ ap (λ rs. list_any (is_bare_at name) rs) (sym c.remove.ensures);
@@ -23,7 +23,7 @@ invariant_of-self c =
 
 pub returns-clause-replaced : goal.returns-clause-replaced
 returns-clause-replaced c =
-    rw (← c.self.view_is) (taken_out c.self.inside.records.records c.remove.new.self.records c.args.old.now c.self.inside.next _ c.self.inside.sets c.remove_from_set.new.sets c.from_vec.result c.self.invariant.has_sets (rw (← c.self.view_is) at c.requires.present) c.remove_from_set.ensures c.remove.ensures (c.from_vec.ensures ∙ c.in_ok-keys.ensures) (ap (λ n. c.self.inside.next + n) c.removed_count-count.ensures) c.in_ok-check_numbers.ensures)
+    rw (← c.self.view_is) (taken_out c.self.inside.records.records c.remove.new.self.records c.args.old.now c.self.inside.next _ c.self.inside.sets c.remove_from_set.new.sets c.from_vec.result c.self.invariant.has_sets (rw (← c.self.view_is) at c.requires.present) c.in_ok-remove_from_set.ensures.content c.remove.ensures (c.from_vec.ensures ∙ c.in_ok-keys.ensures) (ap (λ n. c.self.inside.next + n) c.removed_count-count.ensures) c.in_ok-check_numbers.ensures)
 
 pub returns-in_err-check_numbers-clause-replaced : goal.returns-in_err-check_numbers-clause-replaced
 returns-in_err-check_numbers-clause-replaced c =
@@ -32,4 +32,8 @@ returns-in_err-check_numbers-clause-replaced c =
 
 pub returns-in_err-keys-clause-memory : goal.returns-in_err-keys-clause-memory
 returns-in_err-keys-clause-memory c =
+    if_memory _ (rw (← c.self.view_is) (enough-remove c.self.inside.records.records c.args.old.now c.self.inside.next c.removed_count-count.result c.self.inside.sets c.self.invariant.has_sets (rw (← c.self.view_is) at c.requires.present) c.removed_count-count.ensures c.in_ok-check_numbers.ensures))
+
+pub returns-in_err-remove_from_set-clause-memory : goal.returns-in_err-remove_from_set-clause-memory
+returns-in_err-remove_from_set-clause-memory c =
     if_memory _ (rw (← c.self.view_is) (enough-remove c.self.inside.records.records c.args.old.now c.self.inside.next c.removed_count-count.result c.self.inside.sets c.self.invariant.has_sets (rw (← c.self.view_is) at c.requires.present) c.removed_count-count.ensures c.in_ok-check_numbers.ensures))
