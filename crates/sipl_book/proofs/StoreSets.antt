@@ -1,5 +1,5 @@
 -- The sets of a store, as they are read.
-use Rattle.std.proofs.Common.{◌≡◌, ◌⊎◌, ℕ, ◌+◌, ◌≤◌, true, false, cond, leb, List, [], ◌∷◌, length, Option, Some, None, refl, sym, ap, ◌∙◌, inl, inr, arith}
+use Rattle.std.proofs.Common.{◌≡◌, ◌⊎◌, ℕ, ◌+◌, ◌<◌, ◌≤◌, true, false, cond, leb, List, [], ◌∷◌, length, Option, Some, None, Result, Ok, Err, IfOk, refl, sym, ap, subst, ◌∙◌, inl, inr, arith}
 use Rattle.std.specs.List.{All, list_all, count_by}
 use Rattle.std.specs.Option.{option_map_or}
 use Rattle.std.proofs.lemmas.Bool.{cases_Bool, and_parts, and_from, cond-true, cond-false, leb-true}
@@ -8,6 +8,7 @@ use Rattle.std.proofs.lemmas.List.Elements.{All-nil, All-cons}
 use lib.Pointwise.{pointwise_decides, bytes_decides}
 use Rattle.sipl_names.specs.Labels.{same_name}
 use Rattle.sipl_records.specs.Sets.{has_key, has_kind, kind_of, same_kind, set_of, shares_set}
+use Rattle.sipl_records.specs.declared.data.Data.{Data}
 use Rattle.sipl_records.specs.declared.kind.Kind.{Kind}
 use Rattle.sipl_records.specs.declared.kind.Kind.TheVariants.{Address4, Address6, Alias, Service, Pointer}
 use Rattle.sipl_records.specs.declared.record.Key.{Key}
@@ -91,3 +92,17 @@ set_is_set store k good =
       few = elim (few_or_none k records records good.sets_fit) [ inl none ↦ omega (arith, ap length none) | inr few ↦ few ];
       number = good.numbered.empty k;
     }
+
+module _ {E : Type 0} (store : Store) (k : Key) (good : IsConsistent store) where
+  -- what is shared of a store is its set
+  pub shared_is_set : (result : Result (ℕ × List Data) E) → IfOk result (λ shared. shared.0 ≡ number_in store k)
+      → IfOk result (λ shared. shared.1 ≡ set_of store.zones.records k) → IfOk result (λ shared. IsSet k shared.0 shared.1)
+  shared_is_set (Ok shared) number content =
+      subst (λ n. IsSet k n shared.1) (sym number) (subst (λ values. IsSet k (number_in store k) values) (sym content) (set_is_set store k good))
+  shared_is_set (Err error) number content = tt
+
+  -- its number was taken
+  pub shared_is_given : (result : Result (ℕ × List Data) E) → IfOk result (λ shared. shared.0 ≡ number_in store k)
+      → IfOk result (λ shared. shared.0 < store.next)
+  shared_is_given (Ok shared) number = subst (λ n. n < store.next) (sym number) (good.numbered.below k)
+  shared_is_given (Err error) number = tt

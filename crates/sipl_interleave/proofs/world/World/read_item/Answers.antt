@@ -1,4 +1,4 @@
-use Rattle.std.proofs.Common.{◌≡◌, None, subst, sym, ◌∙◌}
+use Rattle.std.proofs.Common.{◌≡◌, None, subst, sym}
 use Rattle.sipl_evidence.specs.Items.{Item}
 use Rattle.sipl_interleave.specs.Jobs.{refusal_of, wanted_by, job_at}
 use Rattle.sipl_interleave.specs.World.{WorldState}
@@ -31,6 +31,6 @@ invariant_of-self-2 c =
     let number = c.in_ok-number.number in
     let content = c.in_ok-number.content in
     let item : Item = record { key = key; number = number; content = content } in
-    rw (given-set old.workers c.give.new.self c.args.worker (wanted_by (job_at old.workers c.args.worker)) key c.in-Some.key.now number c.from_vec.result content
-    c.in-Some.ensures c.in_ok-key-in-Some.ensures (c.from_vec.ensures ∙ c.in_ok-copy.ensures ∙ c.as_slice.ensures) c.in_ok-give.ensures.ok)
+    rw (given-set old.workers c.give.new.self c.args.worker (wanted_by (job_at old.workers c.args.worker)) key c.in-Some.key.now number c.in_ok-copy.copy content
+    c.in-Some.ensures c.in_ok-key-in-Some.ensures c.in_ok-copy.ensures c.in_ok-give.ensures.ok)
     (world-read old c.read.new.self c.args.worker item c.self.invariant may.within c.read.ensures.looked c.in_ok-number.ensures.set.number c.in_ok-number.ensures.given (sym c.in_ok-number.ensures.value))
