@@ -71,12 +71,17 @@ fn new_refuses_an_empty_list(rt: HostRuntime) {
     );
 }
 
-#[test]
-fn new_refuses_a_transport_listed_twice(rt: HostRuntime) {
-    for transports in [[Udp, Udp, Tcp], [Udp, Tcp, Udp], [Sctp, Tls, Tls]] {
-        let fault = fault_of(rt.alloc(), &transports);
+fn are_repeated(rt: &impl Abort, alloc: Global, lists: &[[Transport; 3]]) {
+    for transports in lists {
+        let fault = fault_of(alloc, transports);
         assert_eq!(rt; fault, Some(AbilitiesFault::RepeatedTransport));
     }
+}
+
+#[test]
+fn new_refuses_a_transport_listed_twice(rt: HostRuntime) {
+    let lists = [[Udp, Udp, Tcp], [Udp, Tcp, Udp], [Sctp, Tls, Tls]];
+    are_repeated(&rt, rt.alloc(), &lists);
 }
 
 #[test]
@@ -87,15 +92,26 @@ fn abilities_keep_the_order_of_preference(rt: HostRuntime) {
     assert_eq!(rt; supports(rt.alloc(), &transports, Tls), Some(false));
 }
 
+// That clients of these abilities differ from one of UDP and TCP over IPv4.
+fn are_others(rt: &impl Abort, alloc: Global, clients: &[(&[Transport], Families)]) {
+    for (transports, families) in clients {
+        assert_eq!(rt; equals(alloc, transports, *families), Some(false));
+    }
+}
+
 #[test]
 fn equality_sees_the_order_of_preference_and_the_families(rt: HostRuntime) {
     assert_eq!(rt; equals(rt.alloc(), &[Udp, Tcp], Families::V4), Some(true));
-    for transports in [[Udp, Tls].as_slice(), &[Tcp, Udp], &[Udp], &[Udp, Tcp, Tls]] {
-        assert_eq!(rt; equals(rt.alloc(), transports, Families::V4), Some(false));
-    }
-    for families in [Families::V6, Families::V4ThenV6, Families::V6ThenV4] {
-        assert_eq!(rt; equals(rt.alloc(), &[Udp, Tcp], families), Some(false));
-    }
+    let others = [
+        ([Udp, Tls].as_slice(), Families::V4),
+        (&[Tcp, Udp], Families::V4),
+        (&[Udp], Families::V4),
+        (&[Udp, Tcp, Tls], Families::V4),
+        (&[Udp, Tcp], Families::V6),
+        (&[Udp, Tcp], Families::V4ThenV6),
+        (&[Udp, Tcp], Families::V6ThenV4),
+    ];
+    are_others(&rt, rt.alloc(), &others);
 }
 
 #[test]
@@ -109,16 +125,21 @@ fn faults_have_their_codes(rt: HostRuntime) {
     assert_eq!(rt; AbilitiesFault::RepeatedTransport.code(), "C2");
 }
 
+fn has_kinds_each(rt: &impl Abort, rows: &[(Families, &[Kind])]) {
+    for (families, kinds) in rows {
+        assert_eq!(rt; families.kinds(), *kinds);
+    }
+}
+
 #[test]
 fn families_are_looked_up_in_their_order(rt: HostRuntime) {
-    for (families, kinds) in [
+    let rows = [
         (Families::V4, [Kind::Address4].as_slice()),
         (Families::V6, &[Kind::Address6]),
         (Families::V4ThenV6, &[Kind::Address4, Kind::Address6]),
         (Families::V6ThenV4, &[Kind::Address6, Kind::Address4]),
-    ] {
-        assert_eq!(rt; families.kinds(), kinds);
-    }
+    ];
+    has_kinds_each(&rt, &rows);
 }
 
 // Whether this is what the transport prints.
@@ -129,23 +150,42 @@ fn prints(alloc: Global, transport: Transport, text: &str) -> bool {
     }
 }
 
+fn is_described(rt: &impl Abort, alloc: Global, transport: Transport, name: &str, port: u16) {
+    assert!(rt; prints(alloc, transport, name));
+    assert_eq!(rt; transport.name(), name);
+    assert_eq!(rt; default_port(transport), port);
+}
+
+fn are_described(rt: &impl Abort, alloc: Global, rows: &[(Transport, &str, u16)]) {
+    for (transport, name, port) in rows {
+        is_described(rt, alloc, *transport, name, *port);
+    }
+}
+
 #[test]
 fn transports_have_ports_and_names(rt: HostRuntime) {
-    for (transport, name, port) in [
+    let rows = [
         (Udp, "udp", 5060),
         (Tcp, "tcp", 5060),
         (Tls, "tls", 5061),
         (Sctp, "sctp", 5060),
-    ] {
-        assert!(rt; prints(rt.alloc(), transport, name));
-        assert_eq!(rt; transport.name(), name);
-        assert_eq!(rt; default_port(transport), port);
+    ];
+    are_described(&rt, rt.alloc(), &rows);
+}
+
+// A name, the transport that it is, and the one that it is without case.
+type Named = (&'static [u8], Option<Transport>, Option<Transport>);
+
+fn are_read(rt: &impl Abort, rows: &[Named]) {
+    for (name, exact, without_case) in rows {
+        assert_eq!(rt; Transport::from_name(name), *exact);
+        assert_eq!(rt; Transport::from_name_ignore_case(name), *without_case);
     }
 }
 
 #[test]
 fn names_of_transports_are_read_with_and_without_case(rt: HostRuntime) {
-    for (name, exact, without_case) in [
+    let rows = [
         (b"udp".as_slice(), Some(Udp), Some(Udp)),
         (b"tcp", Some(Tcp), Some(Tcp)),
         (b"tls", Some(Tls), Some(Tls)),
@@ -156,10 +196,8 @@ fn names_of_transports_are_read_with_and_without_case(rt: HostRuntime) {
         (b"ud", None, None),
         (b"tcps", None, None),
         (b"ws", None, None),
-    ] {
-        assert_eq!(rt; Transport::from_name(name), exact);
-        assert_eq!(rt; Transport::from_name_ignore_case(name), without_case);
-    }
+    ];
+    are_read(&rt, &rows);
 }
 
 fn name(alloc: Global, text: &[u8]) -> Option<Name> {
@@ -181,16 +219,21 @@ fn has_service_name(alloc: Global, transport: Transport, text: &[u8]) -> bool {
     }
 }
 
+fn has_service_name_each(rt: &impl Abort, alloc: Global, rows: &[(Transport, &[u8])]) {
+    for (transport, text) in rows {
+        assert!(rt; has_service_name(alloc, *transport, text));
+    }
+}
+
 #[test]
 fn service_names_are_below_the_target(rt: HostRuntime) {
-    for (transport, text) in [
+    let rows = [
         (Udp, b"_sip._udp.example.com.".as_slice()),
         (Tcp, b"_sip._tcp.example.com."),
         (Tls, b"_sips._tcp.example.com."),
         (Sctp, b"_sip._sctp.example.com."),
-    ] {
-        assert!(rt; has_service_name(rt.alloc(), transport, text));
-    }
+    ];
+    has_service_name_each(&rt, rt.alloc(), &rows);
 }
 
 fn is_named(alloc: Global, target: &Name, transport: Transport) -> Option<bool> {
@@ -210,18 +253,23 @@ fn is_long_named(alloc: Global, last: usize, transport: Transport) -> Option<boo
     }
 }
 
+fn is_long_named_each(rt: &impl Abort, alloc: Global, rows: &[(usize, Transport, bool)]) {
+    for (last, transport, expected) in rows {
+        assert_eq!(rt; is_long_named(alloc, *last, *transport), Some(*expected));
+    }
+}
+
 #[test]
 fn long_targets_have_no_service_name(rt: HostRuntime) {
     // The wire form has 194 octets and those of the last label; the two labels before it have
     // 10 octets for UDP, 11 for SCTP and TLS.
-    for (last, transport, expected) in [
+    let rows = [
         (51, Udp, true),
         (52, Udp, false),
         (50, Sctp, true),
         (51, Sctp, false),
         (50, Tls, true),
         (51, Tls, false),
-    ] {
-        assert_eq!(rt; is_long_named(rt.alloc(), last, transport), Some(expected));
-    }
+    ];
+    is_long_named_each(&rt, rt.alloc(), &rows);
 }

@@ -474,12 +474,17 @@ fn a_name_without_records_has_no_data(rt: HostRuntime) {
     );
 }
 
+fn has_code_each(rt: &impl Abort, rows: &[(EvidenceFault, &str)]) {
+    for (fault, code) in rows {
+        assert_eq!(rt; fault.code(), *code);
+    }
+}
+
 #[test]
 fn faults_have_codes(rt: HostRuntime) {
-    for (fault, code) in [
+    let rows = [
         (EvidenceFault::AlreadyRead, "E1"),
         (EvidenceFault::Memory, "Memory"),
-    ] {
-        assert_eq!(rt; fault.code(), code);
-    }
+    ];
+    has_code_each(&rt, &rows);
 }

@@ -363,16 +363,19 @@ fn play_end(rt: &impl Abort, alloc: Global, kind: Kind, code: u16, acknowledged:
     play(rt, alloc, &two_over_udp(), (kind, 7), end);
 }
 
+fn play_ends(rt: &impl Abort, alloc: Global, kind: Kind, codes: &[u16], acknowledged: bool) {
+    for code in codes {
+        play_end(rt, alloc, kind, *code, acknowledged);
+    }
+}
+
 #[test]
 fn final_response_ends_the_call_with_targets_left(rt: HostRuntime) {
-    for code in [300, 404, 500, 502, 504, 600, 603, 699] {
-        play_end(&rt, rt.alloc(), Kind::Invite, code, true);
-        play_end(&rt, rt.alloc(), Kind::Other, code, false);
-    }
-    for code in [200, 299] {
-        play_end(&rt, rt.alloc(), Kind::Invite, code, false);
-        play_end(&rt, rt.alloc(), Kind::Other, code, false);
-    }
+    let codes = [300, 404, 500, 502, 504, 600, 603, 699];
+    play_ends(&rt, rt.alloc(), Kind::Invite, &codes, true);
+    play_ends(&rt, rt.alloc(), Kind::Other, &codes, false);
+    play_ends(&rt, rt.alloc(), Kind::Invite, &[200, 299], false);
+    play_ends(&rt, rt.alloc(), Kind::Other, &[200, 299], false);
 }
 
 // The first attempt's transport fails, and the second is sent.

@@ -2,7 +2,7 @@
 // origin.
 use sipl_masterfile::{ZoneCause, ZoneFault, ZoneText, read_record, read_zone};
 use sipl_names::{InvalidName, Name};
-use sipl_records::{Data, Record};
+use sipl_records::{Boxed, Data, Record, Sequence};
 use std::alloc::Global;
 use std::process::Abort;
 
@@ -48,10 +48,29 @@ fn has_counts(rt: &impl Abort, alloc: Global, text: &str, want: Counts) {
     assert_eq!(rt; counts(rt, alloc, text.as_bytes()), Ok(want), "{text}");
 }
 
+fn has_counts_each(rt: &impl Abort, alloc: Global, rows: &[(&str, Counts)]) {
+    for (text, want) in rows {
+        has_counts(rt, alloc, text, *want);
+    }
+}
+
+// That the texts have no records.
+fn are_empty(rt: &impl Abort, alloc: Global, texts: &[&str]) {
+    for text in texts {
+        has_counts(rt, alloc, text, (0, 0, 0));
+    }
+}
+
 // That a zone's text has this fault.
 fn has_fault(rt: &impl Abort, alloc: Global, text: &str, line: u64, cause: ZoneCause) {
     let found = counts(rt, alloc, text.as_bytes());
     assert_eq!(rt; found, Err(ZoneFault { line, cause }), "{text}");
+}
+
+fn has_fault_each(rt: &impl Abort, alloc: Global, rows: &[(&str, u64, ZoneCause)]) {
+    for (text, line, cause) in rows {
+        has_fault(rt, alloc, text, *line, *cause);
+    }
 }
 
 fn is_record(found: &Record, owner: &Name, value: &Data) -> bool {
@@ -74,6 +93,13 @@ fn has_at(rt: &impl Abort, alloc: Global, text: &str, place: usize, want: (&str,
     assert!(rt; is_at(rt, alloc, text.as_bytes(), place, want), "{text}");
 }
 
+// That the zones have an address of this owner in this place.
+fn has_owner_each(rt: &impl Abort, alloc: Global, rows: &[(&str, usize, &str)]) {
+    for (text, place, owner) in rows {
+        has_at(rt, alloc, text, *place, (owner, &ADDRESS));
+    }
+}
+
 // Whether the text is that of this record.
 fn states(rt: &impl Abort, alloc: Global, text: &[u8], owner: &str, value: &Data) -> bool {
     let owner = name(rt, alloc, owner);
@@ -87,6 +113,13 @@ fn states_record(rt: &impl Abort, alloc: Global, text: &str, owner: &str, value:
     assert!(rt; states(rt, alloc, text.as_bytes(), owner, value), "{text}");
 }
 
+// That the texts are those of an address of these owners.
+fn states_owner_each(rt: &impl Abort, alloc: Global, rows: &[(&str, &str)]) {
+    for (text, owner) in rows {
+        states_record(rt, alloc, text, owner, &ADDRESS);
+    }
+}
+
 // The fault of a record's text.
 fn record_fault(rt: &impl Abort, alloc: Global, text: &[u8]) -> Option<ZoneFault> {
     record(rt, alloc, text).err()
@@ -95,6 +128,48 @@ fn record_fault(rt: &impl Abort, alloc: Global, text: &[u8]) -> Option<ZoneFault
 fn has_record_fault(rt: &impl Abort, alloc: Global, text: &str, line: u64, cause: ZoneCause) {
     let found = record_fault(rt, alloc, text.as_bytes());
     assert_eq!(rt; found, Some(ZoneFault { line, cause }), "{text}");
+}
+
+fn has_record_fault_each(rt: &impl Abort, alloc: Global, rows: &[(&str, u64, ZoneCause)]) {
+    for (text, line, cause) in rows {
+        has_record_fault(rt, alloc, text, *line, *cause);
+    }
+}
+
+// That the records' texts have faults in their first lines.
+fn has_cause_each(rt: &impl Abort, alloc: Global, rows: &[(&str, ZoneCause)]) {
+    for (text, cause) in rows {
+        has_record_fault(rt, alloc, text, 1, *cause);
+    }
+}
+
+fn string(rt: &impl Abort, alloc: Global, octets: &[u8]) -> Boxed<Sequence<u8>> {
+    let octets = Vec::from_slice(alloc, octets).expect(rt, "memory");
+    Boxed::new(alloc, Sequence::from_vec(octets)).expect(rt, "memory")
+}
+
+fn boxed_name(rt: &impl Abort, alloc: Global, text: &str) -> Boxed<Name> {
+    Boxed::new(alloc, name(rt, alloc, text)).expect(rt, "memory")
+}
+
+// The data of `NAPTR ORDER PREFERENCE FLAGS SERVICES REGEXP REPLACEMENT`.
+fn pointer(
+    rt: &impl Abort,
+    alloc: Global,
+    numbers: [u16; 2],
+    strings: [&[u8]; 3],
+    replacement: &str,
+) -> Data {
+    let [order, preference] = numbers;
+    let [flags, services, regexp] = strings;
+    Data::Pointer {
+        order,
+        preference,
+        flags: string(rt, alloc, flags),
+        services: string(rt, alloc, services),
+        regexp: string(rt, alloc, regexp),
+        replacement: boxed_name(rt, alloc, replacement),
+    }
 }
 
 // Appends the part so many times.
@@ -109,9 +184,19 @@ fn reads_as(rt: &impl Abort, alloc: Global, text: &[u8], want: Result<Counts, Zo
     assert_eq!(rt; counts(rt, alloc, text), want);
 }
 
+fn has_code(rt: &impl Abort, cause: ZoneCause, code: &str) {
+    assert_eq!(rt; (ZoneFault { line: 3, cause }).code(), code);
+}
+
+fn has_code_each(rt: &impl Abort, rows: &[(ZoneCause, &str)]) {
+    for (cause, code) in rows {
+        has_code(rt, *cause, code);
+    }
+}
+
 #[test]
 fn causes_have_their_codes(rt: HostRuntime) {
-    for (cause, code) in [
+    let rows = [
         (EMPTY_LABEL, "Z1"),
         (ZoneCause::MissingField, "Z2"),
         (ZoneCause::BadNumber, "Z3"),
@@ -128,7 +213,6 @@ fn causes_have_their_codes(rt: HostRuntime) {
         (ZoneCause::AliasBesideData, "Z14"),
         (ZoneCause::SetFull, "Z15"),
         (ZoneCause::Memory, "Memory"),
-    ] {
-        assert_eq!(rt; (ZoneFault { line: 3, cause }).code(), code);
-    }
+    ];
+    has_code_each(&rt, &rows);
 }

@@ -319,15 +319,20 @@ fn holds_4096_endpoints(rt: HostRuntime) {
     play_default(&rt, rt.alloc(), Scenario::ManyHolds);
 }
 
+fn has_code_each(rt: &impl Abort, rows: &[(BoardFault, &str)]) {
+    for (fault, code) in rows {
+        assert_eq!(rt; fault.code(), *code);
+    }
+}
+
 #[test]
 fn faults_have_their_codes(rt: HostRuntime) {
-    for (fault, code) in [
+    let rows = [
         (BoardFault::ClockBack, "O1"),
         (BoardFault::TooFar, "O2"),
         (BoardFault::NotHeld, "O3"),
         (BoardFault::BoardFull, "O4"),
         (BoardFault::from(AllocError), "Memory"),
-    ] {
-        assert_eq!(rt; fault.code(), code);
-    }
+    ];
+    has_code_each(&rt, &rows);
 }

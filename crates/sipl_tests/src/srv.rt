@@ -82,42 +82,51 @@ fn share(alloc: Global, ranks: &[(u16, u16)], last_word: u32, place: usize) -> u
         .count()
 }
 
-#[test]
-fn weight_0_is_first_for_one_word_of_eleven(rt: HostRuntime) {
-    for (word, expected) in [(0, [0, 1]), (11, [0, 1]), (1, [1, 0]), (10, [1, 0])] {
-        orders(&rt, rt.alloc(), &[(0, 0), (0, 10)], &[word], &expected);
-    }
-    for (word, expected) in [(0, [1, 0]), (11, [1, 0]), (1, [0, 1]), (10, [0, 1])] {
-        orders(&rt, rt.alloc(), &[(0, 10), (0, 0)], &[word], &expected);
+// The orders of two picks, by one word each.
+fn orders_each(rt: &impl Abort, alloc: Global, ranks: [(u16, u16); 2], rows: &[(u32, [usize; 2])]) {
+    for (word, expected) in rows {
+        orders(rt, alloc, &ranks, &[*word], expected);
     }
 }
 
 #[test]
+fn weight_0_is_first_for_one_word_of_eleven(rt: HostRuntime) {
+    let rows = [(0, [0, 1]), (11, [0, 1]), (1, [1, 0]), (10, [1, 0])];
+    orders_each(&rt, rt.alloc(), [(0, 0), (0, 10)], &rows);
+    let rows = [(0, [1, 0]), (11, [1, 0]), (1, [0, 1]), (10, [0, 1])];
+    orders_each(&rt, rt.alloc(), [(0, 10), (0, 0)], &rows);
+}
+
+#[test]
 fn first_running_sum_that_reaches_the_number_is_chosen(rt: HostRuntime) {
-    for (word, expected) in [
+    let rows = [
         (0, [0, 1]),
         (1, [0, 1]),
         (2, [1, 0]),
         (3, [1, 0]),
         (4, [0, 1]),
-    ] {
-        orders(&rt, rt.alloc(), &[(0, 1), (0, 2)], &[word], &expected);
+    ];
+    orders_each(&rt, rt.alloc(), [(0, 1), (0, 2)], &rows);
+}
+
+// The orders of three picks of weight 1.
+fn orders_three(rt: &impl Abort, alloc: Global, rows: &[([u32; 3], [usize; 3])]) {
+    for (words, expected) in rows {
+        orders(rt, alloc, &[(0, 1), (0, 1), (0, 1)], words, expected);
     }
 }
 
 #[test]
 fn each_step_takes_the_next_word(rt: HostRuntime) {
-    let ranks = [(0, 1), (0, 1), (0, 1)];
-    for (words, expected) in [
+    let rows = [
         ([3, 2, 0], [2, 1, 0]),
         ([3, 1, 0], [2, 0, 1]),
         ([2, 2, 0], [1, 2, 0]),
         ([2, 0, 0], [1, 0, 2]),
         ([0, 2, 1], [0, 2, 1]),
         ([4, 3, 1], [0, 1, 2]),
-    ] {
-        orders(&rt, rt.alloc(), &ranks, &words, &expected);
-    }
+    ];
+    orders_three(&rt, rt.alloc(), &rows);
 }
 
 #[test]
@@ -160,25 +169,43 @@ fn thirty_two_picks_take_thirty_two_words(rt: HostRuntime) {
     orders(&rt, rt.alloc(), &ranks, &words, &expected);
 }
 
+// The first of picks of the weights 1 and 2.
+fn chooses_each(rt: &impl Abort, alloc: Global, rows: &[(u32, usize)]) {
+    for (word, place) in rows {
+        assert_eq!(rt; first(alloc, &[(0, 1), (0, 2)], *word), Some(*place));
+    }
+}
+
 #[test]
 fn weights_1_and_2_have_equal_shares(rt: HostRuntime) {
-    for (word, place) in [(0, 0), (1, 0), (2, 1), (3, 1)] {
-        assert_eq!(rt; first(rt.alloc(), &[(0, 1), (0, 2)], word), Some(place));
+    chooses_each(&rt, rt.alloc(), &[(0, 0), (1, 0), (2, 1), (3, 1)]);
+}
+
+// Priorities and weights, the last word, and how many of the words choose each place.
+type Shares = ([(u16, u16); 3], u32, [usize; 3]);
+
+fn has_shares(rt: &impl Abort, alloc: Global, row: &Shares) {
+    let (ranks, last_word, shares) = row;
+    for (place, expected) in shares.iter().enumerate() {
+        assert_eq!(rt; share(alloc, ranks, *last_word, place), *expected);
+    }
+}
+
+fn has_shares_each(rt: &impl Abort, alloc: Global, rows: &[Shares]) {
+    for row in rows {
+        has_shares(rt, alloc, row);
     }
 }
 
 #[test]
 fn each_share_is_the_weight_and_one_more_for_the_first(rt: HostRuntime) {
-    for (ranks, total, shares) in [
+    let rows = [
         ([(0, 10), (0, 20), (0, 0)], 30, [10, 20, 1]),
         ([(0, 10), (0, 20), (0, 5)], 35, [11, 20, 5]),
         ([(0, 0), (0, 0), (0, 4)], 4, [1, 0, 4]),
         ([(0, 1), (0, 1), (7, 9)], 2, [2, 1, 0]),
-    ] {
-        for (place, expected) in shares.into_iter().enumerate() {
-            assert_eq!(rt; share(rt.alloc(), &ranks, total, place), expected);
-        }
-    }
+    ];
+    has_shares_each(&rt, rt.alloc(), &rows);
 }
 
 fn has_words(given: &[u32], expected: &[u32]) -> bool {
@@ -205,10 +232,16 @@ fn more_than_32_words_are_refused(rt: HostRuntime) {
     assert_eq!(rt; DrawsFault::TooManyWords.code(), "V1");
 }
 
+fn begins_with(rt: &impl Abort, rows: &[(u64, [u32; 4])]) {
+    for (seed, expected) in rows {
+        assert_eq!(rt; &Draws::from_seed(*seed).words()[..4], expected.as_slice());
+    }
+}
+
 // The words of the reference implementation pcg32 (O'Neill, pcg-c-basic), of the seeds on stream 0.
 #[test]
 fn seeds_give_the_words_of_pcg32(rt: HostRuntime) {
-    for (seed, expected) in [
+    let rows = [
         (0, [0xe4c1_4788, 0x379c_6516, 0x5c4a_b3bb, 0x601d_23e0]),
         (1, [0xe239_3051, 0x0111_2f35, 0xd350_9d35, 0x0b93_2f4a]),
         (42, [0x21b7_56ee, 0xc15e_f750, 0x9548_a9bd, 0x35db_428d]),
@@ -216,9 +249,8 @@ fn seeds_give_the_words_of_pcg32(rt: HostRuntime) {
             u64::MAX,
             [0x0000_0000, 0xe4c1_4788, 0x379c_6516, 0x5c4a_b3bb],
         ),
-    ] {
-        assert_eq!(rt; &Draws::from_seed(seed).words()[..4], expected.as_slice());
-    }
+    ];
+    begins_with(&rt, &rows);
     assert_eq!(rt; Draws::from_seed(0).words()[31], 0xa1cb_dcd9);
     assert_eq!(rt; Draws::from_seed(42).words()[31], 0x12a6_b721);
 }

@@ -442,6 +442,12 @@ fn times_up_to_2_to_the_52_are_accepted(rt: HostRuntime) {
     assert_eq!(rt; tick_up_to_the_last_time(), Ok(TIMEOUT_AND_ENDED));
 }
 
+fn has_code_each(rt: &impl Abort, rows: &[(TxFault, &str)]) {
+    for (fault, code) in rows {
+        assert_eq!(rt; fault.code(), *code);
+    }
+}
+
 #[test]
 fn faults_have_codes(rt: HostRuntime) {
     let faults = [
@@ -449,7 +455,5 @@ fn faults_have_codes(rt: HostRuntime) {
         (TxFault::BadCode, "X2"),
         (TxFault::Ended, "X3"),
     ];
-    for (fault, code) in faults {
-        assert_eq!(rt; fault.code(), code);
-    }
+    has_code_each(&rt, &faults);
 }

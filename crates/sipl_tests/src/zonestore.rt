@@ -1,6 +1,7 @@
 // Sessions with a store of zones: each step is an edit with its result, or what the store then has.
 mod edits;
 mod numbers;
+mod seeds;
 
 ghost use Rattle.std.specs.Prelude.{◌^◌, ◌≤◌};
 
@@ -88,13 +89,20 @@ fn take(rt: &impl Abort, alloc: Global, store: &mut ZoneStore, step: Step) {
 
 fn start(rt: &impl Abort, alloc: Global, store: &mut ZoneStore) {
     changes(rt, alloc, store, Edit::Load("example.com.", EMPTY), &[]);
-    for (line, owner) in [
-        ("server1 A 192.0.2.1", "server1"),
-        ("server2 A 192.0.2.2", "server2"),
-        ("SERVER1 A 192.0.2.3", "server1"),
-    ] {
-        changes(rt, alloc, store, Edit::Add(line), &[(owner, A)]);
-    }
+    adds(rt, alloc, store, "server1 A 192.0.2.1", "server1");
+    adds(rt, alloc, store, "server2 A 192.0.2.2", "server2");
+    adds(rt, alloc, store, "SERVER1 A 192.0.2.3", "server1");
+}
+
+// Adds an address of the owner.
+fn adds(
+    rt: &impl Abort,
+    alloc: Global,
+    store: &mut ZoneStore,
+    line: &'static str,
+    owner: &'static str,
+) {
+    changes(rt, alloc, store, Edit::Add(line), &[(owner, A)]);
 }
 
 fn changes(

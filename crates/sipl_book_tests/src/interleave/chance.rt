@@ -142,16 +142,21 @@ impl Beside {
         }
     }
 
-    // Makes a step. An answer in the reply is that of the plain program, and a set is the store's.
+    // Makes a step.
     fn make(&mut self, rt: &impl Abort, world: &mut World, step: Step) -> Outcome {
         let reply = world.step(step);
-        self.is_right(rt, world.book().abilities(), &reply);
+        self.take(rt, world, reply)
+    }
+
+    fn take(&mut self, rt: &impl Abort, world: &World, reply: Reply) -> Outcome {
+        self.judge(rt, world, &reply);
         outcome_of(&reply)
     }
 
-    fn is_right(&mut self, rt: &impl Abort, abilities: &Abilities, reply: &Reply) {
+    // An answer in the reply is that of the plain program, and a set is the store's.
+    fn judge(&mut self, rt: &impl Abort, world: &World, reply: &Reply) {
         match reply {
-            Reply::Answered(handed) => self.is_answer(rt, abilities, &handed.answer),
+            Reply::Answered(handed) => self.is_answer(rt, world.book().abilities(), &handed.answer),
             Reply::Read(item) => self.is_set(rt, item),
             _ => {}
         }

@@ -122,6 +122,18 @@ fn decides(
     assert_eq!(rt; found, Some(expected), "{transports:?} of {records:?}");
 }
 
+// What decides for clients of these transports, for `sips` or not.
+fn decides_each(
+    rt: &impl Abort,
+    alloc: Global,
+    records: &[Fields],
+    rows: &[(&[Transport], bool, Decision)],
+) {
+    for (transports, secure, expected) in rows {
+        decides(rt, alloc, transports, *secure, records, *expected);
+    }
+}
+
 #[test]
 fn the_first_supported_record_of_the_example_decides(rt: HostRuntime) {
     // RFC 3263, 4.1.
@@ -130,16 +142,15 @@ fn the_first_supported_record_of_the_example_decides(rt: HostRuntime) {
         (90, 50, "s", "SIP+D2T", "", "_sip._tcp.example.com."),
         (100, 50, "s", "SIP+D2U", "", "_sip._udp.example.com."),
     ];
-    for (transports, secure, expected) in [
+    let rows = [
         ([Tcp, Udp].as_slice(), false, Some((1, Tcp))),
         (&[Udp], false, Some((2, Udp))),
         (&[Udp, Tcp, Tls], false, Some((0, Tls))),
         (&[Udp, Tcp, Tls], true, Some((0, Tls))),
         (&[Udp, Tcp], true, None),
         (&[Sctp], false, None),
-    ] {
-        decides(&rt, rt.alloc(), transports, secure, &records, expected);
-    }
+    ];
+    decides_each(&rt, rt.alloc(), &records, &rows);
 }
 
 #[test]
@@ -150,18 +161,32 @@ fn the_least_order_and_then_the_least_preference_decide(rt: HostRuntime) {
         (10, 8, "s", "SIP+D2S", "", "c."),
         (10, 8, "s", "SIP+D2U", "", "d."),
     ];
-    for (transports, expected) in [
-        ([Udp, Tcp, Sctp].as_slice(), (2, Sctp)),
-        (&[Udp, Tcp], (3, Udp)),
-        (&[Tcp], (1, Tcp)),
-    ] {
-        decides(&rt, rt.alloc(), transports, false, &records, Some(expected));
+    let rows = [
+        ([Udp, Tcp, Sctp].as_slice(), false, Some((2, Sctp))),
+        (&[Udp, Tcp], false, Some((3, Udp))),
+        (&[Tcp], false, Some((1, Tcp))),
+    ];
+    decides_each(&rt, rt.alloc(), &records, &rows);
+}
+
+const ALL: [Transport; 4] = [Udp, Tcp, Tls, Sctp];
+
+// That the record decides nothing, alone or before one that does.
+fn does_not_apply(rt: &impl Abort, alloc: Global, fields: Fields) {
+    decides(rt, alloc, &ALL, false, &[fields], None);
+    let records = [fields, (2, 2, "s", "SIP+D2U", "", "b.")];
+    decides(rt, alloc, &ALL, false, &records, Some((1, Udp)));
+}
+
+fn do_not_apply(rt: &impl Abort, alloc: Global, records: &[Fields]) {
+    for fields in records {
+        does_not_apply(rt, alloc, *fields);
     }
 }
 
 #[test]
 fn other_flags_services_and_replacements_do_not_apply(rt: HostRuntime) {
-    for fields in [
+    let records = [
         (1, 1, "", "SIP+D2U", "", "a."),
         (1, 1, "u", "SIP+D2U", "", "a."),
         (1, 1, "ss", "SIP+D2U", "", "a."),
@@ -171,26 +196,27 @@ fn other_flags_services_and_replacements_do_not_apply(rt: HostRuntime) {
         (1, 1, "s", "SIP+D2", "", "a."),
         (1, 1, "s", "SIPS+D2U", "", "a."),
         (1, 1, "s", "E2U+sip", "", "a."),
-    ] {
-        let all = [Udp, Tcp, Tls, Sctp];
-        decides(&rt, rt.alloc(), &all, false, &[fields], None);
-        let records = [fields, (2, 2, "s", "SIP+D2U", "", "b.")];
-        decides(&rt, rt.alloc(), &all, false, &records, Some((1, Udp)));
+    ];
+    do_not_apply(&rt, rt.alloc(), &records);
+}
+
+// That records of these flags and services decide, and their transports.
+fn apply_each(rt: &impl Abort, alloc: Global, rows: &[(&'static str, &'static str, Transport)]) {
+    for (flags, services, transport) in rows {
+        let records = [(1, 1, *flags, *services, "", "a.")];
+        decides(rt, alloc, &ALL, false, &records, Some((0, *transport)));
     }
 }
 
 #[test]
 fn flags_and_services_ignore_case(rt: HostRuntime) {
-    for (flags, services, transport) in [
+    let rows = [
         ("s", "sip+d2u", Udp),
         ("S", "SIP+d2t", Tcp),
         ("s", "Sip+D2s", Sctp),
         ("S", "sips+d2t", Tls),
-    ] {
-        let records = [(1, 1, flags, services, "", "a.")];
-        let all = [Udp, Tcp, Tls, Sctp];
-        decides(&rt, rt.alloc(), &all, false, &records, Some((0, transport)));
-    }
+    ];
+    apply_each(&rt, rt.alloc(), &rows);
 }
 
 fn service(alloc: Global) -> Option<Data> {

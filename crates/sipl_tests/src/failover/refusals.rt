@@ -133,6 +133,12 @@ fn times_up_to_2_to_the_52_are_accepted(rt: HostRuntime) {
     tick_at_the_last_time(&rt, &mut call);
 }
 
+fn has_code_each(rt: &impl Abort, rows: &[(FailoverFault, &str)]) {
+    for (fault, code) in rows {
+        assert_eq!(rt; fault.code(), *code);
+    }
+}
+
 #[test]
 fn faults_have_codes(rt: HostRuntime) {
     let faults = [
@@ -143,7 +149,5 @@ fn faults_have_codes(rt: HostRuntime) {
         (FailoverFault::BadCode, "X2"),
         (FailoverFault::Memory, "Memory"),
     ];
-    for (fault, code) in faults {
-        assert_eq!(rt; fault.code(), code);
-    }
+    has_code_each(&rt, &faults);
 }

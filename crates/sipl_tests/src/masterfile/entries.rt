@@ -1,18 +1,10 @@
 // How a text is cut into entries and fields.
 use super::{
-    ADDRESS, BAD_ESCAPE, Counts, has_counts, has_fault, name, push, reads_as, states_record,
+    ADDRESS, BAD_ESCAPE, has_counts_each, has_fault, pointer, push, reads_as, states_record,
 };
 use sipl_masterfile::{ZoneCause, ZoneFault};
-use sipl_names::Name;
-use sipl_records::{Boxed, Data, Sequence};
 use std::alloc::Global;
 use std::process::Abort;
-
-fn has_each(rt: &impl Abort, alloc: Global, texts: &[(&str, Counts)]) {
-    for (text, want) in texts {
-        has_counts(rt, alloc, text, *want);
-    }
-}
 
 fn fault_each(rt: &impl Abort, alloc: Global, texts: &[(&str, u64)], cause: ZoneCause) {
     for (text, line) in texts {
@@ -35,7 +27,7 @@ fn lines_are_cut_into_fields(rt: HostRuntime) {
         "\n\na A 192.0.2.1 \n",
     ];
     states_each(&rt, rt.alloc(), &texts);
-    has_each(
+    has_counts_each(
         &rt,
         rt.alloc(),
         &[
@@ -59,7 +51,7 @@ fn comments_end_before_the_line_end(rt: HostRuntime) {
         "a ( ;A )\n A 192.0.2.1 )",
     ];
     states_each(&rt, rt.alloc(), &texts);
-    has_each(
+    has_counts_each(
         &rt,
         rt.alloc(),
         &[
@@ -83,7 +75,7 @@ fn parentheses_join_lines(rt: HostRuntime) {
         "( a A\n( ) 192.0.2.1 )",
     ];
     states_each(&rt, rt.alloc(), &texts);
-    has_each(
+    has_counts_each(
         &rt,
         rt.alloc(),
         &[
@@ -105,35 +97,23 @@ fn parentheses_join_lines(rt: HostRuntime) {
     fault_each(&rt, rt.alloc(), &unbalanced, ZoneCause::Parenthesis);
 }
 
-fn string(rt: &impl Abort, alloc: Global, text: &str) -> Boxed<Sequence<u8>> {
-    let octets = Vec::from_slice(alloc, text.as_bytes()).expect(rt, "memory");
-    Boxed::new(alloc, Sequence::from_vec(octets)).expect(rt, "memory")
-}
-
-// The data of `NAPTR 1 2 FLAGS SERVICES REGEXP .`.
-fn pointer(rt: &impl Abort, alloc: Global, strings: [&str; 3]) -> Data {
-    let [flags, services, regexp] = strings;
-    let flags = string(rt, alloc, flags);
-    let services = string(rt, alloc, services);
-    let regexp = string(rt, alloc, regexp);
-    Data::Pointer {
-        order: 1,
-        preference: 2,
-        flags,
-        services,
-        regexp,
-        replacement: Boxed::new(alloc, Name::root(alloc)).expect(rt, "memory"),
-    }
-}
-
+// That the text is that of a record `@ NAPTR 1 2 FLAGS SERVICES REGEXP .`.
 fn has_strings(rt: &impl Abort, alloc: Global, text: &str, strings: [&str; 3]) {
-    let value = pointer(rt, alloc, strings);
+    let [flags, services, regexp] = strings;
+    let strings = [flags.as_bytes(), services.as_bytes(), regexp.as_bytes()];
+    let value = pointer(rt, alloc, [1, 2], strings, ".");
     states_record(rt, alloc, text, "example.com.", &value);
+}
+
+fn has_strings_each(rt: &impl Abort, alloc: Global, rows: &[(&str, [&str; 3])]) {
+    for (text, strings) in rows {
+        has_strings(rt, alloc, text, *strings);
+    }
 }
 
 #[test]
 fn quoted_fields_keep_their_octets(rt: HostRuntime) {
-    for (text, strings) in [
+    let rows = [
         ("@ NAPTR 1 2 \"a b\" \"\" \"a\\\"b\" .", ["a b", "", "a\"b"]),
         ("@ NAPTR 1 2 \"a\\\\\"b\"\" .", ["a\\", "b", ""]),
         ("@ NAPTR 1 2 a\"b\"c .", ["a", "b", "c"]),
@@ -141,9 +121,8 @@ fn quoted_fields_keep_their_octets(rt: HostRuntime) {
             "@ NAPTR 1 2 \"( ; )\t\r\" a\\\"b x .",
             ["( ; )\t\r", "a\"b", "x"],
         ),
-    ] {
-        has_strings(&rt, rt.alloc(), text, strings);
-    }
+    ];
+    has_strings_each(&rt, rt.alloc(), &rows);
     let open = [
         ("\"", 1),
         ("a \"b\nc\"", 1),
@@ -159,7 +138,7 @@ fn quoted_fields_keep_their_octets(rt: HostRuntime) {
 
 #[test]
 fn backslash_takes_the_next_octet_of_its_line(rt: HostRuntime) {
-    has_each(
+    has_counts_each(
         &rt,
         rt.alloc(),
         &[

@@ -1,6 +1,7 @@
 // Texts of one record.
 use super::{
-    ADDRESS, BAD_ESCAPE, EMPTY_LABEL, has_record_fault, push, record_fault, states_record,
+    BAD_ESCAPE, EMPTY_LABEL, has_cause_each, has_record_fault_each, push, record_fault,
+    states_owner_each,
 };
 use sipl_masterfile::{ZoneCause, ZoneFault};
 use sipl_names::InvalidName;
@@ -9,7 +10,7 @@ use std::process::Abort;
 
 #[test]
 fn one_entry_gives_its_record(rt: HostRuntime) {
-    for (text, owner) in [
+    let rows = [
         ("server1.example.com. A 192.0.2.1", "server1.example.com."),
         ("server1\tA \t 192.0.2.1\t ", "server1.example.com."),
         ("SERVER1 a 192.0.2.001\r\n", "server1.example.com."),
@@ -22,14 +23,13 @@ fn one_entry_gives_its_record(rt: HostRuntime) {
             "\n \t\n; a comment\na A 192.0.2.1\n\n ;\n",
             "a.example.com.",
         ),
-    ] {
-        states_record(&rt, rt.alloc(), text, owner, &ADDRESS);
-    }
+    ];
+    states_owner_each(&rt, rt.alloc(), &rows);
 }
 
 #[test]
 fn other_texts_have_a_fault_at_its_line(rt: HostRuntime) {
-    for (text, line, cause) in [
+    let rows = [
         ("", 1, ZoneCause::MissingField),
         ("\n\n; a comment", 1, ZoneCause::MissingField),
         ("\na", 2, ZoneCause::MissingField),
@@ -46,14 +46,13 @@ fn other_texts_have_a_fault_at_its_line(rt: HostRuntime) {
         ("a A 192.0.2.1\n$ORIGIN b", 2, ZoneCause::ExtraField),
         ("a..b A x", 1, EMPTY_LABEL),
         ("a\\25 A x", 1, BAD_ESCAPE),
-    ] {
-        has_record_fault(&rt, rt.alloc(), text, line, cause);
-    }
+    ];
+    has_record_fault_each(&rt, rt.alloc(), &rows);
 }
 
 #[test]
 fn directives_are_no_records(rt: HostRuntime) {
-    for (text, cause) in [
+    let rows = [
         ("$TTL 5", ZoneCause::MissingField),
         ("$TTL x", ZoneCause::MissingField),
         ("$ORIGIN b", ZoneCause::MissingField),
@@ -64,22 +63,25 @@ fn directives_are_no_records(rt: HostRuntime) {
         ("$TTL 5\na A 192.0.2.1", ZoneCause::MissingField),
         ("$include x", ZoneCause::Include),
         ("$GENERATE", ZoneCause::Generate),
-    ] {
-        has_record_fault(&rt, rt.alloc(), text, 1, cause);
-    }
+    ];
+    has_cause_each(&rt, rt.alloc(), &rows);
 }
 
 fn is_fault(rt: &impl Abort, alloc: Global, text: &[u8], want: Option<ZoneFault>) {
     assert_eq!(rt; record_fault(rt, alloc, text), want);
 }
 
+fn push_labels(rt: &impl Abort, line: &mut Vec<u8>, lengths: &[usize]) {
+    for length in lengths {
+        push(rt, line, b"a", *length);
+        push(rt, line, b".", 1);
+    }
+}
+
 // Reads a line whose owner has four labels, the last one of so many octets.
 fn reads_owner(rt: &impl Abort, alloc: Global, last: usize, want: Option<ZoneFault>) {
     let mut line = Vec::new(alloc);
-    for count in [63, 63, 63, last] {
-        push(rt, &mut line, b"a", count);
-        push(rt, &mut line, b".", 1);
-    }
+    push_labels(rt, &mut line, &[63, 63, 63, last]);
     push(rt, &mut line, b" A 192.0.2.1", 1);
     is_fault(rt, alloc, &line, want);
 }

@@ -1,16 +1,17 @@
 // What entries state, and the first cause from the left where they state nothing.
 use super::{
-    ADDRESS, BAD_ESCAPE, EMPTY_LABEL, has_at, has_counts, has_fault, has_record_fault, name, push,
-    record_fault, states_record,
+    BAD_ESCAPE, EMPTY_LABEL, are_empty, has_at, has_cause_each, has_fault, has_fault_each,
+    has_owner_each, has_record_fault, name, pointer, push, record_fault, states_owner_each,
+    states_record,
 };
 use sipl_masterfile::{ZoneCause, ZoneFault};
-use sipl_records::{Boxed, Data, Sequence};
+use sipl_records::Data;
 use std::alloc::Global;
 use std::process::Abort;
 
 #[test]
 fn owner_ttl_class_and_type_precede_the_data(rt: HostRuntime) {
-    for (line, owner) in [
+    let rows = [
         ("a A 192.0.2.1", "a.example.com."),
         ("A a 192.0.2.1", "a.example.com."),
         ("a. A 192.0.2.1", "a."),
@@ -23,20 +24,18 @@ fn owner_ttl_class_and_type_precede_the_data(rt: HostRuntime) {
         ("300 300 A 192.0.2.1", "300.example.com."),
         ("IN IN A 192.0.2.1", "in.example.com."),
         ("A A 192.0.2.001", "a.example.com."),
-    ] {
-        states_record(&rt, rt.alloc(), line, owner, &ADDRESS);
-    }
+    ];
+    states_owner_each(&rt, rt.alloc(), &rows);
 }
 
 #[test]
 fn indented_entries_have_the_last_owner(rt: HostRuntime) {
-    for text in [
-        "last TXT\n A 192.0.2.1",
-        "last TXT\n 300 IN A 192.0.2.1",
-        "last TXT\n IN 300 A 192.0.2.1",
-    ] {
-        has_at(&rt, rt.alloc(), text, 1, ("last.example.com.", &ADDRESS));
-    }
+    let rows = [
+        ("last TXT\n A 192.0.2.1", 1, "last.example.com."),
+        ("last TXT\n 300 IN A 192.0.2.1", 1, "last.example.com."),
+        ("last TXT\n IN 300 A 192.0.2.1", 1, "last.example.com."),
+    ];
+    has_owner_each(&rt, rt.alloc(), &rows);
 }
 
 fn service(rt: &impl Abort, alloc: Global) -> Data {
@@ -52,50 +51,43 @@ fn alias(rt: &impl Abort, alloc: Global, target: &str) -> Data {
     Data::Alias(name(rt, alloc, target))
 }
 
+fn states_alias(rt: &impl Abort, alloc: Global, line: &str, target: &str) {
+    let value = alias(rt, alloc, target);
+    states_record(rt, alloc, line, "example.com.", &value);
+}
+
+fn states_service(rt: &impl Abort, alloc: Global, line: &str) {
+    let value = service(rt, alloc);
+    states_record(rt, alloc, line, "example.com.", &value);
+}
+
 #[test]
 fn data_are_read_by_their_type(rt: HostRuntime) {
-    let alloc = rt.alloc();
-    for (line, value) in [
-        (
-            "@ aaaa 2001:DB8::1",
-            Data::Address6(0x2001_0db8_0000_0000_0000_0000_0000_0001),
-        ),
-        ("@ Cname B", alias(&rt, alloc, "b.example.com.")),
-        ("@ SRV 1 002 65535 c\\046d.", service(&rt, alloc)),
-    ] {
-        states_record(&rt, alloc, line, "example.com.", &value);
-    }
-}
-
-fn string(rt: &impl Abort, alloc: Global, octets: &[u8]) -> Boxed<Sequence<u8>> {
-    let octets = Vec::from_slice(alloc, octets).expect(rt, "memory");
-    Boxed::new(alloc, Sequence::from_vec(octets)).expect(rt, "memory")
-}
-
-fn pointer(rt: &impl Abort, alloc: Global) -> Data {
-    let flags = string(rt, alloc, b"S");
-    let services = string(rt, alloc, b"SIP+D2U");
-    let regexp = string(rt, alloc, b"!^.*$!\\1!\xff.");
-    Data::Pointer {
-        order: 10,
-        preference: 20,
-        flags,
-        services,
-        regexp,
-        replacement: Boxed::new(alloc, name(rt, alloc, "example.com.")).expect(rt, "memory"),
-    }
+    let address = Data::Address6(0x2001_0db8_0000_0000_0000_0000_0000_0001);
+    let line = "@ aaaa 2001:DB8::1";
+    states_record(&rt, rt.alloc(), line, "example.com.", &address);
+    states_alias(&rt, rt.alloc(), "@ Cname B", "b.example.com.");
+    states_service(&rt, rt.alloc(), "@ SRV 1 002 65535 c\\046d.");
 }
 
 #[test]
 fn pointers_have_three_strings(rt: HostRuntime) {
     let line = "@ NAPTR 10 20 S SIP+D2U !^.*$!\\\\1\\!\\255. @";
-    let value = pointer(&rt, rt.alloc());
+    let strings = [b"S".as_slice(), b"SIP+D2U", b"!^.*$!\\1!\xff."];
+    let value = pointer(&rt, rt.alloc(), [10, 20], strings, "example.com.");
     states_record(&rt, rt.alloc(), line, "example.com.", &value);
+}
+
+// That of the data of these lines nothing is kept.
+fn states_nothing_each(rt: &impl Abort, alloc: Global, lines: &[&str]) {
+    for line in lines {
+        states_record(rt, alloc, line, "example.com.", &Data::Bare);
+    }
 }
 
 #[test]
 fn other_types_keep_nothing(rt: HostRuntime) {
-    for line in [
+    let lines = [
         "@ 300 IN MX 10 mail",
         "@ IN 300 MX",
         "@ TXT \\# x \\25",
@@ -108,14 +100,13 @@ fn other_types_keep_nothing(rt: HostRuntime) {
         "@ CLASS",
         "@ CLASS9x",
         "@ C",
-    ] {
-        states_record(&rt, rt.alloc(), line, "example.com.", &Data::Bare);
-    }
+    ];
+    states_nothing_each(&rt, rt.alloc(), &lines);
 }
 
 #[test]
 fn ttls_are_seconds_or_durations(rt: HostRuntime) {
-    for line in [
+    let lines = [
         "$TTL 0",
         "$ttl 2147483647",
         "$TTL 002147483647",
@@ -124,9 +115,8 @@ fn ttls_are_seconds_or_durations(rt: HostRuntime) {
         "$TTL 1w2D3h4m5s",
         "$TTL 2147483647s",
         "$TTL 3550w5d3h14m7s",
-    ] {
-        has_counts(&rt, rt.alloc(), line, (0, 0, 0));
-    }
+    ];
+    are_empty(&rt, rt.alloc(), &lines);
 }
 
 // That the origin after the directive is this one.
@@ -135,20 +125,25 @@ fn has_origin(rt: &impl Abort, alloc: Global, text: &str, origin: &str) {
     has_at(rt, alloc, text, 0, ("x.example.com.", &value));
 }
 
-#[test]
-fn origins_are_relative_to_the_origin_before(rt: HostRuntime) {
-    for (text, origin) in [
-        ("$ORIGIN a\nx.example.com. CNAME @", "a.example.com."),
-        ("$origin A.\nx.example.com. CNAME @", "a."),
-        ("$Origin @\nx.example.com. CNAME @", "example.com."),
-    ] {
-        has_origin(&rt, rt.alloc(), text, origin);
+fn has_origin_each(rt: &impl Abort, alloc: Global, rows: &[(&str, &str)]) {
+    for (text, origin) in rows {
+        has_origin(rt, alloc, text, origin);
     }
 }
 
 #[test]
+fn origins_are_relative_to_the_origin_before(rt: HostRuntime) {
+    let rows = [
+        ("$ORIGIN a\nx.example.com. CNAME @", "a.example.com."),
+        ("$origin A.\nx.example.com. CNAME @", "a."),
+        ("$Origin @\nx.example.com. CNAME @", "example.com."),
+    ];
+    has_origin_each(&rt, rt.alloc(), &rows);
+}
+
+#[test]
 fn first_cause_from_the_left_is_reported(rt: HostRuntime) {
-    for (line, cause) in [
+    let rows = [
         ("a..b A 192.0.2.1", EMPTY_LABEL),
         ("a..b 1x A 192.0.2", EMPTY_LABEL),
         ("a\\25 A", BAD_ESCAPE),
@@ -176,14 +171,13 @@ fn first_cause_from_the_left_is_reported(rt: HostRuntime) {
         ("@ A 192.0.2.1 x", ZoneCause::ExtraField),
         ("@ CNAME a b", ZoneCause::ExtraField),
         ("@ CNAME a..b c", EMPTY_LABEL),
-    ] {
-        has_record_fault(&rt, rt.alloc(), line, 1, cause);
-    }
+    ];
+    has_cause_each(&rt, rt.alloc(), &rows);
 }
 
 #[test]
 fn causes_of_several_fields_come_in_their_order(rt: HostRuntime) {
-    for (line, cause) in [
+    let rows = [
         ("@ SRV 1 2 3", ZoneCause::MissingField),
         ("@ SRV x", ZoneCause::BadNumber),
         ("@ SRV 1 2 65536 a..b", ZoneCause::BadNumber),
@@ -199,31 +193,28 @@ fn causes_of_several_fields_come_in_their_order(rt: HostRuntime) {
         ("@ A \\# 4 C0000201", ZoneCause::GenericForm),
         ("@ SRV \\#", ZoneCause::GenericForm),
         ("@ SRV 1 \\#", ZoneCause::BadNumber),
-    ] {
-        has_record_fault(&rt, rt.alloc(), line, 1, cause);
-    }
+    ];
+    has_cause_each(&rt, rt.alloc(), &rows);
 }
 
 #[test]
 fn directives_have_their_causes(rt: HostRuntime) {
-    for (line, cause) in [
-        ("$TTL", ZoneCause::MissingField),
-        ("$TTL x", ZoneCause::BadNumber),
-        ("$TTL 5 x", ZoneCause::ExtraField),
-        ("$TTL x x", ZoneCause::BadNumber),
-        ("$ORIGIN", ZoneCause::MissingField),
-        ("$ORIGIN a b", ZoneCause::ExtraField),
-        ("$ORIGIN a..b x", EMPTY_LABEL),
-        ("$include", ZoneCause::Include),
-        ("$GENERATE 1-2 a A 192.0.2.$", ZoneCause::Generate),
-        ("$", ZoneCause::MissingField),
-        ("$TTLS 5", ZoneCause::MissingField),
-    ] {
-        has_fault(&rt, rt.alloc(), line, 1, cause);
-    }
-    // An indented entry is no directive.
-    let indented = "last TXT\n $TTL 5";
-    has_fault(&rt, rt.alloc(), indented, 2, ZoneCause::MissingField);
+    let rows = [
+        ("$TTL", 1, ZoneCause::MissingField),
+        ("$TTL x", 1, ZoneCause::BadNumber),
+        ("$TTL 5 x", 1, ZoneCause::ExtraField),
+        ("$TTL x x", 1, ZoneCause::BadNumber),
+        ("$ORIGIN", 1, ZoneCause::MissingField),
+        ("$ORIGIN a b", 1, ZoneCause::ExtraField),
+        ("$ORIGIN a..b x", 1, EMPTY_LABEL),
+        ("$include", 1, ZoneCause::Include),
+        ("$GENERATE 1-2 a A 192.0.2.$", 1, ZoneCause::Generate),
+        ("$", 1, ZoneCause::MissingField),
+        ("$TTLS 5", 1, ZoneCause::MissingField),
+        // An indented entry is no directive.
+        ("last TXT\n $TTL 5", 2, ZoneCause::MissingField),
+    ];
+    has_fault_each(&rt, rt.alloc(), &rows);
 }
 
 #[test]

@@ -1,6 +1,7 @@
 // Zones: which records are taken in, and which fault is the first.
 use super::{
-    ADDRESS, EMPTY_LABEL, counts_of, has_at, has_counts, has_fault, name, push, reads_as, zone,
+    ADDRESS, EMPTY_LABEL, are_empty, counts_of, has_at, has_counts, has_counts_each,
+    has_fault_each, has_owner_each, name, push, reads_as, zone,
 };
 use sipl_masterfile::{ZoneCause, ZoneFault, ZoneText};
 use sipl_records::Data;
@@ -36,7 +37,7 @@ fn zone_has_the_records_within_its_apex_once(rt: HostRuntime) {
 
 #[test]
 fn blanks_and_comments_are_no_entries(rt: HostRuntime) {
-    for text in [
+    let texts = [
         "",
         "\n",
         " \t\r\n; comment\r\n\n  ; a A 192.0.2.1",
@@ -44,14 +45,13 @@ fn blanks_and_comments_are_no_entries(rt: HostRuntime) {
         ";;\n",
         "(\n)",
         "$TTL 5\n$ORIGIN a",
-    ] {
-        has_counts(&rt, rt.alloc(), text, (0, 0, 0));
-    }
+    ];
+    are_empty(&rt, rt.alloc(), &texts);
 }
 
 #[test]
 fn owners_follow_the_origin_and_the_record_before(rt: HostRuntime) {
-    for (text, place, owner) in [
+    let rows = [
         ("a A 192.0.2.1", 0, "a.example.com."),
         ("$ORIGIN b\na A 192.0.2.1", 0, "a.b.example.com."),
         ("$origin b\n$ORIGIN c\n@ A 192.0.2.1", 0, "c.b.example.com."),
@@ -76,14 +76,13 @@ fn owners_follow_the_origin_and_the_record_before(rt: HostRuntime) {
             "a.example.com.",
         ),
         ("a A 192.0.2.2\n(b) A 192.0.2.1", 1, "b.example.com."),
-    ] {
-        has_at(&rt, rt.alloc(), text, place, (owner, &ADDRESS));
-    }
+    ];
+    has_owner_each(&rt, rt.alloc(), &rows);
 }
 
 #[test]
 fn records_outside_and_repeated_are_counted(rt: HostRuntime) {
-    for (text, want) in [
+    let rows = [
         // An owner outside the apex is that of the next record too.
         ("a A 192.0.2.1\nb.org. A 192.0.2.1\n A 192.0.2.1", (1, 2, 0)),
         // Records outside are neither repeated nor in conflict.
@@ -102,14 +101,13 @@ fn records_outside_and_repeated_are_counted(rt: HostRuntime) {
             "a A 192.0.2.1\na AAAA ::1\na SRV 0 0 5060 b\nb CNAME a",
             (4, 0, 0),
         ),
-    ] {
-        has_counts(&rt, rt.alloc(), text, want);
-    }
+    ];
+    has_counts_each(&rt, rt.alloc(), &rows);
 }
 
 #[test]
 fn first_faulty_entry_is_reported_at_its_line(rt: HostRuntime) {
-    for (text, line, cause) in [
+    let rows = [
         ("\n a..b A 192.0.2.1", 2, ZoneCause::NoOwner),
         ("a..b A 192.0.2.1", 1, EMPTY_LABEL),
         ("$TTL 5\n\na", 3, ZoneCause::MissingField),
@@ -143,9 +141,8 @@ fn first_faulty_entry_is_reported_at_its_line(rt: HostRuntime) {
         ("@ CNAME a\n@ CNAME b", 2, ZoneCause::AliasBesideData),
         // Faults of records outside the apex are faults.
         ("a.org. A 192.0.2.256", 1, ZoneCause::BadAddress),
-    ] {
-        has_fault(&rt, rt.alloc(), text, line, cause);
-    }
+    ];
+    has_fault_each(&rt, rt.alloc(), &rows);
 }
 
 // Reads a pointer whose first string has so many octets.

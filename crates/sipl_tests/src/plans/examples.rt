@@ -4,6 +4,8 @@ use super::{Row, find_each};
 use sipl_choice::Families::V4;
 use sipl_choice::Transport::{Tcp, Tls, Udp};
 use sipl_plans::Reason::{NoAddress, NotAvailable};
+use std::alloc::Global;
+use std::process::Abort;
 
 // The records of RFC 3263, 4.1, a service over TLS, and addresses of the servers and of the domain.
 const NAPTR_EXAMPLE: &[&str] = &[
@@ -137,19 +139,27 @@ const WORDS: [(&[u32], Found); 5] = [
     (&[4], NEW_BOX_FIRST),
 ];
 
+fn finds_box(rt: &impl Abort, alloc: Global, words: &'static [u32], found: Found) {
+    let row = Row {
+        name: "the first words choose the old box, the others the new one",
+        zone: SRV_EXAMPLE,
+        uri: "sip:example.com",
+        client: (V4, &[Udp, Tcp]),
+        words,
+        found,
+    };
+    find_each(rt, alloc, &[row]);
+}
+
+fn finds_box_each(rt: &impl Abort, alloc: Global, rows: &[(&'static [u32], Found)]) {
+    for (words, found) in rows {
+        finds_box(rt, alloc, words, *found);
+    }
+}
+
 #[test]
 fn new_fast_box_is_first_for_most_words(rt: HostRuntime) {
-    for (words, found) in WORDS {
-        let row = Row {
-            name: "the first words choose the old box, the others the new one",
-            zone: SRV_EXAMPLE,
-            uri: "sip:example.com",
-            client: (V4, &[Udp, Tcp]),
-            words,
-            found,
-        };
-        find_each(&rt, rt.alloc(), &[row]);
-    }
+    finds_box_each(&rt, rt.alloc(), &WORDS);
 }
 
 const OTHER_SERVICES: [&str; 3] = [
@@ -158,17 +168,25 @@ const OTHER_SERVICES: [&str; 3] = [
     "sip:example.com;transport=tls",
 ];
 
+fn is_not_available(rt: &impl Abort, alloc: Global, uri: &'static str) {
+    let row = Row {
+        name: uri,
+        zone: SRV_EXAMPLE,
+        uri,
+        client: (V4, &[Udp, Tcp, Tls]),
+        words: &[],
+        found: None(NotAvailable),
+    };
+    find_each(rt, alloc, &[row]);
+}
+
+fn are_not_available(rt: &impl Abort, alloc: Global, uris: &[&'static str]) {
+    for uri in uris {
+        is_not_available(rt, alloc, uri);
+    }
+}
+
 #[test]
 fn no_other_service_is_available(rt: HostRuntime) {
-    for uri in OTHER_SERVICES {
-        let row = Row {
-            name: uri,
-            zone: SRV_EXAMPLE,
-            uri,
-            client: (V4, &[Udp, Tcp, Tls]),
-            words: &[],
-            found: None(NotAvailable),
-        };
-        find_each(&rt, rt.alloc(), &[row]);
-    }
+    are_not_available(&rt, rt.alloc(), &OTHER_SERVICES);
 }

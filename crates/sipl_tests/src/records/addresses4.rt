@@ -1,6 +1,7 @@
 // IPv4 addresses in text.
 use super::is_written_as;
 use sipl_records::{Address, AddressFault};
+use std::process::Abort;
 
 #[test]
 fn address_reads_and_prints_its_text(rt: HostRuntime) {
@@ -99,14 +100,19 @@ fn address_fault_has_its_code(rt: HostRuntime) {
     assert_eq!(rt; AddressFault::BadAddress.code(), "A1");
 }
 
+fn equal_each(rt: &impl Abort, rows: &[(Address, Address, bool)]) {
+    for (address, other, expected) in rows {
+        assert!(rt; (address == other) == *expected);
+    }
+}
+
 #[test]
 fn addresses_are_equal_where_families_and_numbers_are(rt: HostRuntime) {
-    for (address, other, expected) in [
+    let rows = [
         (Address::V6(1), Address::V6(1), true),
         (Address::V6(1), Address::V6(2), false),
         (Address::V4(1), Address::V4(2), false),
         (Address::V4(1), Address::V6(1), false),
-    ] {
-        assert!(rt; (address == other) == expected);
-    }
+    ];
+    equal_each(&rt, &rows);
 }

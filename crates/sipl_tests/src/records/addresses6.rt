@@ -1,6 +1,8 @@
 // IPv6 addresses in text.
 use super::is_written_as;
 use sipl_records::{Address, read_ipv6};
+use std::alloc::Global;
+use std::process::Abort;
 
 // The number of these groups, the first one the highest.
 fn number_of(groups: [u16; 8]) -> u128 {
@@ -28,6 +30,10 @@ fn decimal_value(octet: u8) -> Option<u16> {
 // The number of an address's text.
 fn read(text: &[u8]) -> Option<u128> {
     read_ipv6(text).ok()
+}
+
+fn is_read_as(rt: &impl Abort, text: &[u8], expected: Option<u128>) {
+    assert_eq!(rt; read(text), expected, "{text:?}");
 }
 
 const ADDRESSES: [(&str, [u16; 8]); 20] = [
@@ -59,11 +65,15 @@ const ADDRESSES: [(&str, [u16; 8]); 20] = [
     ("8000::", [0x8000, 0, 0, 0, 0, 0, 0, 0]),
 ];
 
+fn reads_each(rt: &impl Abort, rows: &[(&str, [u16; 8])]) {
+    for (text, groups) in rows {
+        is_read_as(rt, text.as_bytes(), Some(number_of(*groups)));
+    }
+}
+
 #[test]
 fn reads_addresses(rt: HostRuntime) {
-    for (text, groups) in &ADDRESSES {
-        assert_eq!(rt; read(text.as_bytes()), Some(number_of(*groups)), "{text}");
-    }
+    reads_each(&rt, &ADDRESSES);
 }
 
 #[test]
@@ -107,11 +117,15 @@ const OTHER_TEXTS: [&str; 32] = [
     " ::1",
 ];
 
+fn refuses_each(rt: &impl Abort, texts: &[&str]) {
+    for text in texts {
+        is_read_as(rt, text.as_bytes(), None);
+    }
+}
+
 #[test]
 fn refuses_other_texts(rt: HostRuntime) {
-    for text in &OTHER_TEXTS {
-        assert_eq!(rt; read(text.as_bytes()), None, "{text}");
-    }
+    refuses_each(&rt, &OTHER_TEXTS);
 }
 
 // What `1:2:3:4:5:6:7:8` with this octet at this place stands for: digits are at the even
@@ -133,7 +147,7 @@ fn reads_each_octet_at_each_place_of_eight_groups(rt: HostRuntime) {
         for octet in 0..=255u8 {
             let mut text = *b"1:2:3:4:5:6:7:8";
             text[place] = octet;
-            assert_eq!(rt; read(&text), eight_with(place, octet), "{octet} at {place}");
+            is_read_as(&rt, &text, eight_with(place, octet));
         }
     }
 }
@@ -153,7 +167,7 @@ fn reads_each_octet_at_each_place_around_zeros(rt: HostRuntime) {
         for octet in 0..=255u8 {
             let mut text = *b"1::2";
             text[place] = octet;
-            assert_eq!(rt; read(&text), zeros_with(place, octet), "{octet} at {place}");
+            is_read_as(&rt, &text, zeros_with(place, octet));
         }
     }
 }
@@ -176,8 +190,16 @@ fn reads_each_octet_at_each_place_of_an_ipv4_text(rt: HostRuntime) {
         for octet in 0..=255u8 {
             let mut text = *b"::1.2.3.4";
             text[place] = octet;
-            assert_eq!(rt; read(&text), ipv4_with(place, octet), "{octet} at {place}");
+            is_read_as(&rt, &text, ipv4_with(place, octet));
         }
+    }
+}
+
+fn writes_each(rt: &impl Abort, alloc: Global, rows: &[([u16; 8], &[u8])]) {
+    for (groups, text) in rows {
+        let number = number_of(*groups);
+        assert!(rt; is_written_as(alloc, Address::V6(number), text), "{text:?}");
+        is_read_as(rt, text, Some(number));
     }
 }
 
@@ -196,11 +218,5 @@ fn writes_addresses(rt: HostRuntime) {
             b"0:0:0:0:0:ffff:c000:201",
         ),
     ];
-    for (row, (groups, text)) in rows.into_iter().enumerate() {
-        let number = number_of(groups);
-        assert!(rt;
-            is_written_as(rt.alloc(), Address::V6(number), text) && read(text) == Some(number),
-            "row {row}"
-        );
-    }
+    writes_each(&rt, rt.alloc(), &rows);
 }

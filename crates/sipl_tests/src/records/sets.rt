@@ -17,13 +17,17 @@ const KINDS: [Option<Kind>; 6] = [
     None,
 ];
 
+const FIRST: Row = ([1, 2, 3], ["s", "SIP+D2U", ""], "a.");
+
+const OTHER_NAME: Row = ([1, 2, 3], ["s", "SIP+D2U", ""], "b.");
+
 // Rows of which each differs from the first: in numbers, in the name, in strings; the last is the
 // first in upper case, which is the same name.
 const ROWS: [Row; 9] = [
-    ([1, 2, 3], ["s", "SIP+D2U", ""], "a."),
+    FIRST,
     ([2, 1, 3], ["s", "SIP+D2U", ""], "a."),
     ([1, 3, 2], ["s", "SIP+D2U", ""], "a."),
-    ([1, 2, 3], ["s", "SIP+D2U", ""], "b."),
+    OTHER_NAME,
     ([1, 2, 3], ["S", "SIP+D2U", ""], "a."),
     ([1, 2, 3], ["s", "SIP+D2T", ""], "a."),
     ([1, 2, 3], ["s", "SIP+D2", "U"], "a."),
@@ -84,25 +88,59 @@ fn are_equal(rt: &impl Abort, alloc: Global, kind: Option<Kind>, row: &Row, othe
     equals_a_copy(alloc, &values[0], &values[1])
 }
 
-#[test]
-fn data_are_equal_where_their_fields_are(rt: HostRuntime) {
-    for (kind, different) in [
-        (Some(Kind::Address4), 1..2),
-        (Some(Kind::Address6), 1..2),
-        (Some(Kind::Alias), 3..4),
-        (Some(Kind::Service), 1..4),
-        (Some(Kind::Pointer), 1..8),
-        (None, 0..0),
-    ] {
-        for (index, row) in ROWS.iter().enumerate() {
-            let is_equal = are_equal(&rt, rt.alloc(), kind, &ROWS[0], row);
-            assert_eq!(rt; is_equal, !different.contains(&index), "row {index}");
-        }
+fn equals_first(
+    rt: &impl Abort,
+    alloc: Global,
+    kind: Option<Kind>,
+    row: &Row,
+    index: usize,
+    expected: bool,
+) {
+    let is_equal = are_equal(rt, alloc, kind, &FIRST, row);
+    assert!(rt; is_equal == expected, "row {index}");
+}
+
+// That data of this type differ from those of the first row in the rows from one place to before
+// another one, and equal them in the others.
+fn differ_within(
+    rt: &impl Abort,
+    alloc: Global,
+    rows: &[Row],
+    kind: Option<Kind>,
+    (start, end): (usize, usize),
+) {
+    for (index, row) in rows.iter().enumerate() {
+        let expected = index < start || end <= index;
+        equals_first(rt, alloc, kind, row, index, expected);
     }
 }
 
+fn differ_within_each(
+    rt: &impl Abort,
+    alloc: Global,
+    rows: &[Row],
+    different: &[(Option<Kind>, (usize, usize))],
+) {
+    for (kind, places) in different {
+        differ_within(rt, alloc, rows, *kind, *places);
+    }
+}
+
+#[test]
+fn data_are_equal_where_their_fields_are(rt: HostRuntime) {
+    let different = [
+        (Some(Kind::Address4), (1, 2)),
+        (Some(Kind::Address6), (1, 2)),
+        (Some(Kind::Alias), (3, 4)),
+        (Some(Kind::Service), (1, 4)),
+        (Some(Kind::Pointer), (1, 8)),
+        (None, (0, 0)),
+    ];
+    differ_within_each(&rt, rt.alloc(), &ROWS, &different);
+}
+
 fn kind_of(rt: &impl Abort, alloc: Global, kind: Option<Kind>) -> Option<Kind> {
-    data(rt, alloc, kind, &ROWS[0]).kind()
+    data(rt, alloc, kind, &FIRST).kind()
 }
 
 #[test]
@@ -119,17 +157,22 @@ fn is_printed_as(alloc: Global, kind: Kind, text: &str) -> bool {
     }
 }
 
+fn are_printed_as(rt: &impl Abort, alloc: Global, rows: &[(Kind, &str)]) {
+    for (kind, text) in rows {
+        assert!(rt; is_printed_as(alloc, *kind, text), "{text}");
+    }
+}
+
 #[test]
 fn kind_prints_its_mnemonic(rt: HostRuntime) {
-    for (kind, text) in [
+    let rows = [
         (Kind::Address4, "A"),
         (Kind::Address6, "AAAA"),
         (Kind::Alias, "CNAME"),
         (Kind::Service, "SRV"),
         (Kind::Pointer, "NAPTR"),
-    ] {
-        assert!(rt; is_printed_as(rt.alloc(), kind, text), "{text}");
-    }
+    ];
+    are_printed_as(&rt, rt.alloc(), &rows);
 }
 
 // Whether a record of this owner and type of data conflicts with one of `example.com.`.
@@ -143,30 +186,42 @@ fn do_conflict(
     let records = [
         Record {
             owner: name(rt, alloc, owner),
-            value: data(rt, alloc, kind, &ROWS[0]),
+            value: data(rt, alloc, kind, &FIRST),
         },
         Record {
             owner: name(rt, alloc, "example.com."),
-            value: data(rt, alloc, other, &ROWS[3]),
+            value: data(rt, alloc, other, &OTHER_NAME),
         },
     ];
     records[0].conflicts_with(&records[1])
 }
 
+// An owner, its type of data, that of `example.com.`, and whether they conflict.
+type Pair = (&'static str, Option<Kind>, Option<Kind>, bool);
+
+fn conflict_each(rt: &impl Abort, alloc: Global, rows: &[Pair]) {
+    for (owner, kind, other, expected) in rows {
+        let found = do_conflict(rt, alloc, owner, *kind, *other);
+        assert_eq!(rt; found, *expected, "{owner}");
+    }
+}
+
+fn conflicts_with_alias(rt: &impl Abort, alloc: Global, kind: Option<Kind>) {
+    let alias = Some(Kind::Alias);
+    let rows = [
+        ("Example.com.", kind, alias, kind.is_some()),
+        ("EXAMPLE.com.", alias, kind, kind.is_some()),
+        ("www.example.com.", alias, kind, false),
+        ("example.com.", kind, Some(Kind::Address4), kind == alias),
+        ("example.com.", kind, None, false),
+    ];
+    conflict_each(rt, alloc, &rows);
+}
+
 #[test]
 fn aliases_conflict_with_data_of_some_kind(rt: HostRuntime) {
-    let alias = Some(Kind::Alias);
     for kind in KINDS {
-        for (owner, kind, other, expected) in [
-            ("Example.com.", kind, alias, kind.is_some()),
-            ("EXAMPLE.com.", alias, kind, kind.is_some()),
-            ("www.example.com.", alias, kind, false),
-            ("example.com.", kind, KINDS[0], kind == alias),
-            ("example.com.", kind, None, false),
-        ] {
-            let found = do_conflict(&rt, rt.alloc(), owner, kind, other);
-            assert_eq!(rt; found, expected, "{owner}");
-        }
+        conflicts_with_alias(&rt, rt.alloc(), kind);
     }
 }
 
@@ -177,21 +232,31 @@ fn has_key(rt: &impl Abort, alloc: Global, owner: &str, name: &str, kind: Kind) 
     record.has_key(&key)
 }
 
+// Whether records of `www.example.com.`, of `example.com.` and of the first in other case have a key.
+fn has_key_each(rt: &impl Abort, alloc: Global, name: &str, kind: Kind) -> [bool; 3] {
+    [
+        has_key(rt, alloc, "www.example.com.", name, kind),
+        has_key(rt, alloc, "example.com.", name, kind),
+        has_key(rt, alloc, "WWW.Example.com.", name, kind),
+    ]
+}
+
+fn have_keys(rt: &impl Abort, alloc: Global, rows: &[(&str, Kind, [bool; 3])]) {
+    for (name, kind, members) in rows {
+        let found = has_key_each(rt, alloc, name, *kind);
+        assert!(rt; found == *members, "{name}");
+    }
+}
+
 #[test]
 fn record_has_the_key_of_its_owner_and_kind(rt: HostRuntime) {
-    for (name, kind, members) in [
+    let rows = [
         ("www.example.com.", Kind::Address4, [true, false, true]),
         ("EXAMPLE.com.", Kind::Address4, [false, true, false]),
         ("com.", Kind::Address4, [false, false, false]),
         ("www.example.com.", Kind::Address6, [false, false, false]),
-    ] {
-        let found = [
-            has_key(&rt, rt.alloc(), "www.example.com.", name, kind),
-            has_key(&rt, rt.alloc(), "example.com.", name, kind),
-            has_key(&rt, rt.alloc(), "WWW.Example.com.", name, kind),
-        ];
-        assert!(rt; found == members, "{name}");
-    }
+    ];
+    have_keys(&rt, rt.alloc(), &rows);
 }
 
 // Whether the record has no key, and whether it is in no set with itself.

@@ -1,18 +1,17 @@
 // Fields of lines, numbers, and a text split at a separator.
 use sipl_records::{next_field, read_number, split_once, trim_start};
+use std::process::Abort;
+
+fn takes_field(rt: &impl Abort, line: &[u8], field: &[u8], rest: &[u8]) {
+    assert!(rt; next_field(line) == Some((field, rest)));
+}
 
 #[test]
 fn next_field_takes_fields_in_order(rt: HostRuntime) {
-    let mut line: &[u8] = b" a\tbc  d ";
-    for (expected, left) in [("a", "\tbc  d "), ("bc", "  d "), ("d", " ")] {
-        let (field, rest) = next_field(line).unwrap_or((b"none", b""));
-        assert!(rt;
-            field == expected.as_bytes() && rest == left.as_bytes(),
-            "before {left}"
-        );
-        line = rest;
-    }
-    assert!(rt; next_field(line).is_none());
+    takes_field(&rt, b" a\tbc  d ", b"a", b"\tbc  d ");
+    takes_field(&rt, b"\tbc  d ", b"bc", b"  d ");
+    takes_field(&rt, b"  d ", b"d", b" ");
+    assert!(rt; next_field(b" ").is_none());
 }
 
 #[test]
@@ -21,53 +20,63 @@ fn next_field_finds_none_in_white_space(rt: HostRuntime) {
     assert!(rt; next_field(b" \t ").is_none());
 }
 
-#[test]
-fn trim_start_removes_spaces_and_tabs_only(rt: HostRuntime) {
-    for (line, expected) in [
-        ("", ""),
-        ("a b ", "a b "),
-        ("\t  a b ", "a b "),
-        (" \t", ""),
-        ("\r a", "\r a"),
-    ] {
+fn trims_each(rt: &impl Abort, rows: &[(&str, &str)]) {
+    for (line, expected) in rows {
         assert_eq!(rt; trim_start(line.as_bytes()), expected.as_bytes());
     }
 }
 
 #[test]
-fn read_number_accepts_digits_only(rt: HostRuntime) {
-    for (text, expected) in [
-        ("0", Some(0)),
-        ("007", Some(7)),
-        ("18446744073709551615", Some(u64::MAX)),
-        ("018446744073709551615", Some(u64::MAX)),
-        ("18446744073709551616", None),
-        ("100000000000000000000", None),
-        ("", None),
-        ("+1", None),
-        ("-1", None),
-        ("1 ", None),
-        ("1a", None),
-    ] {
-        assert_eq!(rt;
-            read_number(text.as_bytes(), u64::MAX),
-            expected,
-            "at {text}"
-        );
+fn trim_start_removes_spaces_and_tabs_only(rt: HostRuntime) {
+    let rows = [
+        ("", ""),
+        ("a b ", "a b "),
+        ("\t  a b ", "a b "),
+        (" \t", ""),
+        ("\r a", "\r a"),
+    ];
+    trims_each(&rt, &rows);
+}
+
+fn is_number(rt: &impl Abort, text: &str, max: u64, expected: Option<u64>) {
+    assert_eq!(rt; read_number(text.as_bytes(), max), expected, "at {text}");
+}
+
+// The numbers of these texts, each of at most a maximum.
+fn are_numbers(rt: &impl Abort, rows: &[(&str, u64, Option<u64>)]) {
+    for (text, max, expected) in rows {
+        is_number(rt, text, *max, *expected);
     }
 }
 
 #[test]
+fn read_number_accepts_digits_only(rt: HostRuntime) {
+    let rows = [
+        ("0", u64::MAX, Some(0)),
+        ("007", u64::MAX, Some(7)),
+        ("18446744073709551615", u64::MAX, Some(u64::MAX)),
+        ("018446744073709551615", u64::MAX, Some(u64::MAX)),
+        ("18446744073709551616", u64::MAX, None),
+        ("100000000000000000000", u64::MAX, None),
+        ("", u64::MAX, None),
+        ("+1", u64::MAX, None),
+        ("-1", u64::MAX, None),
+        ("1 ", u64::MAX, None),
+        ("1a", u64::MAX, None),
+    ];
+    are_numbers(&rt, &rows);
+}
+
+#[test]
 fn read_number_refuses_what_is_over_the_maximum(rt: HostRuntime) {
-    for (text, max, expected) in [
+    let rows = [
         ("65535", 65_535, Some(65_535)),
         ("65536", 65_535, None),
         ("0065535", 65_535, Some(65_535)),
         ("0", 0, Some(0)),
         ("1", 0, None),
-    ] {
-        assert_eq!(rt; read_number(text.as_bytes(), max), expected, "at {text}");
-    }
+    ];
+    are_numbers(&rt, &rows);
 }
 
 // Whether the text is split into these two at its first colon.
@@ -76,9 +85,15 @@ fn splits_into(text: &str, before: &str, after: Option<&str>) -> bool {
     first == before.as_bytes() && rest == after.map(|after| after.as_bytes())
 }
 
+fn splits_each(rt: &impl Abort, rows: &[(&str, &str, Option<&str>)]) {
+    for (text, before, after) in rows {
+        assert!(rt; splits_into(text, before, *after), "at {text}");
+    }
+}
+
 #[test]
 fn split_once_splits_at_the_first_separator(rt: HostRuntime) {
-    for (text, before, after) in [
+    let rows = [
         ("a:b", "a", Some("b")),
         ("a:b:c", "a", Some("b:c")),
         (":a", "", Some("a")),
@@ -91,7 +106,6 @@ fn split_once_splits_at_the_first_separator(rt: HostRuntime) {
             "an octet far from the start",
             Some(" here"),
         ),
-    ] {
-        assert!(rt; splits_into(text, before, after), "at {text}");
-    }
+    ];
+    splits_each(&rt, &rows);
 }

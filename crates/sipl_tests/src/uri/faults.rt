@@ -96,9 +96,15 @@ fn parse_reports_texts_that_are_not_ports(rt: HostRuntime) {
     have_code(&rt, rt.alloc(), &uris, "U3");
 }
 
+fn has_code_each(rt: &impl Abort, alloc: Global, rows: &[(&[u8], &str)]) {
+    for (uri, code) in rows {
+        has_code(rt, alloc, uri, code);
+    }
+}
+
 #[test]
 fn parse_reports_the_first_fault_of_the_parameters(rt: HostRuntime) {
-    for (uri, code) in [
+    let rows = [
         (b"sip:a;".as_slice(), "U7"),
         (b"sip:a;;x", "U7"),
         (b"sip:a;x;", "U7"),
@@ -125,14 +131,13 @@ fn parse_reports_the_first_fault_of_the_parameters(rt: HostRuntime) {
         (b"sip:a;maddr=::1", "U2"),
         (b"sip:a;maddr=-;transport=ws", "U2"),
         (b"sip:a;maddr=b:5;;", "U2"),
-    ] {
-        has_code(&rt, rt.alloc(), uri, code);
-    }
+    ];
+    has_code_each(&rt, rt.alloc(), &rows);
 }
 
 #[test]
 fn sips_over_another_transport_is_the_last_fault(rt: HostRuntime) {
-    for (uri, code) in [
+    let rows = [
         (b"sips:example.com;transport=udp".as_slice(), "U6"),
         (b"sips:a;transport=SCTP", "U6"),
         (b"sips:a;transport=udp;x=1;x=2", "U5"),
@@ -141,14 +146,19 @@ fn sips_over_another_transport_is_the_last_fault(rt: HostRuntime) {
         (b"sips:a;transport=ws", "U4"),
         (b"sips:a:65536;transport=udp", "U3"),
         (b"sips:-;transport=udp", "U2"),
-    ] {
-        has_code(&rt, rt.alloc(), uri, code);
+    ];
+    has_code_each(&rt, rt.alloc(), &rows);
+}
+
+fn is_code_each(rt: &impl Abort, rows: &[(UriFault, &str)]) {
+    for (fault, code) in rows {
+        assert_eq!(rt; fault.code(), *code);
     }
 }
 
 #[test]
 fn faults_have_their_codes(rt: HostRuntime) {
-    for (fault, code) in [
+    let rows = [
         (UriFault::Scheme, "U1"),
         (UriFault::Host, "U2"),
         (UriFault::Port, "U3"),
@@ -157,7 +167,6 @@ fn faults_have_their_codes(rt: HostRuntime) {
         (UriFault::SipsTransport, "U6"),
         (UriFault::Characters, "U7"),
         (UriFault::from(AllocError), "Memory"),
-    ] {
-        assert_eq!(rt; fault.code(), code);
-    }
+    ];
+    is_code_each(&rt, &rows);
 }

@@ -17,6 +17,15 @@ fn parse_reads_hostnames(rt: HostRuntime) {
     ask_for_names(&rt, rt.alloc(), &rows);
 }
 
+fn ask_for_addresses(rt: &impl Abort, alloc: Global, rows: &[(&[u8], Address)]) {
+    for (uri, address) in rows {
+        assert!(rt;
+            asks_for(alloc, uri, Target::Numeric(*address)),
+            "at {uri:?}"
+        );
+    }
+}
+
 #[test]
 fn parse_reads_addresses(rt: HostRuntime) {
     let rows: [(&[u8], Address); 6] = [
@@ -30,10 +39,7 @@ fn parse_reads_addresses(rt: HostRuntime) {
         ),
         (b"sip:[::ffff:192.0.2.9]", Address::V6(0xFFFF_C000_0209)),
     ];
-    for (uri, address) in rows {
-        let target = Target::Numeric(address);
-        assert!(rt; asks_for(rt.alloc(), uri, target), "at {uri:?}");
-    }
+    ask_for_addresses(&rt, rt.alloc(), &rows);
 }
 
 #[test]
@@ -77,22 +83,25 @@ fn user_information_and_headers_are_not_looked_into(rt: HostRuntime) {
     ask_for_names(&rt, rt.alloc(), &rows);
 }
 
-#[test]
-fn hostnames_have_at_most_255_octets(rt: HostRuntime) {
+// That a URI whose host has so many labels of 63 octets, and then one of this length, has this code.
+fn has_code_with(rt: &impl Abort, alloc: Global, labels: usize, last: usize, code: &str) {
     // A label of 63 octets and its dot.
     let label = b"aaaaaaaaaaaaaaaaaaaaaaaaaaaaaaaaaaaaaaaaaaaaaaaaaaaaaaaaaaaaaaa.".as_slice();
+    let pieces = [
+        (b"sip:".as_slice(), 1),
+        (label, labels),
+        (b"a", last),
+        (b".:1", 1),
+    ];
+    let found = code_of_repeated(alloc, &pieces);
+    assert_eq!(rt; found, code, "at {labels} and {last}");
+}
+
+#[test]
+fn hostnames_have_at_most_255_octets(rt: HostRuntime) {
+    has_code_with(&rt, rt.alloc(), 0, 63, "ok");
+    has_code_with(&rt, rt.alloc(), 0, 64, "U2");
     // Labels of 63, 63, 63 and 61 octets have 254 with their lengths, and the root has one.
-    for (labels, last, code) in [(0, 63, "ok"), (0, 64, "U2"), (3, 61, "ok"), (3, 62, "U2")] {
-        let pieces = [
-            (b"sip:".as_slice(), 1),
-            (label, labels),
-            (b"a", last),
-            (b".:1", 1),
-        ];
-        assert_eq!(rt;
-            code_of_repeated(rt.alloc(), &pieces),
-            code,
-            "at {labels} and {last}"
-        );
-    }
+    has_code_with(&rt, rt.alloc(), 3, 61, "ok");
+    has_code_with(&rt, rt.alloc(), 3, 62, "U2");
 }

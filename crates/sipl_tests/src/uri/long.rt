@@ -1,25 +1,48 @@
 // URIs of 65,536 octets, which a line can have at most.
 use super::*;
 
+// That this is printed of a URI of a beginning, 65,530 semicolons and an end.
+fn prints_long(
+    rt: &impl Abort,
+    alloc: Global,
+    start: &'static [u8],
+    end: &'static [u8],
+    printed: &[u8],
+) {
+    let pieces = [(start, 1), (b";", 65_530), (end, 1)];
+    assert!(rt; prints_repeated(alloc, &pieces, printed), "at {end:?}");
+}
+
 #[test]
 fn long_user_information_is_not_looked_into(rt: HostRuntime) {
-    for (end, printed) in [(b"@a".as_slice(), b"sip:a.".as_slice()), (b"@a@b", b"U7")] {
-        let pieces = [(b"sip:".as_slice(), 1), (b";", 65_530), (end, 1)];
-        assert!(rt; prints_repeated(rt.alloc(), &pieces, printed), "at {end:?}");
-    }
+    prints_long(&rt, rt.alloc(), b"sip:", b"@a", b"sip:a.");
+    prints_long(&rt, rt.alloc(), b"sip:", b"@a@b", b"U7");
 }
 
 #[test]
 fn long_headers_are_not_looked_into(rt: HostRuntime) {
-    for (end, printed) in [(b"".as_slice(), b"sip:a.".as_slice()), (b" ", b"U7")] {
-        let pieces = [(b"sip:a?".as_slice(), 1), (b";", 65_530), (end, 1)];
-        assert!(rt; prints_repeated(rt.alloc(), &pieces, printed), "at {end:?}");
+    prints_long(&rt, rt.alloc(), b"sip:a?", b"", b"sip:a.");
+    prints_long(&rt, rt.alloc(), b"sip:a?", b" ", b"U7");
+}
+
+// A beginning, an octet that is repeated, how often, and the code of the URI's fault.
+type Long = (&'static [u8], &'static [u8], usize, &'static str);
+
+fn refuses_long(rt: &impl Abort, alloc: Global, row: &Long) {
+    let (text, octet, count, code) = row;
+    let found = code_of_repeated(alloc, &[(text, 1), (octet, *count)]);
+    assert_eq!(rt; found, *code, "at {text:?}");
+}
+
+fn refuses_long_each(rt: &impl Abort, alloc: Global, rows: &[Long]) {
+    for row in rows {
+        refuses_long(rt, alloc, row);
     }
 }
 
 #[test]
 fn long_hosts_and_ports_are_refused(rt: HostRuntime) {
-    for (text, octet, count, code) in [
+    let rows = [
         (b"sip:".as_slice(), b"a".as_slice(), 65_532, "U2"),
         (b"sip:", b".", 65_532, "U2"),
         (b"sip:", b"1", 65_532, "U2"),
@@ -30,10 +53,8 @@ fn long_hosts_and_ports_are_refused(rt: HostRuntime) {
         (b"sip:a;maddr=", b"a", 65_524, "U2"),
         (b"sip:a;", b";", 65_530, "U7"),
         (b"", b"s", 65_536, "U1"),
-    ] {
-        let found = code_of_repeated(rt.alloc(), &[(text, 1), (octet, count)]);
-        assert_eq!(rt; found, code, "at {text:?}");
-    }
+    ];
+    refuses_long_each(&rt, rt.alloc(), &rows);
 }
 
 // The letter of a digit of base 26.
@@ -59,6 +80,12 @@ fn prints_with_params(alloc: Global, end: &[u8], text: &[u8]) -> bool {
     }
 }
 
+fn print_with_params(rt: &impl Abort, alloc: Global, rows: &[(&[u8], &[u8])]) {
+    for (end, text) in rows {
+        assert!(rt; prints_with_params(alloc, end, text), "at {end:?}");
+    }
+}
+
 #[test]
 fn each_of_16000_names_is_compared_with_the_earlier_ones(rt: HostRuntime) {
     let rows: [(&[u8], &[u8]); 4] = [
@@ -67,7 +94,5 @@ fn each_of_16000_names_is_compared_with_the_earlier_ones(rt: HostRuntime) {
         (b";aa;Transport=tcp;maddr=b", b"sip:b.;transport=tcp"),
         (b";aa;Transport=tcp;maddr=b;maddr=b", b"U5"),
     ];
-    for (end, text) in rows {
-        assert!(rt; prints_with_params(rt.alloc(), end, text), "at {end:?}");
-    }
+    print_with_params(&rt, rt.alloc(), &rows);
 }

@@ -43,17 +43,29 @@ fn ask_the_same(alloc: Global, a: &[u8], b: &[u8]) -> Option<bool> {
     }
 }
 
+fn equal_copies(rt: &impl Abort, alloc: Global, uris: &[&[u8]]) {
+    for uri in uris {
+        assert!(rt; equals_its_copies(alloc, uri));
+    }
+}
+
+// That the URIs ask the question of this one, or that none does.
+fn ask_as(rt: &impl Abort, alloc: Global, one: &[u8], uris: &[&[u8]], expected: bool) {
+    for uri in uris {
+        assert_eq!(rt; ask_the_same(alloc, one, uri), Some(expected));
+    }
+}
+
 #[test]
 fn questions_equal_their_copies_only(rt: HostRuntime) {
-    for uri in [
+    let uris = [
         b"sip:a.b:1".as_slice(),
         b"sip:1.2.3.4",
         b"sips:[::1]:1;transport=tcp",
-    ] {
-        assert!(rt; equals_its_copies(rt.alloc(), uri));
-    }
+    ];
+    equal_copies(&rt, rt.alloc(), &uris);
     let one = b"sip:a.b:1;transport=tls".as_slice();
-    for uri in [
+    let others = [
         b"sip:a.b:2;transport=tls".as_slice(),
         b"sip:a.c:1;transport=tls",
         b"sip:1.2.3.4:1;transport=tls",
@@ -61,21 +73,19 @@ fn questions_equal_their_copies_only(rt: HostRuntime) {
         b"sip:a.b:1",
         b"sip:a.b;transport=tls",
         b"sips:a.b:1;transport=tls",
-    ] {
-        assert_eq!(rt; ask_the_same(rt.alloc(), one, uri), Some(false));
-    }
+    ];
+    ask_as(&rt, rt.alloc(), one, &others, false);
 }
 
 #[test]
 fn parsing_ignores_case(rt: HostRuntime) {
     let lower = b"sip:server1.example.com:5070;transport=tcp".as_slice();
-    for uri in [
+    let uris = [
         b"SIP:server1.example.com:5070;transport=tcp".as_slice(),
         b"sip:SERVER1.EXAMPLE.COM:5070;TRANSPORT=TCP",
         b"sIp:Server1.eXample.Com:5070;Transport=Tcp",
-    ] {
-        assert_eq!(rt; ask_the_same(rt.alloc(), lower, uri), Some(true));
-    }
+    ];
+    ask_as(&rt, rt.alloc(), lower, &uris, true);
 }
 
 #[test]

@@ -1,6 +1,12 @@
 // The URIs of the torture test messages of RFC 4475.
 use super::*;
 
+fn ask_for_names_of(rt: &impl Abort, alloc: Global, rows: &[(&str, &[u8], &[u8])]) {
+    for (section, uri, name) in rows {
+        assert!(rt; asks_for_name(alloc, uri, name), "RFC 4475, {section}");
+    }
+}
+
 #[test]
 fn rfc_4475_uris_name_their_hosts(rt: HostRuntime) {
     let rows: [(&str, &[u8], &[u8]); 16] = [
@@ -69,8 +75,12 @@ fn rfc_4475_uris_name_their_hosts(rt: HostRuntime) {
             b"example.com.",
         ),
     ];
-    for (section, uri, name) in rows {
-        assert!(rt; asks_for_name(rt.alloc(), uri, name), "RFC 4475, {section}");
+    ask_for_names_of(&rt, rt.alloc(), &rows);
+}
+
+fn have_code_of(rt: &impl Abort, alloc: Global, rows: &[(&str, &[u8], &str)]) {
+    for (section, uri, code) in rows {
+        assert_eq!(rt; code_of(alloc, uri), *code, "RFC 4475, {section}");
     }
 }
 
@@ -83,9 +93,7 @@ fn rfc_4475_texts_that_are_not_uris(rt: HostRuntime) {
         ("3.3.2", b"nobodyKnowsThisScheme:totallyopaquecontent", "U1"),
         ("3.3.3", b"soap.beep://192.0.2.103:3002", "U1"),
     ];
-    for (section, uri, code) in rows {
-        assert_eq!(rt; code_of(rt.alloc(), uri), code, "RFC 4475, {section}");
-    }
+    have_code_of(&rt, rt.alloc(), &rows);
 }
 
 // RFC 4475, 3.1.1.7: long values.

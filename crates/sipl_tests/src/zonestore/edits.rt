@@ -2,6 +2,7 @@
 use super::{A, EMPTY, Edit, Step, play, play_new};
 use sipl_records::Kind;
 use sipl_zonestore::{MAX_RECORDS, StoreFault};
+use std::process::Abort;
 
 #[test]
 fn records_and_apexes_are_in_order_of_addition(rt: HostRuntime) {
@@ -205,9 +206,15 @@ fn an_unloaded_zone_is_gone(rt: HostRuntime) {
     );
 }
 
+fn has_code_each(rt: &impl Abort, rows: &[(StoreFault, &str)]) {
+    for (fault, code) in rows {
+        assert_eq!(rt; fault.code(), *code);
+    }
+}
+
 #[test]
 fn faults_have_codes(rt: HostRuntime) {
-    for (fault, code) in [
+    let rows = [
         (StoreFault::Overlap, "S1"),
         (StoreFault::NoZone, "S2"),
         (StoreFault::Duplicate, "S3"),
@@ -217,7 +224,6 @@ fn faults_have_codes(rt: HostRuntime) {
         (StoreFault::StoreFull, "S7"),
         (StoreFault::NumberSpent, "S8"),
         (StoreFault::Memory, "Memory"),
-    ] {
-        assert_eq!(rt; fault.code(), code);
-    }
+    ];
+    has_code_each(&rt, &rows);
 }

@@ -3,7 +3,6 @@ use sipl_lines::{Settings, SettingsFault};
 use std::alloc::Global;
 use std::net::{Ipv4Addr, SocketAddrV4};
 use std::process::Abort;
-use std::test::Fail;
 
 // The settings of a text, which has no fault.
 fn read(rt: &impl Abort, alloc: Global, text: &str) -> Settings {
@@ -22,23 +21,67 @@ fn has_fault(alloc: Global, text: &str, code: &str, key: &str) -> bool {
     fault.code() == code && at == key
 }
 
+// That the text has a fault with this code and this key.
+fn refuses(rt: &impl Abort, alloc: Global, text: &str, code: &str, key: &str) {
+    assert!(rt; has_fault(alloc, text, code, key), "at {text}");
+}
+
+// That the texts have faults with one code, and these keys.
+fn refuses_keys(rt: &impl Abort, alloc: Global, code: &str, rows: &[(&str, &str)]) {
+    for (text, key) in rows {
+        refuses(rt, alloc, text, code, key);
+    }
+}
+
+// That the texts have faults with one code and one key.
+fn refuses_texts(rt: &impl Abort, alloc: Global, code: &str, key: &str, texts: &[&str]) {
+    for text in texts {
+        refuses(rt, alloc, text, code, key);
+    }
+}
+
+fn has_client(rt: &impl Abort, settings: &Settings, transports: &[Transport], families: Families) {
+    assert_eq!(rt; settings.abilities.preference(), transports);
+    assert_eq!(rt; settings.abilities.families(), families);
+}
+
+// The numbers of records, entries, events, holds, tries, workers and sessions.
+fn has_numbers(rt: &impl Abort, settings: &Settings, numbers: [usize; 7]) {
+    let found = [
+        settings.records,
+        settings.entries,
+        settings.journal,
+        settings.holds,
+        settings.tries,
+        settings.workers,
+        settings.sessions,
+    ];
+    assert_eq!(rt; found, numbers);
+}
+
+fn listens_at(rt: &impl Abort, settings: &Settings, ip: [u8; 4], port: u16) {
+    let want = SocketAddrV4::new(Ipv4Addr::from_octets(ip), port);
+    assert_eq!(rt; settings.listen, want);
+}
+
+fn has_defaults(rt: &impl Abort, alloc: Global, text: &str) {
+    let settings = read(rt, alloc, text);
+    let numbers = [1_048_576, 65_536, 1_048_576, 4096, 4, 1, 1];
+    has_client(
+        rt,
+        &settings,
+        &[Transport::Udp, Transport::Tcp],
+        Families::V4,
+    );
+    has_numbers(rt, &settings, numbers);
+    listens_at(rt, &settings, [127, 0, 0, 1], 5099);
+}
+
 #[test]
 fn an_empty_text_has_the_defaults(rt: HostRuntime) {
-    for text in ["", "\n", " # nothing\r\n"] {
-        let settings = read(&rt, rt.alloc(), text);
-        let transports = [Transport::Udp, Transport::Tcp];
-        assert_eq!(rt; settings.abilities.preference(), transports.as_slice());
-        assert_eq!(rt; settings.abilities.families(), Families::V4);
-        assert_eq!(rt; settings.records, 1_048_576);
-        assert_eq!(rt; settings.entries, 65_536);
-        assert_eq!(rt; settings.journal, 1_048_576);
-        assert_eq!(rt; settings.holds, 4096);
-        assert_eq!(rt; settings.tries, 4);
-        assert_eq!(rt; settings.workers, 1);
-        assert_eq!(rt; settings.sessions, 1);
-        let listen = SocketAddrV4::new(Ipv4Addr::LOCALHOST, 5099);
-        assert_eq!(rt; settings.listen, listen);
-    }
+    has_defaults(&rt, rt.alloc(), "");
+    has_defaults(&rt, rt.alloc(), "\n");
+    has_defaults(&rt, rt.alloc(), " # nothing\r\n");
 }
 
 #[test]
@@ -48,31 +91,27 @@ fn each_key_sets_its_field(rt: HostRuntime) {
         entries = 7\n";
     let settings = read(&rt, rt.alloc(), text);
     let transports = [Transport::Tls, Transport::Sctp];
-    assert_eq!(rt; settings.abilities.preference(), transports.as_slice());
-    assert_eq!(rt; settings.abilities.families(), Families::V6);
-    assert_eq!(rt; settings.records, 3);
-    assert_eq!(rt; settings.entries, 7);
-    assert_eq!(rt; settings.journal, 5);
-    assert_eq!(rt; settings.holds, 6);
-    assert_eq!(rt; settings.tries, 16);
-    assert_eq!(rt; settings.workers, 0);
-    assert_eq!(rt; settings.sessions, 2);
-    let listen = SocketAddrV4::new(Ipv4Addr::new(127, 1, 2, 3), 4);
-    assert_eq!(rt; settings.listen, listen);
+    has_client(&rt, &settings, &transports, Families::V6);
+    has_numbers(&rt, &settings, [3, 7, 5, 6, 16, 0, 2]);
+    listens_at(&rt, &settings, [127, 1, 2, 3], 4);
+}
+
+fn accepts_each(rt: &impl Abort, alloc: Global, texts: &[&str]) {
+    for text in texts {
+        read(rt, alloc, text);
+    }
 }
 
 #[test]
 fn numbers_have_limits(rt: HostRuntime) {
-    let alloc = rt.alloc();
-    for text in [
+    let texts = [
         "records = 0\nentries = 0\njournal = 1\nholds = 0\ntries = 1\nworkers = 0\nsessions = 1",
         "records = 1048576\nentries = 65536\njournal = 1048576\nholds = 4096",
         "tries = 16\nworkers = 64\nsessions = 1000000",
         "records = 1_000\nentries = 0x10\njournal = +1\nholds = -0\n\"tries\" = 0b1",
-    ] {
-        read(&rt, alloc, text);
-    }
-    for (text, key) in [
+    ];
+    accepts_each(&rt, rt.alloc(), &texts);
+    let rows = [
         ("records = -1", "records"),
         ("records = 1048577", "records"),
         ("entries = -1", "entries"),
@@ -89,15 +128,13 @@ fn numbers_have_limits(rt: HostRuntime) {
         ("sessions = 1000001", "sessions"),
         ("sessions = 9223372036854775807", "sessions"),
         ("sessions = -9223372036854775808", "sessions"),
-    ] {
-        assert!(rt; has_fault(alloc, text, "G3", key), "at {text}");
-    }
+    ];
+    refuses_keys(&rt, rt.alloc(), "G3", &rows);
 }
 
 #[test]
 fn values_of_other_types_are_bad(rt: HostRuntime) {
-    let alloc = rt.alloc();
-    for (text, key) in [
+    let rows = [
         ("tries = 4.0", "tries"),
         ("tries = \"4\"", "tries"),
         ("tries = true", "tries"),
@@ -114,30 +151,36 @@ fn values_of_other_types_are_bad(rt: HostRuntime) {
         ("transports = {}", "transports"),
         ("transports = [[\"udp\"]]", "transports"),
         ("transports = [\"udp\", 1]", "transports"),
-    ] {
-        assert!(rt; has_fault(alloc, text, "G3", key), "at {text}");
-    }
+    ];
+    refuses_keys(&rt, rt.alloc(), "G3", &rows);
+}
+
+// That a text sets these transports and families.
+fn reads_client(
+    rt: &impl Abort,
+    alloc: Global,
+    text: &str,
+    transports: &[Transport],
+    families: Families,
+) {
+    let settings = read(rt, alloc, text);
+    has_client(rt, &settings, transports, families);
 }
 
 #[test]
 fn transports_are_listed_once_each(rt: HostRuntime) {
-    let alloc = rt.alloc();
-    let all = read(
-        &rt,
-        alloc,
-        "transports = [\"sctp\", \"tls\", \"tcp\", \"udp\",]",
-    );
-    let want = [
+    let all = [
         Transport::Sctp,
         Transport::Tls,
         Transport::Tcp,
         Transport::Udp,
     ];
-    assert_eq!(rt; all.abilities.preference(), want.as_slice());
-    let one = read(&rt, alloc, "transports = [\"udp\"]\nfamilies = \"v6v4\"");
-    assert_eq!(rt; one.abilities.preference(), [Transport::Udp].as_slice());
-    assert_eq!(rt; one.abilities.families(), Families::V6ThenV4);
-    for text in [
+    let text = "transports = [\"sctp\", \"tls\", \"tcp\", \"udp\",]";
+    reads_client(&rt, rt.alloc(), text, &all, Families::V4);
+    let one = [Transport::Udp];
+    let text = "transports = [\"udp\"]\nfamilies = \"v6v4\"";
+    reads_client(&rt, rt.alloc(), text, &one, Families::V6ThenV4);
+    let texts = [
         "transports = []",
         "transports = [\"udp\", \"udp\"]",
         "transports = [\"udp\", \"tcp\", \"tls\", \"sctp\", \"tcp\"]",
@@ -145,51 +188,49 @@ fn transports_are_listed_once_each(rt: HostRuntime) {
         "transports = [\"ws\"]",
         "transports = [\"udp \"]",
         "transports = [\"\"]",
-    ] {
-        assert!(rt; has_fault(alloc, text, "G3", "transports"), "at {text}");
+    ];
+    refuses_texts(&rt, rt.alloc(), "G3", "transports", &texts);
+}
+
+fn reads_families(rt: &impl Abort, alloc: Global, rows: &[(&str, Families)]) {
+    for (text, want) in rows {
+        reads_client(rt, alloc, text, &[Transport::Udp, Transport::Tcp], *want);
     }
 }
 
 #[test]
 fn families_are_four_words(rt: HostRuntime) {
-    let alloc = rt.alloc();
-    for (text, want) in [
+    let rows = [
         ("families = \"v4\"", Families::V4),
         ("families = 'v6'", Families::V6),
         ("families = \"v4v6\"", Families::V4ThenV6),
         ("families = \"v6v4\"", Families::V6ThenV4),
-    ] {
-        let settings = read(&rt, alloc, text);
-        assert_eq!(rt; settings.abilities.families(), want, "at {text}");
-    }
-    for text in [
+    ];
+    reads_families(&rt, rt.alloc(), &rows);
+    let texts = [
         "families = \"V4\"",
         "families = \"v4V6\"",
         "families = \"v4v4\"",
         "families = \"v4 v6\"",
         "families = \"\"",
-    ] {
-        assert!(rt; has_fault(alloc, text, "G3", "families"), "at {text}");
-    }
+    ];
+    refuses_texts(&rt, rt.alloc(), "G3", "families", &texts);
+}
+
+fn reads_listen(rt: &impl Abort, alloc: Global, text: &str, ip: [u8; 4], port: u16) {
+    let settings = read(rt, alloc, text);
+    listens_at(rt, &settings, ip, port);
 }
 
 #[test]
 fn listen_is_a_loopback_address_and_a_port(rt: HostRuntime) {
     let alloc = rt.alloc();
-    for (text, ip, port) in [
-        ("listen = \"127.0.0.0:1\"", [127, 0, 0, 0], 1),
-        (
-            "listen = \"127.255.255.255:65535\"",
-            [127, 255, 255, 255],
-            65_535,
-        ),
-        ("listen = \"127.000.000.001:00080\"", [127, 0, 0, 1], 80),
-    ] {
-        let want = SocketAddrV4::new(Ipv4Addr::from_octets(ip), port);
-        let settings = read(&rt, alloc, text);
-        assert_eq!(rt; settings.listen, want, "at {text}");
-    }
-    for text in [
+    reads_listen(&rt, alloc, "listen = \"127.0.0.0:1\"", [127, 0, 0, 0], 1);
+    let text = "listen = \"127.255.255.255:65535\"";
+    reads_listen(&rt, alloc, text, [127, 255, 255, 255], 65_535);
+    let text = "listen = \"127.000.000.001:00080\"";
+    reads_listen(&rt, alloc, text, [127, 0, 0, 1], 80);
+    let texts = [
         "listen = \"126.255.255.255:5099\"",
         "listen = \"128.0.0.0:5099\"",
         "listen = \"0.0.0.0:5099\"",
@@ -207,15 +248,13 @@ fn listen_is_a_loopback_address_and_a_port(rt: HostRuntime) {
         "listen = \"localhost:80\"",
         "listen = \"[::1]:80\"",
         "listen = \"::ffff:127.0.0.1:80\"",
-    ] {
-        assert!(rt; has_fault(alloc, text, "G3", "listen"), "at {text}");
-    }
+    ];
+    refuses_texts(&rt, rt.alloc(), "G3", "listen", &texts);
 }
 
 #[test]
 fn other_texts_are_no_toml(rt: HostRuntime) {
-    let alloc = rt.alloc();
-    for text in [
+    let texts = [
         "[",
         "]",
         "tries",
@@ -226,15 +265,13 @@ fn other_texts_are_no_toml(rt: HostRuntime) {
         "tries = 04",
         "transports = [\"udp\"",
         "x = 1\n[",
-    ] {
-        assert!(rt; has_fault(alloc, text, "G1", ""), "at {text}");
-    }
+    ];
+    refuses_texts(&rt, rt.alloc(), "G1", "", &texts);
 }
 
 #[test]
 fn unknown_keys_are_refused(rt: HostRuntime) {
-    let alloc = rt.alloc();
-    for (text, key) in [
+    let rows = [
         ("x = 1", "x"),
         ("Tries = 4", "Tries"),
         ("try = 4", "try"),
@@ -245,15 +282,19 @@ fn unknown_keys_are_refused(rt: HostRuntime) {
         ("\"a.tries\" = 4", "a.tries"),
         ("[program]\ntries = 4", "program"),
         ("\"\\u00e9\" = 4", "\u{e9}"),
-    ] {
-        assert!(rt; has_fault(alloc, text, "G2", key), "at {text}");
+    ];
+    refuses_keys(&rt, rt.alloc(), "G2", &rows);
+}
+
+fn refuses_each(rt: &impl Abort, alloc: Global, rows: &[(&str, &str, &str)]) {
+    for (text, code, key) in rows {
+        refuses(rt, alloc, text, code, key);
     }
 }
 
 #[test]
 fn the_first_fault_is_that_of_the_first_key_by_octets(rt: HostRuntime) {
-    let alloc = rt.alloc();
-    for (text, code, key) in [
+    let rows = [
         ("zzz = 1\ntries = 0", "G3", "tries"),
         ("tries = 0\nzzz = 1", "G3", "tries"),
         ("tries = 4\nzzz = 1", "G2", "zzz"),
@@ -265,7 +306,6 @@ fn the_first_fault_is_that_of_the_first_key_by_octets(rt: HostRuntime) {
         ("\"\" = 1\nentries = -1", "G2", ""),
         ("\"\\u00e9\" = 1\nzzz = 1", "G2", "zzz"),
         ("tries = 0\n[table]\nentries = -1", "G2", "table"),
-    ] {
-        assert!(rt; has_fault(alloc, text, code, key), "at {text}");
-    }
+    ];
+    refuses_each(&rt, rt.alloc(), &rows);
 }

@@ -5,6 +5,7 @@ use sipl_lines::{Ended, MAX_READS, ServeFault, Tapped, serve, serve_within};
 use std::alloc::{AllocError, Global};
 use std::io;
 use std::io::{ErrorKind, Read, Write};
+use std::process::Abort;
 use std::test::Fail;
 
 // The example of RFC 3263, 4.1 and 4.2, as lines of a session.
@@ -137,6 +138,14 @@ pub fn push_octets(text: &mut Vec<u8>, octet: u8, count: usize) -> Result<(), Al
 // Whether a new session at a new book writes this for an input.
 pub fn has_replies(alloc: Global, input: &[u8], want: &[u8]) -> Result<bool, Fail> {
     Ok(replies(alloc, input)?.as_slice() == want)
+}
+
+// That new sessions at new books write these texts for these inputs.
+pub fn replies_each(rt: &impl Abort, alloc: Global, rows: &[(&[u8], &[u8])]) -> Result<(), Fail> {
+    for (input, want) in rows {
+        assert!(rt; has_replies(alloc, input, want)?);
+    }
+    Ok(())
 }
 
 // What a new session at a book writes for an input.

@@ -1,7 +1,10 @@
 // Zones whose text is in lines of the session.
-use super::streams::{Paper, Pieces, has_replies, push_octets, replies_after_fault, served_anew};
+use super::streams::{
+    Paper, Pieces, has_replies, push_octets, replies_after_fault, replies_each, served_anew,
+};
 use sipl_lines::{Ended, MAX_LINE_LEN};
 use std::alloc::{AllocError, Global};
+use std::process::Abort;
 use std::test::Fail;
 
 #[test]
@@ -13,16 +16,14 @@ fn lines_of_a_zone_lose_their_cr(rt: HostRuntime) -> Result<(), Fail> {
 
 #[test]
 fn the_end_of_the_input_ends_a_zone(rt: HostRuntime) -> Result<(), Fail> {
-    for (input, want) in [
+    let rows = [
         (b"zone e. 1".as_slice(), b"ok zone 0 0 0 0\n".as_slice()),
         (b"zone e. 3\n;\n;", b"ok zone 0 0 0 0\n"),
         (b"zone e. 3\n;\nquit", b"err zone 2 Z2\n"),
         (b"zone e. 1\n\r", b"ok zone 0 0 0 0\n"),
         (b"zone a. 0\nzone b.a. 2", b"ok zone 0 0 0 0\nerr S1\n"),
-    ] {
-        assert!(rt; has_replies(rt.alloc(), input, want)?);
-    }
-    Ok(())
+    ];
+    replies_each(&rt, rt.alloc(), &rows)
 }
 
 // A text, a line that ends with so many octets, and a text.
@@ -38,9 +39,25 @@ fn with_long_line(
     Ok(text)
 }
 
+// A text, the length of the line after it, the text after that, and the replies.
+type LongZone = (&'static str, usize, &'static str, &'static str);
+
+fn has_long_replies(alloc: Global, row: &LongZone) -> Result<bool, Fail> {
+    let (head, length, tail, want) = row;
+    let input = with_long_line(alloc, head, *length, tail)?;
+    has_replies(alloc, &input, want.as_bytes())
+}
+
+fn long_replies_each(rt: &impl Abort, alloc: Global, rows: &[LongZone]) -> Result<(), Fail> {
+    for row in rows {
+        assert!(rt; has_long_replies(alloc, row)?);
+    }
+    Ok(())
+}
+
 #[test]
 fn the_first_refusal_of_a_zone_is_reported(rt: HostRuntime) -> Result<(), Fail> {
-    for (head, length, tail, want) in [
+    let rows = [
         (
             "zone e. 2\n)\n",
             MAX_LINE_LEN + 1,
@@ -61,11 +78,8 @@ fn the_first_refusal_of_a_zone_is_reported(rt: HostRuntime) -> Result<(), Fail> 
         ),
         ("zone e. 2\n;\n;", MAX_LINE_LEN, "", "err K2\n"),
         ("zone e. 1048577\n#", 1, "\nfind x\n", "err K1\nerr U1\n"),
-    ] {
-        let input = with_long_line(rt.alloc(), head, length, tail)?;
-        assert!(rt; has_replies(rt.alloc(), &input, want.as_bytes())?);
-    }
-    Ok(())
+    ];
+    long_replies_each(&rt, rt.alloc(), &rows)
 }
 
 // A zone of the greatest number of lines, and a command after it.
@@ -76,30 +90,41 @@ fn full_zone(alloc: Global) -> Result<Vec<u8>, AllocError> {
     Ok(text)
 }
 
+fn reads_full_zone(alloc: Global) -> Result<bool, Fail> {
+    let input = full_zone(alloc)?;
+    has_replies(alloc, &input, b"ok zone 0 0 0 0\nerr U1\n")
+}
+
 #[test]
 fn a_zone_has_at_most_2_to_the_20_lines(rt: HostRuntime) -> Result<(), Fail> {
-    let input = full_zone(rt.alloc())?;
-    assert!(rt; has_replies(rt.alloc(), &input, b"ok zone 0 0 0 0\nerr U1\n")?);
+    assert!(rt; reads_full_zone(rt.alloc())?);
     Ok(())
+}
+
+// Whether a session that is read in pieces of this length ends with its input, and has its replies.
+fn reads_in_pieces(alloc: Global, most: usize) -> Result<bool, Fail> {
+    let input = b"find x\nzone e. 3\n;a\r\n\n; quit\nfind x\nzone e. 2\nquit";
+    let want = b"err U1\nok zone 0 0 0 0\nerr U1\nerr zone 1 Z2\n".as_slice();
+    let served = served_anew(alloc, Pieces::new(input, most, 0), Paper::blank(alloc))?;
+    Ok(served.ended == Ok(Ended::EndOfInput) && served.text.as_slice() == want)
 }
 
 #[test]
 fn a_zone_does_not_depend_on_the_sizes_of_reads(rt: HostRuntime) -> Result<(), Fail> {
-    let alloc = rt.alloc();
-    let input = b"find x\nzone e. 3\n;a\r\n\n; quit\nfind x\nzone e. 2\nquit";
-    let want = b"err U1\nok zone 0 0 0 0\nerr U1\nerr zone 1 Z2\n";
     for most in 1..40 {
-        let served = served_anew(alloc, Pieces::new(input, most, 0), Paper::blank(alloc))?;
-        assert!(rt; served.ended == Ok(Ended::EndOfInput));
-        assert!(rt; served.text.as_slice() == want.as_slice());
+        assert!(rt; reads_in_pieces(rt.alloc(), most)?, "in pieces of {most}");
     }
     Ok(())
 }
 
+fn loads_no_part(alloc: Global) -> Result<bool, Fail> {
+    let reader = Pieces::new(b"zone e. 3\n@ A 192.0.2.1\n", 24, 2);
+    let text = replies_after_fault(alloc, reader, b"find sip:e:7\n")?;
+    Ok(text.as_deref() == Some(b"none NoAddress\n".as_slice()))
+}
+
 #[test]
 fn a_failing_read_loads_no_part_of_a_zone(rt: HostRuntime) -> Result<(), Fail> {
-    let reader = Pieces::new(b"zone e. 3\n@ A 192.0.2.1\n", 24, 2);
-    let text = replies_after_fault(rt.alloc(), reader, b"find sip:e:7\n")?;
-    assert!(rt; text.as_deref() == Some(b"none NoAddress\n".as_slice()));
+    assert!(rt; loads_no_part(rt.alloc())?);
     Ok(())
 }
