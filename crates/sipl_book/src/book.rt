@@ -156,6 +156,13 @@ impl Book {
         Ok(record_event(&mut self.journal, Event::Advance(to)))
     }
 
+    /// The number of the key's set, 0 where it is empty. Counts no look. Does not allocate.
+    pub fn number(&self, key: &Key) -> u64
+        ensures { result ≡ number_in self.now.store key.now }
+    {
+        self.store.number(key)
+    }
+
     /// A copy of the key's set, with its number: 0 and no data where it is empty. Counts one look,
     /// also where an allocation fails, which is the only error.
     pub fn read(&mut self, key: &Key) -> Result<(u64, Sequence<Data>), AllocError>

@@ -1,4 +1,5 @@
-ghost use Rattle.std.specs.Prelude.{◌≡◌, true, [], ◌∷◌};
+ghost use Rattle.std.specs.Prelude.{◌≡◌, true, [], ◌∷◌, IfOk};
+ghost use Rattle.std.specs.Arc.{arc_value};
 ghost use Rattle.sipl_plans.specs.Findings.{IsSound};
 ghost use Rattle.sipl_plans.specs.Servers.{HasFewServers};
 ghost use Rattle.sipl_book.specs.Entries.{after_change, depends_on};
@@ -8,7 +9,9 @@ use sipl_evidence::Evidence;
 use sipl_plans::{Finding, Layout};
 use sipl_records::Key;
 use sipl_uri::Question;
+use std::alloc::AllocError;
 use std::marker::Model;
+use std::sync::Arc;
 
 /// What a book keeps of a question: its route, and the record sets that decide it. It is
 /// current while none of these sets has changed.
@@ -114,5 +117,13 @@ impl Entry {
         ensures sound { IsSound self.now.found }
     {
         self.finding.evidence()
+    }
+
+    /// The record sets that the route looks at, in the order of reading. They are shared with the
+    /// entry: constant time. Does not allocate: the only error is that 2^63 others share them.
+    pub fn share_evidence(&self) -> Result<Arc<Evidence>, AllocError>
+        ensures { IfOk result (λ shared. arc_value shared ≡ self.now.found.items) }
+    {
+        self.finding.share_evidence()
     }
 }

@@ -37,7 +37,8 @@ impl Book {
     pub fn deps(&mut self, question: Question) -> Result<Evidence, BookFault>
         ensures { AreDependencies question self.old self.new result }
     {
-        Ok(self.locate(question)?.into_evidence())
+        let finding = self.locate(question)?;
+        Ok(finding.evidence().dup(self.alloc())?)
     }
 
     /// Looks the queued entries up again, each once, with a look at each set that their routes read.

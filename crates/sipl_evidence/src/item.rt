@@ -68,6 +68,14 @@ impl Item {
         self.content.as_slice()
     }
 
+    /// The data of the set, in their order.
+    pub fn into_content(self) -> Sequence<Data>
+        ensures content { result ≡ self.content }
+        ensures valid { IsItem self }
+    {
+        self.content
+    }
+
     /// A copy of the item.
     pub fn dup(&self, alloc: Global) -> Result<Self, AllocError>
         ensures { IfOk result (λ copy. copy ≡ self.now) }

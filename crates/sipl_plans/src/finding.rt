@@ -1,4 +1,5 @@
 ghost use Rattle.std.specs.Prelude.{◌≡◌, ◌≤◌, List, length, IfOk};
+ghost use Rattle.std.specs.Arc.{arc_value};
 ghost use Rattle.sipl_records.specs.Sets.{set_of};
 ghost use Rattle.sipl_records.specs.declared.record.Record.{Record};
 ghost use Rattle.sipl_evidence.specs.Known.{Agrees};
@@ -12,6 +13,7 @@ use sipl_evidence::Evidence;
 use sipl_uri::Question;
 use std::alloc::{AllocError, Global};
 use std::marker::Model;
+use std::sync::Arc;
 
 /// The route of a question for a client (RFC 3263, 4), and the evidence for it: on all records that
 /// agree with the evidence the route is the layout, and looks at the evidence's keys, in their
@@ -21,7 +23,7 @@ pub struct Finding {
     question: Question,
     abilities: Abilities,
     layout: Layout,
-    evidence: Evidence,
+    evidence: Arc<Evidence>,
 }
 
 impl Model for Finding {
@@ -42,19 +44,19 @@ impl Finding {
         question: Question,
         abilities: Abilities,
         layout: Layout,
-        evidence: Evidence,
+        evidence: Arc<Evidence>,
     ) -> Self
         requires sound { IsSound (record {
           question = question;
           client = abilities;
           layout = layout;
-          items = evidence;
+          items = arc_value evidence;
         }) }
         ensures { result ≡ record {
           question = question;
           client = abilities;
           layout = layout;
-          items = evidence;
+          items = arc_value evidence;
         } }
     {
         Finding {
@@ -98,14 +100,15 @@ impl Finding {
         &self.evidence
     }
 
-    /// The record sets that the route looks at, in the order of reading: at most 1,156.
-    pub fn into_evidence(self) -> Evidence
-        ensures { result ≡ self.items }
+    /// The record sets that the route looks at, in the order of reading. They are shared with the
+    /// finding: constant time. Does not allocate: the only error is that 2^63 others share them.
+    pub fn share_evidence(&self) -> Result<Arc<Evidence>, AllocError>
+        ensures { IfOk result (λ shared. arc_value shared ≡ self.now.items) }
     {
-        self.evidence
+        Arc::try_clone(&self.evidence)
     }
 
-    /// A copy. The only error is an allocation failure.
+    /// A copy, which shares the evidence. The only error is an allocation failure.
     pub fn dup(&self, alloc: Global) -> Result<Self, AllocError>
         ensures { IfOk result (λ copy. copy ≡ self.now) }
     {
@@ -113,7 +116,7 @@ impl Finding {
             question: self.question.dup(alloc)?,
             abilities: self.abilities.dup(alloc)?,
             layout: self.layout.dup(alloc)?,
-            evidence: self.evidence.dup(alloc)?,
+            evidence: self.share_evidence()?,
         })
     }
 }

@@ -18,6 +18,7 @@ use sipl_records::{Data, Key, Sequence};
 use sipl_uri::Question;
 use std::alloc::{AllocError, Global};
 use std::marker::Model;
+use std::sync::Arc;
 use std::{fmt, mem};
 use thiserror::Error;
 
@@ -30,7 +31,8 @@ pub const MAX_SETS: usize = 1156;
 pub struct Run {
     question: Question,
     abilities: Abilities,
-    evidence: Evidence,
+    // No one else has it, so that it can grow.
+    evidence: Arc<Evidence>,
     progress: Progress,
 }
 
@@ -56,7 +58,7 @@ impl Run {
         ensures { IfOk result (λ run. run
             ≡ record { question = question; client = abilities.now; items = [] }) }
     {
-        let evidence = Evidence::new(alloc);
+        let evidence = Arc::new(alloc, Evidence::new(alloc))?;
         let abilities = abilities.dup(alloc)?;
         let progress = advance(alloc, &question, &abilities, &evidence, Stage::Start)?;
         Ok(Run {
@@ -95,29 +97,26 @@ impl Run {
         ensures ok { OnOk result (IsGiven self.old self.new number content) }
         ensures err { OnErr result (self.new ≡ self.old) }
     {
+        let Some(evidence) = Arc::get_mut(&mut self.evidence) else {
+            return Err(AllocError);
+        };
         // Each way out puts a progress in this one's place.
         let none = Progress::Done(Layout::Refused(Reason::NoAddress));
         let Progress::Wanting(key, stage) = mem::replace(&mut self.progress, none) else {
             unreachable!()
         };
         let item = Item::new(key, number, content);
-        if let Err(refused) = self.evidence.push(item) {
+        if let Err(refused) = evidence.push(item) {
             self.progress = Progress::Wanting(refused.item.into_key(), stage);
             return Err(AllocError);
         }
-        match advance(
-            alloc,
-            &self.question,
-            &self.abilities,
-            &self.evidence,
-            stage,
-        ) {
+        match advance(alloc, &self.question, &self.abilities, evidence, stage) {
             Ok(progress) => {
                 self.progress = progress;
                 Ok(())
             }
             Err(error) => {
-                let item = self.evidence.pop().unwrap();
+                let item = evidence.pop().unwrap();
                 self.progress = Progress::Wanting(item.into_key(), Stage::Start);
                 Err(error)
             }

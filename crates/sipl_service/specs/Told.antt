@@ -1,4 +1,5 @@
 -- How the fields of a `Told` represent what a caller is told.
+use Rattle.std.specs.Arc.{arc_value}
 use Rattle.sipl_service.specs.Telling.{IsDecided, ToldState}
 use Rattle.sipl_service.specs.declared.told.Told.TheInside.{Inside}
 
@@ -11,7 +12,7 @@ told_of t =
       client = t.abilities;
       words = t.draws;
       answer = t.answer;
-      items = t.evidence;
+      items = arc_value t.evidence;
       board = t.holds;
     }
 

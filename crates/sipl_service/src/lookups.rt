@@ -9,6 +9,7 @@ ghost use Rattle.sipl_service.specs.Telling.{AreDependencies, IsToldFor, event_o
 use crate::asked::Asked;
 use crate::fault::ServiceFault;
 use crate::gate::{Gate, Go, OpenGate, Who};
+use crate::marks::Mark;
 use crate::pass::Pass;
 use crate::service::Service;
 use crate::steps;
@@ -110,7 +111,7 @@ impl Service {
         pass.reserve()?;
         let asked = Asked::of(self.alloc, finding.question(), &self.abilities, draws)?;
         let copy = finding.question().dup(self.alloc)?;
-        let evidence = finding.evidence().dup(self.alloc)?;
+        let evidence = finding.share_evidence()?;
         let mut shared = self.shared.lock(rt);
         if shared.is_stopped {
             return Err(ServiceFault::Stopped);
@@ -152,8 +153,32 @@ impl Service {
         Ok(run.finish().ok().unwrap())
     }
 
-    // A copy of a key's set as it is, with its number.
+    // A copy of a key's set as it is, with its number. It is that of a version, which is copied with
+    // no lock held, but where there is none of this key and number.
     fn read<R: Wait>(&self, rt: &R, key: &Key) -> Result<(u64, Sequence<Data>), ServiceFault>
+        ensures { IfOk result (λ read. IsSet key.now read.0 read.1) }
+    {
+        let Some(mark) = self.mark(rt, key)? else {
+            return Ok((0, Sequence::from_vec(Vec::new(self.alloc))));
+        };
+        match self
+            .versions
+            .item(self.alloc, mark.place, key, mark.number)?
+        {
+            Some(item) => Ok((item.number(), item.into_content())),
+            None => self.read_locked(rt, key),
+        }
+    }
+
+    // Where the version of a key's set as it is now is; `None` where the set is empty.
+    fn mark<R: Wait>(&self, rt: &R, key: &Key) -> Result<Option<Mark>, ServiceFault> {
+        let mut shared = self.shared.lock(rt);
+        shared.check(&self.abilities)?;
+        Ok(shared.mark(rt, &self.versions, key)?)
+    }
+
+    // A copy of a key's set as it is, with its number, made under the lock.
+    fn read_locked<R: Wait>(&self, rt: &R, key: &Key) -> Result<(u64, Sequence<Data>), ServiceFault>
         ensures { IfOk result (λ read. IsSet key.now read.0 read.1) }
     {
         let mut shared = self.shared.lock(rt);
@@ -171,6 +196,6 @@ impl Service {
     {
         self.shared.lock(rt).check(&self.abilities)?;
         let finding = self.locate(rt, Who::Caller, question, &OpenGate)?;
-        Ok(finding.into_evidence())
+        Ok(finding.evidence().dup(self.alloc)?)
     }
 }

@@ -4,10 +4,13 @@ ghost use Rattle.sipl_service.specs.Passes.{GetsReceipt};
 
 use crate::claims::Closing;
 use crate::fault::ServiceFault;
+use crate::marks::{Mark, Marks};
 use crate::pass::Pass;
 use crate::steps;
+use crate::versions::Versions;
 use sipl_book::{Book, Done, Edit, Event, Limits};
 use sipl_choice::{Abilities, Endpoint};
+use sipl_records::Key;
 use std::alloc::{AllocError, Global};
 use std::marker::Model;
 use std::sync::{Condvar, Mutex, Wait};
@@ -19,6 +22,8 @@ pub const MAX_TRIES: u64 = 16;
 #[derive(Drop)]
 pub(crate) struct Shared {
     pub book: Book,
+    // Where the versions of the book's sets are.
+    pub marks: Marks,
     pub is_stopped: bool,
 }
 
@@ -32,6 +37,26 @@ impl Shared {
         }
         steps::check_client(&self.book, abilities)
     }
+
+    // The mark of a key's set; `None` where it is empty. Where no one has read it yet, its version is
+    // pushed.
+    pub fn mark<R: Wait>(
+        &mut self,
+        rt: &R,
+        versions: &Versions,
+        key: &Key,
+    ) -> Result<Option<Mark>, AllocError> {
+        self.marks.of_key(rt, &mut self.book, versions, key)
+    }
+
+    // Takes out the marks of the sets that an edit has changed: that of its record's key, or for a zone
+    // those whose number is no longer the book's.
+    fn take_out_marks(&mut self, key: Option<&Key>) {
+        match key {
+            Some(key) => self.marks.take_out(&self.book, key),
+            None => self.marks.take_out_all(&self.book),
+        }
+    }
 }
 
 /// A book that threads share (RFC 3263, 4), for one client. Contracts see the client's abilities and
@@ -42,6 +67,8 @@ pub struct Service {
     pub(crate) abilities: Abilities,
     pub(crate) tries: u64,
     pub(crate) shared: Mutex<Shared>,
+    // The record sets that were read, which callers copy with no lock held.
+    pub(crate) versions: Versions,
     // Repair workers wait here for entries to be queued, or for the end.
     pub(crate) woken: Condvar,
 }
@@ -84,8 +111,10 @@ impl Service {
             tries,
             shared: Mutex::new(Shared {
                 book,
+                marks: Marks::new(alloc),
                 is_stopped: false,
             }),
+            versions: Versions::new(alloc)?,
             woken: Condvar::new(),
         })
     }
@@ -95,6 +124,11 @@ impl Service {
         ensures { result.now ≡ self.now.client }
     {
         &self.abilities
+    }
+
+    /// The record sets that callers have read, as they were then. They are kept until `close`.
+    pub fn versions(&self) -> &Versions {
+        &self.versions
     }
 
     /// A pass for one caller, which has seen nothing. Does not allocate.
@@ -114,11 +148,15 @@ impl Service {
     {
         pass.reserve()?;
         let event = Event::Change(edit.dup(self.alloc)?);
+        let key = changed_key(self.alloc, &edit)?;
         let mut shared = self.shared.lock(rt);
         if shared.is_stopped {
             return Err(ServiceFault::Stopped);
         }
         let done = steps::change(&mut shared.book, pass, edit, event)?;
+        if done.changed > 0 {
+            shared.take_out_marks(key.as_ref());
+        }
         drop(shared);
         self.woken.notify_all();
         Ok(done)
@@ -210,6 +248,7 @@ impl Service {
                 abilities: self.abilities,
                 tries: self.tries,
                 shared: Mutex::new(shared),
+                versions: self.versions,
                 woken: Condvar::new(),
             };
             return Err((ServiceFault::OtherBook, service));
@@ -217,5 +256,14 @@ impl Service {
         Ok(Closing {
             journal: shared.book.into_journal(),
         })
+    }
+}
+
+// The key of the set that an edit of one record may change; `None` for an edit of a zone, and for a
+// record that is in no set.
+fn changed_key(alloc: Global, edit: &Edit) -> Result<Option<Key>, AllocError> {
+    match edit {
+        Edit::Add(record) | Edit::Remove(record) => record.key(alloc),
+        Edit::Load(_) | Edit::Unload(_) => Ok(None),
     }
 }

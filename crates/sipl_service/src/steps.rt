@@ -1,6 +1,7 @@
 // What a call does to the book that the lock lends it, and to the caller's pass. What was allocated
 // before the lock was taken is passed in.
 ghost use Rattle.std.specs.Prelude.{◌≡◌, ◌≢◌, ℕ, ◌+◌, ◌^◌, ◌<◌, ◌≤◌, ◌++◌, [], ◌∷◌, length, false, Some, None, Ok, IfOk, IfErr, OnOk, OnErr};
+ghost use Rattle.std.specs.Arc.{arc_value};
 ghost use Rattle.sipl_outages.specs.Holds.{BoardEvent};
 ghost use Rattle.sipl_outages.specs.Holds.BoardEvent.{Hold, Release, Advance};
 ghost use Rattle.sipl_plans.specs.Findings.{IsSound};
@@ -22,6 +23,7 @@ use sipl_evidence::Evidence;
 use sipl_plans::Finding;
 use sipl_uri::Question;
 use std::alloc::Global;
+use std::sync::Arc;
 
 // The number of the next event. L2 where the pass has seen it.
 pub(crate) fn next_number(book: &Book, pass: &Pass) -> Result<u64, ServiceFault>
@@ -190,23 +192,23 @@ fn tell_entry(alloc: Global, book: &Book, number: u64, asked: Asked) -> Result<T
     if !entry.is_current() {
         return Err(ServiceFault::Book(BookFault::NotCurrent));
     }
-    let evidence = entry.evidence().dup(alloc)?;
+    let evidence = entry.share_evidence()?;
     Ok(Told::of(alloc, number, asked, entry.layout(), evidence, book.board())?)
 }
 
 // The answer of a finding, where the sets that it read are as they were. L1 with the key of the first
-// that is not. `question` and `evidence` are copies of the finding's, for the receipt and for `Told`.
+// that is not. `question` is a copy of the finding's, for the receipt; `evidence` is shared with it.
 pub(crate) fn commit(
     alloc: Global,
     book: &mut Book,
     pass: &mut Pass,
     asked: Asked,
     question: Question,
-    evidence: Evidence,
+    evidence: Arc<Evidence>,
     finding: Finding,
 ) -> Result<Told, ServiceFault>
     requires question { question ≡ asked.question }
-    requires evidence { evidence ≡ finding.items }
+    requires evidence { arc_value evidence ≡ finding.items }
     requires asked { finding.question ≡ asked.question }
     requires client { finding.client ≡ asked.abilities }
     requires sound { IsSound finding }

@@ -1,4 +1,5 @@
 ghost use Rattle.std.specs.Prelude.{◌≡◌, IfOk};
+ghost use Rattle.std.specs.Arc.{arc_value};
 ghost use Rattle.sipl_plans.specs.Findings.{IsSound};
 ghost use Rattle.sipl_plans.specs.Plan.{draw};
 ghost use Rattle.sipl_plans.specs.Servers.{HasFewServers};
@@ -13,6 +14,7 @@ use sipl_srv::Draws;
 use sipl_uri::Question;
 use std::alloc::{AllocError, Global};
 use std::marker::Model;
+use std::sync::Arc;
 
 /// An answer, with the record sets and the holds that decide it: wherever the records agree with the
 /// evidence, and these endpoints are held, the answer to the question is this one (RFC 3263, 4).
@@ -23,7 +25,7 @@ pub struct Told {
     abilities: Abilities,
     draws: Draws,
     answer: Answer,
-    evidence: Evidence,
+    evidence: Arc<Evidence>,
     holds: Board,
 }
 
@@ -47,14 +49,14 @@ impl Told {
         number: u64,
         asked: Asked,
         layout: &Layout,
-        evidence: Evidence,
+        evidence: Arc<Evidence>,
         board: &Board,
     ) -> Result<Self, AllocError>
         requires sound { IsSound (record {
           question = asked.question;
           client = asked.abilities;
           layout = layout.now;
-          items = evidence;
+          items = arc_value evidence;
         }) }
         requires few { HasFewServers layout.now }
         ensures number { IfOk result (λ told. told.number ≡ number) }
@@ -63,7 +65,7 @@ impl Told {
         ensures words { IfOk result (λ told. told.words ≡ asked.draws) }
         ensures answer { IfOk result
             (λ told. told.answer ≡ draw layout.now board.now.holds asked.draws) }
-        ensures evidence { IfOk result (λ told. told.items ≡ evidence) }
+        ensures evidence { IfOk result (λ told. told.items ≡ arc_value evidence) }
         ensures board { IfOk result (λ told. told.board ≡ board.now) }
     {
         let Asked {

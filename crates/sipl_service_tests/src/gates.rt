@@ -6,6 +6,7 @@ use std::alloc::Global;
 use std::sync::atomic::{AtomicU64, Ordering};
 use std::sync::{Mutex, Wait};
 use std::thread;
+use std::time::{Clock, Duration};
 
 // Adds a record once, at the read of a number.
 #[derive(Drop)]
@@ -65,38 +66,32 @@ impl Gate for Turns {
     }
 }
 
-// Waits until a number is not 0, in so many turns at most. Whether it is.
-pub(crate) fn comes(number: &AtomicU64) -> bool {
+// Waits until a number is not 0, for ten seconds at most. Whether it is.
+pub(crate) fn comes(clock: &impl Clock, number: &AtomicU64) -> bool {
     for _ in 0..1000 {
         if number.load(Ordering::SeqCst) != 0 {
             return true;
         }
-        rest();
+        thread::sleep(clock, Duration::from_millis(10));
     }
     false
 }
 
-// A turn of waiting: no clock is at hand.
-fn rest() {
-    for _ in 0..10_000 {
-        thread::yield_now();
-    }
-}
-
 // Holds a run after its first read until another lookup is answered; stops it where none is.
 #[derive(Drop)]
-pub(crate) struct Waiting {
+pub(crate) struct Waiting<'a, C> {
+    pub clock: &'a C,
     pub is_held: AtomicU64,
     pub is_answered: AtomicU64,
 }
 
-impl Gate for Waiting {
+impl<C: Clock> Gate for Waiting<'_, C> {
     fn turn<R: Wait>(&self, _rt: &R, _who: Who, reads: u64) -> Go {
         if reads > 1 {
             return Go::On;
         }
         self.is_held.store(1, Ordering::SeqCst);
-        if comes(&self.is_answered) {
+        if comes(self.clock, &self.is_answered) {
             Go::On
         } else {
             Go::Stop

@@ -15,6 +15,7 @@ use std::sync::atomic::{AtomicU64, Ordering};
 use std::test::*;
 use std::thread;
 use std::thread::Threads;
+use std::time::Clock;
 
 // Adds a host and finds it.
 fn add_and_find<R: Wait + Abort>(rt: &R, alloc: Global, service: &Service, pass: &mut Pass) {
@@ -118,15 +119,15 @@ fn the_receipts_of_two_threads_are_the_journal(rt: HostRuntime) {
     claims(&rt, rt.alloc(), &closing, &[other, first, second]);
 }
 
-fn held<R: Wait + Abort>(rt: &R, alloc: Global, service: &Service, gate: &Waiting) {
+fn held<R: Wait + Abort + Clock>(rt: &R, alloc: Global, service: &Service, gate: &Waiting<R>) {
     let mut pass = service.pass();
     let question = question(rt, alloc, OVER_TCP);
     let told = service.lookup(rt, &mut pass, &question, &draws(rt, &[2, 0]), gate);
     targets(rt, told, &[SERVER_2, SERVER_1]);
 }
 
-fn answered<R: Wait + Abort>(rt: &R, alloc: Global, service: &Service, gate: &Waiting) {
-    assert!(rt; comes(&gate.is_held), "no lookup is held");
+fn answered<R: Wait + Abort + Clock>(rt: &R, alloc: Global, service: &Service, gate: &Waiting<R>) {
+    assert!(rt; comes(rt, &gate.is_held), "no lookup is held");
     let mut pass = service.pass();
     targets(
         rt,
@@ -136,10 +137,11 @@ fn answered<R: Wait + Abort>(rt: &R, alloc: Global, service: &Service, gate: &Wa
     gate.is_answered.store(1, Ordering::SeqCst);
 }
 
-fn overtaken<R: Threads + Wait + Abort + Sync>(rt: &R, alloc: Global, service: &Service) {
+fn overtaken<R: Threads + Wait + Abort + Clock + Sync>(rt: &R, alloc: Global, service: &Service) {
     let mut pass = service.pass();
     load_zone(rt, alloc, service, &mut pass);
     let gate = Waiting {
+        clock: rt,
         is_held: AtomicU64::new(0),
         is_answered: AtomicU64::new(0),
     };
@@ -163,14 +165,14 @@ fn outdates<R: Wait + Abort>(rt: &R, alloc: Global, service: &Service) {
 }
 
 // An entry becomes outdated, and a worker looks it up again.
-fn waits<R: Wait + Abort>(rt: &R, alloc: Global, service: &Service, turns: &Turns) {
+fn waits<R: Wait + Abort + Clock>(rt: &R, alloc: Global, service: &Service, turns: &Turns) {
     outdates(rt, alloc, service);
-    let is_repaired = comes(&turns.first_worker);
+    let is_repaired = comes(rt, &turns.first_worker);
     service.stop(rt);
     assert!(rt; is_repaired, "no worker has repaired the entry");
 }
 
-fn repaired<R: Threads + Wait + Abort + Sync>(rt: &R, alloc: Global, service: &Service) {
+fn repaired<R: Threads + Wait + Abort + Clock + Sync>(rt: &R, alloc: Global, service: &Service) {
     let turns = Turns::new();
     thread::join(
         rt,
@@ -184,4 +186,31 @@ fn workers_repair_until_the_service_is_stopped(rt: HostRuntime) {
     let service = new_service(&rt, rt.alloc(), 4);
     repaired(&rt, rt.alloc(), &service);
     assert_eq!(rt; events(&rt, service), 3);
+}
+
+// Two callers read the same sets: those that are not empty have one version each.
+fn reads_twice<R: Wait + Abort>(rt: &R, alloc: Global, service: &Service) {
+    let mut first = service.pass();
+    load_zone(rt, alloc, service, &mut first);
+    let mut second = service.pass();
+    let expected = [SERVER_2, SERVER_1];
+    targets(
+        rt,
+        find(rt, alloc, service, &mut first, BOB, &[2, 0]),
+        &expected,
+    );
+    let versions = service.versions().len();
+    assert_eq!(rt; versions, 4);
+    targets(
+        rt,
+        find(rt, alloc, service, &mut second, OVER_TCP, &[2, 0]),
+        &expected,
+    );
+    assert_eq!(rt; service.versions().len(), versions);
+}
+
+#[test]
+fn sets_that_another_caller_read_are_not_read_again(rt: HostRuntime) {
+    let service = new_service(&rt, rt.alloc(), 4);
+    reads_twice(&rt, rt.alloc(), &service);
 }

@@ -1,4 +1,5 @@
 use Rattle.std.proofs.Common.{◌≡◌, ◌≢◌, ◌+◌, ◌<◌, ◌≤◌, [], ◌∷◌, ◌++◌, length, Some, sym, ap, subst, ◌∙◌, length-append}
+use Rattle.std.specs.Arc.{arc_value}
 use Rattle.sipl_plans.specs.Findings.{Found, IsSound}
 use Rattle.sipl_plans.specs.Plan.{draw}
 use Rattle.sipl_book.specs.Book.{BookState}
@@ -14,7 +15,7 @@ use Rattle.sipl_service.proofs.steps.commit.Goals as goal
 pub of-requires-clause-sound : goal.of-requires-clause-sound
 of-requires-clause-sound c =
     let found = c.args.finding in
-    let is : found ≡ record { question = c.args.asked.question; client = c.args.asked.abilities; layout = c.layout.result.now; items = c.args.evidence } =
+    let is : found ≡ record { question = c.args.asked.question; client = c.args.asked.abilities; layout = c.layout.result.now; items = arc_value c.args.evidence } =
     λ i. record { question = c.requires.asked i; client = c.requires.client i; layout = sym c.layout.ensures.layout i; items = sym c.requires.evidence i } in
     subst (λ (f : Found). IsSound f) is c.requires.sound
 

@@ -1,8 +1,9 @@
 use Rattle.std.proofs.Common.{◌≤◌, length, subst}
+use Rattle.std.specs.Arc.{arc_value}
 use Rattle.sipl_plans.proofs.Deciding.{few-items}
 use Rattle.sipl_plans.proofs.finding.Finding.evidence.Goals as goal
 
 pub returns-clause-few : goal.returns-clause-few
 returns-clause-few c =
     let found = c.self.inside in
-    subst (λ found. length found.items ≤ 1156) c.self.view_is (few-items found.question found.abilities found.layout found.evidence c.self.invariant)
+    subst (λ found. length found.items ≤ 1156) c.self.view_is (few-items found.question found.abilities found.layout (arc_value found.evidence) c.self.invariant)

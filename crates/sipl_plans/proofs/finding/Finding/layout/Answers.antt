@@ -1,4 +1,5 @@
 use Rattle.std.proofs.Common.{subst}
+use Rattle.std.specs.Arc.{arc_value}
 use Rattle.sipl_plans.specs.Servers.{HasFewServers}
 use Rattle.sipl_plans.proofs.Deciding.{few-found}
 use Rattle.sipl_plans.proofs.finding.Finding.layout.Goals as goal
@@ -6,4 +7,4 @@ use Rattle.sipl_plans.proofs.finding.Finding.layout.Goals as goal
 pub returns-clause-few : goal.returns-clause-few
 returns-clause-few c =
     let found = c.self.inside in
-    subst (λ found. HasFewServers found.layout) c.self.view_is (few-found found.question found.abilities found.layout found.evidence c.self.invariant)
+    subst (λ found. HasFewServers found.layout) c.self.view_is (few-found found.question found.abilities found.layout (arc_value found.evidence) c.self.invariant)
