@@ -126,9 +126,9 @@ impl Service {
         &self.abilities
     }
 
-    /// The record sets that callers have read, as they were then. They are kept until `close`.
-    pub fn versions(&self) -> &Versions {
-        &self.versions
+    /// How many versions of record sets callers have read. They are kept until `close`.
+    pub fn version_count(&self) -> usize {
+        self.versions.len()
     }
 
     /// A pass for one caller, which has seen nothing. Does not allocate.

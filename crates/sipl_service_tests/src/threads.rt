@@ -199,14 +199,14 @@ fn reads_twice<R: Wait + Abort>(rt: &R, alloc: Global, service: &Service) {
         find(rt, alloc, service, &mut first, BOB, &[2, 0]),
         &expected,
     );
-    let versions = service.versions().len();
+    let versions = service.version_count();
     assert_eq!(rt; versions, 4);
     targets(
         rt,
         find(rt, alloc, service, &mut second, OVER_TCP, &[2, 0]),
         &expected,
     );
-    assert_eq!(rt; service.versions().len(), versions);
+    assert_eq!(rt; service.version_count(), versions);
 }
 
 #[test]
