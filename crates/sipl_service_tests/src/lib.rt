@@ -11,3 +11,5 @@ mod readme;
 mod threads;
 #[cfg(test)]
 mod values;
+#[cfg(test)]
+mod versions;

@@ -34,10 +34,20 @@ fn has_dependents(rt: &impl Abort, alloc: Global, book: &Book, owner: &[u8], cou
     assert_eq!(rt; found, count);
 }
 
+// The sets of the zone are numbered in the order of its text: that of server1's address is the third.
+fn has_numbers(rt: &impl Abort, alloc: Global, book: &Book) {
+    let number = book.number(&address4(rt, alloc, b"server1.example.com."));
+    assert_eq!(rt; number, 3);
+    let none = book.number(&address4(rt, alloc, b"other.example.com."));
+    assert_eq!(rt; none, 0);
+}
+
 // The route of the question reads four sets: the NAPTR records, the SRV records and two addresses. A
 // server without an address may have an alias, which is a fifth set.
 pub(super) fn lookups(rt: &impl Abort, alloc: Global, book: &mut Book) {
     targets(rt, find(rt, alloc, book, &[2, 0]), &[SERVER_2, SERVER_1]);
+    has_looks(rt, book, 4);
+    has_numbers(rt, alloc, book);
     has_looks(rt, book, 4);
     targets(rt, find(rt, alloc, book, &[2, 0]), &[SERVER_2, SERVER_1]);
     has_looks(rt, book, 4);
