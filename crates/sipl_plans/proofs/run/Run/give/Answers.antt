@@ -9,7 +9,7 @@ pub unreachable-requires : goal.unreachable-requires
 unreachable-requires c =
     let run = c.self.inside in
     let set = subst (λ run. IsWanted (wanted run) c.args.number c.args.content) (sym c.self.view_is) c.requires.set in
-    never-wanted run.question run.abilities (arc_value run.evidence) run.progress c.in_default.field-0 c.args.number c.args.content c.self.invariant.1 (sym c.replace.ensures.value ∙ c.in_default.is) set
+    never-wanted run.question run.abilities (arc_value run.evidence) run.progress c.in_default-replace.field-0 c.args.number c.args.content c.self.invariant.1 (sym c.replace.ensures.value ∙ c.in_default-replace.is) set
 
 pub invariant_of-self-in-Ok : goal.invariant_of-self-in-Ok
 invariant_of-self-in-Ok c =
@@ -22,4 +22,4 @@ invariant_of-self-in-Ok c =
     let required = subst (λ run. IsWanted (wanted run) number content) (sym c.self.view_is) c.requires.set in
     let set = set-wanted run.question run.abilities (arc_value run.evidence) run.progress wanting.key wanting.stage number content c.self.invariant.1 at required in
     given run.question run.abilities (arc_value run.evidence) c.push.new.self wanting.key number content wanting.stage c.in-Ok.progress c.self.invariant.0 reached set
-    (c.in_default-push.ensures.ok ∙ ap (λ (item : Item). (arc_value run.evidence) ++ item ∷ []) c.new-item.ensures) c.in-Ok.ensures
+    (c.in_default-push.ensures.ok ∙ ap (λ items. items ++ c.new-item.result ∷ []) c.in-Some.ensures.value ∙ ap (λ (item : Item). arc_value run.evidence ++ item ∷ []) c.new-item.ensures) c.in-Ok.ensures
