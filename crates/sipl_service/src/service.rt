@@ -6,6 +6,7 @@ use crate::claims::Closing;
 use crate::fault::ServiceFault;
 use crate::marks::{Mark, Marks};
 use crate::pass::Pass;
+use crate::receipt::Receipt;
 use crate::steps;
 use crate::versions::Versions;
 use sipl_book::{Book, Done, Edit, Event, Limits};
@@ -147,13 +148,15 @@ impl Service {
             pass.old pass.new result }
     {
         pass.reserve()?;
-        let event = Event::Change(edit.dup(self.alloc)?);
         let key = changed_key(self.alloc, &edit)?;
+        let event = Event::Change(edit.dup(self.alloc)?);
+        let receipt = Receipt { number: 0, event };
+        let new = steps::NewEdit { edit, receipt };
         let mut shared = self.shared.lock(rt);
         if shared.is_stopped {
             return Err(ServiceFault::Stopped);
         }
-        let done = steps::change(&mut shared.book, pass, edit, event)?;
+        let done = steps::change(&mut shared.book, pass, new)?;
         if done.changed > 0 {
             shared.take_out_marks(key.as_ref());
         }

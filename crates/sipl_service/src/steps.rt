@@ -52,25 +52,29 @@ pub(crate) fn check_client(book: &Book, abilities: &Abilities) -> Result<(), Ser
     Ok(())
 }
 
-// Edits the zones. `event` is a copy of the edit.
-pub(crate) fn change(
-    book: &mut Book,
-    pass: &mut Pass,
-    edit: Edit,
-    event: Event,
-) -> Result<Done, ServiceFault>
-    requires { event ≡ Event.Change edit }
-    ensures receipt { GetsReceipt (λ done. done.number) (λ done. event) pass.old pass.new result }
-    ensures changed { IfOk result (λ done. IsChanged edit book.old book.new (Ok done)) }
+// An edit that is to be made, and the receipt for it, which gets its number then.
+#[derive(Drop)]
+pub(crate) struct NewEdit {
+    pub edit: Edit,
+    pub receipt: Receipt,
+}
+
+// Edits the zones. The receipt has a copy of the edit.
+pub(crate) fn change(book: &mut Book, pass: &mut Pass, new: NewEdit) -> Result<Done, ServiceFault>
+    requires { new.receipt.event ≡ Event.Change new.edit }
+    ensures receipt { GetsReceipt (λ done. done.number) (λ done. new.receipt.event)
+        pass.old pass.new result }
+    ensures changed { IfOk result (λ done. IsChanged new.edit book.old book.new (Ok done)) }
     ensures refused { IfErr result (λ fault. fault ≢ ServiceFault.Memory
-        → change_fault pass.old book.old (change_refusal edit book.old) ≡ Some fault) }
+        → change_fault pass.old book.old (change_refusal new.edit book.old) ≡ Some fault) }
     ensures unchanged { OnErr result (book.new ≡ book.old) }
 {
     next_number(book, pass)?;
     pass.receipts.reserve(1)?;
+    let NewEdit { edit, mut receipt } = new;
     let done = book.change(edit)?;
-    let number = done.number;
-    pass.receipts.push_reserved(Receipt { number, event });
+    receipt.number = done.number;
+    pass.receipts.push_reserved(receipt);
     pass.front = book.journal().len() as u64;
     Ok(done)
 }
