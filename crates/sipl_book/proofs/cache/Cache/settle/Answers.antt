@@ -16,6 +16,9 @@ own_leased : (o : Option EntryState) (q : QueueState) (id : _) → elim o [ Some
 own_leased (Some own) q id leased = (and_parts _ _ leased).1
 own_leased None q id leased = absurd (true≢false (sym leased))
 
+pub renew-requires-clause-order : goal.renew-requires-clause-order
+renew-requires-clause-order c = subst (λ (cache : CacheState). InOrder cache.entries) (sym c.self.view_is) c.requires.order
+
 pub renew-requires-clause-room : goal.renew-requires-clause-room
 renew-requires-clause-room c =
     let q = c.self.inside.queue in
