@@ -1,4 +1,4 @@
-pub mod Marks
+pub mod Marked
 pub mod Committing
 pub mod Ours
 pub mod Entries

@@ -5,3 +5,4 @@ pub mod Claims
 pub mod Telling
 pub mod Told
 pub mod Services
+pub mod Versions

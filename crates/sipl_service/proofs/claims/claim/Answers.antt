@@ -2,7 +2,7 @@ use Rattle.std.proofs.Common.{List, subst}
 use Rattle.sipl_book.specs.declared.event.Event.{Event}
 use Rattle.sipl_service.specs.Passes.{receipts_of}
 use Rattle.sipl_service.specs.Claims.{IsCause}
-use Rattle.sipl_service.proofs.Marks.{refutes, first-at, is_cause, marked-in}
+use Rattle.sipl_service.proofs.Marked.{refutes, first-at, is_cause, marked-in}
 use Rattle.sipl_service.proofs.claims.claim.Goals as goal
 
 pub returns-in-Err-clause-cause : goal.returns-in-Err-clause-cause

@@ -1,6 +1,6 @@
 use Rattle.std.proofs.Common.{◌++◌, take}
 use Rattle.sipl_service.specs.Passes.{receipts_of}
-use Rattle.sipl_service.proofs.Marks.{IsMarked}
+use Rattle.sipl_service.proofs.Marked.{IsMarked}
 use Rattle.sipl_service.proofs.claims.claim.Given as goal
 
 abbrev pub invariant-loop-pass : goal.invariant-loop-pass
