@@ -1,5 +1,5 @@
 -- Versions of record sets, which threads share.
-use Rattle.std.specs.Prelude.{◌≡◌, ◌≢◌, ◌×◌, ℕ}
+use Rattle.std.specs.Prelude.{◌≢◌}
 use Rattle.sipl_evidence.specs.Items.{Item}
 use Rattle.sipl_plans.specs.Runs.{IsSet}
 

@@ -1,8 +1,7 @@
 //! Where the versions of record sets are, as the book's sets are now.
-ghost use Rattle.std.specs.Prelude.{◌≡◌, ◌≢◌, ◌↔◌, false, None, IfOk, IfSome};
+ghost use Rattle.std.specs.Prelude.{◌≡◌, ◌≢◌, ◌↔◌, None, filter, nat_eq, IfOk, IfSome};
 ghost use Rattle.indexmap.specs.IndexMap.{get};
 ghost use Rattle.sipl_records.specs.Sets.{same_key};
-ghost use Rattle.sipl_records.specs.declared.record.Key.{Key};
 ghost use Rattle.sipl_zonestore.specs.Store.{number_in};
 
 use crate::versions::Versions;
@@ -55,7 +54,7 @@ impl Marks {
         }
         match self.table.get(key).copied() {
             Some(mark) if mark.number == number => Ok(Some(mark)),
-            _ => self.push(rt, book, versions, key),
+            _ => Ok(Some(self.push(rt, book, versions, key)?)),
         }
     }
 
@@ -67,9 +66,9 @@ impl Marks {
         book: &mut Book,
         versions: &Versions,
         key: &Key,
-    ) -> Result<Option<Mark>, AllocError>
+    ) -> Result<Mark, AllocError>
         requires { number_in book.old.store key.now ≢ 0 }
-        ensures { IfOk result (λ mark. IfSome mark (λ mark. mark.number ≡ number_in book.old.store key.now)) }
+        ensures { IfOk result (λ mark. mark.number ≡ number_in book.old.store key.now) }
     {
         let (number, content) = book.read(key)?;
         let item = Item::new(key.dup(self.alloc)?, number, content);
@@ -78,15 +77,13 @@ impl Marks {
         };
         let mark = Mark { number, place };
         self.table.insert(key.dup(self.alloc)?, mark)?;
-        Ok(Some(mark))
+        Ok(mark)
     }
 
     // Takes out the mark of a key whose number is no longer the book's.
     pub(crate) fn take_out(&mut self, book: &Book, key: &Key)
-        ensures current { IfSome (get same_key self.new.table key.now)
+        ensures { IfSome (get same_key self.new.table key.now)
             (λ mark. mark.number ≡ number_in book.now.store key.now) }
-        ensures others { (other : Key) → same_key key.now other ≡ false
-            → get same_key self.new.table other ≡ get same_key self.old.table other }
     {
         if let Some(mark) = self.table.get(key) {
             if mark.number != book.number(key) {
@@ -97,10 +94,14 @@ impl Marks {
 
     // Takes out each mark whose number is no longer the book's. Linear in the marks.
     pub(crate) fn take_out_all(&mut self, book: &Book)
-        ensures { (key : Key) → IfSome (get same_key self.new.table key)
-            (λ mark. mark.number ≡ number_in book.now.store key) }
+        ensures { self.new.table.entries
+            ≡ filter (λ e. nat_eq e.1.number (number_in book.now.store e.0)) self.old.table.entries }
     {
-        self.table
-            .retain(|key, mark| mark.number == book.number(key));
+        self.table.retain(
+            |key: &Key, mark: &mut Mark| -> bool
+                ensures { (result ≡ nat_eq mark.old.number (number_in book.entry.now.store key.now))
+                    × (mark.new ≡ mark.old) }
+            { mark.number == book.number(key) },
+        );
     }
 }

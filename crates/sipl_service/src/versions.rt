@@ -90,10 +90,11 @@ impl Versions {
         let Some(shown) = self.entries.witness(place) else {
             return Ok(None);
         };
-        let item = self.entries.value(&shown);
-        if *item.key() != *key || item.number() != number {
-            return Ok(None);
+        match self.entries.get_seen(place, &shown) {
+            Some(item) if *item.key() == *key && item.number() == number => {
+                Ok(Some((item.dup(alloc)?, shown)))
+            }
+            _ => Ok(None),
         }
-        Ok(Some((item.dup(alloc)?, shown)))
     }
 }
