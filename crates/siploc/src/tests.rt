@@ -1,7 +1,10 @@
 mod comparison;
+mod faults;
+mod limits;
 mod live;
 pub mod process;
 mod repairs;
+mod scripts;
 mod serve;
 mod sessions;
 mod settings;
