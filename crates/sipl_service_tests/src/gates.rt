@@ -38,6 +38,32 @@ impl Gate for Closed {
     }
 }
 
+// Stops each run at its read of a number, and counts these.
+#[derive(Drop)]
+pub(crate) struct Stopping {
+    pub at: u64,
+    pub stopped: AtomicU64,
+}
+
+impl Stopping {
+    pub(crate) fn new(at: u64) -> Self {
+        Stopping {
+            at,
+            stopped: AtomicU64::new(0),
+        }
+    }
+}
+
+impl Gate for Stopping {
+    fn turn<R: Wait>(&self, _rt: &R, _who: Who, reads: u64) -> Go {
+        if reads != self.at {
+            return Go::On;
+        }
+        self.stopped.fetch_add(1, Ordering::SeqCst);
+        Go::Stop
+    }
+}
+
 // Counts the turns of callers, and those of the first worker.
 #[derive(Drop)]
 pub(crate) struct Turns {
@@ -77,7 +103,7 @@ pub(crate) fn comes(number: &AtomicU64) -> bool {
 }
 
 // A turn of waiting: no clock is at hand.
-fn rest() {
+pub(crate) fn rest() {
     for _ in 0..10_000 {
         thread::yield_now();
     }
