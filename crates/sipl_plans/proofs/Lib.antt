@@ -1,6 +1,8 @@
 pub mod Advancing
 pub mod Answering
 pub mod Deciding
+pub mod EachOnce
+pub mod EndpointsInOrder
 pub mod Equations
 pub mod FewReads
 pub mod FewServers
@@ -13,5 +15,4 @@ pub mod Reaching
 pub mod Rows
 pub mod ServersLeft
 pub mod ServiceWalks
-pub mod UniqueEndpoints
 pub mod Unread

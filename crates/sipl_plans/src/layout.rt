@@ -1,5 +1,5 @@
-ghost use Rattle.std.specs.Prelude.{◌≡◌, ◌≢◌, ◌<◌, ◌≤◌, ◌++◌, [], ◌∷◌, not, length, filter, slice_get, if◌then◌else◌, IfOk, OnOk, OnErr};
-ghost use Rattle.std.specs.List.{All, filter_map, flat_map, list_any};
+ghost use Rattle.std.specs.Prelude.{◌≡◌, ◌≢◌, ◌<◌, ◌≤◌, not, length, filter, slice_get, IfOk, OnErr};
+ghost use Rattle.std.specs.List.{All, filter_map, flat_map};
 ghost use Rattle.sipl_records.specs.Unique.{unique};
 ghost use Rattle.sipl_choice.specs.Endpoints.{same_endpoint};
 ghost use Rattle.sipl_outages.specs.Holds.{is_held};
@@ -7,6 +7,7 @@ ghost use Rattle.sipl_plans.specs.Plan.{arranged, draw, endpoints_of};
 ghost use Rattle.sipl_plans.specs.Servers.{HasFewServers, target_count};
 
 use crate::answer::{Answer, Reason};
+use crate::unique::unique_of;
 use sipl_choice::{Endpoint, Transport};
 use sipl_outages::Board;
 use sipl_records::{Address, Sequence};
@@ -159,30 +160,31 @@ fn unique_endpoints(
     ensures { IfOk result (λ targets. targets.items ≡ unique same_endpoint
         (flat_map (endpoints_of transport) (filter_map (slice_get servers.now) order.now))) }
 {
-    let mut targets = Vec::new(alloc);
+    let endpoints = endpoints_in_order(alloc, transport, servers, order)?;
+    unique_of(alloc, endpoints)
+}
+
+// The endpoints of the servers at these places, also those that come again.
+fn endpoints_in_order(
+    alloc: Global,
+    transport: Transport,
+    servers: &[Source],
+    order: &[usize],
+) -> Result<Vec<Endpoint>, AllocError>
+    requires { All (λ place. place < length servers.now) order.now }
+    ensures { IfOk result (λ endpoints. endpoints.items
+        ≡ flat_map (endpoints_of transport) (filter_map (slice_get servers.now) order.now)) }
+{
+    let mut endpoints = Vec::new(alloc);
     for place in order {
         let server = &servers[*place];
         for address in server.addresses.as_slice() {
-            let endpoint = Endpoint {
+            endpoints.push(Endpoint {
                 transport,
                 address: *address,
                 port: server.port,
-            };
-            push_if_new(&mut targets, endpoint)?;
+            })?;
         }
     }
-    Ok(targets)
-}
-
-// Appends the endpoint, unless it is among the targets.
-fn push_if_new(targets: &mut Vec<Endpoint>, endpoint: Endpoint) -> Result<(), AllocError>
-    ensures { OnOk result (targets.new.items
-        ≡ (if list_any (λ other. same_endpoint other endpoint) targets.old.items
-        then targets.old.items else targets.old.items ++ endpoint ∷ [])) }
-{
-    if targets.contains(&endpoint) {
-        return Ok(());
-    }
-    targets.push(endpoint)?;
-    Ok(())
+    Ok(endpoints)
 }

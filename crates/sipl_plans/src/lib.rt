@@ -11,6 +11,7 @@ mod route;
 mod run;
 mod serving;
 mod stage;
+mod unique;
 
 pub use answer::{Answer, Reason};
 pub use finding::Finding;
