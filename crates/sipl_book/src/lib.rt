@@ -19,6 +19,7 @@ mod limits;
 mod lookups;
 mod outcome;
 mod outdating;
+mod settlement;
 
 pub use book::Book;
 pub use edit::Edit;
