@@ -1,4 +1,5 @@
 pub mod Faults
+pub mod Marks
 pub mod Passes
 pub mod Refusals
 pub mod Claims

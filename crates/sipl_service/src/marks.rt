@@ -1,8 +1,11 @@
 //! Where the versions of record sets are, as the book's sets are now.
-ghost use Rattle.std.specs.Prelude.{◌≡◌, ◌≢◌, ◌↔◌, None, filter, nat_eq, IfOk, IfSome};
+ghost use Rattle.std.specs.Prelude.{◌≡◌, ◌≢◌, ◌↔◌, None, false, filter, nat_eq, IfOk, IfSome};
 ghost use Rattle.indexmap.specs.IndexMap.{get};
 ghost use Rattle.sipl_records.specs.Sets.{same_key};
+ghost use Rattle.sipl_records.specs.declared.record.Key.{Key};
 ghost use Rattle.sipl_zonestore.specs.Store.{number_in};
+ghost use Rattle.sipl_book.specs.Calls.{after_look};
+ghost use Rattle.sipl_service.specs.Marks.{after_mark, marked_at};
 
 use crate::versions::Versions;
 use indexmap::IndexMap;
@@ -47,6 +50,8 @@ impl Marks {
         ensures empty { IfOk result (λ mark. (mark ≡ None) ↔ (number_in book.old.store key.now ≡ 0)) }
         ensures number { IfOk result (λ mark.
             IfSome mark (λ mark. mark.number ≡ number_in book.old.store key.now)) }
+        ensures book { book.new ≡ after_mark (number_in book.old.store key.now)
+            (get same_key self.old.table key.now) book.old }
     {
         let number = book.number(key);
         if number == 0 {
@@ -68,7 +73,8 @@ impl Marks {
         key: &Key,
     ) -> Result<Mark, AllocError>
         requires { number_in book.old.store key.now ≢ 0 }
-        ensures { IfOk result (λ mark. mark.number ≡ number_in book.old.store key.now) }
+        ensures number { IfOk result (λ mark. mark.number ≡ number_in book.old.store key.now) }
+        ensures book { book.new ≡ after_look book.old }
     {
         let (number, content) = book.read(key)?;
         let item = Item::new(key.dup(self.alloc)?, number, content);
@@ -80,10 +86,12 @@ impl Marks {
         Ok(mark)
     }
 
-    // Takes out the mark of a key whose number is no longer the book's.
+    // Takes out the mark of a key whose number is no longer the book's. All others stay.
     pub(crate) fn take_out(&mut self, book: &Book, key: &Key)
-        ensures { IfSome (get same_key self.new.table key.now)
-            (λ mark. mark.number ≡ number_in book.now.store key.now) }
+        ensures mark { get same_key self.new.table key.now
+            ≡ marked_at (number_in book.now.store key.now) (get same_key self.old.table key.now) }
+        ensures others { (other : Key) → same_key key.now other ≡ false
+            → get same_key self.new.table other ≡ get same_key self.old.table other }
     {
         if let Some(mark) = self.table.get(key) {
             if mark.number != book.number(key) {

@@ -1,5 +1,9 @@
-ghost use Rattle.std.specs.Prelude.{◌≡◌, ◌≤◌, ◌^◌, [], IfOk, IfErr, OnOk};
+ghost use Rattle.std.specs.Prelude.{◌≡◌, ◌≤◌, ◌^◌, ◌↔◌, [], None, filter, nat_eq, IfOk, IfErr, IfSome, IfNone, OnOk};
+ghost use Rattle.indexmap.specs.IndexMap.{get};
+ghost use Rattle.sipl_records.specs.Sets.{same_key};
+ghost use Rattle.sipl_zonestore.specs.Store.{number_in};
 ghost use Rattle.sipl_book.specs.Machine.{IsLegal, empty_state};
+ghost use Rattle.sipl_service.specs.Marks.{after_mark, marked_at};
 ghost use Rattle.sipl_service.specs.Passes.{GetsReceipt};
 
 use crate::claims::Closing;
@@ -46,13 +50,29 @@ impl Shared {
         rt: &R,
         versions: &Versions,
         key: &Key,
-    ) -> Result<Option<Mark>, AllocError> {
+    ) -> Result<Option<Mark>, AllocError>
+        ensures empty { IfOk result
+            (λ mark. (mark ≡ None) ↔ (number_in self.old.book.store key.now ≡ 0)) }
+        ensures number { IfOk result (λ mark.
+            IfSome mark (λ mark. mark.number ≡ number_in self.old.book.store key.now)) }
+        ensures book { self.new.book ≡ after_mark (number_in self.old.book.store key.now)
+            (get same_key self.old.marks.table key.now) self.old.book }
+        ensures stopped { self.new.is_stopped ≡ self.old.is_stopped }
+    {
         self.marks.of_key(rt, &mut self.book, versions, key)
     }
 
     // Takes out the marks of the sets that an edit has changed: that of its record's key, or for a zone
     // those whose number is no longer the book's.
-    fn take_out_marks(&mut self, key: Option<&Key>) {
+    fn take_out_marks(&mut self, key: Option<&Key>)
+        ensures one { IfSome key.entry (λ key. get same_key self.new.marks.table key.now ≡ marked_at
+            (number_in self.old.book.store key.now) (get same_key self.old.marks.table key.now)) }
+        ensures all { IfNone key.entry (self.new.marks.table.entries
+            ≡ filter (λ e. nat_eq e.1.number (number_in self.old.book.store e.0))
+            self.old.marks.table.entries) }
+        ensures book { self.new.book ≡ self.old.book }
+        ensures stopped { self.new.is_stopped ≡ self.old.is_stopped }
+    {
         match key {
             Some(key) => self.marks.take_out(&self.book, key),
             None => self.marks.take_out_all(&self.book),
@@ -127,7 +147,8 @@ impl Service {
         &self.abilities
     }
 
-    /// How many versions of record sets callers have read. They are kept until `close`.
+    /// How many versions of record sets callers have read, which are kept until `close`. It only says
+    /// what memory they take, so no contract tells of it.
     pub fn version_count(&self) -> usize {
         self.versions.len()
     }

@@ -35,7 +35,7 @@ impl Versions {
         })
     }
 
-    /// How many versions there are.
+    /// How many versions there are, as far as this thread sees.
     pub fn len(&self) -> usize {
         self.entries.count()
     }
