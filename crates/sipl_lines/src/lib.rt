@@ -29,7 +29,7 @@ pub use book::serve_book;
 pub use check::check_zone;
 pub use command::{MAX_LINE_LEN, MAX_ZONE_LINES};
 pub use desk::{Desk, MAX_REFUSAL_LEN};
-pub use script::play_script;
+pub use script::{play_script, play_script_within};
 pub use server::{Ended, MAX_READS, ServeFault, serve, serve_within};
 pub use service_desk::ServiceDesk;
 pub use settings::{Settings, SettingsFault};

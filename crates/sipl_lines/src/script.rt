@@ -37,8 +37,23 @@ pub fn play_script<R: Read, W: Write>(
     ensures { PlaysScript settings (2 ^ 32) result R.remaining W.contents
         reader.old reader.new writer.old writer.new }
 {
+    play_script_within(alloc, reader, writer, settings, MAX_READS)
+}
+
+/// Plays a script as [`play_script`] does, with at most `limit` reads.
+pub fn play_script_within<R: Read, W: Write>(
+    alloc: Global,
+    reader: &mut Tapped<R>,
+    writer: &mut Tapped<W>,
+    settings: Settings,
+    limit: u64,
+) -> Result<Ended, ServeFault>
+    requires { IsWithinLimits settings }
+    ensures { PlaysScript settings limit result R.remaining W.contents
+        reader.old reader.new writer.old writer.new }
+{
     let mut script = Script::Waiting(Opening { settings });
-    serve_conversation(alloc, reader, writer, &mut (), &mut script, MAX_READS)
+    serve_conversation(alloc, reader, writer, &mut (), &mut script, limit)
 }
 
 /// A script: before its first line, at play, or after a first line that was refused.

@@ -1,4 +1,4 @@
-use Rattle.sipl_lines.proofs.script.play_script.Goals as goal
+use Rattle.sipl_lines.proofs.script.play_script_within.Goals as goal
 
 pub returns : goal.returns
 returns g c =
