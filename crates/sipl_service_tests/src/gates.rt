@@ -39,6 +39,32 @@ impl Gate for Closed {
     }
 }
 
+// Stops each run at its read of a number, and counts these.
+#[derive(Drop)]
+pub(crate) struct Stopping {
+    pub at: u64,
+    pub stopped: AtomicU64,
+}
+
+impl Stopping {
+    pub(crate) fn new(at: u64) -> Self {
+        Stopping {
+            at,
+            stopped: AtomicU64::new(0),
+        }
+    }
+}
+
+impl Gate for Stopping {
+    fn turn<R: Wait>(&self, _rt: &R, _who: Who, reads: u64) -> Go {
+        if reads != self.at {
+            return Go::On;
+        }
+        self.stopped.fetch_add(1, Ordering::SeqCst);
+        Go::Stop
+    }
+}
+
 // Counts the turns of callers, and those of the first worker.
 #[derive(Drop)]
 pub(crate) struct Turns {
@@ -72,9 +98,14 @@ pub(crate) fn comes(clock: &impl Clock, number: &AtomicU64) -> bool {
         if number.load(Ordering::SeqCst) != 0 {
             return true;
         }
-        thread::sleep(clock, Duration::from_millis(10));
+        rest(clock);
     }
     false
+}
+
+// A turn of waiting: 10 ms.
+pub(crate) fn rest(clock: &impl Clock) {
+    thread::sleep(clock, Duration::from_millis(10));
 }
 
 // Holds a run after its first read until another lookup is answered; stops it where none is.

@@ -1,0 +1,129 @@
+// Gates that stop a run after each number of its reads.
+use crate::gates::{Closed, Stopping, comes, rest};
+use crate::values::{
+    BOB, SERVER_1, SERVER_2, draws, events, fails, is_tcp, load_zone, new_service, outdate,
+    question, targets,
+};
+use sipl_service::{Pass, Service, ServiceFault, Told};
+use std::alloc::Global;
+use std::process::Abort;
+use std::sync::Wait;
+use std::test::*;
+use std::thread;
+use std::thread::Threads;
+use std::time::Clock;
+
+// A lookup of Bob's question, with a gate that stops it at the read of a number.
+fn lookup_until<R: Wait + Abort>(
+    rt: &R,
+    alloc: Global,
+    service: &Service,
+    pass: &mut Pass,
+    at: u64,
+) -> Result<Told, ServiceFault> {
+    let question = question(rt, alloc, BOB);
+    service.lookup(rt, pass, &question, &draws(rt, &[2, 0]), &Stopping::new(at))
+}
+
+fn has_receipts(rt: &impl Abort, pass: &Pass, count: usize) {
+    assert_eq!(rt; pass.receipts().len(), count);
+}
+
+// Lookups that are stopped at each of their four reads leave no receipt. With a fifth one none comes.
+fn stops_at_each_read<R: Wait + Abort>(rt: &R, alloc: Global, service: &Service, pass: &mut Pass) {
+    load_zone(rt, alloc, service, pass);
+    for at in 1..=4 {
+        fails(rt, lookup_until(rt, alloc, service, pass, at), "L6");
+        has_receipts(rt, pass, 1);
+    }
+    let told = lookup_until(rt, alloc, service, pass, 5);
+    targets(rt, told, &[SERVER_2, SERVER_1]);
+    has_receipts(rt, pass, 2);
+}
+
+fn lookups_stop<R: Wait + Abort>(rt: &R, alloc: Global, service: &Service) {
+    let mut pass = service.pass();
+    stops_at_each_read(rt, alloc, service, &mut pass);
+}
+
+fn has_events(rt: &impl Abort, service: Service, count: usize) {
+    assert_eq!(rt; events(rt, service), count);
+}
+
+#[test]
+fn a_lookup_that_is_stopped_leaves_no_receipt(rt: HostRuntime) {
+    let service = new_service(&rt, rt.alloc(), 4);
+    lookups_stop(&rt, rt.alloc(), &service);
+    has_events(&rt, service, 2);
+}
+
+// Whether Bob's question has a current answer, of one target. A lookup that would read is stopped.
+fn is_current<R: Wait + Abort>(rt: &R, alloc: Global, service: &Service, pass: &mut Pass) -> bool {
+    let question = question(rt, alloc, BOB);
+    match service.lookup(rt, pass, &question, &draws(rt, &[2, 0]), &Closed) {
+        Ok(told) => is_tcp(told.answer(), &[SERVER_1]),
+        Err(_) => false,
+    }
+}
+
+// Whether others can repair what the worker has begun, in so many turns at most.
+fn is_repaired<R: Wait + Clock + Abort>(
+    rt: &R,
+    alloc: Global,
+    service: &Service,
+    pass: &mut Pass,
+) -> bool {
+    for _ in 0..1000 {
+        if service.repair(rt).is_ok() && is_current(rt, alloc, service, pass) {
+            return true;
+        }
+        rest(rt);
+    }
+    false
+}
+
+// An entry becomes outdated, and the worker that looks it up again is stopped. Whether others repair it.
+fn repairs_after<R: Wait + Clock + Abort>(
+    rt: &R,
+    alloc: Global,
+    service: &Service,
+    gate: &Stopping,
+) -> bool {
+    let mut pass = service.pass();
+    outdate(rt, alloc, service, &mut pass);
+    comes(rt, &gate.stopped) && is_repaired(rt, alloc, service, &mut pass)
+}
+
+fn waits<R: Wait + Clock + Abort>(rt: &R, alloc: Global, service: &Service, gate: &Stopping) {
+    let is_repaired = repairs_after(rt, alloc, service, gate);
+    service.stop(rt);
+    assert!(rt; is_repaired, "no lease was given back");
+}
+
+fn worker_stops<R: Threads + Wait + Clock + Abort + Sync>(
+    rt: &R,
+    alloc: Global,
+    service: &Service,
+    at: u64,
+) {
+    let gate = Stopping::new(at);
+    thread::join(
+        rt,
+        || service.run_workers(rt, 1, &gate),
+        || waits(rt, alloc, service, &gate),
+    );
+}
+
+// The worker is stopped at this read. The zone, two answers and the removal are the events.
+fn stops_a_worker<R: Threads + Wait + Clock + Abort + Sync>(rt: &R, alloc: Global, at: u64) {
+    let service = new_service(rt, alloc, 4);
+    worker_stops(rt, alloc, &service, at);
+    has_events(rt, service, 4);
+}
+
+#[test]
+fn a_worker_that_is_stopped_gives_its_lease_back(rt: HostRuntime) {
+    for at in 1..=5 {
+        stops_a_worker(&rt, rt.alloc(), at);
+    }
+}
