@@ -12,6 +12,7 @@ use crate::marks::{Mark, Marks};
 use crate::pass::Pass;
 use crate::receipt::Receipt;
 use crate::steps;
+use crate::steps::NewEdit;
 use crate::versions::Versions;
 use sipl_book::{Book, Done, Edit, Event, Limits};
 use sipl_choice::{Abilities, Endpoint};
@@ -168,11 +169,9 @@ impl Service {
         ensures { GetsReceipt (λ done. done.number) (λ done. Event.Change edit)
             pass.old pass.new result }
     {
+        let new = new_edit(self.alloc, edit)?;
+        let key = changed_key(self.alloc, &new.edit)?;
         pass.reserve()?;
-        let key = changed_key(self.alloc, &edit)?;
-        let event = Event::Change(edit.dup(self.alloc)?);
-        let receipt = Receipt { number: 0, event };
-        let new = steps::NewEdit { edit, receipt };
         let mut shared = self.shared.lock(rt);
         if shared.is_stopped {
             return Err(ServiceFault::Stopped);
@@ -281,6 +280,17 @@ impl Service {
             journal: shared.book.into_journal(),
         })
     }
+}
+
+// An edit that is to be made, and the receipt for it. It is boxed, so that a call that is refused lets
+// go of one value, whatever the edit is.
+fn new_edit(alloc: Global, edit: Edit) -> Result<Box<NewEdit>, AllocError>
+    ensures edit { IfOk result (λ new. new.value.edit ≡ edit) }
+    ensures event { IfOk result (λ new. new.value.receipt.event ≡ Event.Change edit) }
+{
+    let event = Event::Change(edit.dup(alloc)?);
+    let receipt = Receipt { number: 0, event };
+    Ok(Box::new(alloc, NewEdit { edit, receipt })?)
 }
 
 // The key of the set that an edit of one record may change; `None` for an edit of a zone, and for a

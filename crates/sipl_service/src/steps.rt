@@ -1,6 +1,6 @@
 // What a call does to the book that the lock lends it, and to the caller's pass. What was allocated
 // before the lock was taken is passed in.
-ghost use Rattle.std.specs.Prelude.{◌≡◌, ◌≢◌, ℕ, ◌+◌, ◌^◌, ◌<◌, ◌≤◌, ◌++◌, [], ◌∷◌, length, false, Some, None, Ok, IfOk, IfErr, OnOk, OnErr};
+ghost use Rattle.std.specs.Prelude.{◌≡◌, ◌≢◌, ℕ, ◌+◌, ◌^◌, ◌<◌, ◌≤◌, ◌++◌, [], ◌∷◌, length, false, vec_len, vec_capacity, Some, None, Ok, IfOk, IfErr, OnOk, OnErr};
 ghost use Rattle.std.specs.Arc.{arc_value};
 ghost use Rattle.sipl_outages.specs.Holds.{BoardEvent};
 ghost use Rattle.sipl_outages.specs.Holds.BoardEvent.{Hold, Release, Advance};
@@ -8,7 +8,7 @@ ghost use Rattle.sipl_plans.specs.Findings.{IsSound};
 ghost use Rattle.sipl_book.specs.Book.{next_event};
 ghost use Rattle.sipl_book.specs.Calls.{IsChanged, MovesBoard, answer_event, board_refusal, change_refusal, recorded};
 ghost use Rattle.sipl_book.specs.Entries.{has_current_entry};
-ghost use Rattle.sipl_service.specs.Passes.{GetsReceipt};
+ghost use Rattle.sipl_service.specs.Passes.{GetsReceipt, receipt_of};
 ghost use Rattle.sipl_service.specs.Refusals.{change_fault, contended, unless_ahead, unless_other};
 ghost use Rattle.sipl_service.specs.Telling.{event_of, IsAnswerTo};
 
@@ -60,22 +60,43 @@ pub(crate) struct NewEdit {
 }
 
 // Edits the zones. The receipt has a copy of the edit.
-pub(crate) fn change(book: &mut Book, pass: &mut Pass, new: NewEdit) -> Result<Done, ServiceFault>
-    requires { new.receipt.event ≡ Event.Change new.edit }
-    ensures receipt { GetsReceipt (λ done. done.number) (λ done. new.receipt.event)
+pub(crate) fn change(
+    book: &mut Book,
+    pass: &mut Pass,
+    new: Box<NewEdit>,
+) -> Result<Done, ServiceFault>
+    requires { new.value.receipt.event ≡ Event.Change new.value.edit }
+    ensures receipt { GetsReceipt (λ done. done.number) (λ done. new.value.receipt.event)
         pass.old pass.new result }
-    ensures changed { IfOk result (λ done. IsChanged new.edit book.old book.new (Ok done)) }
+    ensures changed { IfOk result (λ done. IsChanged new.value.edit book.old book.new (Ok done)) }
     ensures refused { IfErr result (λ fault. fault ≢ ServiceFault.Memory
-        → change_fault pass.old book.old (change_refusal new.edit book.old) ≡ Some fault) }
+        → change_fault pass.old book.old (change_refusal new.value.edit book.old) ≡ Some fault) }
     ensures unchanged { OnErr result (book.new ≡ book.old) }
 {
     next_number(book, pass)?;
     pass.receipts.reserve(1)?;
-    let NewEdit { edit, mut receipt } = new;
+    let NewEdit { edit, receipt } = Box::into_inner(new);
+    let done = make_change(book, &mut pass.receipts, edit, receipt)?;
+    pass.front = book.journal().len() as u64;
+    Ok(done)
+}
+
+// Edits the zones, and adds the receipt, for which there is space.
+fn make_change(
+    book: &mut Book,
+    receipts: &mut Vec<Receipt>,
+    edit: Edit,
+    mut receipt: Receipt,
+) -> Result<Done, BookFault>
+    requires { vec_len receipts.old < vec_capacity receipts.old }
+    ensures changed { IsChanged edit book.old book.new result }
+    ensures receipt { IfOk result (λ done. receipts.new.items
+        ≡ receipts.old.items ++ receipt_of done.number receipt.event ∷ []) }
+    ensures none { OnErr result (receipts.new ≡ receipts.old) }
+{
     let done = book.change(edit)?;
     receipt.number = done.number;
-    pass.receipts.push_reserved(receipt);
-    pass.front = book.journal().len() as u64;
+    receipts.push_reserved(receipt);
     Ok(done)
 }
 
