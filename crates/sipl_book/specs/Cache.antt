@@ -20,7 +20,7 @@ new_queue max = record { queued = []; leased = set.empty; capacity = max }
 abbrev pub new_cache : ℕ → CacheState
 new_cache max = record { entries = []; queue = new_queue max; max_entries = max }
 
--- entries stand in the order in which they were made
+-- entries are in the order in which they were made
 abbrev pub InOrder : List EntryState → Type 0
 InOrder entries = AllPairs (λ a b. a.id < b.id) entries
 
@@ -34,7 +34,7 @@ abbrev pub AreMarkable : QueueState → List ℕ → Type 0
 AreMarkable queue [] = Unit {0}
 AreMarkable queue (id ∷ ids) = IsTrue (has_capacity_for queue id) × AreMarkable (after_mark queue id) ids
 
--- and each lease has room in the index for the pairs of a finding, and each vector of ids space for
+-- and each lease has space in the index for the pairs of a finding, and each vector of ids space for
 -- those of all entries
 pub record IsIndexedCache (entries : List EntryState) (queue : QueueState) (room places more : ℕ) : Type 0 where
   pub cache : IsCache entries queue

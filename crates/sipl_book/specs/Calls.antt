@@ -167,7 +167,7 @@ after_commit found words book =
 
 -- A finding that is committed gives the answer of the records and the holds as they are, which is
 -- the next event, and the question's entry is current and not queued. A refused one is returned, and
--- changes nothing. The test tells which sets have changed; `looked` is the old book after its looks.
+-- changes nothing. The test says which sets have changed; `looked` is the old book after its looks.
 pub record IsCommitted (has_changed : Store → Item → Bool) (found : Found) (words : List ℕ)
     (old looked new : BookState) (result : Result Handed Uncommitted) : Type 0 where
   pub accepted : OnOk result (commit_refusal has_changed found old ≡ None)
@@ -228,7 +228,7 @@ after_settlement id found book =
 
 -- A finding that is settled is that of the leased entry, which is current then. A refused one is
 -- returned; its lease is spent as one that is given back, or else its entry is the last of the
--- queue, unless it is current. No event is recorded. The test tells which sets have changed; `looked`
+-- queue, unless it is current. No event is recorded. The test says which sets have changed; `looked`
 -- is the old book after its looks.
 pub record IsSettled (has_changed : Store → Item → Bool) (id : ℕ) (found : Found)
     (old looked new : BookState) (result : Result (Unit {0}) Uncommitted) : Type 0 where

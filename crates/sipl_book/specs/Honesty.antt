@@ -1,4 +1,4 @@
--- Sets as they were read, and what their numbers tell of a store.
+-- Sets as they were read, and what their numbers say of a store.
 use Rattle.std.specs.Prelude.{◌≡◌, ◌<◌, List}
 use Rattle.std.specs.List.{All}
 use Rattle.sipl_records.specs.Sets.{set_of}

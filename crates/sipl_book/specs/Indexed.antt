@@ -6,7 +6,7 @@ use Rattle.sipl_evidence.specs.Dependents.{Dependent, depends, has_code}
 use Rattle.sipl_book.specs.Entries.{EntryState, after_change, depends_on}
 use Rattle.sipl_book.specs.Repairs.{entry_with}
 
--- the entries, and for how many more pairs there is room in the index
+-- the entries, and for how many more pairs there is space in the index
 pub record IndexedState : Type 0 where
   pub entries : List EntryState
   pub room : ℕ

@@ -23,7 +23,7 @@ use std::marker::Model;
 /// for the ids of as many entries as there may be.
 ///
 /// The queued and the leased ids are those of entries, and each outdated entry is queued or leased.
-/// For each lease the index of the entries has room for the pairs of a finding, so a settlement does
+/// For each lease the index of the entries has space for the pairs of a finding, so a settlement does
 /// not allocate; nor does an edit, whose ids find space in two vectors.
 #[derive(Drop)]
 pub(crate) struct Cache {
@@ -182,7 +182,7 @@ impl Cache {
         self.entries.add(finding, number)
     }
 
-    /// Leases the first queued entry, makes room in the index for its settlement, and copies its
+    /// Leases the first queued entry, reserves space in the index for its settlement, and copies its
     /// question. Logarithmic in the number of entries. Q1 where none is queued, or else an allocation
     /// failure; then nothing changes.
     pub(crate) fn lease(&mut self) -> Result<(Lease, Question), BookFault>

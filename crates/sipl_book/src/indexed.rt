@@ -15,7 +15,7 @@ use std::alloc::{AllocError, Global};
 use std::marker::Model;
 
 /// Entries, and which of the current ones depend on which record sets. Contracts see the entries, and
-/// for how many more pairs there is room in the index.
+/// for how many more pairs there is space in the index.
 #[derive(Drop)]
 pub(crate) struct Indexed {
     entries: Entries,
@@ -33,7 +33,7 @@ impl Model for Indexed {
 }
 
 impl Indexed {
-    /// No entries, and no room. Does not allocate.
+    /// No entries, and no space. Does not allocate.
     pub(crate) fn new(alloc: Global) -> Self
         ensures { result ≡ record { entries = []; room = 0 } }
     {
@@ -50,7 +50,7 @@ impl Indexed {
         &self.entries
     }
 
-    /// Makes room for the pairs of so many leases, and for so many more. The only error is an
+    /// Reserves space for the pairs of so many leases, and for so many more. The only error is an
     /// allocation failure.
     pub(crate) fn reserve(&mut self, leases: usize, pairs: usize) -> Result<(), AllocError>
         ensures entries { self.new.entries ≡ self.old.entries }

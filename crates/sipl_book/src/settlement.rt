@@ -16,8 +16,8 @@ use sipl_uri::Question;
 
 impl Book {
     /// Leases the first queued entry: its question is to be looked up again, and the finding to be
-    /// settled with the lease. The question is a copy. Makes room for the settlement, which takes no
-    /// memory. Logarithmic in the number of entries.
+    /// settled with the lease. The question is a copy. Reserves space for the settlement, which does not
+    /// allocate. Logarithmic in the number of entries.
     ///
     /// The fault is that none is queued (Q1), or a failed allocation; then nothing changes.
     pub fn lease(&mut self) -> Result<(Lease, Question), BookFault>

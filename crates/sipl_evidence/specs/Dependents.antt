@@ -15,7 +15,7 @@ pub record Dependent : Type 0 where
   pub code : ℕ
   pub id : ℕ
 
--- the pairs, and for how many more there is room
+-- the pairs, and for how many more there is space
 pub record DependentsState : Type 0 where
   pub pairs : List Dependent
   pub room : ℕ

@@ -51,7 +51,7 @@ IsNew lists code id =
 abbrev pub state_of : Inside → DependentsState
 state_of d = record { pairs = pairs_of d.by_code; room = d.room }
 
--- the lists have the same pairs, and the room
+-- the lists have the same pairs, and the space
 pub record IsLinked (d : Inside) : Type 0 where
   pub paired : ArePaired d.by_code d.by_id
   pub codes : HasSpace d.by_code d.room

@@ -11,10 +11,10 @@ use std::alloc::{AllocError, Global};
 use std::marker::Model;
 
 /// Which entries depend on which record sets. Contracts see the pairs of a key's code and an entry's
-/// id, and for how many more there is room.
+/// id, and for how many more there is space.
 ///
 /// A code is a hash of a key. Two keys may share one, so an entry that depends on a set of a key's
-/// code need not depend on that key's set: its evidence tells. Only `reserve` allocates.
+/// code need not depend on that key's set: its evidence says which do. Only `reserve` allocates.
 #[derive(Drop)]
 pub struct Dependents {
     by_code: Lists,
@@ -35,7 +35,7 @@ impl Model for Dependents {
 }
 
 impl Dependents {
-    /// No pairs, and no room. Does not allocate.
+    /// No pairs, and no space. Does not allocate.
     pub fn new(alloc: Global) -> Self
         ensures pairs { result.pairs ≡ [] }
         ensures room { result.room ≡ 0 }
@@ -47,7 +47,7 @@ impl Dependents {
         }
     }
 
-    /// For how many more pairs there is room. No entry is twice among those of a code.
+    /// For how many more pairs there is space. No entry is twice among those of a code.
     pub fn room(&self) -> usize
         ensures room { result ≡ self.now.room }
         ensures distinct { (code : ℕ) → IsDistinct nat_eq (ids_of self.now.pairs code) }
@@ -55,7 +55,7 @@ impl Dependents {
         self.room
     }
 
-    /// Makes room for so many pairs more. The only error is an allocation failure; then nothing
+    /// Reserves space for so many more pairs. The only error is an allocation failure; then nothing
     /// changes.
     pub fn reserve(&mut self, room: usize) -> Result<(), AllocError>
         ensures ok { OnOk result (self.new ≡ record self.old { room = max self.old.room room }) }

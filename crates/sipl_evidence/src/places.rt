@@ -75,7 +75,7 @@ pub(crate) fn place_among_few(items: &[Item], name: &Name, kind: Kind) -> Option
         .position(|item| item.key().kind == kind && item.key().name == *name)
 }
 
-// Gives a table by names the places of these items alone.
+// Sets a table by names to the places of only these items.
 pub(crate) fn index_items(
     table: &mut IndexMap<Name, Places>,
     alloc: Global,

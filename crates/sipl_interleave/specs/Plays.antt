@@ -1,4 +1,4 @@
--- The steps of a world in their order: each answer is right by the plain machine alone.
+-- The steps of a world in their order: each answer is right by the plain machine.
 use Rattle.std.specs.Prelude.{◌≡◌, ℕ, ◌==◌, List, [], ◌∷◌, if◌then◌else◌, Option, None, Some, option_map}
 use Rattle.sipl_choice.specs.Abilities.{Client}
 use Rattle.sipl_uri.specs.declared.question.Question.{Question}

@@ -23,7 +23,7 @@ use Rattle.sipl_interleave.specs.declared.step.Step.TheVariants.{Change, Hold, R
 use Rattle.sipl_interleave.specs.declared.fault.WorldFault.{WorldFault}
 use Rattle.sipl_interleave.specs.declared.fault.WorldFault.TheVariants.{Book as OfBook}
 
--- the fault of a step before it comes to the book: there is no such worker, or its job does not
+-- the fault of a step before it reaches the book: there is no such worker, or its job does not
 -- allow it
 abbrev pub worker_refusal : Step → List (Option Job) → Option WorldFault
 worker_refusal (Start w question) workers = refusal_of w ToStart workers

@@ -40,7 +40,7 @@ pub record IsWorld (world : WorldState) : Type 0 where
   -- each leased id is the lease of a worker
   pub held : (id : ℕ) → is_leased world.book.queue id ≡ true
       → (w : ℕ) × (lease_of (job_at world.workers w) ≡ Some id)
-  -- each entry was made by an event before now, and the entries stand in the order of their events
+  -- each entry was made by an event before now, and the entries are in the order of their events
   pub made : All (λ e. e.id < next_event world.book) world.book.entries
   pub ids : AllPairs (λ a b. a.id < b.id) world.book.entries
   -- there are 1 to 64 workers

@@ -26,7 +26,7 @@ pub enum Step {
     Lease(usize),
     /// A worker settles its lease with its finding.
     Settle(usize),
-    /// A worker ends its run, and gives its lease back if it has one.
+    /// A worker ends its run, and returns its lease if it has one.
     Abandon(usize),
     /// Forgets the entry of a question.
     Forget(Question),

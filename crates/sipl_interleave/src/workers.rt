@@ -147,7 +147,7 @@ impl Workers {
         self.workers[number].abandon()
     }
 
-    /// Ends all jobs, and gives their leases back to the book, that of the last worker first. Does not
+    /// Ends all jobs, and returns their leases to the book, that of the last worker first. Does not
     /// allocate.
     pub(crate) fn give_back(self, book: &mut Book)
         ensures { book.new ≡ after_return_of self book.old }

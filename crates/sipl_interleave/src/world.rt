@@ -136,7 +136,7 @@ impl World {
         }
     }
 
-    // The fault of a step before it comes to the book.
+    // The fault of a step before it reaches the book.
     fn refusal(&self, step: &Step) -> Option<WorldFault>
         ensures { result ≡ worker_refusal step.now self.now.workers }
     {

@@ -123,7 +123,7 @@ abbrev pub HearsOf : {D F : Type 0} → DeskRules D F → Octets → Event → C
 HearsOf rules words event before text after =
     Hears rules (counts_line words []) event before.call before text after
 
--- a call that has not ended is told the time, before the reply
+-- a call that has not ended gets the time, before the reply
 abbrev pub Ticks : {D F : Type 0} → DeskRules D F → Octets → ℕ → Option FailoverRun → CallDesk D → Octets
     → CallDesk D → Type 0
 Ticks rules reply ms None before text after = Keeps reply before text after
@@ -132,7 +132,7 @@ Ticks rules reply ms (Some run) before text after =
     × OnFalse (has_ended run)
     (GoesOn rules reply run (Ticked ms) (refusal_of run (Ticked ms)) before text after)
 
--- once the clock is set a call is told; if that was refused, nothing else happens
+-- once the clock is set a call gets the time; if that was refused, nothing else happens
 abbrev pub TellsTime : {D F : Type 0} → DeskRules D F → ℕ → Result ℕ F → CallDesk D → Octets
     → CallDesk D → Type 0
 TellsTime rules ms (Err fault) before text after =
@@ -163,7 +163,7 @@ Opens kind base moment (NoTarget reason) before text after =
 Opens kind base moment (Targets targets) before text after =
     OpensOver kind base moment targets before text after
 
--- the call that the desk's answer opens at the time that the desk tells
+-- the call that the desk's answer opens at the time that the desk reports
 abbrev pub OpensFor : {D F : Type 0} → DeskRules D F → Kind → ℕ → Result Handed F
     → Option FailoverRun → Octets → CallDesk D → Type 0
 OpensFor rules kind base (Err fault) before text after =

@@ -101,7 +101,7 @@ EditsRecord rules kind (Err fault) before text after = Refuses (zone_code fault)
 EditsRecord rules kind (Ok r) before text after =
     Edits rules (record_words kind) [] (record_edit kind r) before text after
 
--- the targets of a question for random words, handed out also where there is no space for their text
+-- the targets of a question for random words, returned also where there is no space for their text
 abbrev pub Answers : {D F : Type 0} → DeskRules D F → Question → List ℕ → D → Octets → D → Type 0
 Answers rules question words before text after =
     DoesInSpace rules (rules.Finds question words) handed_text before text after

@@ -14,7 +14,7 @@ use Rattle.sipl_book.specs.declared.outcome.Done.{Done}
 use Rattle.sipl_book.specs.declared.outcome.Handed.{Handed}
 
 -- what the calls of a desk may do, from a state to a state, with a value or a fault; which times, in
--- milliseconds, it may tell in a state; and what a refusal says of a fault
+-- milliseconds, it may report in a state; and what a refusal says of a fault
 pub record DeskRules (D F : Type 0) : Type 1 where
   pub Finds : Question → List ℕ → D → Result Handed F → D → Type 0
   pub Changes : Edit → D → Result Done F → D → Type 0

@@ -54,7 +54,7 @@ at_end gathering = record { left = 0; gathered = gathering.gathered }
 abbrev pub lost : ℕ → Gathering
 lost left = record { left = left; gathered = Lost }
 
--- whether there are lines that are kept, which takes memory
+-- whether there are lines that are kept, which allocates
 abbrev pub keeps_lines : Gathered → Bool
 keeps_lines (Lines zone) = true
 keeps_lines (BadApex fault) = false

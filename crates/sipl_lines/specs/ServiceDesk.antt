@@ -28,7 +28,7 @@ pub record CallerState : Type 0 where
 abbrev pub handed_of : ToldState → Handed
 handed_of told = record { number = told.number; answer = told.answer }
 
--- The caller is told an answer to the question, with the record sets and the holds that decide it, and
+-- The caller receives an answer to the question, with the record sets and the holds that decide it, and
 -- gets the receipt of its event. A refusal leaves the pass as it was.
 pub record IsTold (question : Question) (words : List ℕ) (old new : CallerState)
     (told : Result ToldState ServiceFault) : Type 0 where
@@ -44,7 +44,7 @@ service_text (Contended key) =
 service_text fault = service_code fault
 
 -- What the calls of a service's desk do. What they do to the book, which other callers change at the
--- same time, the receipts tell: they are those of its journal.
+-- same time, the receipts show: they are those of its journal.
 abbrev pub caller_rules : DeskRules CallerState ServiceFault
 caller_rules =
     record {

@@ -112,8 +112,8 @@ fn start(
     }
 }
 
-// `got ATTEMPT CODE [retry SECONDS]`: a response has come to an attempt of the call. Appends the
-// steps and the reply.
+// `got ATTEMPT CODE [retry SECONDS]`: the response to an attempt of the call. Appends the steps
+// and the reply.
 pub(crate) fn hear_response<D: Desk>(
     desk: &mut D,
     call: &mut Option<Failover>,
@@ -153,7 +153,7 @@ pub(crate) fn hear_failure<D: Desk>(desk: &mut D, call: &mut Option<Failover>, o
     }
 }
 
-// `clock MS`: sets the time, and tells it to a call that has not ended. Appends the steps and the
+// `clock MS`: sets the time, also of a call that has not ended. Appends the steps and the
 // reply.
 pub(crate) fn set_clock<D: Desk>(
     desk: &mut D,

@@ -28,7 +28,7 @@ use std::alloc::{AllocError, Global};
 pub(crate) const MAX_SHORT_REPLY_LEN: usize = 1_552;
 
 // Loads the zone of a text, and appends the reply. The text is dropped as soon as it is read, so that
-// it takes no memory beside the loaded zone.
+// it allocates nothing but the loaded zone.
 pub(crate) fn load_zone<D: Desk>(
     alloc: Global,
     desk: &mut D,

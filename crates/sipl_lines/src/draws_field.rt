@@ -1,4 +1,4 @@
-// The random words that a `find` line gives.
+// The random words of a `find` line.
 ghost use Rattle.std.specs.Prelude.{◌≡◌};
 ghost use Rattle.sipl_records.specs.Fields.{fields_of};
 ghost use Rattle.sipl_lines.specs.DrawsField.{draws_of, draws_of_form, draws_of_seed, draws_of_words};

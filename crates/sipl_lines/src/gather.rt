@@ -27,7 +27,7 @@ impl Model for ZoneLines {
 pub(crate) enum Gathered {
     // The apex, and the lines that were taken.
     Lines(ZoneLines),
-    // The apex is no name.
+    // The apex is not a name.
     BadApex(InvalidName),
     // A line has more octets than one may have: K2. No lines are kept.
     LongLine,

@@ -79,7 +79,7 @@ impl Pending {
     }
 
     // Processes what a read gave, and appends the replies: each line that ends in it, or at the
-    // end of the input, where a read gives nothing, the octets that are left, which are a line if
+    // end of the input, where a read returns nothing, the octets that are left, which are a line if
     // there are any. The octets after the last line end are kept. An error says that the space for
     // a reply could not be reserved: the lines before have theirs.
     pub(crate) fn process<D, C: Conversation<D>>(

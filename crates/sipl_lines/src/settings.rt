@@ -100,7 +100,7 @@ impl Settings {
         })
     }
 
-    // Sets the fields that a key stands for.
+    // Sets the fields that are a key's.
     fn set(&mut self, alloc: Global, key: &str, value: &Value) -> Result<(), Refusal>
         ensures set { SetsKey key.now (view value.now) self.old result self.new }
         ensures limits { IsWithinLimits self.old → IsWithinLimits self.new }

@@ -58,7 +58,7 @@ abbrev pub ttl_of_durations : Octets → Option ℕ
 ttl_of_durations text =
     if length text == 0 then None else option_and_then ttl_within_limit (sum_of (durations text))
 
--- the seconds of a ttl: digits alone, or durations
+-- the seconds of a ttl: only digits, or durations
 abbrev pub ttl_of : Octets → Option ℕ
 ttl_of text = option_or (number_of text 2147483647) (ttl_of_durations text)
 

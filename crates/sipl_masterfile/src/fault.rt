@@ -11,7 +11,7 @@ pub enum ZoneCause {
     /// Z1: an invalid name, and its fault.
     #[error("bad name: {0}")]
     InName(InvalidName),
-    /// Z2: a missing field, or one that is none of its place.
+    /// Z2: a missing field, or one that is invalid in its place.
     #[error("a field is missing")]
     MissingField,
     /// Z3: a number or a TTL that is invalid or too large.

@@ -14,7 +14,7 @@ use std::alloc::Global;
 /// below the origin, and `@` is the origin. Linear in the length of the text.
 ///
 /// The fault is the first one: no entry with fields (Z2, at line 1), a fault of the entry, a further
-/// entry with fields (Z13). A directive is no record: `$INCLUDE` is Z8, `$GENERATE` Z9, any other Z2.
+/// entry with fields (Z13). A directive is not a record: `$INCLUDE` is Z8, `$GENERATE` Z9, any other Z2.
 /// The fault is at the line on which its entry begins, an allocation failure at line 1.
 pub fn read_record(alloc: Global, line: &[u8], origin: &Name) -> Result<Record, ZoneFault>
     ensures read { IfOk result (λ r. record_of line.now origin.now ≡ Ok r) }

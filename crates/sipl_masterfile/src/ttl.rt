@@ -10,7 +10,7 @@ use sipl_records::read_number;
 // The maximum time to live, in seconds (RFC 2181, 8).
 const MAX_TTL: u64 = 2_147_483_647;
 
-// The seconds of a time to live: digits alone, or one or more durations as `1h30m`, whose sum is at
+// The seconds of a time to live: only digits, or one or more durations as `1h30m`, whose sum is at
 // most 2^31 - 1.
 pub(crate) fn read_ttl(text: &[u8]) -> Option<u64>
     ensures { result ≡ ttl_of text.now }

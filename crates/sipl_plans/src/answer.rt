@@ -22,7 +22,7 @@ pub enum Reason {
 /// The answer to a question (RFC 3263, 4).
 #[derive(Debug, PartialEq, Eq, Drop)]
 pub enum Answer {
-    /// Where to send the request: each endpoint once, the one to try first at the front.
+    /// Where to send the request: each endpoint once, the one to try first before all others.
     Targets(Sequence<Endpoint>),
     /// Nowhere, and the reason.
     None(Reason),

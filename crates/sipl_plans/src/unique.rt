@@ -36,7 +36,7 @@ fn table_of(alloc: Global, endpoints: &[Endpoint]) -> Result<IndexSet<Endpoint>,
     Ok(table)
 }
 
-// Keeps each endpoint at its first place alone. Compares each with those that are kept.
+// Keeps each endpoint only at its first place. Compares each with those that are kept.
 fn keep_first(endpoints: &mut Vec<Endpoint>)
     ensures { endpoints.new.items ≡ unique same_endpoint endpoints.old.items }
 {

@@ -3,7 +3,7 @@ ghost use Rattle.std.specs.Prelude.{◌≡◌, IfOk};
 use std::alloc::{AllocError, Global};
 use std::marker::Model;
 
-/// A value in memory of its own, so that what has it as a field is no larger for it. Contracts see
+/// A value in memory of its own, so that a type with such a field stays small. Contracts see
 /// the value. Two are equal where their values are.
 #[derive(Debug, Drop)]
 pub struct Boxed<T> {

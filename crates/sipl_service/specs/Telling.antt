@@ -1,4 +1,4 @@
--- What a caller is told.
+-- What a caller receives.
 use Rattle.std.specs.Prelude.{◌≡◌, ℕ, List, map}
 use Rattle.std.specs.List.{All}
 use Rattle.sipl_choice.specs.Abilities.{Client}

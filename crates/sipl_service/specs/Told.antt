@@ -1,4 +1,4 @@
--- How the fields of a `Told` represent what a caller is told.
+-- How the fields of a `Told` represent what a caller receives.
 use Rattle.std.specs.Arc.{arc_value}
 use Rattle.sipl_service.specs.Telling.{IsDecided, ToldState}
 use Rattle.sipl_service.specs.declared.told.Told.TheInside.{Inside}

@@ -1,6 +1,6 @@
 //! A locator that threads share: a book under a lock (RFC 3263, 4).
 //!
-//! A caller has a pass. Each answer that it is told, and each change that it makes, is an event of
+//! A caller has a pass. Each answer that it receives, and each change that it makes, is an event of
 //! the book's journal, and the pass has the receipt for it. After the service was closed, `claim`
 //! shows of the journal and all passes that the receipts are the journal: each event is one that a
 //! caller was told of, and is what it was told.

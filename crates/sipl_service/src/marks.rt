@@ -64,7 +64,7 @@ impl Marks {
     }
 
     // Pushes a copy of a key's set to the versions, and keeps its mark. Where the mark finds no space,
-    // the version stays, and no mark tells of it.
+    // the version stays without a mark.
     fn push<R: Wait>(
         &mut self,
         rt: &R,

@@ -148,8 +148,8 @@ impl Service {
         &self.abilities
     }
 
-    /// How many versions of record sets callers have read, which are kept until `close`. It only says
-    /// what memory they take, so no contract tells of it.
+    /// How many versions of record sets callers have read, which are kept until `close`. It is only a
+    /// measure of the memory that they use, so it has no contract.
     pub fn version_count(&self) -> usize {
         self.versions.len()
     }

@@ -167,7 +167,7 @@ pub fn other_intervals_double_up_to_t2()
 
 /// Timer E runs on from Trying into Proceeding (RFC 3261, 17.1.2.2). While another request waits
 /// for its final response over an unreliable transport, a provisional response changes its state
-/// alone, and a tick before the timer fires its time alone. A later tick sends the request, and
+/// only, and a tick before the timer fires only its time. A later tick sends the request, and
 /// starts the timer at that time: in Trying for twice its interval, up to T2, in Proceeding for T2.
 pub fn timer_e_runs_on_in_proceeding()
     ensures provisional { (t : Transaction) (code : ℕ) →

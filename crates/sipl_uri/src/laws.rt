@@ -27,8 +27,8 @@ pub fn printed_questions_read_back()
         → question_of (question_text question) ≡ Ok question }
 {}
 
-/// The URI of such a question has at most `MAX_QUESTION_TEXT_LEN` octets, which are 1,030: 5 for the scheme and its colon, 1,004 for
-/// the name, 6 for the port with its colon and 15 for the transport parameter.
+/// The URI of such a question has at most `MAX_QUESTION_TEXT_LEN` octets, which are 1,030: 5 for the scheme
+/// and its colon, 1,004 for the name, 6 for the port with its colon and 15 for the transport parameter.
 pub fn question_text_has_at_most_1030_octets()
     ensures most { (question : Question) → IsAskable question
         → length (question_text question) ≤ 1030 }

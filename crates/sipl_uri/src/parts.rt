@@ -36,7 +36,7 @@ pub(crate) fn read_parts(text: &[u8]) -> Option<Parts<'_>>
     Some(split_parts(text))
 }
 
-// Splits a text that is a hostname or an IPv4 address, alone or with a port, as most are: in one
+// Splits a text that is a hostname or an IPv4 address, with a port or without, as most are: in one
 // pass. `None` where there is an octet of neither.
 fn split_plain(text: &[u8]) -> Option<Parts<'_>>
     ensures allowed { OnSome result (has_allowed_octets text.now ≡ true) }

@@ -1,5 +1,5 @@
 -- The numbers of record sets: a set takes a new number whenever it changes, so that equal numbers
--- tell equal sets.
+-- mean equal sets.
 use Rattle.std.specs.Prelude.{◌≡◌, ◌≢◌, ◌↔◌, ℕ, ◌+◌, ◌^◌, ◌<◌, ◌≤◌, Bool, true, false, not, List, [], ◌∷◌, length, filter, Option, None, Some, nat_lt, if◌then◌else◌}
 use Rattle.std.specs.List.{position_from}
 use Rattle.std.specs.Option.{unwrap_or}

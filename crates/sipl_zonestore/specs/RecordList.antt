@@ -15,7 +15,7 @@ live (r ∷ records) [] = []
 live (r ∷ records) (code ∷ codes) =
     if nat_eq code (code_of_name r.owner) then r ∷ live records codes else live records codes
 
--- the records, and for how many more there is room
+-- the records, and for how many more there is space
 pub record ListState : Type 0 where
   pub records : List Record
   pub room : ℕ

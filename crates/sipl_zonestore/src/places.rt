@@ -1,4 +1,4 @@
-//! Where a record stands among records with codes, some of which were removed.
+//! The place of a record among records with codes, some of which were removed.
 ghost use Rattle.std.specs.Prelude.{◌≡◌, ◌≤◌, ◌<◌, length, drop, true, vec_len, vec_capacity};
 ghost use Rattle.std.specs.List.{list_any};
 ghost use Rattle.sipl_records.specs.Codes.{code_of_name};

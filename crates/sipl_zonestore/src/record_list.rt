@@ -68,7 +68,7 @@ impl RecordList {
         &self.records
     }
 
-    // Makes room for so many more records. Moves the records together where more were removed than
+    // Reserves space for so many more records. Moves the records together where more were removed than
     // are left, so that this takes constant time for each removal.
     pub(crate) fn reserve(&mut self, additional: usize) -> Result<(), AllocError>
         ensures records { self.new.records ≡ self.old.records }

@@ -92,7 +92,7 @@ impl Server {
         })
     }
 
-    // Serves the session of a connection, and keeps its pass. A fault ends this session alone.
+    // Serves the session of a connection, and keeps its pass. A fault ends only this session.
     fn serve_connection<H: Wait>(&self, host: &H, stream: TcpStream) {
         // Without this a short reply may wait until the client has acknowledged the one before.
         let _ = stream.set_nodelay(true);

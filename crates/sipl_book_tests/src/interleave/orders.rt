@@ -61,7 +61,7 @@ fn changes(set: Set, edits: usize) -> usize {
 // What a worker does in one go.
 #[derive(Clone, Copy)]
 enum Piece {
-    // Begins to look up a question, and reads a set. A beginning touches the worker alone.
+    // Begins to look up a question, and reads a set. A beginning changes only the worker.
     Begin(usize),
     Read,
     Commit,

@@ -171,7 +171,7 @@ fn the_least_order_and_then_the_least_preference_decide(rt: HostRuntime) {
 
 const ALL: [Transport; 4] = [Udp, Tcp, Tls, Sctp];
 
-// That the record decides nothing, alone or before one that does.
+// That the record decides nothing, by itself or before one that does.
 fn does_not_apply(rt: &impl Abort, alloc: Global, fields: Fields) {
     decides(rt, alloc, &ALL, false, &[fields], None);
     let records = [fields, (2, 2, "s", "SIP+D2U", "", "b.")];

@@ -211,7 +211,7 @@ fn directives_have_their_causes(rt: HostRuntime) {
         ("$GENERATE 1-2 a A 192.0.2.$", 1, ZoneCause::Generate),
         ("$", 1, ZoneCause::MissingField),
         ("$TTLS 5", 1, ZoneCause::MissingField),
-        // An indented entry is no directive.
+        // An indented entry is not a directive.
         ("last TXT\n $TTL 5", 2, ZoneCause::MissingField),
     ];
     has_fault_each(&rt, rt.alloc(), &rows);

@@ -1,6 +1,6 @@
 // Books over some hundred lines, made from a seed, beside a plain store and a plain board: the reply to
 // each line is what these give, and that to a `find` is the plain program's on the records and the
-// holds as they stand.
+// holds as they are.
 use super::comparison::{Numbers, URIS, plain_answer};
 use super::streams::replies_at;
 use itoa::Buffer;

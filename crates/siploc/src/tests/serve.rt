@@ -44,7 +44,7 @@ where
     Ok(serve_connections(alloc, host, settings).ok())
 }
 
-// A port that was free a moment ago.
+// A port that was free just now.
 fn free_port<H>(host: &H) -> io::Result<u16>
 where
     H: Net<Listener = TcpListener, Stream = TcpStream>,
