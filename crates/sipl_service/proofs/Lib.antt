@@ -2,3 +2,4 @@ pub mod Marked
 pub mod Committing
 pub mod Ours
 pub mod Entries
+pub mod Keys

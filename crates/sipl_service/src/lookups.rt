@@ -1,8 +1,8 @@
 // A lookup: the answer of the current entry, or else a run over sets that are read one at a time, and
 // a commit; where a set has changed in between, again.
-ghost use Rattle.std.specs.Prelude.{◌≡◌, IfOk};
+ghost use Rattle.std.specs.Prelude.{◌≡◌, [], None, IfOk, OnOk};
 ghost use Rattle.sipl_plans.specs.Findings.{IsSound};
-ghost use Rattle.sipl_plans.specs.Runs.{IsSet};
+ghost use Rattle.sipl_plans.specs.Runs.{IsSet, wanted};
 ghost use Rattle.sipl_service.specs.Passes.{GetsReceipt};
 ghost use Rattle.sipl_service.specs.Telling.{AreDependencies, IsToldFor, event_of};
 
@@ -141,6 +141,23 @@ impl Service {
         ensures sound { IfOk result (λ finding. IsSound finding) }
     {
         let mut run = Run::start(self.alloc, question.dup(self.alloc)?, &self.abilities)?;
+        self.read_all(rt, who, &mut run, gate)?;
+        Ok(run.finish().ok().unwrap())
+    }
+
+    // Reads the sets that a new run wants, until it wants none.
+    fn read_all<R: Wait, G: Gate>(
+        &self,
+        rt: &R,
+        who: Who,
+        run: &mut Run,
+        gate: &G,
+    ) -> Result<(), ServiceFault>
+        requires { run.old.items ≡ [] }
+        ensures question { run.new.question ≡ run.old.question }
+        ensures client { run.new.client ≡ run.old.client }
+        ensures all { OnOk result (wanted run.new ≡ None) }
+    {
         let mut reads = 0;
         while let Some(key) = run.wants() {
             let (number, content) = self.read(rt, key)?;
@@ -150,7 +167,7 @@ impl Service {
                 return Err(ServiceFault::Stopped);
             }
         }
-        Ok(run.finish().ok().unwrap())
+        Ok(())
     }
 
     // A copy of a key's set as it is, with its number. It is that of a version, which is copied with

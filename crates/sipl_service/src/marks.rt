@@ -1,5 +1,5 @@
 //! Where the versions of record sets are, as the book's sets are now.
-ghost use Rattle.std.specs.Prelude.{◌≡◌, ◌≢◌, ◌↔◌, None, false, filter, nat_eq, IfOk, IfSome};
+ghost use Rattle.std.specs.Prelude.{◌≡◌, ◌≢◌, ◌↔◌, None, Some, false, filter, nat_eq, IfOk, IfSome, OnErr};
 ghost use Rattle.indexmap.specs.IndexMap.{get};
 ghost use Rattle.sipl_records.specs.Sets.{same_key};
 ghost use Rattle.sipl_records.specs.declared.record.Key.{Key};
@@ -50,6 +50,11 @@ impl Marks {
         ensures empty { IfOk result (λ mark. (mark ≡ None) ↔ (number_in book.old.store key.now ≡ 0)) }
         ensures number { IfOk result (λ mark.
             IfSome mark (λ mark. mark.number ≡ number_in book.old.store key.now)) }
+        ensures kept { IfOk result (λ mark.
+            IfSome mark (λ mark. get same_key self.new.table key.now ≡ Some mark)) }
+        ensures others { (other : Key) → same_key key.now other ≡ false
+            → get same_key self.new.table other ≡ get same_key self.old.table other }
+        ensures unchanged { OnErr result (self.new.table.entries ≡ self.old.table.entries) }
         ensures book { book.new ≡ after_mark (number_in book.old.store key.now)
             (get same_key self.old.table key.now) book.old }
     {
@@ -74,6 +79,10 @@ impl Marks {
     ) -> Result<Mark, AllocError>
         requires { number_in book.old.store key.now ≢ 0 }
         ensures number { IfOk result (λ mark. mark.number ≡ number_in book.old.store key.now) }
+        ensures kept { IfOk result (λ mark. get same_key self.new.table key.now ≡ Some mark) }
+        ensures others { (other : Key) → same_key key.now other ≡ false
+            → get same_key self.new.table other ≡ get same_key self.old.table other }
+        ensures unchanged { OnErr result (self.new.table.entries ≡ self.old.table.entries) }
         ensures book { book.new ≡ after_look book.old }
     {
         let (number, content) = book.read(key)?;

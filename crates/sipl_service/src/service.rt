@@ -1,6 +1,7 @@
-ghost use Rattle.std.specs.Prelude.{◌≡◌, ◌≤◌, ◌^◌, ◌↔◌, [], None, filter, nat_eq, IfOk, IfErr, IfSome, IfNone, OnOk};
+ghost use Rattle.std.specs.Prelude.{◌≡◌, ◌≤◌, ◌^◌, ◌↔◌, [], None, Some, false, filter, nat_eq, IfOk, IfErr, IfSome, IfNone, OnOk, OnErr};
 ghost use Rattle.indexmap.specs.IndexMap.{get};
 ghost use Rattle.sipl_records.specs.Sets.{same_key};
+ghost use Rattle.sipl_records.specs.declared.record.Key.{Key};
 ghost use Rattle.sipl_zonestore.specs.Store.{number_in};
 ghost use Rattle.sipl_book.specs.Machine.{IsLegal, empty_state};
 ghost use Rattle.sipl_service.specs.Marks.{after_mark, marked_at};
@@ -56,6 +57,12 @@ impl Shared {
             (λ mark. (mark ≡ None) ↔ (number_in self.old.book.store key.now ≡ 0)) }
         ensures number { IfOk result (λ mark.
             IfSome mark (λ mark. mark.number ≡ number_in self.old.book.store key.now)) }
+        ensures kept { IfOk result (λ mark.
+            IfSome mark (λ mark. get same_key self.new.marks.table key.now ≡ Some mark)) }
+        ensures others { (other : Key) → same_key key.now other ≡ false
+            → get same_key self.new.marks.table other ≡ get same_key self.old.marks.table other }
+        ensures unchanged { OnErr result
+            (self.new.marks.table.entries ≡ self.old.marks.table.entries) }
         ensures book { self.new.book ≡ after_mark (number_in self.old.book.store key.now)
             (get same_key self.old.marks.table key.now) self.old.book }
         ensures stopped { self.new.is_stopped ≡ self.old.is_stopped }
@@ -68,6 +75,8 @@ impl Shared {
     fn take_out_marks(&mut self, key: Option<&Key>)
         ensures one { IfSome key.entry (λ key. get same_key self.new.marks.table key.now ≡ marked_at
             (number_in self.old.book.store key.now) (get same_key self.old.marks.table key.now)) }
+        ensures others { IfSome key.entry (λ key. (other : Key) → same_key key.now other ≡ false
+            → get same_key self.new.marks.table other ≡ get same_key self.old.marks.table other) }
         ensures all { IfNone key.entry (self.new.marks.table.entries
             ≡ filter (λ e. nat_eq e.1.number (number_in self.old.book.store e.0))
             self.old.marks.table.entries) }
