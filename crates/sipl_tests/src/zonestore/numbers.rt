@@ -23,6 +23,17 @@ server2 A 192.0.2.9
 server2 A 192.0.2.2
 ";
 
+// The zone is loaded, and changes each of its sets.
+const LOAD_ZONE: Step = Step::Changes(
+    Edit::Load("example.com.", ZONE),
+    &[
+        ("@", Kind::Pointer),
+        ("_sip._tcp", Kind::Service),
+        ("server1", A),
+        ("server2", A),
+    ],
+);
+
 #[test]
 fn changed_sets_take_the_next_numbers(rt: HostRuntime) {
     play(
@@ -113,15 +124,7 @@ fn sets_are_numbered_in_the_order_of_the_text(rt: HostRuntime) {
         1,
         8,
         &[
-            Step::Changes(
-                Edit::Load("example.com.", ZONE),
-                &[
-                    ("@", Kind::Pointer),
-                    ("_sip._tcp", Kind::Service),
-                    ("server1", A),
-                    ("server2", A),
-                ],
-            ),
+            LOAD_ZONE,
             Step::HasNumbers(&[
                 ("@", Kind::Pointer, 1),
                 ("_sip._tcp", Kind::Service, 2),
@@ -157,15 +160,7 @@ fn a_record_that_is_removed_and_added_again_takes_a_new_number(rt: HostRuntime) 
         1,
         8,
         &[
-            Step::Changes(
-                Edit::Load("example.com.", ZONE),
-                &[
-                    ("@", Kind::Pointer),
-                    ("_sip._tcp", Kind::Service),
-                    ("server1", A),
-                    ("server2", A),
-                ],
-            ),
+            LOAD_ZONE,
             Step::Changes(Edit::Remove("server1 A 192.0.2.1"), &[("server1", A)]),
             Step::Changes(Edit::Add("server1 A 192.0.2.1"), &[("server1", A)]),
             Step::HasNumbers(&[("server1", A, 5)]),
@@ -181,15 +176,7 @@ fn a_load_reports_exactly_the_keys_that_differ(rt: HostRuntime) {
         1,
         8,
         &[
-            Step::Changes(
-                Edit::Load("example.com.", ZONE),
-                &[
-                    ("@", Kind::Pointer),
-                    ("_sip._tcp", Kind::Service),
-                    ("server1", A),
-                    ("server2", A),
-                ],
-            ),
+            LOAD_ZONE,
             Step::Changes(
                 Edit::Load("example.com.", LATER_ZONE),
                 &[("@", Kind::Pointer), ("server2", A), ("server3", A)],
@@ -213,15 +200,7 @@ fn an_unloaded_zone_reports_its_keys(rt: HostRuntime) {
         1,
         8,
         &[
-            Step::Changes(
-                Edit::Load("example.com.", ZONE),
-                &[
-                    ("@", Kind::Pointer),
-                    ("_sip._tcp", Kind::Service),
-                    ("server1", A),
-                    ("server2", A),
-                ],
-            ),
+            LOAD_ZONE,
             Step::Changes(
                 Edit::Unload("example.com."),
                 &[
@@ -233,15 +212,7 @@ fn an_unloaded_zone_reports_its_keys(rt: HostRuntime) {
             ),
             Step::HasRecords(&[]),
             Step::Refuses(Edit::Unload("example.com."), StoreFault::NoZone),
-            Step::Changes(
-                Edit::Load("example.com.", ZONE),
-                &[
-                    ("@", Kind::Pointer),
-                    ("_sip._tcp", Kind::Service),
-                    ("server1", A),
-                    ("server2", A),
-                ],
-            ),
+            LOAD_ZONE,
             Step::HasNumbers(&[("server2", A, 8)]),
         ],
     );
