@@ -1,10 +1,8 @@
 //! The program: its arguments, and what it does on its standard streams.
-ghost use Rattle.sipl_lines.specs.Settings.{IsWithinLimits};
-
 use crate::serve::{ServerFault, serve_connections};
 use sipl_book::Book;
 use sipl_lines::{
-    Ended, ServeFault, Settings, SettingsFault, Tapped, check_zone, play_script, serve_book,
+    ServeFault, Settings, SettingsFault, Tapped, check_zone, play_script, serve_book,
 };
 use sipl_names::{Name, NameFault};
 use std::alloc::Global;
@@ -80,7 +78,7 @@ where
     H: Net<Listener = TcpListener, Stream = TcpStream> + Threads + Wait + Sync,
 {
     let outcome = match read_arguments(rt) {
-        Ok(Some(call)) => perform(rt, host, call),
+        Ok(Some(call)) => perform(rt, host, &call),
         Err(error) if error.kind() == ErrorKind::OutOfMemory => {
             Err(Fault::Serve(ServeFault::Memory))
         }
@@ -122,16 +120,25 @@ fn read_arguments<R: Env + AllocGlobal>(rt: &R) -> io::Result<Option<Call>> {
     let mut words = env::args(rt)?;
     let _program = words.next();
     let call = match words.next() {
-        Some(word) if word.as_str() == "run" => Some(Call::Run(words.next())),
-        Some(word) if word.as_str() == "world" => Some(Call::World(words.next())),
-        Some(word) if word.as_str() == "serve" => Some(Call::Serve(words.next())),
-        Some(word) if word.as_str() == "check" => match words.next() {
-            Some(apex) => read_apex(rt.alloc(), apex.as_bytes())?,
-            None => None,
-        },
-        _ => None,
+        Some(command) => read_call(rt.alloc(), command.as_str(), words.next())?,
+        None => None,
     };
     Ok(call.filter(|_| words.next().is_none()))
+}
+
+// What a command asks for with this word after it, if they are right. An error says that an
+// allocation failed.
+fn read_call(alloc: Global, command: &str, word: Option<String>) -> io::Result<Option<Call>> {
+    match command {
+        "run" => Ok(Some(Call::Run(word))),
+        "world" => Ok(Some(Call::World(word))),
+        "serve" => Ok(Some(Call::Serve(word))),
+        "check" => match word {
+            Some(apex) => read_apex(alloc, apex.as_bytes()),
+            None => Ok(None),
+        },
+        _ => Ok(None),
+    }
 }
 
 // The zone of this name, which is relative to the root, if it is one. An error says that an
@@ -145,60 +152,52 @@ fn read_apex(alloc: Global, text: &[u8]) -> io::Result<Option<Call>> {
 }
 
 // Does what the arguments ask for. Returns whether a zone that was checked is one.
-fn perform<R, H>(rt: &R, host: &H, call: Call) -> Result<bool, Fault>
+fn perform<R, H>(rt: &R, host: &H, call: &Call) -> Result<bool, Fault>
 where
     R: Input + Print + AllocGlobal,
     H: Net<Listener = TcpListener, Stream = TcpStream> + Threads + Wait + Sync,
 {
     match call {
-        Call::Run(text) => {
-            let text = text.as_deref().unwrap_or("");
-            serve_streams(rt, Settings::from_toml(rt.alloc(), text)?)?;
-            Ok(true)
-        }
-        Call::World(text) => {
-            let text = text.as_deref().unwrap_or("");
-            play_streams(rt, Settings::from_toml(rt.alloc(), text)?)?;
-            Ok(true)
-        }
-        Call::Serve(text) => {
-            let text = text.as_deref().unwrap_or("");
-            let settings = Settings::from_toml(rt.alloc(), text)?;
-            let events = serve_connections(rt.alloc(), host, settings)?;
-            match println!(rt; "closed {events}") {
-                Ok(()) => Ok(true),
-                Err(_) => Err(Fault::Serve(ServeFault::Write)),
-            }
-        }
-        Call::Check(apex) => Ok(check_streams(rt, &apex)?),
+        Call::Run(text) => serve_streams(rt, text.as_deref().unwrap_or("")),
+        Call::World(text) => play_streams(rt, text.as_deref().unwrap_or("")),
+        Call::Serve(text) => serve_host(rt, host, text.as_deref().unwrap_or("")),
+        Call::Check(apex) => Ok(check_streams(rt, apex)?),
     }
 }
 
-// Serves a session over a book on standard input and output.
-fn serve_streams<R: Input + Print + AllocGlobal>(
-    rt: &R,
-    settings: Settings,
-) -> Result<Ended, ServeFault>
-    requires { IsWithinLimits settings }
-{
+// Serves a session over a book on standard input and output, with settings of this text.
+fn serve_streams<R: Input + Print + AllocGlobal>(rt: &R, text: &str) -> Result<bool, Fault> {
     let alloc = rt.alloc();
+    let settings = Settings::from_toml(alloc, text)?;
     let limits = settings.limits();
     let mut book = Book::new(alloc, settings.abilities, &limits);
     let mut reader = Tapped::new(rt.reader());
     let mut writer = Tapped::new(io::writer(rt));
-    serve_book(alloc, &mut reader, &mut writer, &mut book)
+    serve_book(alloc, &mut reader, &mut writer, &mut book)?;
+    Ok(true)
 }
 
-// Plays a script on standard input and output.
-fn play_streams<R: Input + Print + AllocGlobal>(
-    rt: &R,
-    settings: Settings,
-) -> Result<Ended, ServeFault>
-    requires { IsWithinLimits settings }
-{
+// Plays a script on standard input and output, with settings of this text.
+fn play_streams<R: Input + Print + AllocGlobal>(rt: &R, text: &str) -> Result<bool, Fault> {
+    let settings = Settings::from_toml(rt.alloc(), text)?;
     let mut reader = Tapped::new(rt.reader());
     let mut writer = Tapped::new(io::writer(rt));
-    play_script(rt.alloc(), &mut reader, &mut writer, settings)
+    play_script(rt.alloc(), &mut reader, &mut writer, settings)?;
+    Ok(true)
+}
+
+// Serves sessions over TCP, with settings of this text, and prints how many events there were.
+fn serve_host<R, H>(rt: &R, host: &H, text: &str) -> Result<bool, Fault>
+where
+    R: Print + AllocGlobal,
+    H: Net<Listener = TcpListener, Stream = TcpStream> + Threads + Wait + Sync,
+{
+    let settings = Settings::from_toml(rt.alloc(), text)?;
+    let events = serve_connections(rt.alloc(), host, settings)?;
+    match println!(rt; "closed {events}") {
+        Ok(()) => Ok(true),
+        Err(_) => Err(Fault::Serve(ServeFault::Write)),
+    }
 }
 
 // Checks the zone on standard input, and reports on standard output. Returns whether it is a zone.

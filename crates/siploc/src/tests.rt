@@ -1,7 +1,11 @@
 mod comparison;
+mod faults;
+mod limits;
 mod live;
 pub mod process;
 mod repairs;
+mod rows;
+mod scripts;
 mod serve;
 mod sessions;
 mod settings;

@@ -7,7 +7,8 @@ use std::test::Fail;
 
 const FIND: &[u8] = b"find sip:bob@example.com words 2,0\n";
 
-// An edit makes the result outdated, a repair looks it up again, and the next find looks at no set.
+// Whether an edit makes the result outdated, a repair looks it up again, and the next find looks at no
+// set.
 fn repairs_a_result(alloc: Global, desk: &mut Book) -> Result<bool, Fail> {
     let mut input = Vec::from_slice(alloc, ZONE.as_bytes())?;
     input.extend_from_slice(FIND)?;
@@ -35,14 +36,19 @@ ok del 1
     )
 }
 
+// The same at the book of a new client.
+fn repairs_anew(alloc: Global) -> Result<bool, Fail> {
+    let mut desk = client_desk(alloc, &[Transport::Tcp, Transport::Udp])?;
+    repairs_a_result(alloc, &mut desk)
+}
+
 #[test]
 fn a_repaired_result_is_found_without_a_look(rt: HostRuntime) -> Result<(), Fail> {
-    let mut desk = client_desk(rt.alloc(), &[Transport::Tcp, Transport::Udp])?;
-    assert!(rt; repairs_a_result(rt.alloc(), &mut desk)?);
+    assert!(rt; repairs_anew(rt.alloc())?);
     Ok(())
 }
 
-// The sets that a question depends on are read, and nothing is kept.
+// Whether the sets that a question depends on are read, and nothing is kept.
 fn lists_without_keeping(alloc: Global, desk: &mut Book) -> Result<bool, Fail> {
     replies_at(alloc, desk, ZONE.as_bytes())?;
     let events = desk.journal().len();
@@ -52,9 +58,14 @@ fn lists_without_keeping(alloc: Global, desk: &mut Book) -> Result<bool, Fail> {
     Ok(desk.journal().len() == events + 1 && desk.looks() > looks)
 }
 
+// The same at the book of a new client.
+fn lists_anew(alloc: Global) -> Result<bool, Fail> {
+    let mut desk = client_desk(alloc, &[Transport::Tcp, Transport::Udp])?;
+    lists_without_keeping(alloc, &mut desk)
+}
+
 #[test]
 fn listing_sets_keeps_no_result(rt: HostRuntime) -> Result<(), Fail> {
-    let mut desk = client_desk(rt.alloc(), &[Transport::Tcp, Transport::Udp])?;
-    assert!(rt; lists_without_keeping(rt.alloc(), &mut desk)?);
+    assert!(rt; lists_anew(rt.alloc())?);
     Ok(())
 }

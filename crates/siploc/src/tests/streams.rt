@@ -87,6 +87,10 @@ impl Paper {
     pub fn blank(alloc: Global) -> Self {
         Paper::new(alloc, usize::MAX, Failing::Error, 0)
     }
+
+    pub fn into_text(self) -> Vec<u8> {
+        self.text
+    }
 }
 
 impl Write for Paper {
@@ -169,7 +173,7 @@ pub struct Served {
 }
 
 // Serves a new session at a book, with at most `limit` reads.
-fn serve_at(
+pub fn serve_at(
     alloc: Global,
     reader: Pieces<'_>,
     writer: Paper,

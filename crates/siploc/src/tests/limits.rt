@@ -1,0 +1,82 @@
+// The question with the most targets: 32 servers of 32 addresses of each family.
+use super::streams::replies_at;
+use sipl_book::{Book, Limits};
+use sipl_choice::{Abilities, Families, Transport};
+use std::alloc::{AllocError, Global};
+use std::test::Fail;
+
+// Appends a zone of such servers, in 32 + 2 * 1,024 lines, and its reply.
+fn push_zone(alloc: Global, input: &mut Vec<u8>) -> Result<(), AllocError> {
+    input.extend_from_slice(b"zone e. 2080\n")?;
+    for server in 0..32_u32 {
+        let line = format!(in alloc; "_sip._udp SRV 0 0 5060 s{server}\n")?;
+        input.extend_from_slice(line.as_bytes())?;
+        for number in 0..32_u32 {
+            let lines = format!(in alloc;
+                "s{server} A 10.0.{server}.{number}\ns{server} AAAA 2001:db8::{server:x}:{number:x}\n"
+            )?;
+            input.extend_from_slice(lines.as_bytes())?;
+        }
+    }
+    Ok(())
+}
+
+// Appends the lines of the targets of a server, of which so many were before.
+fn push_targets(
+    alloc: Global,
+    want: &mut Vec<u8>,
+    server: u32,
+    before: u32,
+) -> Result<(), AllocError> {
+    for number in 0..32_u32 {
+        let place = before.saturating_add(number).saturating_add(1);
+        let line = format!(in alloc; "target {place} udp 10.0.{server}.{number} 5060\n")?;
+        want.extend_from_slice(line.as_bytes())?;
+    }
+    for number in 0..32_u32 {
+        let place = before.saturating_add(number).saturating_add(33);
+        let line = format!(in alloc;
+            "target {place} udp 2001:db8:0:0:0:0:{server:x}:{number:x} 5060\n"
+        )?;
+        want.extend_from_slice(line.as_bytes())?;
+    }
+    Ok(())
+}
+
+// The replies to the zone, and to a question that has all of its addresses.
+fn all_replies(alloc: Global) -> Result<Vec<u8>, AllocError> {
+    let mut want = Vec::from_slice(alloc, b"ok zone 2080 0 0 65\n")?;
+    for server in 0..32_u32 {
+        push_targets(alloc, &mut want, server, server.saturating_mul(64))?;
+    }
+    want.extend_from_slice(b"ok find 2048\n")?;
+    Ok(want)
+}
+
+fn all_lines(alloc: Global) -> Result<Vec<u8>, AllocError> {
+    let mut input = Vec::new(alloc);
+    push_zone(alloc, &mut input)?;
+    input.extend_from_slice(b"find sip:e;transport=udp\n")?;
+    Ok(input)
+}
+
+// Whether a book of a client of UDP and both families replies so.
+fn finds_all(alloc: Global) -> Result<bool, Fail> {
+    let preference = Vec::from_slice(alloc, &[Transport::Udp])?;
+    let abilities = Abilities::new(preference, Families::V4ThenV6)?;
+    let mut book = Book::new(alloc, abilities, &Limits::greatest());
+    let input = all_lines(alloc)?;
+    has_all_replies(alloc, &mut book, &input)
+}
+
+fn has_all_replies(alloc: Global, book: &mut Book, input: &[u8]) -> Result<bool, Fail> {
+    let want = all_replies(alloc)?;
+    let replies = replies_at(alloc, book, input)?;
+    Ok(replies.as_slice() == want.as_slice())
+}
+
+#[test]
+fn an_answer_has_up_to_2048_targets(rt: HostRuntime) -> Result<(), Fail> {
+    assert!(rt; finds_all(rt.alloc())?);
+    Ok(())
+}
