@@ -20,6 +20,7 @@ use sipl_plans::{Finding, Run};
 use sipl_records::{Data, Key, Sequence};
 use sipl_srv::Draws;
 use sipl_uri::Question;
+use std::alloc::AllocError;
 use std::sync::Wait;
 
 impl Service {
@@ -56,6 +57,24 @@ impl Service {
         self.look_up_anew(rt, pass, question, draws, gate)
     }
 
+    // What is asked, and a copy of the question for the receipt, for which the pass then has space.
+    fn ask(
+        &self,
+        pass: &mut Pass,
+        question: &Question,
+        draws: &Draws,
+    ) -> Result<(Asked, Question), AllocError>
+        ensures question { IfOk result (λ asked. asked.0.question ≡ question.now) }
+        ensures client { IfOk result (λ asked. asked.0.abilities ≡ self.now.client) }
+        ensures draws { IfOk result (λ asked. asked.0.draws ≡ draws.now) }
+        ensures copy { IfOk result (λ asked. asked.1 ≡ question.now) }
+        ensures pass { pass.new ≡ pass.old }
+    {
+        pass.reserve()?;
+        let asked = Asked::of(self.alloc, question, &self.abilities, draws)?;
+        Ok((asked, question.dup(self.alloc)?))
+    }
+
     // The answer of the question's current entry. B1 where there is none.
     fn hand<R: Wait>(
         &self,
@@ -68,9 +87,7 @@ impl Service {
         ensures told { IfOk result
             (λ told. IsToldFor question.now self.now.client draws.now told) }
     {
-        pass.reserve()?;
-        let asked = Asked::of(self.alloc, question, &self.abilities, draws)?;
-        let copy = question.dup(self.alloc)?;
+        let (asked, copy) = self.ask(pass, question, draws)?;
         let mut shared = self.shared.lock(rt);
         if shared.is_stopped {
             return Err(ServiceFault::Stopped);
@@ -108,9 +125,7 @@ impl Service {
         ensures told { IfOk result
             (λ told. IsToldFor finding.question self.now.client draws.now told) }
     {
-        pass.reserve()?;
-        let asked = Asked::of(self.alloc, finding.question(), &self.abilities, draws)?;
-        let copy = finding.question().dup(self.alloc)?;
+        let (asked, copy) = self.ask(pass, finding.question(), draws)?;
         let evidence = finding.share_evidence()?;
         let mut shared = self.shared.lock(rt);
         if shared.is_stopped {

@@ -1,8 +1,10 @@
 //! The program: its arguments, and what it does on its standard streams.
+ghost use Rattle.sipl_lines.specs.Settings.{IsWithinLimits};
+
 use crate::serve::{ServerFault, serve_connections};
 use sipl_book::Book;
 use sipl_lines::{
-    ServeFault, Settings, SettingsFault, Tapped, check_zone, play_script, serve_book,
+    Ended, ServeFault, Settings, SettingsFault, Tapped, check_zone, play_script, serve_book,
 };
 use sipl_names::{Name, NameFault};
 use std::alloc::Global;
@@ -158,36 +160,29 @@ where
     H: Net<Listener = TcpListener, Stream = TcpStream> + Threads + Wait + Sync,
 {
     match call {
-        Call::Run(text) => serve_streams(rt, text.as_deref().unwrap_or("")),
-        Call::World(text) => play_streams(rt, text.as_deref().unwrap_or("")),
-        Call::Serve(text) => serve_host(rt, host, text.as_deref().unwrap_or("")),
+        Call::Run(text) => run(rt, text.as_deref().unwrap_or("")),
+        Call::World(text) => play(rt, text.as_deref().unwrap_or("")),
+        Call::Serve(text) => serve(rt, host, text.as_deref().unwrap_or("")),
         Call::Check(apex) => Ok(check_streams(rt, apex)?),
     }
 }
 
-// Serves a session over a book on standard input and output, with settings of this text.
-fn serve_streams<R: Input + Print + AllocGlobal>(rt: &R, text: &str) -> Result<bool, Fault> {
-    let alloc = rt.alloc();
-    let settings = Settings::from_toml(alloc, text)?;
-    let limits = settings.limits();
-    let mut book = Book::new(alloc, settings.abilities, &limits);
-    let mut reader = Tapped::new(rt.reader());
-    let mut writer = Tapped::new(io::writer(rt));
-    serve_book(alloc, &mut reader, &mut writer, &mut book)?;
-    Ok(true)
-}
-
-// Plays a script on standard input and output, with settings of this text.
-fn play_streams<R: Input + Print + AllocGlobal>(rt: &R, text: &str) -> Result<bool, Fault> {
+// Serves a session with settings of this text.
+fn run<R: Input + Print + AllocGlobal>(rt: &R, text: &str) -> Result<bool, Fault> {
     let settings = Settings::from_toml(rt.alloc(), text)?;
-    let mut reader = Tapped::new(rt.reader());
-    let mut writer = Tapped::new(io::writer(rt));
-    play_script(rt.alloc(), &mut reader, &mut writer, settings)?;
+    serve_new_book(rt, settings)?;
     Ok(true)
 }
 
-// Serves sessions over TCP, with settings of this text, and prints how many events there were.
-fn serve_host<R, H>(rt: &R, host: &H, text: &str) -> Result<bool, Fault>
+// Plays a script with settings of this text.
+fn play<R: Input + Print + AllocGlobal>(rt: &R, text: &str) -> Result<bool, Fault> {
+    let settings = Settings::from_toml(rt.alloc(), text)?;
+    play_streams(rt, settings)?;
+    Ok(true)
+}
+
+// Serves sessions over TCP with settings of this text, and prints how many events there were.
+fn serve<R, H>(rt: &R, host: &H, text: &str) -> Result<bool, Fault>
 where
     R: Print + AllocGlobal,
     H: Net<Listener = TcpListener, Stream = TcpStream> + Threads + Wait + Sync,
@@ -198,6 +193,40 @@ where
         Ok(()) => Ok(true),
         Err(_) => Err(Fault::Serve(ServeFault::Write)),
     }
+}
+
+// Serves a session over a new book on standard input and output.
+fn serve_new_book<R: Input + Print + AllocGlobal>(
+    rt: &R,
+    settings: Settings,
+) -> Result<Ended, ServeFault>
+    requires { IsWithinLimits settings }
+{
+    let limits = settings.limits();
+    let mut book = Book::new(rt.alloc(), settings.abilities, &limits);
+    serve_streams(rt, &mut book)
+}
+
+// Serves a session at a book on standard input and output.
+fn serve_streams<R: Input + Print + AllocGlobal>(
+    rt: &R,
+    book: &mut Book,
+) -> Result<Ended, ServeFault> {
+    let mut reader = Tapped::new(rt.reader());
+    let mut writer = Tapped::new(io::writer(rt));
+    serve_book(rt.alloc(), &mut reader, &mut writer, book)
+}
+
+// Plays a script on standard input and output.
+fn play_streams<R: Input + Print + AllocGlobal>(
+    rt: &R,
+    settings: Settings,
+) -> Result<Ended, ServeFault>
+    requires { IsWithinLimits settings }
+{
+    let mut reader = Tapped::new(rt.reader());
+    let mut writer = Tapped::new(io::writer(rt));
+    play_script(rt.alloc(), &mut reader, &mut writer, settings)
 }
 
 // Checks the zone on standard input, and reports on standard output. Returns whether it is a zone.
