@@ -52,6 +52,18 @@ pub(crate) fn check_client(book: &Book, abilities: &Abilities) -> Result<(), Ser
     Ok(())
 }
 
+// The number of the next event, where it may be an answer. L2 where the pass has seen it, L7 where the
+// book is for a client of other abilities.
+fn next_answer(book: &Book, pass: &Pass, abilities: &Abilities) -> Result<u64, ServiceFault>
+    ensures number { IfOk result (λ number. number ≡ next_event book.now) }
+    ensures front { OnOk result (pass.now.front ≤ next_event book.now) }
+    ensures same { OnOk result (book.now.client ≡ abilities.now) }
+{
+    let number = next_number(book, pass)?;
+    check_client(book, abilities)?;
+    Ok(number)
+}
+
 // An edit that is to be made, and the receipt for it, which gets its number then.
 #[derive(Drop)]
 pub(crate) struct NewEdit {
@@ -182,8 +194,7 @@ pub(crate) fn hand(
     ensures journal { IfOk result (λ told. book.new ≡ recorded (event_of told) book.old) }
     ensures unchanged { OnErr result (book.new ≡ book.old) }
 {
-    let number = next_number(book, pass)?;
-    check_client(book, &asked.abilities)?;
+    let number = next_answer(book, pass, &asked.abilities)?;
     if book.is_full() {
         return Err(ServiceFault::Book(BookFault::JournalFull));
     }
@@ -244,8 +255,7 @@ pub(crate) fn commit(
         (λ told. book.new.journal ≡ book.old.journal ++ event_of told ∷ []) }
     ensures unchanged { OnErr result (book.new.journal ≡ book.old.journal) }
 {
-    let number = next_number(book, pass)?;
-    check_client(book, &asked.abilities)?;
+    let number = next_answer(book, pass, &asked.abilities)?;
     pass.receipts.reserve(1)?;
     let told = Told::of(
         alloc,

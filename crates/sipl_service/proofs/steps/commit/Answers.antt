@@ -9,7 +9,7 @@ use Rattle.sipl_book.specs.declared.fault.BookFault.TheVariants.{Stale, Memory}
 use Rattle.sipl_service.specs.Passes.{PassState, receipt_of}
 use Rattle.sipl_service.specs.Telling.{event_of}
 use Rattle.sipl_service.proofs.Committing.{answer-committed, journal-after_check, journal-committed, stale-within}
-use Rattle.sipl_service.proofs.steps.commit.Goals.{After-pass-1, in-Domain-13, in-Numeric-13}
+use Rattle.sipl_service.proofs.steps.commit.Goals.{After-pass-1, in-Domain-10, in-Numeric-10}
 use Rattle.sipl_service.proofs.steps.commit.Goals as goal
 
 pub of-requires-clause-sound : goal.of-requires-clause-sound
@@ -33,7 +33,7 @@ module _ (c : After-pass-1) where
   old = c.args.book.now
 
   client : c.args.finding.client ≡ old.client
-  client = c.requires.client ∙ sym c.in_ok-check_client.ensures.same
+  client = c.requires.client ∙ sym c.in_ok-number.ensures.same
 
   drawn : draw c.args.finding.layout old.board.holds c.draws.result.now ≡ c.in_ok-told.told.answer
   drawn =
@@ -84,9 +84,9 @@ returns-in-Err-clause-unchanged c =
 
 pub returns-in-Err-clause-receipt : goal.returns-in-Err-clause-receipt
 returns-in-Err-clause-receipt c =
-    let kept : c.match-question-5.pass ≡ c.args.pass.now =
-    elim c.match-question-5.branch [
-      | in-Domain-13 w ↦ w.pass-is ∙ (λ i. record { receipts = c.reserve.ensures.items i; front = c.pass.inside.front }) ∙ c.pass.view_is
-      | in-Numeric-13 w ↦ w.pass-is ∙ (λ i. record { receipts = c.reserve.ensures.items i; front = c.pass.inside.front }) ∙ c.pass.view_is
+    let kept : c.match-question-4.pass ≡ c.args.pass.now =
+    elim c.match-question-4.branch [
+      | in-Domain-10 w ↦ w.pass-is ∙ (λ i. record { receipts = c.reserve.ensures.items i; front = c.pass.inside.front }) ∙ c.pass.view_is
+      | in-Numeric-10 w ↦ w.pass-is ∙ (λ i. record { receipts = c.reserve.ensures.items i; front = c.pass.inside.front }) ∙ c.pass.view_is
     ] in
     record { receipt = tt; front = tt; refused = kept }
