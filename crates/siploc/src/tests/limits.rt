@@ -65,13 +65,13 @@ fn finds_all(alloc: Global) -> Result<bool, Fail> {
     let preference = Vec::from_slice(alloc, &[Transport::Udp])?;
     let abilities = Abilities::new(preference, Families::V4ThenV6)?;
     let mut book = Book::new(alloc, abilities, &Limits::greatest());
-    let input = all_lines(alloc)?;
-    has_all_replies(alloc, &mut book, &input)
+    has_all_replies(alloc, &mut book)
 }
 
-fn has_all_replies(alloc: Global, book: &mut Book, input: &[u8]) -> Result<bool, Fail> {
+fn has_all_replies(alloc: Global, book: &mut Book) -> Result<bool, Fail> {
+    let input = all_lines(alloc)?;
     let want = all_replies(alloc)?;
-    let replies = replies_at(alloc, book, input)?;
+    let replies = replies_at(alloc, book, &input)?;
     Ok(replies.as_slice() == want.as_slice())
 }
 
