@@ -34,10 +34,15 @@ fn answered<R: Wait>(rt: &R, alloc: Global) -> anyhow::Result<Answer> {
     loads(rt, alloc, &service, &mut editor)?;
     caller.meet(&mut editor);
     let told = asks(rt, alloc, &service, &mut caller)?;
-    if let Ok(closing) = service.close() {
-        claim(alloc, &closing, vec![in alloc; editor, caller]?.as_slice())?;
-    }
+    closes(alloc, service, vec![in alloc; editor, caller]?)?;
     Ok(told.into_answer())
+}
+
+fn closes(alloc: Global, service: Service, passes: Vec<Pass>) -> anyhow::Result<()> {
+    if let Ok(closing) = service.close() {
+        claim(alloc, &closing, passes.as_slice())?;
+    }
+    Ok(())
 }
 
 #[test]

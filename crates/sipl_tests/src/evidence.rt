@@ -79,18 +79,29 @@ fn take_each(rt: &impl Abort, lookup: &mut Lookup, steps: &[Step]) {
 
 fn take(rt: &impl Abort, lookup: &mut Lookup, step: Step) {
     match step {
-        Step::IsEmpty => assert!(rt; lookup.evidence.is_empty()),
-        Step::HasLen(len) => assert_eq!(rt; lookup.evidence.len(), len),
         Step::Pushes(set) => pushes(rt, lookup, set),
         Step::RefusesToPush(set) => refuses_to_push(rt, lookup, set),
         Step::Pops(set) => pops(rt, lookup, set),
         Step::PopsNothing => pops_nothing(rt, lookup),
+        _ => read_or_walk(rt, lookup, step),
+    }
+}
+
+fn read_or_walk(rt: &impl Abort, lookup: &mut Lookup, step: Step) {
+    match step {
+        Step::IsEmpty => has_len(rt, lookup, 0),
+        Step::HasLen(len) => has_len(rt, lookup, len),
         Step::HasItems(sets) => has_items(rt, lookup, sets),
         Step::HasPlaces(places) => has_places(rt, lookup, places),
         Step::HasContent(owner, addresses) => has_content(rt, lookup, owner, addresses),
         Step::LacksContent(owner) => lacks_content(rt, lookup, owner),
         _ => take_with_walk(rt, lookup, step),
     }
+}
+
+fn has_len(rt: &impl Abort, lookup: &Lookup, len: usize) {
+    assert_eq!(rt; lookup.evidence.len(), len);
+    assert_eq!(rt; lookup.evidence.is_empty(), len == 0);
 }
 
 fn take_with_walk(rt: &impl Abort, lookup: &mut Lookup, step: Step) {

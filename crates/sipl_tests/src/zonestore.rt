@@ -138,19 +138,65 @@ fn apply(
     edit: Edit,
 ) -> Result<Sequence<Key>, StoreFault> {
     match edit {
-        Edit::Load(apex, text) => store.load(&zone(rt, alloc, apex, text)),
-        Edit::Unload(apex) => store.unload(&name(rt, alloc, apex)),
-        Edit::Add(line) => store.add(&record(rt, alloc, line)),
-        Edit::AddBare(owner) => store.add(&Record {
-            owner: name(rt, alloc, owner),
-            value: Data::Bare,
-        }),
-        Edit::AddAddress(owner, address) => store.add(&Record {
-            owner: name(rt, alloc, owner),
-            value: Data::Address4(address),
-        }),
-        Edit::Remove(line) => store.remove(&record(rt, alloc, line)),
+        Edit::Load(apex, text) => load(rt, alloc, store, apex, text),
+        Edit::Unload(apex) => unload(rt, alloc, store, apex),
+        Edit::Add(line) => add(rt, alloc, store, line),
+        Edit::AddBare(owner) => add_data(rt, alloc, store, owner, Data::Bare),
+        Edit::AddAddress(owner, address) => {
+            add_data(rt, alloc, store, owner, Data::Address4(address))
+        }
+        Edit::Remove(line) => remove(rt, alloc, store, line),
     }
+}
+
+fn load(
+    rt: &impl Abort,
+    alloc: Global,
+    store: &mut ZoneStore,
+    apex: &str,
+    text: &str,
+) -> Result<Sequence<Key>, StoreFault> {
+    store.load(&zone(rt, alloc, apex, text))
+}
+
+fn unload(
+    rt: &impl Abort,
+    alloc: Global,
+    store: &mut ZoneStore,
+    apex: &str,
+) -> Result<Sequence<Key>, StoreFault> {
+    store.unload(&name(rt, alloc, apex))
+}
+
+fn add(
+    rt: &impl Abort,
+    alloc: Global,
+    store: &mut ZoneStore,
+    line: &str,
+) -> Result<Sequence<Key>, StoreFault> {
+    store.add(&record(rt, alloc, line))
+}
+
+fn add_data(
+    rt: &impl Abort,
+    alloc: Global,
+    store: &mut ZoneStore,
+    owner: &str,
+    value: Data,
+) -> Result<Sequence<Key>, StoreFault> {
+    store.add(&Record {
+        owner: name(rt, alloc, owner),
+        value,
+    })
+}
+
+fn remove(
+    rt: &impl Abort,
+    alloc: Global,
+    store: &mut ZoneStore,
+    line: &str,
+) -> Result<Sequence<Key>, StoreFault> {
+    store.remove(&record(rt, alloc, line))
 }
 
 fn name(rt: &impl Abort, alloc: Global, text: &str) -> Name {

@@ -416,11 +416,19 @@ fn is_code(rt: &impl Abort, code: &str) {
     assert_eq!(rt; code, "P1");
 }
 
+// The finding of a run that was to finish before it had read anything.
+fn found_after_all(rt: &impl Abort, alloc: Global, reading: &Reading) -> Finding {
+    let run = finish_early(rt, start(rt, alloc, &reading.row));
+    complete(rt, alloc, run, reading)
+}
+
+fn is_finding_of(rt: &impl Abort, alloc: Global, finding: &Finding, reading: &Reading) {
+    is_answered(rt, alloc, finding, &reading.row);
+    has_numbers(rt, finding);
+}
+
 #[test]
 fn a_run_goes_on_after_an_early_finish(rt: HostRuntime) {
-    let run = start(&rt, rt.alloc(), &OVER_AN_ALIAS.row);
-    let run = finish_early(&rt, run);
-    let finding = complete(&rt, rt.alloc(), run, &OVER_AN_ALIAS);
-    is_answered(&rt, rt.alloc(), &finding, &OVER_AN_ALIAS.row);
-    has_numbers(&rt, &finding);
+    let finding = found_after_all(&rt, rt.alloc(), &OVER_AN_ALIAS);
+    is_finding_of(&rt, rt.alloc(), &finding, &OVER_AN_ALIAS);
 }

@@ -326,11 +326,29 @@ fn apply(
     edit: Edit,
 ) -> Result<Sequence<Key>, StoreFault> {
     match edit {
-        Edit::Add(number) => store.add(&record(rt, alloc, number)),
-        Edit::Remove(number) => store.remove(&record(rt, alloc, number)),
+        Edit::Add(number) => add(rt, alloc, store, number),
+        Edit::Remove(number) => remove(rt, alloc, store, number),
         Edit::Load(first, count) => store.load(&zone(rt, alloc, first, count)),
         Edit::Unload(zone) => store.unload(&apex(rt, alloc, zone)),
     }
+}
+
+fn add(
+    rt: &impl Abort,
+    alloc: Global,
+    store: &mut ZoneStore,
+    number: u32,
+) -> Result<Sequence<Key>, StoreFault> {
+    store.add(&record(rt, alloc, number))
+}
+
+fn remove(
+    rt: &impl Abort,
+    alloc: Global,
+    store: &mut ZoneStore,
+    number: u32,
+) -> Result<Sequence<Key>, StoreFault> {
+    store.remove(&record(rt, alloc, number))
 }
 
 fn are_keys(rt: &impl Abort, alloc: Global, keys: &[Key], sets: &[u32]) -> bool {

@@ -1,6 +1,7 @@
 // A book's answers against those of the plain program over its records, for zones made from seeds.
+use super::streams::new_book;
 use itoa::Buffer;
-use sipl_book::{Book, Edit, Limits};
+use sipl_book::{Book, Edit};
 use sipl_choice::{Abilities, Families, Transport};
 use sipl_masterfile::{read_record, read_zone};
 use sipl_names::Name;
@@ -231,7 +232,7 @@ fn counted_over(alloc: Global, seed: u64) -> Result<Option<(u64, u64)>, Fail> {
     let mut numbers = Numbers::new(seed);
     let abilities = numbers.abilities(alloc)?;
     let mut store = ZoneStore::new(alloc);
-    let mut book = Book::new(alloc, abilities, &Limits::greatest());
+    let mut book = new_book(alloc, abilities)?;
     counted(alloc, seed, &mut numbers, &mut book, &mut store)
 }
 
@@ -295,7 +296,7 @@ fn agreed_anew(alloc: Global, text: &[u8]) -> Result<Option<usize>, Fail> {
     let preference = Vec::from_slice(alloc, &[Transport::Udp, Transport::Tcp])?;
     let abilities = Abilities::new(preference, Families::V4)?;
     let mut store = ZoneStore::new(alloc);
-    let mut book = Book::new(alloc, abilities, &Limits::greatest());
+    let mut book = new_book(alloc, abilities)?;
     agreed_over(alloc, text, &mut book, &mut store)
 }
 

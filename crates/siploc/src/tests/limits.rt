@@ -1,6 +1,6 @@
 // The question with the most targets: 32 servers of 32 addresses of each family.
-use super::streams::replies_at;
-use sipl_book::{Book, Limits};
+use super::streams::{new_book, replies_at};
+use sipl_book::Book;
 use sipl_choice::{Abilities, Families, Transport};
 use std::alloc::{AllocError, Global};
 use std::test::Fail;
@@ -64,7 +64,7 @@ fn all_lines(alloc: Global) -> Result<Vec<u8>, AllocError> {
 fn finds_all(alloc: Global) -> Result<bool, Fail> {
     let preference = Vec::from_slice(alloc, &[Transport::Udp])?;
     let abilities = Abilities::new(preference, Families::V4ThenV6)?;
-    let mut book = Book::new(alloc, abilities, &Limits::greatest());
+    let mut book = new_book(alloc, abilities)?;
     has_all_replies(alloc, &mut book)
 }
 

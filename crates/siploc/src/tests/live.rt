@@ -2,9 +2,9 @@
 // each line is what these give, and that to a `find` is the plain program's on the records and the
 // holds as they are.
 use super::comparison::{Numbers, URIS, plain_answer};
-use super::streams::replies_at;
+use super::streams::{new_book, replies_at};
 use itoa::Buffer;
-use sipl_book::{Book, Limits};
+use sipl_book::Book;
 use sipl_choice::{Abilities, Endpoint, Transport};
 use sipl_masterfile::{read_record, read_zone};
 use sipl_names::Name;
@@ -325,7 +325,7 @@ impl Live {
 // The same for the sessions from a seed.
 fn counted(alloc: Global, seed: u64) -> Result<Option<(u64, u64)>, Fail> {
     let mut numbers = Numbers::new(seed);
-    let mut book = Book::new(alloc, numbers.abilities(alloc)?, &Limits::greatest());
+    let mut book = new_book(alloc, numbers.abilities(alloc)?)?;
     let mut live = Live::new(alloc);
     live.counted(&mut numbers, &mut book)
 }

@@ -113,16 +113,22 @@ impl Write for Paper {
     }
 }
 
-// A book with the greatest limits, for a client of UDP and TCP, in this order, and IPv4.
-pub fn new_desk(alloc: Global) -> Result<Book, Fail> {
+// A book with the greatest limits. It is boxed, so that whoever owns it lets go of one value at each exit.
+pub fn new_book(alloc: Global, abilities: Abilities) -> Result<Box<Book>, AllocError> {
+    let book = Book::new(alloc, abilities, &Limits::greatest());
+    Ok(Box::new(alloc, book)?)
+}
+
+// The same for a client of UDP and TCP, in this order, and IPv4.
+pub fn new_desk(alloc: Global) -> Result<Box<Book>, Fail> {
     client_desk(alloc, &[Transport::Udp, Transport::Tcp])
 }
 
-// A book with the greatest limits, for a client of these transports and IPv4.
-pub fn client_desk(alloc: Global, transports: &[Transport]) -> Result<Book, Fail> {
+// The same for a client of these transports and IPv4.
+pub fn client_desk(alloc: Global, transports: &[Transport]) -> Result<Box<Book>, Fail> {
     let preference = Vec::from_slice(alloc, transports)?;
     let abilities = Abilities::new(preference, Families::V4)?;
-    Ok(Book::new(alloc, abilities, &Limits::greatest()))
+    Ok(new_book(alloc, abilities)?)
 }
 
 // What a new session at a new book writes for an input.
