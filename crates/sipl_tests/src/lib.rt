@@ -1,5 +1,5 @@
-//! The tests of the libraries below the book, by their public calls alone. They are in a crate of their
-//! own, since a crate that has tests is proved a second time for them.
+//! The tests of the libraries below the book that look targets up, by their public calls alone. They are in
+//! a crate of their own, since a crate that has tests is proved a second time for them.
 #![tactic(auto)]
 
 #[cfg(test)]
@@ -11,22 +11,14 @@ mod evidence;
 #[cfg(test)]
 mod failover;
 #[cfg(test)]
-mod masterfile;
-#[cfg(test)]
-mod names;
-#[cfg(test)]
 mod outages;
 #[cfg(test)]
 mod plans;
-#[cfg(test)]
-mod records;
 #[cfg(test)]
 mod repair;
 #[cfg(test)]
 mod srv;
 #[cfg(test)]
 mod tx;
-#[cfg(test)]
-mod uri;
 #[cfg(test)]
 mod zonestore;

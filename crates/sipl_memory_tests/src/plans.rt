@@ -1,0 +1,92 @@
+// Calls of a store, a run and a plan.
+use crate::call::{Call, Outcome, outcome_of, refused};
+use crate::values::{SETS, abilities, book, draws, finding, is_bobs, question, zone};
+use sipl_book::Book;
+use sipl_masterfile::ZoneText;
+use sipl_outages::Board;
+use sipl_plans::{Finding, Run, draw};
+use sipl_srv::Draws;
+use sipl_zonestore::ZoneStore;
+use std::alloc::Global;
+use std::sync::Wait;
+
+#[derive(Drop)]
+struct Load {
+    store: Box<ZoneStore>,
+    zone: ZoneText,
+}
+
+impl Call for Load {
+    fn make<R: Wait>(&mut self, _rt: &R, _alloc: Global) -> Option<bool> {
+        match self.store.load(&self.zone) {
+            Ok(keys) => { Some(keys.len() == SETS && self.store.records() == self.zone.records()) }
+            Err(fault) => {
+                let is_empty = self.store.apexes().is_empty() && self.store.records().is_empty();
+                refused(fault.code(), is_empty)
+            }
+        }
+    }
+}
+
+// The run is given the first set that it wants.
+#[derive(Drop)]
+struct Give {
+    book: Box<Book>,
+    run: Box<Run>,
+}
+
+impl Call for Give {
+    fn make<R: Wait>(&mut self, _rt: &R, alloc: Global) -> Option<bool> {
+        let key = self.run.wants()?.dup(alloc).ok()?;
+        let (number, content) = self.book.read(&key).ok()?;
+        match self.run.give(alloc, number, content) {
+            Ok(()) => Some(self.run.wants() != Some(&key)),
+            Err(_) => refused("Memory", self.run.wants() == Some(&key)),
+        }
+    }
+}
+
+#[derive(Drop)]
+struct DrawTargets {
+    finding: Box<Finding>,
+    board: Board,
+    draws: Draws,
+}
+
+impl Call for DrawTargets {
+    fn make<R: Wait>(&mut self, _rt: &R, alloc: Global) -> Option<bool> {
+        match draw(alloc, self.finding.layout(), &self.draws, &self.board) {
+            Ok(answer) => Some(is_bobs(&answer)),
+            Err(_) => None,
+        }
+    }
+}
+
+pub(crate) fn load_call<R: Wait>(rt: &R, alloc: Global) -> anyhow::Result<Outcome> {
+    let zone = zone(alloc)?;
+    let store = Box::new(alloc, ZoneStore::new(alloc))?;
+    Ok(outcome_of(rt, alloc, &mut Load { store, zone }))
+}
+
+pub(crate) fn give_call<R: Wait>(rt: &R, alloc: Global) -> anyhow::Result<Outcome> {
+    let (question, abilities) = (question(alloc)?, abilities(alloc)?);
+    let run = Box::new(alloc, Run::start(alloc, question, &abilities)?)?;
+    let book = book(alloc)?;
+    Ok(outcome_of(rt, alloc, &mut Give { book, run }))
+}
+
+pub(crate) fn draw_call<R: Wait>(rt: &R, alloc: Global) -> anyhow::Result<Outcome> {
+    let draws = draws()?;
+    let mut book = book(alloc)?;
+    let finding = finding(alloc, &mut book)?;
+    let board = Board::new(alloc);
+    Ok(outcome_of(
+        rt,
+        alloc,
+        &mut DrawTargets {
+            finding,
+            board,
+            draws,
+        },
+    ))
+}

@@ -1,0 +1,141 @@
+// Calls of a service.
+use crate::call::{Call, Outcome, outcome_of, refused};
+use crate::values::{SETS, abilities, draws, is_bobs, question, zone};
+use sipl_book::{Edit, Limits};
+use sipl_masterfile::ZoneText;
+use sipl_service::{Closing, OpenGate, Pass, Service, claim};
+use sipl_srv::Draws;
+use sipl_uri::Question;
+use std::alloc::Global;
+use std::sync::Wait;
+
+#[derive(Drop)]
+struct EditZone {
+    service: Box<Service>,
+    pass: Pass,
+    zone: ZoneText,
+}
+
+impl Call for EditZone {
+    fn make<R: Wait>(&mut self, rt: &R, alloc: Global) -> Option<bool> {
+        let edit = Edit::Load(self.zone.dup(alloc).ok()?);
+        match self.service.edit(rt, &mut self.pass, edit) {
+            Ok(done) => Some(
+                done.number == 0 && done.changed == SETS as u64 && self.pass.receipts().len() == 1,
+            ),
+            Err(fault) => refused(fault.code(), self.pass.receipts().is_empty()),
+        }
+    }
+}
+
+#[derive(Drop)]
+struct Lookup {
+    service: Box<Service>,
+    pass: Pass,
+    question: Question,
+    draws: Draws,
+}
+
+impl Call for Lookup {
+    fn make<R: Wait>(&mut self, rt: &R, _alloc: Global) -> Option<bool> {
+        let told = self
+            .service
+            .lookup(rt, &mut self.pass, &self.question, &self.draws, &OpenGate);
+        match told {
+            Ok(told) => Some(is_bobs(told.answer()) && self.pass.receipts().len() == 2),
+            Err(fault) => refused(fault.code(), self.pass.receipts().len() == 1),
+        }
+    }
+}
+
+#[derive(Drop)]
+struct Claim {
+    closing: Closing,
+    passes: Vec<Pass>,
+}
+
+impl Call for Claim {
+    fn make<R: Wait>(&mut self, _rt: &R, alloc: Global) -> Option<bool> {
+        match claim(alloc, &self.closing, &self.passes) {
+            Ok(()) => Some(true),
+            Err(fault) => refused(fault.code(), true),
+        }
+    }
+}
+
+fn service(alloc: Global) -> anyhow::Result<Box<Service>> {
+    let service = Service::new(alloc, abilities(alloc)?, &Limits::greatest(), 4)?;
+    Ok(Box::new(alloc, service)?)
+}
+
+fn new_edit(alloc: Global) -> anyhow::Result<EditZone> {
+    let zone = zone(alloc)?;
+    let service = service(alloc)?;
+    let pass = service.pass();
+    Ok(EditZone {
+        service,
+        pass,
+        zone,
+    })
+}
+
+// Loads the zone.
+fn load_zone<R: Wait>(
+    rt: &R,
+    alloc: Global,
+    service: &Service,
+    pass: &mut Pass,
+) -> anyhow::Result<()> {
+    service.edit(rt, pass, Edit::Load(zone(alloc)?))?;
+    Ok(())
+}
+
+fn new_lookup<R: Wait>(rt: &R, alloc: Global) -> anyhow::Result<Lookup> {
+    let question = question(alloc)?;
+    let draws = draws()?;
+    let service = service(alloc)?;
+    let mut pass = service.pass();
+    load_zone(rt, alloc, &service, &mut pass)?;
+    Ok(Lookup {
+        service,
+        pass,
+        question,
+        draws,
+    })
+}
+
+// The journal of a service. Closing does not allocate.
+fn close(service: Box<Service>) -> anyhow::Result<Closing> {
+    match Box::into_inner(service).close() {
+        Ok(closing) => Ok(closing),
+        Err(_) => anyhow::bail!("the service is not closed"),
+    }
+}
+
+// The journal of a service, and its passes.
+fn new_claim<R: Wait>(rt: &R, alloc: Global) -> anyhow::Result<Claim> {
+    let service = service(alloc)?;
+    let mut pass = service.pass();
+    load_zone(rt, alloc, &service, &mut pass)?;
+    let mut passes = Vec::new(alloc);
+    passes.push(pass)?;
+    Ok(Claim {
+        closing: close(service)?,
+        passes,
+    })
+}
+
+pub(crate) fn edit_call<R: Wait>(rt: &R, alloc: Global) -> anyhow::Result<Outcome> {
+    let mut call = new_edit(alloc)?;
+    Ok(outcome_of(rt, alloc, &mut call))
+}
+
+pub(crate) fn lookup_call<R: Wait>(rt: &R, alloc: Global) -> anyhow::Result<Outcome> {
+    let mut call = new_lookup(rt, alloc)?;
+    Ok(outcome_of(rt, alloc, &mut call))
+}
+
+pub(crate) fn claim_call<R: Wait>(rt: &R, alloc: Global) -> anyhow::Result<Outcome> {
+    let mut call = new_claim(rt, alloc)?;
+    Ok(outcome_of(rt, alloc, &mut call))
+}
