@@ -1,13 +1,11 @@
 //! A locator of SIP servers (RFC 3263): sessions on standard input and output, or over TCP.
 #![tactic(auto)]
 
-mod program;
-mod serve;
 #[cfg(test)]
 mod tests;
 
 use std::process::ExitCode;
 
 fn main(rt: HostRuntime) -> ExitCode {
-    program::start(&rt, &rt)
+    sipl_program::start(&rt, &rt)
 }

@@ -3,6 +3,7 @@ mod faults;
 mod limits;
 mod live;
 pub mod process;
+mod program;
 mod repairs;
 mod rows;
 mod scripts;

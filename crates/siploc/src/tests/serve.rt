@@ -1,8 +1,7 @@
 // The program over TCP: a client in another thread of the process.
 use super::process::Process;
-use crate::program::start;
-use crate::serve::serve_connections;
 use sipl_lines::Settings;
+use sipl_program::{serve_connections, start};
 use std::alloc::Global;
 use std::io::{Read, Write};
 use std::net::{Net, Shutdown, SocketAddr, TcpListener, TcpStream};

@@ -9,16 +9,16 @@ use std::sync::{Mutex, Wait};
 use std::thread;
 use std::thread::Threads;
 
-// Why a server ends with a fault.
+/// Why a server ends with a fault.
 #[derive(Drop)]
-pub(crate) enum ServerFault {
-    // It cannot listen at its address, or a connection was not accepted.
+pub enum ServerFault {
+    /// It cannot listen at its address, or a connection was not accepted.
     Listen,
-    // The service cannot be closed.
+    /// The service cannot be closed.
     Close(ServiceFault),
-    // The journal is not the union of the receipts of all sessions.
+    /// The journal is not the union of the receipts of all sessions.
     Claim(ClaimFault),
-    // An allocation failed before a connection was accepted.
+    /// An allocation failed before a connection was accepted.
     Memory,
 }
 
@@ -36,14 +36,10 @@ struct Server {
     passes: Mutex<Vec<Pass>>,
 }
 
-// Serves as many connections as the settings say, beside the repair workers. When all sessions have
-// ended, closes the service, and claims its journal with the passes of all sessions. Returns how many
-// events it has.
-pub(crate) fn serve_connections<H>(
-    alloc: Global,
-    host: &H,
-    settings: Settings,
-) -> Result<u64, ServerFault>
+/// Serves as many connections as the settings say, beside the repair workers. When all sessions have
+/// ended, closes the service, and claims its journal with the passes of all sessions. Returns how many
+/// events it has.
+pub fn serve_connections<H>(alloc: Global, host: &H, settings: Settings) -> Result<u64, ServerFault>
 where
     H: Net<Listener = TcpListener, Stream = TcpStream> + Threads + Wait + Sync,
     requires { IsWithinLimits settings }

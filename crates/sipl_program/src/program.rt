@@ -71,10 +71,10 @@ impl From<ServerFault> for Fault {
     }
 }
 
-// Does what the arguments of a process ask for, with the threads and the network of a host. The status
-// is 0, 1 after a fault or for a text that is not a zone, or 2 where the arguments are wrong; for a fault
-// and for 2 one line on standard error gives the reason.
-pub(crate) fn start<R, H>(rt: &R, host: &H) -> ExitCode
+/// Does what the arguments of a process ask for, with the threads and the network of a host. The status
+/// is 0, 1 after a fault or for a text that is not a zone, or 2 where the arguments are wrong; for a fault
+/// and for 2 one line on standard error gives the reason.
+pub fn start<R, H>(rt: &R, host: &H) -> ExitCode
 where
     R: Env + Input + Print + Eprint + AllocGlobal,
     H: Net<Listener = TcpListener, Stream = TcpStream> + Threads + Wait + Sync,
@@ -234,73 +234,4 @@ fn check_streams<R: Input + Print + AllocGlobal>(rt: &R, apex: &Name) -> Result<
     let mut reader = Tapped::new(rt.reader());
     let mut writer = Tapped::new(io::writer(rt));
     check_zone(rt.alloc(), &mut reader, &mut writer, apex)
-}
-
-#[cfg(test)]
-mod tests {
-    use super::*;
-    use crate::tests::process::Process;
-    use std::test::Fail;
-
-    const USAGE: &[u8] =
-        b"usage: siploc run [SETTINGS] | check APEX | world [SETTINGS] | serve [SETTINGS]\n";
-
-    // Whether the process ends with this status, and with this on its standard output and error.
-    fn ends<H>(host: &H, process: Process<'_>, status: u8, output: &[u8], errors: &[u8]) -> bool
-    where
-        H: Net<Listener = TcpListener, Stream = TcpStream> + Threads + Wait + Sync,
-    {
-        let ended = start(&process, host) == ExitCode::from(status);
-        let written = process.output.into_inner();
-        let reported = process.errors.into_inner();
-        ended && written.as_slice() == output && reported.as_slice() == errors
-    }
-
-    #[test]
-    fn faults_of_a_check_print_their_code(rt: HostRuntime) -> Result<(), Fail> {
-        let mut process = Process::new(rt.alloc(), &[b"siploc", b"check", b"e."], b"x");
-        process.input_fails = true;
-        assert!(rt; ends(&rt, process, 1, b"", b"fault read\n"));
-        let mut process = Process::new(rt.alloc(), &[b"siploc", b"check", b"e."], b"");
-        process.is_closed = true;
-        assert!(rt; ends(&rt, process, 1, b"", b"fault write\n"));
-        Ok(())
-    }
-
-    // A process without arguments, and octets that are not UTF-8.
-    #[test]
-    fn absent_and_invalid_arguments_print_the_usage(rt: HostRuntime) -> Result<(), Fail> {
-        let calls: [&[&[u8]]; 3] = [
-            &[],
-            &[b"siploc", b"check", b"\xFF"],
-            &[b"siploc", b"run", b"\xFF"],
-        ];
-        for (number, words) in calls.iter().enumerate() {
-            let process = Process::new(rt.alloc(), words, b"quit\n");
-            assert!(rt; ends(&rt, process, 2, b"", USAGE), "at {number}");
-        }
-        Ok(())
-    }
-
-    #[test]
-    fn faults_of_the_streams_print_their_code(rt: HostRuntime) -> Result<(), Fail> {
-        let mut process = Process::new(rt.alloc(), &[b"siploc", b"run"], b"find x\nfind");
-        process.input_fails = true;
-        assert!(rt; ends(&rt, process, 1, b"err U1\n", b"fault read\n"));
-        let mut process = Process::new(rt.alloc(), &[b"siploc", b"run"], b"find x\n");
-        process.is_closed = true;
-        assert!(rt; ends(&rt, process, 1, b"", b"fault write\n"));
-        Ok(())
-    }
-
-    #[test]
-    fn faults_of_the_streams_of_a_script_print_their_code(rt: HostRuntime) -> Result<(), Fail> {
-        let mut process = Process::new(rt.alloc(), &[b"siploc", b"world"], b"x\nread");
-        process.is_closed = true;
-        assert!(rt; ends(&rt, process, 1, b"", b"fault write\n"));
-        let mut process = Process::new(rt.alloc(), &[b"siploc", b"world"], b"workers 1\nread");
-        process.input_fails = true;
-        assert!(rt; ends(&rt, process, 1, b"", b"fault read\n"));
-        Ok(())
-    }
 }
