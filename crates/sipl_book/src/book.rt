@@ -1,4 +1,4 @@
-ghost use Rattle.std.specs.Prelude.{◌≡◌, ◌+◌, ◌^◌, ◌<◌, ◌≤◌, ◌&&◌, [], ◌∷◌, ◌++◌, length, nat_le, Some, IfOk, IfErr, IfSome, OnOk, OnErr, vec_len, vec_capacity};
+ghost use Rattle.std.specs.Prelude.{◌≡◌, ◌≢◌, ◌+◌, ◌^◌, ◌<◌, ◌≤◌, ◌&&◌, [], ◌∷◌, ◌++◌, length, nat_le, None, Some, IfOk, IfErr, IfSome, OnOk, OnErr, vec_len, vec_capacity};
 ghost use Rattle.std.specs.List.{All, count_by};
 ghost use Rattle.std.specs.Option.{option_copied};
 ghost use Rattle.sipl_records.specs.Sets.{set_of};
@@ -10,7 +10,7 @@ ghost use Rattle.sipl_plans.specs.Plan.{draw};
 ghost use Rattle.sipl_plans.specs.Runs.{IsSet};
 ghost use Rattle.sipl_plans.specs.Servers.{HasFewServers};
 ghost use Rattle.sipl_book.specs.Book.{HasRoute, IsGoodEntry, answer_now, new_book, next_event, state_of};
-ghost use Rattle.sipl_book.specs.Calls.{IsChanged, MovesBoard, IsHanded, IsCommitted, IsForgotten, after_check, after_commit, after_look, is_renumbered, is_stale};
+ghost use Rattle.sipl_book.specs.Calls.{IsChanged, MovesBoard, IsHanded, IsCommitted, IsForgotten, after_check, after_commit, after_look, answer_event, is_renumbered, is_stale, recorded, unless_full};
 ghost use Rattle.sipl_book.specs.Honesty.{AreCurrent, IsHonest};
 ghost use Rattle.sipl_book.specs.Lookups.{IsFound};
 ghost use Rattle.sipl_book.specs.Entries.{depends_on, entry_of};
@@ -194,6 +194,29 @@ impl Book {
         let (event, answer) = prepare(self.alloc, question, layout, draws, &self.board)?;
         let number = record_event(&mut self.journal, event);
         Ok(Handed { number, answer })
+    }
+
+    /// Records an answer that the caller has drawn for a question, as it is on the records and the
+    /// holds as they are. Returns the event's number. Looks at no set, and does not hash.
+    ///
+    /// The fault is a full journal (B3).
+    pub fn record_answer(
+        &mut self,
+        question: Question,
+        draws: &Draws,
+        answer: Answer,
+    ) -> Result<u64, BookFault>
+        requires { answer ≡ answer_now self.old question draws.now }
+        ensures number { IfOk result (λ number. number ≡ next_event self.old) }
+        ensures after { OnOk result
+            (self.new ≡ recorded (answer_event self.old question draws.now) self.old) }
+        ensures refused { IfErr result
+            (λ fault. fault ≢ BookFault.Memory → unless_full self.old None ≡ Some fault) }
+        ensures unchanged { OnErr result (self.new ≡ self.old) }
+    {
+        reserve_event(&mut self.journal, self.max_events)?;
+        let event = Event::Answer(question, *draws, answer);
+        Ok(record_event(&mut self.journal, event))
     }
 
     /// The answer to a question for these random words: that of its current entry, or else that of a

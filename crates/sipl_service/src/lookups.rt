@@ -13,6 +13,7 @@ use crate::marks::Mark;
 use crate::pass::Pass;
 use crate::service::Service;
 use crate::steps;
+use crate::steps::Copies;
 use crate::told::Told;
 use sipl_book::BookFault;
 use sipl_evidence::Evidence;
@@ -87,12 +88,14 @@ impl Service {
         ensures told { IfOk result
             (λ told. IsToldFor question.now self.now.client draws.now told) }
     {
-        let (asked, copy) = self.ask(pass, question, draws)?;
+        let (asked, receipt) = self.ask(pass, question, draws)?;
+        let event = question.dup(self.alloc)?;
         let mut shared = self.shared.lock(rt);
         if shared.is_stopped {
             return Err(ServiceFault::Stopped);
         }
-        steps::hand(self.alloc, &mut shared.book, pass, asked, copy)
+        let copies = Copies { event, receipt };
+        steps::hand(self.alloc, &mut shared.book, pass, asked, copies)
     }
 
     // The answer of a run, which is committed. L1 where a set has changed since it was read.

@@ -5,8 +5,8 @@ ghost use Rattle.std.specs.Arc.{arc_value};
 ghost use Rattle.sipl_outages.specs.Holds.{BoardEvent};
 ghost use Rattle.sipl_outages.specs.Holds.BoardEvent.{Hold, Release, Advance};
 ghost use Rattle.sipl_plans.specs.Findings.{IsSound};
-ghost use Rattle.sipl_book.specs.Book.{next_event};
-ghost use Rattle.sipl_book.specs.Calls.{IsChanged, MovesBoard, answer_event, board_refusal, change_refusal, recorded};
+ghost use Rattle.sipl_book.specs.Book.{answer_now, next_event};
+ghost use Rattle.sipl_book.specs.Calls.{IsChanged, MovesBoard, board_refusal, change_refusal, recorded};
 ghost use Rattle.sipl_book.specs.Entries.{has_current_entry};
 ghost use Rattle.sipl_service.specs.Passes.{GetsReceipt, receipt_of};
 ghost use Rattle.sipl_service.specs.Refusals.{change_fault, contended, unless_ahead, unless_other};
@@ -179,15 +179,23 @@ pub(crate) fn advance(book: &mut Book, pass: &mut Pass, to: u64) -> Result<u64, 
     Ok(number)
 }
 
-// The answer of the current entry of a question. `question` is a copy of it, for the receipt.
+// Copies of a question: for the event of its answer, and for the receipt.
+#[derive(Drop)]
+pub(crate) struct Copies {
+    pub event: Question,
+    pub receipt: Question,
+}
+
+// The answer of the current entry of a question, of which there are copies.
 pub(crate) fn hand(
     alloc: Global,
     book: &mut Book,
     pass: &mut Pass,
     asked: Asked,
-    question: Question,
+    copies: Copies,
 ) -> Result<Told, ServiceFault>
-    requires { question ≡ asked.question }
+    requires event { copies.event ≡ asked.question }
+    requires receipt { copies.receipt ≡ asked.question }
     ensures receipt { GetsReceipt (λ told. told.number) event_of pass.old pass.new result }
     ensures asked { IfOk result (λ told. IsAnswerTo asked told) }
     ensures number { IfOk result (λ told. told.number ≡ next_event book.old) }
@@ -200,15 +208,37 @@ pub(crate) fn hand(
     }
     pass.receipts.reserve(1)?;
     let told = tell_entry(alloc, book, number, asked)?;
-    match book.hand(told.question(), told.draws()) {
-        Ok(handed) => {
-            let event = Event::Answer(question, *told.draws(), handed.answer);
-            pass.receipts.push_reserved(Receipt { number, event });
-            pass.front = book.journal().len() as u64;
-            Ok(told)
-        }
-        Err(fault) => Err(fault.into()),
-    }
+    record(alloc, book, &mut pass.receipts, &told, copies)?;
+    pass.front = book.journal().len() as u64;
+    Ok(told)
+}
+
+// Records the answer that is to be told, and adds the receipt, for which there is space.
+fn record(
+    alloc: Global,
+    book: &mut Book,
+    receipts: &mut Vec<Receipt>,
+    told: &Told,
+    copies: Copies,
+) -> Result<(), ServiceFault>
+    requires space { vec_len receipts.old < vec_capacity receipts.old }
+    requires event { copies.event ≡ told.now.question }
+    requires receipt { copies.receipt ≡ told.now.question }
+    requires answer { told.now.answer ≡ answer_now book.old told.now.question told.now.words }
+    ensures journal { OnOk result (book.new ≡ recorded (event_of told.now) book.old) }
+    ensures receipt { OnOk result (receipts.new.items
+        ≡ receipts.old.items ++ receipt_of (next_event book.old) (event_of told.now) ∷ []) }
+    ensures unchanged { OnErr result (book.new ≡ book.old) }
+    ensures none { OnErr result (receipts.new.items ≡ receipts.old.items) }
+{
+    let Copies { event, receipt } = copies;
+    let event_of_receipt = Event::Answer(receipt, *told.draws(), told.answer().dup(alloc)?);
+    let number = book.record_answer(event, told.draws(), told.answer().dup(alloc)?)?;
+    receipts.push_reserved(Receipt {
+        number,
+        event: event_of_receipt,
+    });
+    Ok(())
 }
 
 // The answer of the current entry of a question. B1 where there is none.
@@ -217,7 +247,7 @@ fn tell_entry(alloc: Global, book: &Book, number: u64, asked: Asked) -> Result<T
     ensures number { IfOk result (λ told. told.number ≡ number) }
     ensures asked { IfOk result (λ told. IsAnswerTo asked told) }
     ensures answer { IfOk result
-        (λ told. event_of told ≡ answer_event book.now asked.question asked.draws) }
+        (λ told. told.answer ≡ answer_now book.now asked.question asked.draws) }
     ensures refused { IfErr result (λ fault. fault ≢ ServiceFault.Memory
         → (fault ≡ ServiceFault.Book BookFault.NotCurrent)
         × (has_current_entry book.now.entries asked.question ≡ false)) }

@@ -2,8 +2,6 @@ use Rattle.std.proofs.Common.{◌≡◌, true, sym, subst, ◌∙◌}
 use Rattle.std.specs.Arc.{arc_value}
 use Rattle.sipl_plans.specs.Findings.{Found, IsSound}
 use Rattle.sipl_plans.specs.Plan.{draw}
-use Rattle.sipl_book.specs.Book.{answer_now}
-use Rattle.sipl_book.specs.declared.event.Event.TheVariants.{Answer}
 use Rattle.sipl_service.proofs.Entries.{entry-sound, entry-answer}
 use Rattle.sipl_service.proofs.steps.tell_entry.Goals as goal
 
@@ -20,7 +18,5 @@ of-requires-clause-sound c =
 pub returns-clause-answer : goal.returns-clause-answer
 returns-clause-answer c =
     let current : c.in-Some.entry.now.is_current ≡ true = sym c.is_current.ensures ∙ c.if-not-is_current.false in
-    let answer : c.in_ok-of.field-0.answer ≡ answer_now c.args.book.now c.args.asked.question c.args.asked.draws =
     c.in_ok-of.ensures.answer ∙ (λ i. draw (c.layout.ensures.layout i) (c.board.ensures i).holds c.args.asked.draws)
-    ∙ entry-answer c.args.book.now c.args.asked.question c.args.asked.draws c.in-Some.entry.now c.entry.ensures.routes (sym c.in-Some.ensures.entry) c.in-Some.ensures.question current in
-    λ i. Answer (c.in_ok-of.ensures.question i) (c.in_ok-of.ensures.words i) (answer i)
+    ∙ entry-answer c.args.book.now c.args.asked.question c.args.asked.draws c.in-Some.entry.now c.entry.ensures.routes (sym c.in-Some.ensures.entry) c.in-Some.ensures.question current
