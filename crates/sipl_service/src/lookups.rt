@@ -90,7 +90,7 @@ impl Service {
     {
         let (asked, receipt) = self.ask(pass, question, draws)?;
         let event = question.dup(self.alloc)?;
-        let mut shared = self.shared.lock(rt);
+        let mut shared = self.lock(rt);
         if shared.is_stopped {
             return Err(ServiceFault::Stopped);
         }
@@ -130,7 +130,7 @@ impl Service {
     {
         let (asked, copy) = self.ask(pass, finding.question(), draws)?;
         let evidence = finding.share_evidence()?;
-        let mut shared = self.shared.lock(rt);
+        let mut shared = self.lock(rt);
         if shared.is_stopped {
             return Err(ServiceFault::Stopped);
         }
@@ -207,7 +207,7 @@ impl Service {
 
     // Where the version of a key's set as it is now is; `None` where the set is empty.
     fn mark<R: Wait>(&self, rt: &R, key: &Key) -> Result<Option<Mark>, ServiceFault> {
-        let mut shared = self.shared.lock(rt);
+        let mut shared = self.lock(rt);
         shared.check(&self.abilities)?;
         Ok(shared.mark(rt, &self.versions, key)?)
     }
@@ -216,7 +216,7 @@ impl Service {
     fn read_locked<R: Wait>(&self, rt: &R, key: &Key) -> Result<(u64, Sequence<Data>), ServiceFault>
         ensures { IfOk result (λ read. IsSet key.now read.0 read.1) }
     {
-        let mut shared = self.shared.lock(rt);
+        let mut shared = self.lock(rt);
         shared.check(&self.abilities)?;
         Ok(shared.book.read(key)?)
     }
@@ -229,7 +229,7 @@ impl Service {
         ensures { IfOk result
             (λ items. AreDependencies question.now self.now.client items) }
     {
-        self.shared.lock(rt).check(&self.abilities)?;
+        self.lock(rt).check(&self.abilities)?;
         let finding = self.locate(rt, Who::Caller, question, &OpenGate)?;
         Ok(finding.evidence().dup(self.alloc)?)
     }

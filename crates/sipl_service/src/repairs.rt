@@ -78,7 +78,7 @@ impl Service {
     // Waits for a queued entry, and leases it; at first waits to be woken, if it is to. `None` where
     // the service was stopped.
     fn next_lease<R: Wait>(&self, rt: &R, is_to_wait: bool) -> Option<(Lease, Question)> {
-        let mut shared = self.shared.lock(rt);
+        let mut shared = self.lock(rt);
         if is_to_wait && !shared.is_stopped {
             shared = self.woken.wait(rt, shared);
         }
@@ -115,14 +115,14 @@ impl Service {
 
     // How many entries are queued.
     fn queued<R: Wait>(&self, rt: &R) -> Result<u64, ServiceFault> {
-        let shared = self.shared.lock(rt);
+        let shared = self.lock(rt);
         shared.check(&self.abilities)?;
         Ok(shared.book.queued())
     }
 
     // Leases the first queued entry; `None` where none is queued.
     fn lease<R: Wait>(&self, rt: &R) -> Result<Option<(Lease, Question)>, ServiceFault> {
-        let mut shared = self.shared.lock(rt);
+        let mut shared = self.lock(rt);
         shared.check(&self.abilities)?;
         match shared.book.lease() {
             Ok(leased) => Ok(Some(leased)),
@@ -135,7 +135,7 @@ impl Service {
     fn settle<R: Wait>(&self, rt: &R, lease: Lease, finding: Finding) -> Result<bool, ServiceFault>
         requires { finding.client ≡ self.now.client }
     {
-        let mut shared = self.shared.lock(rt);
+        let mut shared = self.lock(rt);
         if let Err(fault) = steps::check_client(&shared.book, &self.abilities) {
             shared.book.give_back(lease);
             return Err(fault);
@@ -145,6 +145,6 @@ impl Service {
 
     // Gives a lease back: its entry is the next one to be leased.
     fn give_back<R: Wait>(&self, rt: &R, lease: Lease) {
-        self.shared.lock(rt).book.give_back(lease);
+        self.lock(rt).book.give_back(lease);
     }
 }

@@ -19,11 +19,16 @@ use sipl_book::{Book, Done, Edit, Event, Limits};
 use sipl_choice::{Abilities, Endpoint};
 use sipl_records::Key;
 use std::alloc::{AllocError, Global};
+use std::hint::spin_loop;
 use std::marker::Model;
-use std::sync::{Condvar, Mutex, Wait};
+use std::sync::{Condvar, Mutex, MutexGuard, Wait};
 
 /// The greatest number of tries of a lookup.
 pub const MAX_TRIES: u64 = 16;
+
+// How often a thread looks for the lock before it sleeps: for some ten microseconds, in which some ten
+// calls of others take it and let it go. To sleep and be woken takes longer.
+const SPINS: u32 = 200;
 
 // What is under the lock.
 #[derive(Drop)]
@@ -150,6 +155,17 @@ impl Service {
         })
     }
 
+    // Takes the lock, which is held for about a microsecond in most calls.
+    pub(crate) fn lock<R: Wait>(&self, rt: &R) -> MutexGuard<'_, Shared> {
+        for _ in 0..SPINS {
+            if let Some(guard) = self.shared.try_lock() {
+                return guard;
+            }
+            spin_loop();
+        }
+        self.shared.lock(rt)
+    }
+
     /// The abilities of the client.
     pub fn abilities(&self) -> &Abilities
         ensures { result.now ≡ self.now.client }
@@ -181,7 +197,7 @@ impl Service {
         let new = new_edit(self.alloc, edit)?;
         let key = changed_key(self.alloc, &new.edit)?;
         pass.reserve()?;
-        let mut shared = self.shared.lock(rt);
+        let mut shared = self.lock(rt);
         if shared.is_stopped {
             return Err(ServiceFault::Stopped);
         }
@@ -209,7 +225,7 @@ impl Service {
             pass.old pass.new result }
     {
         pass.reserve()?;
-        let mut shared = self.shared.lock(rt);
+        let mut shared = self.lock(rt);
         if shared.is_stopped {
             return Err(ServiceFault::Stopped);
         }
@@ -229,7 +245,7 @@ impl Service {
             pass.old pass.new result }
     {
         pass.reserve()?;
-        let mut shared = self.shared.lock(rt);
+        let mut shared = self.lock(rt);
         if shared.is_stopped {
             return Err(ServiceFault::Stopped);
         }
@@ -245,7 +261,7 @@ impl Service {
         ensures limit { OnOk result (to ≤ 2 ^ 52) }
     {
         pass.reserve()?;
-        let mut shared = self.shared.lock(rt);
+        let mut shared = self.lock(rt);
         if shared.is_stopped {
             return Err(ServiceFault::Stopped);
         }
@@ -256,12 +272,12 @@ impl Service {
     pub fn now<R: Wait>(&self, rt: &R) -> u64
         ensures { result ≤ 2 ^ 52 }
     {
-        self.shared.lock(rt).book.board().now()
+        self.lock(rt).book.board().now()
     }
 
     /// Stops the service: the workers end, and calls that can be refused for it are (L6).
     pub fn stop<R: Wait>(&self, rt: &R) {
-        self.shared.lock(rt).is_stopped = true;
+        self.lock(rt).is_stopped = true;
         self.woken.notify_all();
     }
 
