@@ -26,9 +26,12 @@ use std::sync::{Condvar, Mutex, MutexGuard, Wait};
 /// The greatest number of tries of a lookup.
 pub const MAX_TRIES: u64 = 16;
 
-// How often a thread looks for the lock before it sleeps: for some ten microseconds, in which some ten
-// calls of others take it and let it go. To sleep and be woken takes longer.
-const SPINS: u32 = 200;
+// How often a thread looks for the lock before it sleeps, and how many pauses there are between two looks:
+// some 200 microseconds in all, in which some hundred calls of others take it and let it go. To sleep and be
+// woken takes longer than most of them hold it.
+const LOOKS: u32 = 400;
+
+const PAUSES: u32 = 8;
 
 // What is under the lock.
 #[derive(Drop)]
@@ -157,11 +160,11 @@ impl Service {
 
     // Takes the lock, which is held for about a microsecond in most calls.
     pub(crate) fn lock<R: Wait>(&self, rt: &R) -> MutexGuard<'_, Shared> {
-        for _ in 0..SPINS {
+        for _ in 0..LOOKS {
             if let Some(guard) = self.shared.try_lock() {
                 return guard;
             }
-            spin_loop();
+            pause();
         }
         self.shared.lock(rt)
     }
@@ -324,5 +327,12 @@ fn changed_key(alloc: Global, edit: &Edit) -> Result<Option<Key>, AllocError> {
     match edit {
         Edit::Add(record) | Edit::Remove(record) => record.key(alloc),
         Edit::Load(_) | Edit::Unload(_) => Ok(None),
+    }
+}
+
+// Leaves the lock to the threads that have it or look for it, for some half a microsecond.
+fn pause() {
+    for _ in 0..PAUSES {
+        spin_loop();
     }
 }
