@@ -161,3 +161,25 @@ numbered-after old new next numbers held accepted =
       one_key = one_key_after old new next numbers held;
       last = enough (next_after old new next) accepted;
     }
+
+-- a set that stays as it is, and is not empty, keeps its number
+pub number-kept : (old new : List Record) (next : ℕ) (numbers : Key → ℕ) (key : Key) → is_changed old new key ≡ false → set_of old key ≢ [] → number_after old new next numbers key ≡ numbers key
+number-kept old new next numbers key same filled =
+    let full : is_empty (set_of new key) ≡ false = elim (cases_Bool (is_empty (set_of new key))) [
+      | inl empty ↦ absurd (filled (unchanged-is old new key same ∙ empty-is (set_of new key) empty))
+      | inr full ↦ full
+    ] in
+    rw (from-none (λ other. same_key other key) next (numbered_keys old new) (numbered-none_same old new key same), full) refl
+
+-- where no key is among the changed ones, no set has changed
+pub none-changed : (old new : List Record) (key : Key) → length (changed_keys old new) ≡ 0 → is_changed old new key ≡ false
+none-changed old new key none = elim (cases_Bool (is_changed old new key)) [
+  | inl differs ↦
+      let any : list_any (λ other. same_key other key) (changed_keys old new) ≡ true = changed-any old new key differs in
+      let never : false ≡ true = sym (ap (λ keys. list_any (λ other. same_key other key) keys) (no-items (changed_keys old new) none)) ∙ any in cc
+  | inr same ↦ same
+]
+  where
+    no-items : (keys : List Key) → length keys ≡ 0 → keys ≡ []
+    no-items [] none = refl
+    no-items (key ∷ keys) none = absurd (omega (arith, none))
