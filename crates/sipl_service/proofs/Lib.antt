@@ -3,3 +3,4 @@ pub mod Committing
 pub mod Ours
 pub mod Entries
 pub mod Keys
+pub mod Marking

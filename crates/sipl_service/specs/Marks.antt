@@ -1,8 +1,50 @@
 -- Marks: where the versions of record sets are.
-use Rattle.std.specs.Prelude.{ℕ, Bool, false, ◌||◌, nat_eq, Option, None, Some, if◌then◌else◌}
+use Rattle.std.specs.Prelude.{◌≡◌, ◌≢◌, ℕ, Bool, false, ◌||◌, nat_eq, List, [], Option, None, Some, IfSome, if◌then◌else◌}
+use Rattle.std.specs.Coded.{Coded, codes}
+use Rattle.std.specs.Map.{lookup}
+use Rattle.sipl_records.specs.Sets.{key_of, same_key, set_of}
+use Rattle.sipl_records.specs.declared.data.Data.{Data}
+use Rattle.sipl_records.specs.declared.record.Key.{Key}
+use Rattle.sipl_zonestore.specs.Store.{Store, number_in}
+use Rattle.sipl_repair.specs.Codes.{queue_state_code}
 use Rattle.sipl_book.specs.Book.{BookState}
 use Rattle.sipl_book.specs.Calls.{after_look}
+use Rattle.sipl_book.specs.declared.edit.Edit.{Edit}
+use Rattle.sipl_book.specs.declared.edit.Edit.TheVariants.{Load, Unload, Add, Remove}
 use Rattle.sipl_service.specs.declared.marks.Mark.{Mark}
+
+-- a mark of a set as it is: it has the set's number, and the set is not empty
+pub record IsMarkOf (n : ℕ) (content : List Data) (mark : Mark) : Type 0 where
+  pub number : mark.number ≡ n
+  pub taken : n ≢ 0
+  pub filled : content ≢ []
+
+-- each mark is that of its key's set
+abbrev pub AreMarksOf : Store → (Key → Option Mark) → Type 0
+AreMarksOf store marks = (key : Key)
+    → IfSome (marks key) (IsMarkOf (number_in store key) (set_of store.zones.records key))
+
+-- what is under the lock: a book, the marks of its sets by their keys, and whether the service was
+-- stopped
+pub record SharedState : Type 0 where
+  pub book : BookState
+  pub marks : List (Key × Mark)
+  pub is_stopped : Bool
+
+pub shared_code : Coded SharedState
+shared_code = hlevel (codes, queue_state_code)
+
+-- the mark of a key
+abbrev pub mark_of : List (Key × Mark) → Key → Option Mark
+mark_of marks key = lookup (same_key key) marks
+
+-- the key of the set that an edit of one record may change; none for an edit of a zone, and for a
+-- record that is in no set
+abbrev pub key_edited : Edit → Option Key
+key_edited (Add r) = key_of r
+key_edited (Remove r) = key_of r
+key_edited (Load zone) = None
+key_edited (Unload apex) = None
 
 -- whether there is a mark, and of this number
 abbrev pub is_marked : ℕ → Option Mark → Bool

@@ -18,6 +18,7 @@ mod pass;
 mod receipt;
 mod repairs;
 mod service;
+mod shared;
 mod steps;
 mod told;
 mod versions;

@@ -1,11 +1,11 @@
 //! Where the versions of record sets are, as the book's sets are now.
-ghost use Rattle.std.specs.Prelude.{◌≡◌, ◌≢◌, ◌↔◌, None, Some, false, filter, nat_eq, IfOk, IfSome, OnErr};
+ghost use Rattle.std.specs.Prelude.{◌≡◌, ◌≢◌, ◌↔◌, [], None, Some, false, nat_eq, IfOk, IfSome, OnOk, OnErr};
 ghost use Rattle.indexmap.specs.IndexMap.{get};
 ghost use Rattle.sipl_records.specs.Sets.{same_key};
 ghost use Rattle.sipl_records.specs.declared.record.Key.{Key};
 ghost use Rattle.sipl_zonestore.specs.Store.{number_in};
 ghost use Rattle.sipl_book.specs.Calls.{after_look};
-ghost use Rattle.sipl_service.specs.Marks.{after_mark, marked_at};
+ghost use Rattle.sipl_service.specs.Marks.{AreMarksOf, after_mark, marked_at};
 
 use crate::versions::Versions;
 use indexmap::IndexMap;
@@ -31,15 +31,18 @@ pub(crate) struct Marks {
 
 impl Marks {
     // No marks. Does not allocate.
-    pub(crate) fn new(alloc: Global) -> Self {
+    pub(crate) fn new(alloc: Global) -> Self
+        ensures { result.table.entries ≡ [] }
+    {
         Marks {
             alloc,
             table: IndexMap::new(alloc),
         }
     }
 
-    // The mark of a key's set; `None` where it is empty. Where no mark has the set's number, a copy of
-    // the set is pushed to the versions, with a look at it.
+    // The mark of a key's set; `None` where it is empty. Where it has none, a copy of the set is pushed
+    // to the versions, with a look at it. A mark that is there is that of the set as it is, so the book
+    // is not asked.
     pub(crate) fn of_key<R: Wait>(
         &mut self,
         rt: &R,
@@ -47,6 +50,8 @@ impl Marks {
         versions: &Versions,
         key: &Key,
     ) -> Result<Option<Mark>, AllocError>
+        requires { AreMarksOf book.old.store (get same_key self.old.table) }
+        ensures marks { OnOk result (AreMarksOf book.old.store (get same_key self.new.table)) }
         ensures empty { IfOk result (λ mark. (mark ≡ None) ↔ (number_in book.old.store key.now ≡ 0)) }
         ensures number { IfOk result (λ mark.
             IfSome mark (λ mark. mark.number ≡ number_in book.old.store key.now)) }
@@ -58,14 +63,13 @@ impl Marks {
         ensures book { book.new ≡ after_mark (number_in book.old.store key.now)
             (get same_key self.old.table key.now) book.old }
     {
-        let number = book.number(key);
-        if number == 0 {
+        if let Some(mark) = self.table.get(key).copied() {
+            return Ok(Some(mark));
+        }
+        if book.number(key) == 0 {
             return Ok(None);
         }
-        match self.table.get(key).copied() {
-            Some(mark) if mark.number == number => Ok(Some(mark)),
-            _ => Ok(Some(self.push(rt, book, versions, key)?)),
-        }
+        Ok(Some(self.push(rt, book, versions, key)?))
     }
 
     // Pushes a copy of a key's set to the versions, and keeps its mark. Where the mark finds no space,
@@ -77,7 +81,9 @@ impl Marks {
         versions: &Versions,
         key: &Key,
     ) -> Result<Mark, AllocError>
-        requires { number_in book.old.store key.now ≢ 0 }
+        requires taken { number_in book.old.store key.now ≢ 0 }
+        requires marks { AreMarksOf book.old.store (get same_key self.old.table) }
+        ensures marks { OnOk result (AreMarksOf book.old.store (get same_key self.new.table)) }
         ensures number { IfOk result (λ mark. mark.number ≡ number_in book.old.store key.now) }
         ensures kept { IfOk result (λ mark. get same_key self.new.table key.now ≡ Some mark) }
         ensures others { (other : Key) → same_key key.now other ≡ false
@@ -95,8 +101,23 @@ impl Marks {
         Ok(mark)
     }
 
+    // Takes out each mark whose number is no longer the book's, after an edit: where it may have changed
+    // the set of one key alone, that of this key; else it is linear in the marks.
+    pub(crate) fn take_out_changed(&mut self, book: &Book, key: Option<&Key>)
+        requires { IfSome key (λ key. (other : Key) → same_key key.now other ≡ false
+            → marked_at (number_in book.now.store other) (get same_key self.old.table other)
+            ≡ get same_key self.old.table other) }
+        ensures { (key : Key) → get same_key self.new.table key
+            ≡ marked_at (number_in book.now.store key) (get same_key self.old.table key) }
+    {
+        match key {
+            Some(key) => self.take_out(book, key),
+            None => self.take_out_all(book),
+        }
+    }
+
     // Takes out the mark of a key whose number is no longer the book's. All others stay.
-    pub(crate) fn take_out(&mut self, book: &Book, key: &Key)
+    fn take_out(&mut self, book: &Book, key: &Key)
         ensures mark { get same_key self.new.table key.now
             ≡ marked_at (number_in book.now.store key.now) (get same_key self.old.table key.now) }
         ensures others { (other : Key) → same_key key.now other ≡ false
@@ -110,10 +131,13 @@ impl Marks {
     }
 
     // Takes out each mark whose number is no longer the book's. Linear in the marks.
-    pub(crate) fn take_out_all(&mut self, book: &Book)
-        ensures { self.new.table.entries
-            ≡ filter (λ e. nat_eq e.1.number (number_in book.now.store e.0)) self.old.table.entries }
+    fn take_out_all(&mut self, book: &Book)
+        ensures { (key : Key) → get same_key self.new.table key
+            ≡ marked_at (number_in book.now.store key) (get same_key self.old.table key) }
     {
+        if self.table.len() == 0 {
+            return;
+        }
         self.table.retain(
             |key: &Key, mark: &mut Mark| -> bool
                 ensures { (result ≡ nat_eq mark.old.number (number_in book.entry.now.store key.now))

@@ -1,17 +1,13 @@
-ghost use Rattle.std.specs.Prelude.{◌≡◌, ◌≤◌, ◌^◌, ◌↔◌, [], None, Some, false, filter, nat_eq, IfOk, IfErr, IfSome, IfNone, OnOk, OnErr};
-ghost use Rattle.indexmap.specs.IndexMap.{get};
-ghost use Rattle.sipl_records.specs.Sets.{same_key};
-ghost use Rattle.sipl_records.specs.declared.record.Key.{Key};
-ghost use Rattle.sipl_zonestore.specs.Store.{number_in};
+ghost use Rattle.std.specs.Prelude.{◌≡◌, ◌≤◌, ◌^◌, [], IfOk, IfErr, OnOk};
 ghost use Rattle.sipl_book.specs.Machine.{IsLegal, empty_state};
-ghost use Rattle.sipl_service.specs.Marks.{after_mark, marked_at};
+ghost use Rattle.sipl_service.specs.Marks.{key_edited};
 ghost use Rattle.sipl_service.specs.Passes.{GetsReceipt};
 
 use crate::claims::Closing;
 use crate::fault::ServiceFault;
-use crate::marks::{Mark, Marks};
 use crate::pass::Pass;
 use crate::receipt::Receipt;
+use crate::shared::Shared;
 use crate::steps;
 use crate::steps::NewEdit;
 use crate::versions::Versions;
@@ -32,71 +28,6 @@ pub const MAX_TRIES: u64 = 16;
 const LOOKS: u32 = 400;
 
 const PAUSES: u32 = 8;
-
-// What is under the lock.
-#[derive(Drop)]
-pub(crate) struct Shared {
-    pub book: Book,
-    // Where the versions of the book's sets are.
-    pub marks: Marks,
-    pub is_stopped: bool,
-}
-
-impl Shared {
-    // L6 where the service was stopped, L7 where the book is for a client of other abilities.
-    pub fn check(&self, abilities: &Abilities) -> Result<(), ServiceFault>
-        ensures { OnOk result (self.now.book.client ≡ abilities.now) }
-    {
-        if self.is_stopped {
-            return Err(ServiceFault::Stopped);
-        }
-        steps::check_client(&self.book, abilities)
-    }
-
-    // The mark of a key's set; `None` where it is empty. Where no one has read it yet, its version is
-    // pushed.
-    pub fn mark<R: Wait>(
-        &mut self,
-        rt: &R,
-        versions: &Versions,
-        key: &Key,
-    ) -> Result<Option<Mark>, AllocError>
-        ensures empty { IfOk result
-            (λ mark. (mark ≡ None) ↔ (number_in self.old.book.store key.now ≡ 0)) }
-        ensures number { IfOk result (λ mark.
-            IfSome mark (λ mark. mark.number ≡ number_in self.old.book.store key.now)) }
-        ensures kept { IfOk result (λ mark.
-            IfSome mark (λ mark. get same_key self.new.marks.table key.now ≡ Some mark)) }
-        ensures others { (other : Key) → same_key key.now other ≡ false
-            → get same_key self.new.marks.table other ≡ get same_key self.old.marks.table other }
-        ensures unchanged { OnErr result
-            (self.new.marks.table.entries ≡ self.old.marks.table.entries) }
-        ensures book { self.new.book ≡ after_mark (number_in self.old.book.store key.now)
-            (get same_key self.old.marks.table key.now) self.old.book }
-        ensures stopped { self.new.is_stopped ≡ self.old.is_stopped }
-    {
-        self.marks.of_key(rt, &mut self.book, versions, key)
-    }
-
-    // Takes out the marks of the sets that an edit has changed: that of its record's key, or for a zone
-    // those whose number is no longer the book's.
-    fn take_out_marks(&mut self, key: Option<&Key>)
-        ensures one { IfSome key.entry (λ key. get same_key self.new.marks.table key.now ≡ marked_at
-            (number_in self.old.book.store key.now) (get same_key self.old.marks.table key.now)) }
-        ensures others { IfSome key.entry (λ key. (other : Key) → same_key key.now other ≡ false
-            → get same_key self.new.marks.table other ≡ get same_key self.old.marks.table other) }
-        ensures all { IfNone key.entry (self.new.marks.table.entries
-            ≡ filter (λ e. nat_eq e.1.number (number_in self.old.book.store e.0))
-            self.old.marks.table.entries) }
-        ensures book { self.new.book ≡ self.old.book }
-        ensures stopped { self.new.is_stopped ≡ self.old.is_stopped }
-    {
-        match key {
-            Some(key) => self.marks.take_out(&self.book, key),
-            None => self.marks.take_out_all(&self.book),
-        }
-    }
-}
 
 /// A book that threads share (RFC 3263, 4), for one client. Contracts see the client's abilities and
 /// how often a lookup tries to commit.
@@ -148,11 +79,7 @@ impl Service {
             alloc,
             abilities,
             tries,
-            shared: Mutex::new(Shared {
-                book,
-                marks: Marks::new(alloc),
-                is_stopped: false,
-            }),
+            shared: Mutex::new(Shared::new(alloc, book)),
             versions: Versions::new(alloc)?,
             woken: Condvar::new(),
         })
@@ -198,16 +125,13 @@ impl Service {
             pass.old pass.new result }
     {
         let new = new_edit(self.alloc, edit)?;
-        let key = changed_key(self.alloc, &new.edit)?;
+        let key = edited_key(self.alloc, &new.edit)?;
         pass.reserve()?;
         let mut shared = self.lock(rt);
         if shared.is_stopped {
             return Err(ServiceFault::Stopped);
         }
-        let done = steps::change(&mut shared.book, pass, new)?;
-        if done.changed > 0 {
-            shared.take_out_marks(key.as_ref());
-        }
+        let done = shared.change(pass, new, key.as_ref())?;
         drop(shared);
         self.woken.notify_all();
         Ok(done)
@@ -323,7 +247,9 @@ fn new_edit(alloc: Global, edit: Edit) -> Result<Box<NewEdit>, AllocError>
 
 // The key of the set that an edit of one record may change; `None` for an edit of a zone, and for a
 // record that is in no set.
-fn changed_key(alloc: Global, edit: &Edit) -> Result<Option<Key>, AllocError> {
+fn edited_key(alloc: Global, edit: &Edit) -> Result<Option<Key>, AllocError>
+    ensures { IfOk result (λ key. key ≡ key_edited edit.now) }
+{
     match edit {
         Edit::Add(record) | Edit::Remove(record) => record.key(alloc),
         Edit::Load(_) | Edit::Unload(_) => Ok(None),

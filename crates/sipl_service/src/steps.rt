@@ -6,7 +6,7 @@ ghost use Rattle.sipl_outages.specs.Holds.{BoardEvent};
 ghost use Rattle.sipl_outages.specs.Holds.BoardEvent.{Hold, Release, Advance};
 ghost use Rattle.sipl_plans.specs.Findings.{IsSound};
 ghost use Rattle.sipl_book.specs.Book.{answer_now, next_event};
-ghost use Rattle.sipl_book.specs.Calls.{IsChanged, MovesBoard, board_refusal, change_refusal, recorded};
+ghost use Rattle.sipl_book.specs.Calls.{IsChanged, MovesBoard, board_refusal, change_refusal, recorded, store_with_looks};
 ghost use Rattle.sipl_book.specs.Entries.{has_current_entry};
 ghost use Rattle.sipl_service.specs.Passes.{GetsReceipt, receipt_of};
 ghost use Rattle.sipl_service.specs.Refusals.{change_fault, contended, unless_ahead, unless_other};
@@ -123,6 +123,7 @@ pub(crate) fn hold(
         pass.old pass.new result }
     ensures moved { IfOk result
         (λ number. MovesBoard (Hold endpoint.now ms) book.old book.new (Ok number)) }
+    ensures store { book.new.store ≡ book.old.store }
     ensures refused { IfErr result (λ fault. fault ≢ ServiceFault.Memory
         → change_fault pass.old book.old (board_refusal (Hold endpoint.now ms) book.old) ≡ Some fault) }
     ensures unchanged { OnErr result (book.new ≡ book.old) }
@@ -146,6 +147,7 @@ pub(crate) fn release(
         pass.old pass.new result }
     ensures moved { IfOk result
         (λ number. MovesBoard (Release endpoint.now) book.old book.new (Ok number)) }
+    ensures store { book.new.store ≡ book.old.store }
     ensures refused { IfErr result (λ fault. fault ≢ ServiceFault.Memory
         → change_fault pass.old book.old (board_refusal (Release endpoint.now) book.old) ≡ Some fault) }
     ensures unchanged { OnErr result (book.new ≡ book.old) }
@@ -165,6 +167,7 @@ pub(crate) fn advance(book: &mut Book, pass: &mut Pass, to: u64) -> Result<u64, 
         pass.old pass.new result }
     ensures moved { IfOk result
         (λ number. MovesBoard (Advance to) book.old book.new (Ok number)) }
+    ensures store { book.new.store ≡ book.old.store }
     ensures limit { OnOk result (to ≤ 2 ^ 52) }
     ensures refused { IfErr result (λ fault. fault ≢ ServiceFault.Memory
         → change_fault pass.old book.old (board_refusal (Advance to) book.old) ≡ Some fault) }
@@ -200,6 +203,7 @@ pub(crate) fn hand(
     ensures asked { IfOk result (λ told. IsAnswerTo asked told) }
     ensures number { IfOk result (λ told. told.number ≡ next_event book.old) }
     ensures journal { IfOk result (λ told. book.new ≡ recorded (event_of told) book.old) }
+    ensures store { book.new.store ≡ book.old.store }
     ensures unchanged { OnErr result (book.new ≡ book.old) }
 {
     let number = next_answer(book, pass, &asked.abilities)?;
@@ -283,6 +287,7 @@ pub(crate) fn commit(
     ensures number { IfOk result (λ told. told.number ≡ next_event book.old) }
     ensures journal { IfOk result
         (λ told. book.new.journal ≡ book.old.journal ++ event_of told ∷ []) }
+    ensures store { book.new.store ≡ store_with_looks book.new.store.looks book.old.store }
     ensures unchanged { OnErr result (book.new.journal ≡ book.old.journal) }
 {
     let number = next_answer(book, pass, &asked.abilities)?;

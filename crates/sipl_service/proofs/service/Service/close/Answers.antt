@@ -9,7 +9,7 @@ use Rattle.sipl_service.proofs.service.Service.close.Goals as goal
 
 pub returns-clause-legal : goal.returns-clause-legal
 returns-clause-legal c =
-    let book = c.into_inner-shared.result.book in
+    let book = c.shared.inside.book in
     let same : book.client ≡ c.args.self.client =
     sym c.abilities.ensures ∙ (same_client_decides c.abilities.result.now c.self.inside.abilities).0 (not-false _ (sym c.ne.ensures ∙ c.if-ne.false))
     ∙ ap (λ (s : ServiceState). s.client) c.self.view_is in

@@ -1,0 +1,123 @@
+//! What is under the lock: a book, and where the versions of its record sets are.
+ghost use Rattle.std.specs.Prelude.{◌≡◌, ◌↔◌, [], None, Some, false, IfOk, IfSome, OnOk, OnErr};
+ghost use Rattle.std.specs.Option.{option_copied};
+ghost use Rattle.sipl_records.specs.Sets.{same_key};
+ghost use Rattle.sipl_records.specs.declared.record.Key.{Key};
+ghost use Rattle.sipl_zonestore.specs.Store.{number_in};
+ghost use Rattle.sipl_book.specs.Calls.{IsChanged};
+ghost use Rattle.sipl_service.specs.Marks.{after_mark, key_edited, mark_of, marked_at};
+ghost use Rattle.sipl_service.specs.Passes.{GetsReceipt};
+
+use crate::fault::ServiceFault;
+use crate::marks::{Mark, Marks};
+use crate::pass::Pass;
+use crate::steps;
+use crate::steps::NewEdit;
+use crate::versions::Versions;
+use sipl_book::{Book, Done, Event};
+use sipl_choice::Abilities;
+use sipl_records::Key;
+use std::alloc::{AllocError, Global};
+use std::marker::Model;
+use std::sync::Wait;
+
+// A book, and where the versions of its record sets are: each mark is that of its key's set as it is.
+#[derive(Drop)]
+pub(crate) struct Shared {
+    pub book: Book,
+    pub is_stopped: bool,
+    marks: Marks,
+}
+
+impl Model for Shared {
+    ghost use Rattle.sipl_service.specs.Marks.{SharedState};
+
+    ghost Value = { SharedState };
+
+    ghost use Rattle.sipl_service.specs.Marks.{shared_code};
+
+    ghost coded = { shared_code };
+
+    ghost use Rattle.sipl_service.specs.Marks.{AreMarksOf, mark_of};
+
+    ghost view = { λ shared. record {
+      book = shared.book;
+      marks = shared.marks.table.entries;
+      is_stopped = shared.is_stopped;
+    } };
+
+    ghost invariant = { λ shared. AreMarksOf shared.book.store (mark_of shared.marks.table.entries) };
+}
+
+impl Shared {
+    // A book, of which no set was read.
+    pub fn new(alloc: Global, book: Book) -> Self
+        ensures { result ≡ record { book = book; marks = []; is_stopped = false } }
+    {
+        Shared {
+            book,
+            is_stopped: false,
+            marks: Marks::new(alloc),
+        }
+    }
+
+    // L6 where the service was stopped, L7 where the book is for a client of other abilities.
+    pub fn check(&self, abilities: &Abilities) -> Result<(), ServiceFault>
+        ensures { OnOk result (self.now.book.client ≡ abilities.now) }
+    {
+        if self.is_stopped {
+            return Err(ServiceFault::Stopped);
+        }
+        steps::check_client(&self.book, abilities)
+    }
+
+    // The mark of a key's set; `None` where it is empty. Where no one has read it yet, its version is
+    // pushed.
+    pub fn mark<R: Wait>(
+        &mut self,
+        rt: &R,
+        versions: &Versions,
+        key: &Key,
+    ) -> Result<Option<Mark>, AllocError>
+        ensures empty { IfOk result
+            (λ mark. (mark ≡ None) ↔ (number_in self.old.book.store key.now ≡ 0)) }
+        ensures number { IfOk result (λ mark.
+            IfSome mark (λ mark. mark.number ≡ number_in self.old.book.store key.now)) }
+        ensures kept { IfOk result (λ mark.
+            IfSome mark (λ mark. mark_of self.new.marks key.now ≡ Some mark)) }
+        ensures others { (other : Key) → same_key key.now other ≡ false
+            → mark_of self.new.marks other ≡ mark_of self.old.marks other }
+        ensures unchanged { OnErr result (self.new.marks ≡ self.old.marks) }
+        ensures book { self.new.book ≡ after_mark (number_in self.old.book.store key.now)
+            (mark_of self.old.marks key.now) self.old.book }
+        ensures stopped { self.new.is_stopped ≡ self.old.is_stopped }
+    {
+        self.marks.of_key(rt, &mut self.book, versions, key)
+    }
+
+    // Edits the zones, and takes out the mark of each set that has changed. The key is that of the set
+    // that the edit may change, where it is an edit of one record.
+    pub fn change(
+        &mut self,
+        pass: &mut Pass,
+        new: Box<NewEdit>,
+        key: Option<&Key>,
+    ) -> Result<Done, ServiceFault>
+        requires receipt { new.value.receipt.event ≡ Event.Change new.value.edit }
+        requires key { option_copied key ≡ key_edited new.value.edit }
+        ensures receipt { GetsReceipt (λ done. done.number) (λ done. new.value.receipt.event)
+            pass.old pass.new result }
+        ensures changed { IfOk result
+            (λ done. IsChanged new.value.edit self.old.book self.new.book (Ok done)) }
+        ensures marks { OnOk result ((key : Key) → mark_of self.new.marks key
+            ≡ marked_at (number_in self.new.book.store key) (mark_of self.old.marks key)) }
+        ensures unchanged { OnErr result (self.new ≡ self.old) }
+        ensures stopped { self.new.is_stopped ≡ self.old.is_stopped }
+    {
+        let done = steps::change(&mut self.book, pass, new)?;
+        if done.changed > 0 {
+            self.marks.take_out_changed(&self.book, key);
+        }
+        Ok(done)
+    }
+}
