@@ -27,3 +27,4 @@ mod Locating
 mod Finding
 mod Repairing
 mod SameEvent
+mod Unrefused

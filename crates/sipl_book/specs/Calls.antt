@@ -25,6 +25,7 @@ use Rattle.sipl_book.specs.declared.event.Event.{Event}
 use Rattle.sipl_book.specs.declared.event.Event.TheVariants.{Change, Hold, Release, Advance, Answer}
 use Rattle.sipl_book.specs.declared.fault.BookFault.{BookFault}
 use Rattle.sipl_book.specs.declared.fault.BookFault.TheVariants.{JournalFull, NotCurrent, Stale, Unknown, Gone, Queue, Store as StoreFault, Board, Memory}
+use Rattle.sipl_book.specs.declared.outcome.Recorded.{Recorded}
 use Rattle.sipl_book.specs.declared.outcome.Done.{Done}
 use Rattle.sipl_book.specs.declared.outcome.Handed.{Handed}
 use Rattle.sipl_book.specs.declared.outcome.Uncommitted.{Uncommitted}
@@ -178,6 +179,18 @@ pub record IsCommitted (has_changed : Store → Item → Bool) (found : Found) (
       → commit_refusal has_changed found old ≡ Some uncommitted.fault)
   pub finding : IfErr result (λ uncommitted. uncommitted.finding ≡ found)
   pub unchanged : OnErr result (new ≡ looked)
+
+-- A finding that is committed with an answer that was drawn for it: as above, by number and data of the
+-- sets.
+pub record CommitsAnswer (found : Found) (words : List ℕ) (old new : BookState)
+    (result : Result Recorded Uncommitted) : Type 0 where
+  pub accepted : OnOk result (commit_refusal is_stale found old ≡ None)
+  pub number : IfOk result (λ committed. committed.number ≡ next_event old)
+  pub after : OnOk result (new ≡ after_commit found words (after_check found old))
+  pub refused : IfErr result (λ uncommitted. uncommitted.fault ≢ Memory
+      → commit_refusal is_stale found old ≡ Some uncommitted.fault)
+  pub finding : IfErr result (λ uncommitted. uncommitted.finding ≡ found)
+  pub unchanged : OnErr result (new ≡ after_check found old)
 
 -- a store with this count of looks
 abbrev pub store_with_looks : ℕ → Store → Store

@@ -5,30 +5,28 @@ ghost use Rattle.sipl_records.specs.Sets.{set_of};
 ghost use Rattle.sipl_zonestore.specs.Store.{number_in};
 ghost use Rattle.sipl_zonestore.specs.Consistent.{IsConsistent as IsConsistentStore};
 ghost use Rattle.sipl_outages.specs.Holds.BoardEvent.{Hold, Release, Advance};
-ghost use Rattle.sipl_plans.specs.Findings.{IsSound};
 ghost use Rattle.sipl_plans.specs.Plan.{draw};
 ghost use Rattle.sipl_plans.specs.Runs.{IsSet};
 ghost use Rattle.sipl_plans.specs.Servers.{HasFewServers};
 ghost use Rattle.sipl_book.specs.Book.{HasRoute, IsGoodEntry, answer_now, new_book, next_event, state_of};
-ghost use Rattle.sipl_book.specs.Calls.{IsChanged, MovesBoard, IsHanded, IsCommitted, IsForgotten, after_check, after_commit, after_look, answer_event, is_renumbered, is_stale, recorded, unless_full};
-ghost use Rattle.sipl_book.specs.Honesty.{AreCurrent, IsHonest};
+ghost use Rattle.sipl_book.specs.Calls.{IsChanged, MovesBoard, IsHanded, IsForgotten, after_look, answer_event, recorded, unless_full};
 ghost use Rattle.sipl_book.specs.Lookups.{IsFound};
 ghost use Rattle.sipl_book.specs.Entries.{depends_on, entry_of};
 ghost use Rattle.sipl_book.specs.Repairs.{IsQueueOf};
 ghost use Rattle.sipl_book.specs.Machine.{IsLegal, replay, empty_state};
 
 use crate::cache::Cache;
-use crate::checks::{first_renumbered, first_stale, reserve_event};
+use crate::checks::reserve_event;
 use crate::edit::Edit;
 use crate::entry::Entry;
 use crate::event::Event;
 use crate::fault::BookFault;
 use crate::limits::Limits;
-use crate::outcome::{Done, Handed, Uncommitted};
+use crate::outcome::{Done, Handed};
 use sipl_choice::{Abilities, Endpoint};
 use sipl_evidence::dup_data;
 use sipl_outages::Board;
-use sipl_plans::{Answer, Finding, Layout, draw};
+use sipl_plans::{Answer, Layout, draw};
 use sipl_records::{Data, Key, Sequence};
 use sipl_srv::Draws;
 use sipl_uri::Question;
@@ -49,10 +47,10 @@ pub struct Book {
     alloc: Global,
     abilities: Abilities,
     pub(crate) store: ZoneStore,
-    board: Board,
-    journal: Vec<Event>,
+    pub(crate) board: Board,
+    pub(crate) journal: Vec<Event>,
     pub(crate) cache: Cache,
-    max_events: usize,
+    pub(crate) max_events: usize,
 }
 
 impl Model for Book {
@@ -237,91 +235,6 @@ impl Book {
         Ok(Handed { number, answer })
     }
 
-    /// Commits a finding: returns its answer for these random words, which is that of the records
-    /// and the holds as they are, and makes the entry of its question current. With as many entries
-    /// as the maximum a question that has none gets none. Compares the numbers of the sets, and looks
-    /// at none. Linear in the evidence and the targets.
-    ///
-    /// Where a set has the number that it had when it was read, its data must be those that were
-    /// read, as they are where they came from `read`.
-    ///
-    /// The fault is the first one: a full journal (B3), a set whose number is no longer as it was
-    /// read (B2). The finding is returned with it.
-    pub fn commit(&mut self, finding: Finding, draws: &Draws) -> Result<Handed, Uncommitted>
-        requires client { finding.client ≡ self.old.client }
-        requires honest { IsHonest self.old.store finding.items }
-        ensures { IsCommitted is_renumbered finding draws.now self.old self.old self.new result }
-    {
-        if self.journal.len() >= self.max_events {
-            let fault = BookFault::JournalFull;
-            return Err(Uncommitted { fault, finding });
-        }
-        if let Some(place) = first_renumbered(&self.store, finding.evidence().items()) {
-            let fault = BookFault::Stale(place);
-            return Err(Uncommitted { fault, finding });
-        }
-        self.commit_current(finding, draws)
-    }
-
-    /// Commits a finding as `commit` does, wherever its sets come from. Compares the sets that were
-    /// read with those of the zones, which counts looks. Linear in the evidence and the targets.
-    ///
-    /// The fault is the first one: a full journal (B3), a set whose number or data are no longer as
-    /// they were read (B2). The finding is returned with it.
-    pub fn commit_checked(&mut self, finding: Finding, draws: &Draws) -> Result<Handed, Uncommitted>
-        requires client { finding.client ≡ self.old.client }
-        ensures { IsCommitted is_stale finding draws.now
-            self.old (after_check finding self.old) self.new result }
-    {
-        if self.journal.len() >= self.max_events {
-            let fault = BookFault::JournalFull;
-            return Err(Uncommitted { fault, finding });
-        }
-        if let Some(place) = first_stale(&mut self.store, finding.evidence().items()) {
-            let fault = BookFault::Stale(place);
-            return Err(Uncommitted { fault, finding });
-        }
-        self.commit_current(finding, draws)
-    }
-
-    // Commits a finding whose sets are as they were read. The only error is an allocation failure;
-    // then nothing changes.
-    pub(crate) fn commit_current(
-        &mut self,
-        finding: Finding,
-        draws: &Draws,
-    ) -> Result<Handed, Uncommitted>
-        requires client { finding.client ≡ self.old.client }
-        requires sound { IsSound finding }
-        requires current { AreCurrent self.old.store finding.items }
-        requires space { next_event self.old < self.old.max_events }
-        ensures number { IfOk result (λ handed. handed.number ≡ next_event self.old) }
-        ensures answer { IfOk result
-            (λ handed. handed.answer ≡ answer_now self.old finding.question draws.now) }
-        ensures after { OnOk result (self.new ≡ after_commit finding draws.now self.old) }
-        ensures memory { IfErr result (λ uncommitted. uncommitted.fault ≡ BookFault.Memory) }
-        ensures finding { IfErr result (λ uncommitted. uncommitted.finding ≡ finding) }
-        ensures unchanged { OnErr result (self.new ≡ self.old) }
-    {
-        let fault = BookFault::Memory;
-        let Ok(()) = self.journal.reserve(1) else {
-            return Err(Uncommitted { fault, finding });
-        };
-        let Ok(question) = finding.question().dup(self.alloc) else {
-            return Err(Uncommitted { fault, finding });
-        };
-        let prepared = prepare(self.alloc, question, finding.layout(), draws, &self.board);
-        let Ok((event, answer)) = prepared else {
-            return Err(Uncommitted { fault, finding });
-        };
-        let id = self.journal.len() as u64;
-        if let Err(finding) = self.cache.commit(finding, id) {
-            return Err(Uncommitted { fault, finding });
-        }
-        let number = record_event(&mut self.journal, event);
-        Ok(Handed { number, answer })
-    }
-
     /// Forgets the entry of a question, whether it is current, queued or leased. Does not allocate.
     /// Linear in the number of entries.
     ///
@@ -419,7 +332,7 @@ impl Book {
 }
 
 // Appends an event to a journal that has space for it. Returns its number.
-fn record_event(journal: &mut Vec<Event>, event: Event) -> u64
+pub(crate) fn record_event(journal: &mut Vec<Event>, event: Event) -> u64
     requires { vec_len journal.old < vec_capacity journal.old }
     ensures number { result ≡ length journal.old.items }
     ensures items { journal.new.items ≡ journal.old.items ++ event ∷ [] }

@@ -128,9 +128,14 @@ impl Cache {
 
     /// Makes a finding the current one of its question, whose entry is not queued then: of the
     /// question's entry, or else of a new entry with this number, which is after those of all
-    /// entries, unless there are as many as may be. Linear in the evidence. The only error is an
-    /// allocation failure: the finding is returned, and nothing changes.
-    pub(crate) fn commit(&mut self, finding: Finding, number: u64) -> Result<(), Finding>
+    /// entries, unless there are as many as may be. Returns the finding that no entry has then: the
+    /// one that it replaces, or itself. Linear in the evidence. The only error is an allocation
+    /// failure: the finding is returned, and nothing changes.
+    pub(crate) fn commit(
+        &mut self,
+        finding: Finding,
+        number: u64,
+    ) -> Result<Option<Finding>, Finding>
         requires order { InOrder self.old.entries }
         requires last { All (λ e. e.id < number) self.old.entries }
         ensures ok { OnOk result (self.new ≡ record self.old {
@@ -148,14 +153,15 @@ impl Cache {
         let Ok(()) = self.entries.reserve(self.queue.leased_len(), pairs) else {
             return Err(finding);
         };
-        self.entries.renew(finding, id);
+        let replaced = self.entries.renew(finding, id);
         unqueue(&mut self.queue, id);
-        Ok(())
+        Ok(replaced)
     }
 
-    // Adds a current entry for a question that has none, unless there are as many as may be. The
-    // only error is an allocation failure: the finding is returned, and nothing changes.
-    fn add(&mut self, finding: Finding, number: u64) -> Result<(), Finding>
+    // Adds a current entry for a question that has none, unless there are as many as may be: then the
+    // finding is returned. The only error is an allocation failure: the finding is returned, and nothing
+    // changes.
+    fn add(&mut self, finding: Finding, number: u64) -> Result<Option<Finding>, Finding>
         requires order { InOrder self.old.entries }
         requires last { All (λ e. e.id < number) self.old.entries }
         requires new { entry_of self.old.entries finding.question ≡ None }
@@ -167,7 +173,7 @@ impl Cache {
     {
         let len = self.entries.entries().len();
         if len >= self.max_entries {
-            return Ok(());
+            return Ok(Some(finding));
         }
         let Ok(()) = self.queue.reserve(len + 1) else {
             return Err(finding);
@@ -179,7 +185,10 @@ impl Cache {
         let Ok(()) = self.entries.reserve(self.queue.leased_len(), pairs) else {
             return Err(finding);
         };
-        self.entries.add(finding, number)
+        match self.entries.add(finding, number) {
+            Ok(()) => Ok(None),
+            Err(finding) => Err(finding),
+        }
     }
 
     /// Leases the first queued entry, reserves space in the index for its settlement, and copies its

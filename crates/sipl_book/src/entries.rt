@@ -131,14 +131,16 @@ impl Entries {
         }
     }
 
-    /// Gives a finding to the entry of its question, which is current then. Without such an entry
-    /// nothing changes. Constant time but for hashing. Does not allocate.
-    pub(crate) fn renew(&mut self, finding: Finding)
+    /// Gives a finding to the entry of its question, which is current then, and returns the finding
+    /// that it replaces. Without such an entry nothing changes. Constant time but for hashing. Does not
+    /// allocate.
+    pub(crate) fn renew(&mut self, finding: Finding) -> Option<Finding>
         ensures questions { AllPairs (λ a b. a.found.question ≢ b.found.question) self.old }
         ensures after { self.new ≡ map (renewed finding) self.old }
     {
-        if let Some(entry) = self.table.get_mut(finding.question()) {
-            entry.renew(finding);
+        match self.table.get_mut(finding.question()) {
+            Some(entry) => Some(entry.renew(finding)),
+            None => None,
         }
     }
 

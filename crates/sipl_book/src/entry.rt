@@ -11,6 +11,7 @@ use sipl_records::Key;
 use sipl_uri::Question;
 use std::alloc::AllocError;
 use std::marker::Model;
+use std::mem;
 use std::sync::Arc;
 
 /// What a book keeps of a question: its route, and the record sets that decide it. It is
@@ -49,12 +50,12 @@ impl Entry {
         self.finding
     }
 
-    // Replaces the finding. The entry is current.
-    pub(crate) fn renew(&mut self, finding: Finding)
+    // Replaces the finding, and returns the old one. The entry is current.
+    pub(crate) fn renew(&mut self, finding: Finding) -> Finding
         ensures { self.new ≡ record { id = self.old.id; is_current = true; found = finding } }
     {
         self.is_current = true;
-        self.finding = finding;
+        mem::replace(&mut self.finding, finding)
     }
 
     // Makes a current entry outdated that has the key, whose set changed, in its evidence. Returns

@@ -87,9 +87,9 @@ impl Indexed {
         added
     }
 
-    /// Gives a finding to the entry of its question, which has this id and is current then. Linear in
-    /// the evidence. Does not allocate.
-    pub(crate) fn renew(&mut self, finding: Finding, own_id: u64)
+    /// Gives a finding to the entry of its question, which has this id and is current then, and returns
+    /// the finding that it replaces. Linear in the evidence. Does not allocate.
+    pub(crate) fn renew(&mut self, finding: Finding, own_id: u64) -> Option<Finding>
         requires order { InOrder self.old.entries }
         requires own { option_map (λ e. e.id) (entry_of self.old.entries finding.question)
             ≡ Some own_id }
@@ -100,7 +100,7 @@ impl Indexed {
     {
         self.dependents.remove(own_id);
         self.dependents.add(own_id, finding.evidence());
-        self.entries.renew(finding);
+        self.entries.renew(finding)
     }
 
     /// Removes the entry of a question, and returns its id. Linear in the number of entries. Does not

@@ -8,6 +8,7 @@
 mod book;
 mod cache;
 mod checks;
+mod commits;
 mod edit;
 mod entries;
 mod entry;
@@ -27,4 +28,4 @@ pub use entry::Entry;
 pub use event::Event;
 pub use fault::BookFault;
 pub use limits::{Limits, MAX_ENTRIES, MAX_EVENTS};
-pub use outcome::{Done, Handed, Uncommitted};
+pub use outcome::{Done, Handed, Recorded, Uncommitted};

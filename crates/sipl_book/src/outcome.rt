@@ -24,6 +24,16 @@ pub struct Handed {
     pub answer: Answer,
 }
 
+/// A finding that was committed.
+#[derive(Drop)]
+pub struct Recorded {
+    /// The number of the event of its answer.
+    pub number: u64,
+    /// The finding that no entry has now: the one that it replaced, or itself where it gets no entry.
+    /// It is only there to be dropped, so no contract says which it is.
+    pub released: Option<Finding>,
+}
+
 /// A finding that was not committed, and why.
 #[derive(Drop, Error)]
 #[error("{fault}")]

@@ -1,5 +1,5 @@
 -- What is journalled where a finding is committed.
-use Rattle.std.proofs.Common.{◌≡◌, ◌<◌, ℕ, Bool, true, false, List, [], ◌∷◌, ◌++◌, length, nat_le, position, Option, None, Some, refl, sym, ap, subst, ◌∙◌}
+use Rattle.std.proofs.Common.{◌≡◌, ◌<◌, ℕ, Bool, true, false, List, [], ◌∷◌, ◌++◌, length, position, Option, None, Some, refl, sym, ap, subst, ◌∙◌}
 use Rattle.std.specs.Prelude.{option_map}
 use Rattle.std.proofs.lemmas.Bool.{cond-true, cond-false}
 use Rattle.std.proofs.lemmas.List.Quantifiers.{position-Some}
@@ -11,36 +11,11 @@ use Rattle.sipl_plans.specs.Route.{route}
 use Rattle.sipl_plans.specs.declared.layout.Layout.{Layout}
 use Rattle.sipl_plans.specs.declared.answer.Answer.{Answer as Targets}
 use Rattle.sipl_choice.specs.Abilities.{Client}
-use Rattle.sipl_book.specs.Book.{BookState, answer_now, next_event}
-use Rattle.sipl_book.specs.Calls.{after_check, after_commit, after_comparison, commit_refusal, is_stale, unless_full}
+use Rattle.sipl_book.specs.Book.{BookState, answer_now}
+use Rattle.sipl_book.specs.Calls.{after_check, after_commit, after_comparison, commit_refusal, is_stale}
 use Rattle.sipl_book.specs.declared.event.Event.TheVariants.{Answer}
-use Rattle.sipl_book.specs.declared.fault.BookFault.{BookFault}
 use Rattle.sipl_book.specs.declared.fault.BookFault.TheVariants.{JournalFull, Stale}
-use Rattle.sipl_book.proofs.Public.{current-fresh}
-
--- whether the journal is full
-abbrev full : BookState → Bool
-full book = nat_le book.max_events (next_event book)
-
--- where no fault is left, the journal has space
-space : (book : BookState) (fault : Option BookFault) → unless_full book fault ≡ None → (full book ≡ false) × (fault ≡ None)
-space book fault none = by (full book) refl
-  where
-    by : (b : Bool) → full book ≡ b → (full book ≡ false) × (fault ≡ None)
-    by true is = let never : Some JournalFull ≡ None = sym (cond-true (full book) (Some JournalFull) fault is) ∙ none in cc
-    by false is = (is, sym (cond-false (full book) (Some JournalFull) fault is) ∙ none)
-
-no_place : (place : Option ℕ) → option_map Stale place ≡ None → place ≡ None
-no_place None none = refl
-no_place (Some n) none = cc
-
--- a comparison, and a full journal, leave the journal
-pub journal-after_check : (found : Found) (book : BookState) → (after_check found book).journal ≡ book.journal
-journal-after_check found book = by (full book) refl
-  where
-    by : (b : Bool) → full book ≡ b → (after_check found book).journal ≡ book.journal
-    by true is = ap (λ (b : BookState). b.journal) (cond-true (full book) book (after_comparison found book) is)
-    by false is = ap (λ (b : BookState). b.journal) (cond-false (full book) book (after_comparison found book) is)
+use Rattle.sipl_book.proofs.Public.{current-fresh, full, no_place, space}
 
 -- what a sound finding draws is the answer, where no set is stale
 answer-fresh : (found : Found) (words : List ℕ) (book : BookState) → IsSound found → found.client ≡ book.client
@@ -50,13 +25,6 @@ answer-fresh found words book sound client none =
     let same : route look found.question book.client ≡ found.layout =
     ap (λ (c : Client). route look found.question c) (sym client) ∙ sound.route look (current-fresh book.store found.items none).agrees in
     ap (λ (layout : Layout). draw layout book.board.holds words) same
-
--- the answer of a committed finding is what it draws
-pub answer-committed : (found : Found) (words : List ℕ) (old : BookState) → IsSound found → found.client ≡ old.client
-    → commit_refusal is_stale found old ≡ None → answer_now old found.question words ≡ draw found.layout old.board.holds words
-answer-committed found words old sound client none =
-    let has = space old (option_map Stale (position (is_stale old.store) found.items)) none in
-    answer-fresh found words old sound client (no_place (position (is_stale old.store) found.items) has.1)
 
 -- what a committed finding draws is the event
 pub journal-committed : (found : Found) (words : List ℕ) (old new : BookState) → IsSound found → found.client ≡ old.client

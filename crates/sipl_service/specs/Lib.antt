@@ -4,6 +4,7 @@ pub mod Passes
 pub mod Refusals
 pub mod Claims
 pub mod Telling
+pub mod Answering
 pub mod Told
 pub mod Services
 pub mod Versions

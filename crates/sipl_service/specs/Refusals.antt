@@ -1,5 +1,5 @@
 -- Why a call that records an event is refused, by the book and the caller's pass.
-use Rattle.std.specs.Prelude.{nat_lt, if◌then◌else◌, List, slice_get, Option, None, Some, option_map}
+use Rattle.std.specs.Prelude.{Bool, nat_lt, if◌then◌else◌, List, slice_get, Option, None, Some, option_map}
 use Rattle.sipl_choice.specs.Abilities.{Client, same_client}
 use Rattle.sipl_evidence.specs.Items.{Item}
 use Rattle.sipl_book.specs.Book.{BookState, next_event}
@@ -7,7 +7,7 @@ use Rattle.sipl_book.specs.declared.fault.BookFault.{BookFault}
 use Rattle.sipl_book.specs.declared.fault.BookFault.TheVariants.{Stale}
 use Rattle.sipl_service.specs.Passes.{PassState}
 use Rattle.sipl_service.specs.declared.fault.ServiceFault.{ServiceFault}
-use Rattle.sipl_service.specs.declared.fault.ServiceFault.TheVariants.{Contended, PassAhead, OtherBook, Book}
+use Rattle.sipl_service.specs.declared.fault.ServiceFault.TheVariants.{Contended, PassAhead, Stopped, OtherBook, Book}
 
 -- the fault where the pass has seen an event that the book has not, before all others
 abbrev pub unless_ahead : PassState → BookState → Option ServiceFault → Option ServiceFault
@@ -18,6 +18,10 @@ unless_ahead pass book fault =
 -- the fault where the book is for another client, before those of the book
 abbrev pub unless_other : Client → BookState → Option ServiceFault → Option ServiceFault
 unless_other client book fault = if same_client book.client client then fault else Some OtherBook
+
+-- the fault where the service was stopped, before all others
+abbrev pub unless_stopped : Bool → Option ServiceFault → Option ServiceFault
+unless_stopped is_stopped fault = if is_stopped then Some Stopped else fault
 
 -- the fault of a change to the book that the book refuses so
 abbrev pub change_fault : PassState → BookState → Option BookFault → Option ServiceFault

@@ -35,6 +35,19 @@ pub record IsDecided (told : ToldState) : Type 0 where
   pub answer : (look : Look) → Agrees look told.items
       → plan look told.board.holds told.question told.client told.words ≡ told.answer
 
+-- an answer to what is asked
+abbrev pub told_to : Asked → ℕ → Targets → List Item → BoardState → ToldState
+told_to asked number answer items board =
+    record {
+      number = number;
+      question = asked.question;
+      client = asked.abilities;
+      words = asked.draws;
+      answer = answer;
+      items = items;
+      board = board;
+    }
+
 -- the event of an answer
 abbrev pub event_of : ToldState → Event
 event_of told = Answer told.question told.words told.answer
@@ -46,7 +59,7 @@ pub record IsToldFor (asked : Question) (asker : Client) (draws : List ℕ) (tol
   pub client : told.client ≡ asker
   pub words : told.words ≡ draws
 
--- an answer to what is asked
+-- an answer to what is asked, for the client and the random words
 abbrev pub IsAnswerTo : Asked → ToldState → Type 0
 IsAnswerTo asked told = IsToldFor asked.question asked.abilities asked.draws told
 

@@ -8,6 +8,7 @@
 //! Calls that take a runtime may wait for the lock. None of them holds it while a gate is called.
 #![tactic(auto)]
 
+mod answered;
 mod asked;
 mod claims;
 mod fault;

@@ -13,7 +13,7 @@ use crate::marks::Mark;
 use crate::pass::Pass;
 use crate::service::Service;
 use crate::steps;
-use crate::steps::Copies;
+use crate::steps::{Copies, Prepared};
 use crate::told::Told;
 use sipl_book::BookFault;
 use sipl_evidence::Evidence;
@@ -21,7 +21,6 @@ use sipl_plans::{Finding, Run};
 use sipl_records::{Data, Key, Sequence};
 use sipl_srv::Draws;
 use sipl_uri::Question;
-use std::alloc::AllocError;
 use std::sync::Wait;
 
 impl Service {
@@ -58,24 +57,6 @@ impl Service {
         self.look_up_anew(rt, pass, question, draws, gate)
     }
 
-    // What is asked, and a copy of the question for the receipt, for which the pass then has space.
-    fn ask(
-        &self,
-        pass: &mut Pass,
-        question: &Question,
-        draws: &Draws,
-    ) -> Result<(Asked, Question), AllocError>
-        ensures question { IfOk result (λ asked. asked.0.question ≡ question.now) }
-        ensures client { IfOk result (λ asked. asked.0.abilities ≡ self.now.client) }
-        ensures draws { IfOk result (λ asked. asked.0.draws ≡ draws.now) }
-        ensures copy { IfOk result (λ asked. asked.1 ≡ question.now) }
-        ensures pass { pass.new ≡ pass.old }
-    {
-        pass.reserve()?;
-        let asked = Asked::of(self.alloc, question, &self.abilities, draws)?;
-        Ok((asked, question.dup(self.alloc)?))
-    }
-
     // The answer of the question's current entry. B1 where there is none.
     fn hand<R: Wait>(
         &self,
@@ -88,14 +69,18 @@ impl Service {
         ensures told { IfOk result
             (λ told. IsToldFor question.now self.now.client draws.now told) }
     {
-        let (asked, receipt) = self.ask(pass, question, draws)?;
-        let event = question.dup(self.alloc)?;
+        pass.receipts.reserve(1)?;
+        let asked = Asked::of(self.alloc, question, &self.abilities, draws)?;
+        let copies = Copies::of(self.alloc, question)?;
         let mut shared = self.lock(rt);
         if shared.is_stopped {
             return Err(ServiceFault::Stopped);
         }
-        let copies = Copies { event, receipt };
-        steps::hand(self.alloc, &mut shared.book, pass, asked, copies)
+        let answered = steps::hand(self.alloc, &mut shared.book, pass, asked, copies)?;
+        drop(shared);
+        pass.receipts.push_reserved(answered.receipt);
+        pass.front = answered.front;
+        Ok(answered.told)
     }
 
     // The answer of a run, which is committed. L1 where a set has changed since it was read.
@@ -128,21 +113,17 @@ impl Service {
         ensures told { IfOk result
             (λ told. IsToldFor finding.question self.now.client draws.now told) }
     {
-        let (asked, copy) = self.ask(pass, finding.question(), draws)?;
-        let evidence = finding.share_evidence()?;
+        pass.receipts.reserve(1)?;
+        let prepared = Prepared::of(self.alloc, &finding, draws)?;
         let mut shared = self.lock(rt);
         if shared.is_stopped {
             return Err(ServiceFault::Stopped);
         }
-        steps::commit(
-            self.alloc,
-            &mut shared.book,
-            pass,
-            asked,
-            copy,
-            evidence,
-            finding,
-        )
+        let answered = steps::commit(self.alloc, &mut shared.book, pass, prepared, finding)?;
+        drop(shared);
+        pass.receipts.push_reserved(answered.receipt);
+        pass.front = answered.front;
+        Ok(answered.told)
     }
 
     // The route of a question on the sets as they are read one after another, which may be of

@@ -11,6 +11,7 @@ use crate::shared::Shared;
 use crate::steps;
 use crate::steps::NewEdit;
 use crate::versions::Versions;
+use crossbeam_utils::CachePadded;
 use sipl_book::{Book, Done, Edit, Event, Limits};
 use sipl_choice::{Abilities, Endpoint};
 use sipl_records::Key;
@@ -36,7 +37,9 @@ pub struct Service {
     pub(crate) alloc: Global,
     pub(crate) abilities: Abilities,
     pub(crate) tries: u64,
-    pub(crate) shared: Mutex<Shared>,
+    // Apart from the other fields, which callers read without the lock: a thread that looks for the lock
+    // takes the cache line that the lock is in.
+    pub(crate) shared: CachePadded<Mutex<Shared>>,
     // The record sets that were read, which callers copy with no lock held.
     pub(crate) versions: Versions,
     // Repair workers wait here for entries to be queued, or for the end.
@@ -79,7 +82,7 @@ impl Service {
             alloc,
             abilities,
             tries,
-            shared: Mutex::new(Shared::new(alloc, book)),
+            shared: CachePadded::new(Mutex::new(Shared::new(alloc, book))),
             versions: Versions::new(alloc)?,
             woken: Condvar::new(),
         })
@@ -216,13 +219,13 @@ impl Service {
             (λ closing. IsLegal self.client closing.journal empty_state) }
         ensures refused { IfErr result (λ refused. refused.1 ≡ self) }
     {
-        let shared = self.shared.into_inner();
+        let shared = self.shared.into_inner().into_inner();
         if shared.book.abilities() != &self.abilities {
             let service = Service {
                 alloc: self.alloc,
                 abilities: self.abilities,
                 tries: self.tries,
-                shared: Mutex::new(shared),
+                shared: CachePadded::new(Mutex::new(shared)),
                 versions: self.versions,
                 woken: Condvar::new(),
             };

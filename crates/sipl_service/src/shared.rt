@@ -1,5 +1,5 @@
 //! What is under the lock: a book, and where the versions of its record sets are.
-ghost use Rattle.std.specs.Prelude.{◌≡◌, ◌↔◌, [], None, Some, false, IfOk, IfSome, OnOk, OnErr};
+ghost use Rattle.std.specs.Prelude.{◌≡◌, ◌↔◌, [], None, Some, false, IfOk, IfErr, IfSome, OnOk, OnErr};
 ghost use Rattle.std.specs.Option.{option_copied};
 ghost use Rattle.sipl_records.specs.Sets.{same_key};
 ghost use Rattle.sipl_records.specs.declared.record.Key.{Key};
@@ -7,6 +7,7 @@ ghost use Rattle.sipl_zonestore.specs.Store.{number_in};
 ghost use Rattle.sipl_book.specs.Calls.{IsChanged};
 ghost use Rattle.sipl_service.specs.Marks.{after_mark, key_edited, mark_of, marked_at};
 ghost use Rattle.sipl_service.specs.Passes.{GetsReceipt};
+ghost use Rattle.sipl_service.specs.Refusals.{unless_other, unless_stopped};
 
 use crate::fault::ServiceFault;
 use crate::marks::{Mark, Marks};
@@ -63,7 +64,9 @@ impl Shared {
 
     // L6 where the service was stopped, L7 where the book is for a client of other abilities.
     pub fn check(&self, abilities: &Abilities) -> Result<(), ServiceFault>
-        ensures { OnOk result (self.now.book.client ≡ abilities.now) }
+        ensures same { OnOk result (self.now.book.client ≡ abilities.now) }
+        ensures refused { IfErr result (λ fault. unless_stopped self.now.is_stopped
+            (unless_other abilities.now self.now.book None) ≡ Some fault) }
     {
         if self.is_stopped {
             return Err(ServiceFault::Stopped);

@@ -1,17 +1,18 @@
 // What a call does to the book that the lock lends it, and to the caller's pass. What was allocated
 // before the lock was taken is passed in.
 ghost use Rattle.std.specs.Prelude.{◌≡◌, ◌≢◌, ℕ, ◌+◌, ◌^◌, ◌<◌, ◌≤◌, ◌++◌, [], ◌∷◌, length, false, vec_len, vec_capacity, Some, None, Ok, IfOk, IfErr, OnOk, OnErr};
-ghost use Rattle.std.specs.Arc.{arc_value};
-ghost use Rattle.sipl_outages.specs.Holds.{BoardEvent};
+ghost use Rattle.sipl_outages.specs.Holds.{BoardEvent, no_holds};
 ghost use Rattle.sipl_outages.specs.Holds.BoardEvent.{Hold, Release, Advance};
 ghost use Rattle.sipl_plans.specs.Findings.{IsSound};
 ghost use Rattle.sipl_book.specs.Book.{answer_now, next_event};
 ghost use Rattle.sipl_book.specs.Calls.{IsChanged, MovesBoard, board_refusal, change_refusal, recorded, store_with_looks};
 ghost use Rattle.sipl_book.specs.Entries.{has_current_entry};
+ghost use Rattle.sipl_service.specs.Answering.{AreDrawn, IsPreparedFor, Records};
 ghost use Rattle.sipl_service.specs.Passes.{GetsReceipt, receipt_of};
 ghost use Rattle.sipl_service.specs.Refusals.{change_fault, contended, unless_ahead, unless_other};
 ghost use Rattle.sipl_service.specs.Telling.{event_of, IsAnswerTo};
 
+use crate::answered::{Answered, Answers};
 use crate::asked::Asked;
 use crate::fault::ServiceFault;
 use crate::pass::Pass;
@@ -20,9 +21,11 @@ use crate::told::Told;
 use sipl_book::{Book, BookFault, Done, Edit, Event, Uncommitted};
 use sipl_choice::{Abilities, Endpoint};
 use sipl_evidence::Evidence;
+use sipl_outages::Board;
 use sipl_plans::Finding;
+use sipl_srv::Draws;
 use sipl_uri::Question;
-use std::alloc::Global;
+use std::alloc::{AllocError, Global};
 use std::sync::Arc;
 
 // The number of the next event. L2 where the pass has seen it.
@@ -189,20 +192,33 @@ pub(crate) struct Copies {
     pub receipt: Question,
 }
 
+impl Copies {
+    // Copies of this question.
+    pub fn of(alloc: Global, question: &Question) -> Result<Self, AllocError>
+        ensures event { IfOk result (λ copies. copies.event ≡ question.now) }
+        ensures receipt { IfOk result (λ copies. copies.receipt ≡ question.now) }
+    {
+        Ok(Copies {
+            event: question.dup(alloc)?,
+            receipt: question.dup(alloc)?,
+        })
+    }
+}
+
 // The answer of the current entry of a question, of which there are copies.
 pub(crate) fn hand(
     alloc: Global,
     book: &mut Book,
-    pass: &mut Pass,
+    pass: &Pass,
     asked: Asked,
     copies: Copies,
-) -> Result<Told, ServiceFault>
+) -> Result<Answered, ServiceFault>
     requires event { copies.event ≡ asked.question }
     requires receipt { copies.receipt ≡ asked.question }
-    ensures receipt { GetsReceipt (λ told. told.number) event_of pass.old pass.new result }
-    ensures asked { IfOk result (λ told. IsAnswerTo asked told) }
-    ensures number { IfOk result (λ told. told.number ≡ next_event book.old) }
-    ensures journal { IfOk result (λ told. book.new ≡ recorded (event_of told) book.old) }
+    ensures front { OnOk result (pass.now.front ≤ next_event book.old) }
+    ensures answered { IfOk result (λ answered. Records asked (next_event book.old) answered) }
+    ensures journal { IfOk result
+        (λ answered. book.new ≡ recorded (event_of answered.told) book.old) }
     ensures store { book.new.store ≡ book.old.store }
     ensures unchanged { OnErr result (book.new ≡ book.old) }
 {
@@ -210,39 +226,38 @@ pub(crate) fn hand(
     if book.is_full() {
         return Err(ServiceFault::Book(BookFault::JournalFull));
     }
-    pass.receipts.reserve(1)?;
     let told = tell_entry(alloc, book, number, asked)?;
-    record(alloc, book, &mut pass.receipts, &told, copies)?;
-    pass.front = book.journal().len() as u64;
-    Ok(told)
+    let receipt = record(alloc, book, &told, copies)?;
+    Ok(Answered {
+        told,
+        receipt,
+        front: book.journal().len() as u64,
+        released: None,
+    })
 }
 
-// Records the answer that is to be told, and adds the receipt, for which there is space.
+// Records the answer that is to be told. Returns the receipt for it.
 fn record(
     alloc: Global,
     book: &mut Book,
-    receipts: &mut Vec<Receipt>,
     told: &Told,
     copies: Copies,
-) -> Result<(), ServiceFault>
-    requires space { vec_len receipts.old < vec_capacity receipts.old }
+) -> Result<Receipt, ServiceFault>
     requires event { copies.event ≡ told.now.question }
     requires receipt { copies.receipt ≡ told.now.question }
     requires answer { told.now.answer ≡ answer_now book.old told.now.question told.now.words }
     ensures journal { OnOk result (book.new ≡ recorded (event_of told.now) book.old) }
-    ensures receipt { OnOk result (receipts.new.items
-        ≡ receipts.old.items ++ receipt_of (next_event book.old) (event_of told.now) ∷ []) }
+    ensures receipt { IfOk result
+        (λ receipt. receipt ≡ receipt_of (next_event book.old) (event_of told.now)) }
     ensures unchanged { OnErr result (book.new ≡ book.old) }
-    ensures none { OnErr result (receipts.new.items ≡ receipts.old.items) }
 {
     let Copies { event, receipt } = copies;
     let event_of_receipt = Event::Answer(receipt, *told.draws(), told.answer().dup(alloc)?);
     let number = book.record_answer(event, told.draws(), told.answer().dup(alloc)?)?;
-    receipts.push_reserved(Receipt {
+    Ok(Receipt {
         number,
         event: event_of_receipt,
-    });
-    Ok(())
+    })
 }
 
 // The answer of the current entry of a question. B1 where there is none.
@@ -266,49 +281,90 @@ fn tell_entry(alloc: Global, book: &Book, number: u64, asked: Asked) -> Result<T
     Ok(Told::of(alloc, number, asked, entry.layout(), evidence, book.board())?)
 }
 
+// What a finding is committed with: what is asked, the evidence, which is shared with it, copies of the
+// question, and the answer, as it is where nothing is held.
+#[derive(Drop)]
+pub(crate) struct Prepared {
+    pub asked: Asked,
+    pub evidence: Arc<Evidence>,
+    pub copies: Copies,
+    pub answers: Answers,
+}
+
+impl Prepared {
+    // What a finding is committed with for these random words.
+    pub fn of(alloc: Global, finding: &Finding, draws: &Draws) -> Result<Self, AllocError>
+        ensures { IfOk result (λ prepared. IsPreparedFor finding.now draws.now prepared) }
+    {
+        Ok(Prepared {
+            asked: Asked::of(alloc, finding.question(), finding.abilities(), draws)?,
+            evidence: finding.share_evidence()?,
+            copies: Copies::of(alloc, finding.question())?,
+            answers: Answers::draw(alloc, finding.layout(), draws, &Board::with(alloc, 0))?,
+        })
+    }
+}
+
 // The answer of a finding, where the sets that it read are as they were. L1 with the key of the first
-// that is not. `question` is a copy of the finding's, for the receipt; `evidence` is shared with it.
+// that is not.
 pub(crate) fn commit(
     alloc: Global,
     book: &mut Book,
-    pass: &mut Pass,
-    asked: Asked,
-    question: Question,
-    evidence: Arc<Evidence>,
+    pass: &Pass,
+    prepared: Prepared,
     finding: Finding,
-) -> Result<Told, ServiceFault>
-    requires question { question ≡ asked.question }
-    requires evidence { arc_value evidence ≡ finding.items }
-    requires asked { finding.question ≡ asked.question }
-    requires client { finding.client ≡ asked.abilities }
+) -> Result<Answered, ServiceFault>
+    requires prepared { IsPreparedFor finding prepared.asked.draws prepared }
     requires sound { IsSound finding }
-    ensures receipt { GetsReceipt (λ told. told.number) event_of pass.old pass.new result }
-    ensures asked { IfOk result (λ told. IsAnswerTo asked told) }
-    ensures number { IfOk result (λ told. told.number ≡ next_event book.old) }
+    ensures front { OnOk result (pass.now.front ≤ next_event book.old) }
+    ensures answered { IfOk result
+        (λ answered. Records prepared.asked (next_event book.old) answered) }
     ensures journal { IfOk result
-        (λ told. book.new.journal ≡ book.old.journal ++ event_of told ∷ []) }
+        (λ answered. book.new.journal ≡ book.old.journal ++ event_of answered.told ∷ []) }
     ensures store { book.new.store ≡ store_with_looks book.new.store.looks book.old.store }
     ensures unchanged { OnErr result (book.new.journal ≡ book.old.journal) }
 {
-    let number = next_answer(book, pass, &asked.abilities)?;
-    pass.receipts.reserve(1)?;
-    let told = Told::of(
-        alloc,
-        number,
+    let number = next_answer(book, pass, &prepared.asked.abilities)?;
+    let Prepared {
         asked,
-        finding.layout(),
         evidence,
-        book.board(),
-    )?;
-    match book.commit_checked(finding, told.draws()) {
-        Ok(handed) => {
-            let event = Event::Answer(question, *told.draws(), handed.answer);
-            pass.receipts.push_reserved(Receipt { number, event });
-            pass.front = book.journal().len() as u64;
-            Ok(told)
-        }
+        copies,
+        answers,
+    } = prepared;
+    let holds = book.board().dup(alloc)?;
+    let answers = drawn_again(alloc, &finding, &asked.draws, book.board(), answers)?;
+    let draws = asked.draws;
+    let told = Told::drawn(number, asked, answers.told, evidence, holds);
+    match book.commit_answer(finding, copies.event, &draws, answers.event) {
+        Ok(committed) => Ok(Answered {
+            told,
+            receipt: Receipt {
+                number,
+                event: Event::Answer(copies.receipt, draws, answers.receipt),
+            },
+            front: book.journal().len() as u64,
+            released: committed.released,
+        }),
         Err(uncommitted) => Err(fault_of(alloc, uncommitted)),
     }
+}
+
+// The answer of a finding for the holds of a board: where nothing is held, these answers.
+fn drawn_again(
+    alloc: Global,
+    finding: &Finding,
+    draws: &Draws,
+    board: &Board,
+    answers: Answers,
+) -> Result<Answers, AllocError>
+    requires { AreDrawn finding.now.layout no_holds draws.now answers }
+    ensures { IfOk result
+        (λ answers. AreDrawn finding.now.layout board.now.holds draws.now answers) }
+{
+    if board.is_empty() {
+        return Ok(answers);
+    }
+    Answers::draw(alloc, finding.layout(), draws, board)
 }
 
 // Why a finding was not committed.

@@ -3,7 +3,7 @@ ghost use Rattle.std.specs.Arc.{arc_value};
 ghost use Rattle.sipl_plans.specs.Findings.{IsSound};
 ghost use Rattle.sipl_plans.specs.Plan.{draw};
 ghost use Rattle.sipl_plans.specs.Servers.{HasFewServers};
-ghost use Rattle.sipl_service.specs.Telling.{IsDecided};
+ghost use Rattle.sipl_service.specs.Telling.{IsDecided, told_to};
 
 use crate::asked::Asked;
 use sipl_choice::Abilities;
@@ -68,20 +68,37 @@ impl Told {
         ensures evidence { IfOk result (λ told. told.items ≡ arc_value evidence) }
         ensures board { IfOk result (λ told. told.board ≡ board.now) }
     {
+        let answer = draw(alloc, layout, &asked.draws, board)?;
+        let holds = board.dup(alloc)?;
+        Ok(Told::drawn(number, asked, answer, evidence, holds))
+    }
+
+    // An answer to what is asked, which this evidence and these holds decide; with the number of its
+    // event.
+    pub(crate) fn drawn(
+        number: u64,
+        asked: Asked,
+        answer: Answer,
+        evidence: Arc<Evidence>,
+        holds: Board,
+    ) -> Self
+        requires { IsDecided (told_to asked number answer (arc_value evidence) holds) }
+        ensures { result ≡ told_to asked number answer (arc_value evidence) holds }
+    {
         let Asked {
             question,
             abilities,
             draws,
         } = asked;
-        Ok(Told {
+        Told {
             number,
             question,
             abilities,
             draws,
-            answer: draw(alloc, layout, &draws, board)?,
+            answer,
             evidence,
-            holds: board.dup(alloc)?,
-        })
+            holds,
+        }
     }
 
     /// The number of its event.

@@ -8,6 +8,8 @@ mod gates;
 #[cfg(test)]
 mod readme;
 #[cfg(test)]
+mod replay;
+#[cfg(test)]
 mod stops;
 #[cfg(test)]
 mod threads;

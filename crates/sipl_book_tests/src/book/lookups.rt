@@ -42,9 +42,18 @@ fn has_numbers(rt: &impl Abort, alloc: Global, book: &Book) {
     assert_eq!(rt; none, 0);
 }
 
-// The route of the question reads four sets: the NAPTR records, the SRV records and two addresses. A
-// server without an address may have an alias, which is a fifth set.
-pub(super) fn lookups(rt: &impl Abort, alloc: Global, book: &mut Book) {
+// The question depends on so many sets.
+fn has_dependencies(rt: &impl Abort, alloc: Global, book: &mut Book, count: usize) {
+    let evidence = book
+        .deps(question(rt, alloc, BOB))
+        .expect(rt, "out of memory");
+    let found = evidence.items().len();
+    drop(evidence);
+    assert_eq!(rt; found, count);
+}
+
+// The second question finds the answer of the first one, and looks at no set.
+fn is_kept(rt: &impl Abort, alloc: Global, book: &mut Book) {
     targets(rt, find(rt, alloc, book, &[2, 0]), &[SERVER_2, SERVER_1]);
     has_looks(rt, book, 4);
     has_numbers(rt, alloc, book);
@@ -53,6 +62,10 @@ pub(super) fn lookups(rt: &impl Abort, alloc: Global, book: &mut Book) {
     has_looks(rt, book, 4);
     has_dependents(rt, alloc, book, b"server2.example.com.", 1);
     has_dependents(rt, alloc, book, b"other.example.com.", 0);
+}
+
+// An edit outdates the answer, and a repair looks it up again before anyone asks.
+fn is_repaired(rt: &impl Abort, alloc: Global, book: &mut Book) {
     remove(rt, alloc, book, ADDRESS_2);
     has_dependents(rt, alloc, book, b"server2.example.com.", 0);
     is_entry(rt, entry(rt, alloc, book, BOB), Some((1, false)));
@@ -62,10 +75,14 @@ pub(super) fn lookups(rt: &impl Abort, alloc: Global, book: &mut Book) {
     has_looks(rt, book, 9);
     targets(rt, find(rt, alloc, book, &[2, 0]), &[SERVER_1]);
     has_looks(rt, book, 9);
-    let evidence = book
-        .deps(question(rt, alloc, BOB))
-        .expect(rt, "out of memory");
-    assert_eq!(rt; evidence.items().len(), 5);
+}
+
+// The route of the question reads four sets: the NAPTR records, the SRV records and two addresses. A
+// server without an address may have an alias, which is a fifth set.
+pub(super) fn lookups(rt: &impl Abort, alloc: Global, book: &mut Book) {
+    is_kept(rt, alloc, book);
+    is_repaired(rt, alloc, book);
+    has_dependencies(rt, alloc, book, 5);
     has_looks(rt, book, 14);
     has_events(rt, book, 5);
 }

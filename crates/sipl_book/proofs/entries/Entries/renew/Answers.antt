@@ -10,7 +10,7 @@ use Rattle.sipl_book.proofs.Committed.{current, absent_from_entry_of}
 use Rattle.sipl_book.proofs.Removing.{values-written, written_entry, renewed-absent}
 use Rattle.sipl_book.proofs.Table.{Rows, get-entry_of, questions-table, IsTable-insert_entry}
 use Rattle.sipl_book.proofs.entries.Entries.renew.Goals as goal
-use Rattle.sipl_book.proofs.entries.Entries.renew.Goals.{in-Some, in_default}
+use Rattle.sipl_book.proofs.entries.Entries.renew.Goals.{in-Some, in-None}
 
 -- the entry of the finding's question, where a look-up finds it or not
 module _ (c : goal.Joined-get_mut) where
@@ -38,7 +38,7 @@ invariant_of-self c =
           subst (λ (inside : Inside). IsTable inside.table.entries) (sym w.self-inside-is)
           (IsTable-insert_entry e.id found es new c.self.invariant (entries ∙ written_entry found es e c.self.invariant is)
           (subst (IsDistinct eq-value.it) (sym holds.1) c.get_mut.ensures.unique))
-      | in_default w ↦
+      | in-None w ↦
           subst (λ (inside : Inside). IsTable inside.table.entries) (sym w.self-inside-is)
           (subst IsTable (sym (ap (λ m. m.entries) c.get_mut.follows.holds-at-none)) c.self.invariant)
     ]
@@ -61,8 +61,8 @@ returns-clause-after c =
           ∙ ap values_of (holds.0 ∙ (λ i. set_value (eq-value.it (c.question.ensures i)) es (w.renew.ensures i)))
           ∙ values-written found es e c.self.invariant is
           ∙ ap (map (renewed found)) c.self.view_is
-      | in_default w ↦
-          let none : entry_of (values_of es) found.question ≡ None = got c ∙ ap option_copied_mut w.in_default.is in
+      | in-None w ↦
+          let none : entry_of (values_of es) found.question ≡ None = got c ∙ ap option_copied_mut w.in-None.is in
           ap (λ (inside : Inside). values_of inside.table.entries) w.self-inside-is
           ∙ ap (λ m. values_of m.entries) c.get_mut.follows.holds-at-none
           ∙ sym (renewed-absent found (values_of es) (absent_from_entry_of found.question (values_of es) none))

@@ -2,6 +2,7 @@ use Rattle.std.proofs.Common.{◌≡◌, ◌<◌, ◌∷◌, ◌++◌, [], lengt
 use Rattle.sipl_plans.specs.Plan.{draw}
 use Rattle.sipl_plans.specs.declared.layout.Layout.{Layout}
 use Rattle.sipl_choice.specs.Abilities.{Client}
+use Rattle.sipl_records.specs.Sets.{set_of}
 use Rattle.sipl_book.specs.Book.{BookState, IsConsistent, answer_now}
 use Rattle.sipl_book.specs.Calls.{after_commit, answer_event}
 use Rattle.sipl_book.specs.Entries.{committed, entry_of}
@@ -11,10 +12,10 @@ use Rattle.sipl_book.specs.Repairs.{after_renewal}
 use Rattle.sipl_book.specs.contracts.book.Book.{the_view}
 use Rattle.sipl_book.specs.declared.event.Event.TheVariants.{Answer}
 use Rattle.sipl_book.proofs.Committing.{consistent_committed}
-use Rattle.sipl_book.proofs.book.Book.commit_current.Goals as goal
+use Rattle.sipl_book.proofs.book.Book.commit_drawn.Goals as goal
 
-pub invariant_of-self-2 : goal.invariant_of-self-2
-invariant_of-self-2 c =
+pub invariant_of-self-in-Ok-commit : goal.invariant_of-self-in-Ok-commit
+invariant_of-self-in-Ok-commit c =
     let inside = c.self.inside in
     let old : BookState = the_view inside in
     let found = c.args.finding in
@@ -22,12 +23,12 @@ invariant_of-self-2 c =
     let client : found.client ≡ inside.abilities = c.requires.client ∙ sym (ap (λ (b : BookState). b.client) c.self.view_is) in
     let now : AreCurrent inside.store found.items = subst (λ (b : BookState). AreCurrent b.store found.items) (sym c.self.view_is) c.requires.current in
     let space : length old.journal < old.max_events = subst (λ (b : BookState). length b.journal < b.max_events) (sym c.self.view_is) c.requires.space in
-    let answer : draw c.layout.result.now inside.board.holds words ≡ answer_now old found.question words =
-    ap (λ (layout : Layout). draw layout inside.board.holds words)
-    (c.layout.ensures.layout ∙ sym (c.layout.ensures.records inside.store.zones.records now.agrees))
+    let answer : c.args.answer ≡ answer_now old found.question words =
+    c.requires.answer ∙ sym (ap (λ (b : BookState). draw found.layout b.board.holds words) c.self.view_is)
+    ∙ ap (λ (layout : Layout). draw layout inside.board.holds words) (sym (c.requires.sound.route (set_of inside.store.zones.records) now.agrees))
     ∙ ap (λ (client : Client). answer_in (record { zones = inside.store.zones; holds = inside.board.holds }) found.question client words) client in
-    let event : c.in-Ok-prepared.event ≡ answer_event old found.question words =
-    c.in-Ok-prepared.ensures.event ∙ (λ i. Answer ((c.in-Ok-dup.ensures ∙ c.question.ensures) i) words (answer i)) in
+    let event : Answer c.args.question words c.args.answer ≡ answer_event old found.question words =
+    λ i. Answer (c.requires.question i) words (answer i) in
     let id : c.len-id.result ≡ length inside.journal.items = search rules in
     let journal : c.record_event-number.new.journal.items ≡ inside.journal.items ++ answer_event old found.question words ∷ [] =
     c.record_event-number.ensures.items ∙ (λ i. c.reserve.ensures.items i ++ event i ∷ []) in
@@ -35,7 +36,7 @@ invariant_of-self-2 c =
       entries = committed found (length inside.journal.items) inside.cache.max_entries inside.cache.entries;
       queue = after_renewal inside.cache.queue (entry_of inside.cache.entries found.question);
     } =
-    c.in_default-commit.ensures.ok ∙ ap (λ n. record inside.cache {
+    c.in-Ok-commit.ensures.ok ∙ ap (λ n. record inside.cache {
       entries = committed found n inside.cache.max_entries inside.cache.entries;
       queue = after_renewal inside.cache.queue (entry_of inside.cache.entries found.question);
     }) id in

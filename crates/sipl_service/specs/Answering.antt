@@ -1,0 +1,39 @@
+-- What a call under the lock is given, and what it gives.
+use Rattle.std.specs.Prelude.{◌≡◌, ℕ, ◌+◌, List}
+use Rattle.std.specs.Arc.{arc_value}
+use Rattle.sipl_outages.specs.Holds.{Holds, no_holds}
+use Rattle.sipl_plans.specs.Findings.{Found}
+use Rattle.sipl_plans.specs.Plan.{draw}
+use Rattle.sipl_plans.specs.declared.layout.Layout.{Layout}
+use Rattle.sipl_service.specs.Passes.{receipt_of}
+use Rattle.sipl_service.specs.Telling.{IsAnswerTo, event_of}
+use Rattle.sipl_service.specs.declared.answered.Answered.{Answered}
+use Rattle.sipl_service.specs.declared.answered.Answers.{Answers}
+use Rattle.sipl_service.specs.declared.asked.Asked.{Asked}
+use Rattle.sipl_service.specs.declared.steps.Prepared.{Prepared}
+
+-- what a call records in a book that has so many events: an answer to what is asked, its receipt, and the
+-- front of a caller who has seen it
+pub record Records (request : Asked) (events : ℕ) (answered : Answered) : Type 0 where
+  pub asked : IsAnswerTo request answered.told
+  pub number : answered.told.number ≡ events
+  pub receipt : answered.receipt ≡ receipt_of events (event_of answered.told)
+  pub front : answered.front ≡ events + 1
+
+-- what a layout draws for these holds and random words, three times
+pub record AreDrawn (layout : Layout) (holds : Holds) (words : List ℕ) (answers : Answers)
+    : Type 0 where
+  pub told : answers.told ≡ draw layout holds words
+  pub event : answers.event ≡ draw layout holds words
+  pub receipt : answers.receipt ≡ draw layout holds words
+
+-- what a finding is committed with for these random words: its question, client and evidence, copies of the
+-- question, and its answer where nothing is held
+pub record IsPreparedFor (found : Found) (draws : List ℕ) (prepared : Prepared) : Type 0 where
+  pub question : prepared.asked.question ≡ found.question
+  pub client : prepared.asked.abilities ≡ found.client
+  pub words : prepared.asked.draws ≡ draws
+  pub evidence : arc_value prepared.evidence ≡ found.items
+  pub event : prepared.copies.event ≡ found.question
+  pub receipt : prepared.copies.receipt ≡ found.question
+  pub answers : AreDrawn found.layout no_holds draws prepared.answers

@@ -1,0 +1,230 @@
+// Callers and repair workers in threads of their own, whose journal is replayed: each answer in it is that
+// of the plain program on the records and the holds at its place.
+use crate::values::{close, is_claimed, load_zone, new_service, question, record, tcp};
+use rand_core::utils::NextWord;
+use rand_pcg::Pcg32;
+use sipl_book::{Edit, Event};
+use sipl_choice::{Abilities, Endpoint};
+use sipl_outages::Board;
+use sipl_plans::{Answer, plan_of};
+use sipl_service::{Closing, OpenGate, Pass, Service};
+use sipl_srv::Draws;
+use sipl_uri::Question;
+use sipl_zonestore::ZoneStore;
+use std::alloc::Global;
+use std::process::Abort;
+use std::sync::Wait;
+use std::test::*;
+use std::thread;
+use std::thread::Threads;
+
+const CALLERS: u64 = 6;
+
+const CALLS: u64 = 2_000;
+
+const URIS: [&[u8]; 8] = [
+    b"sip:example.com",
+    b"sips:example.com",
+    b"sip:example.com;transport=tcp",
+    b"sip:example.com;transport=udp",
+    b"sip:server1.example.com",
+    b"sip:server2.example.com:5070",
+    b"sip:alias.example.com:5060",
+    b"sip:none.example.com",
+];
+
+const RECORDS: [&[u8]; 8] = [
+    b"server1.example.com. A 192.0.2.1",
+    b"server1.example.com. A 192.0.2.11",
+    b"server2.example.com. A 192.0.2.2",
+    b"server2.example.com. A 192.0.2.1",
+    b"alias.example.com. CNAME server2.example.com.",
+    b"_sip._udp.example.com. SRV 0 3 5060 server1.example.com.",
+    b"_sip._tcp.example.com. SRV 0 5 5061 alias.example.com.",
+    b"example.com. NAPTR 70 50 \"s\" \"SIP+D2U\" \"\" _sip._udp.example.com.",
+];
+
+// One of some texts.
+fn choice(texts: &[&'static [u8]], word: u32) -> &'static [u8] {
+    texts.get(word as usize % 8).copied().unwrap_or(b"")
+}
+
+// One of two endpoints.
+fn endpoint(word: u32) -> Endpoint {
+    tcp(0xC000_0201 + word % 2)
+}
+
+// ---- calls, which may be refused
+
+fn edit<R: Wait + Abort>(rt: &R, alloc: Global, service: &Service, pass: &mut Pass, word: u32) {
+    let record = record(rt, alloc, choice(&RECORDS, word / 2));
+    let edit = if word % 2 == 0 {
+        Edit::Add(record)
+    } else {
+        Edit::Remove(record)
+    };
+    let _ = service.edit(rt, pass, edit);
+}
+
+fn look_up<R: Wait + Abort>(rt: &R, alloc: Global, service: &Service, pass: &mut Pass, word: u32) {
+    let question = question(rt, alloc, choice(&URIS, word));
+    let draws = Draws::from_seed(u64::from(word));
+    let _ = service.lookup(rt, pass, &question, &draws, &OpenGate);
+}
+
+fn call<R: Wait + Abort>(
+    rt: &R,
+    alloc: Global,
+    service: &Service,
+    pass: &mut Pass,
+    kind: u32,
+    word: u32,
+    time: u64,
+) {
+    match kind % 16 {
+        0..3 => edit(rt, alloc, service, pass, word),
+        3 => {
+            let _ = service.hold(rt, pass, &endpoint(word), u64::from(word % 50));
+        }
+        4 => {
+            let _ = service.release(rt, pass, &endpoint(word));
+        }
+        5 => {
+            let _ = service.advance(rt, pass, time);
+        }
+        _ => look_up(rt, alloc, service, pass, word),
+    }
+}
+
+fn calls<R: Wait + Abort>(rt: &R, alloc: Global, service: &Service, pass: &mut Pass, seed: u64) {
+    let mut chance = Pcg32::new(seed, 0);
+    for number in 0..CALLS {
+        let kind = chance.next_word();
+        call(
+            rt,
+            alloc,
+            service,
+            pass,
+            kind,
+            chance.next_word(),
+            number / 4,
+        );
+    }
+}
+
+// The calls of all callers, and then the end of the repair workers.
+fn all_calls<R: Threads + Wait + Abort + Sync>(
+    rt: &R,
+    alloc: Global,
+    service: &Service,
+    passes: &mut [Pass],
+) {
+    thread::scope(thread::scope_env(), rt, |scope| {
+        for (seed, pass) in passes.iter_mut().enumerate() {
+            let _ = scope.spawn(move || calls(rt, alloc, service, pass, seed as u64));
+        }
+    });
+    service.stop(rt);
+}
+
+fn passes<R: Wait + Abort>(rt: &R, alloc: Global, service: &Service) -> Vec<Pass> {
+    let mut passes = Vec::new(alloc);
+    for _ in 0..CALLERS {
+        passes.push(service.pass()).expect(rt, "out of memory");
+    }
+    passes
+}
+
+fn load<R: Wait + Abort>(rt: &R, alloc: Global, service: &Service, passes: &mut [Pass]) {
+    if let Some(pass) = passes.first_mut() {
+        load_zone(rt, alloc, service, pass);
+    }
+}
+
+// Makes the calls, and closes the service. Its journal is claimed with the passes.
+fn closed<R: Threads + Wait + Abort + Sync>(rt: &R, alloc: Global) -> Closing {
+    let service = new_service(rt, alloc, 16);
+    let mut passes = passes(rt, alloc, &service);
+    load(rt, alloc, &service, &mut passes);
+    thread::join(
+        rt,
+        || service.run_workers(rt, 2, &OpenGate),
+        || all_calls(rt, alloc, &service, &mut passes),
+    );
+    let closing = close(rt, service);
+    is_claimed(rt, alloc, &closing, &passes);
+    closing
+}
+
+// ---- the replay
+
+fn plain_answer(
+    rt: &impl Abort,
+    alloc: Global,
+    store: &mut ZoneStore,
+    board: &Board,
+    abilities: &Abilities,
+    question: &Question,
+    draws: &Draws,
+) -> Answer {
+    plan_of(alloc, store.records(), board, question, abilities, draws).expect(rt, "out of memory")
+}
+
+// Whether an edit is accepted.
+fn is_made(store: &mut ZoneStore, edit: &Edit) -> bool {
+    match edit {
+        Edit::Load(zone) => store.load(zone).is_ok(),
+        Edit::Unload(apex) => store.unload(apex).is_ok(),
+        Edit::Add(record) => store.add(record).is_ok(),
+        Edit::Remove(record) => store.remove(record).is_ok(),
+    }
+}
+
+// Whether an event is legal, which is made.
+fn is_legal(
+    rt: &impl Abort,
+    alloc: Global,
+    store: &mut ZoneStore,
+    board: &mut Board,
+    abilities: &Abilities,
+    event: &Event,
+) -> bool {
+    match event {
+        Event::Change(edit) => is_made(store, edit),
+        Event::Hold(endpoint, ms) => board.hold(endpoint, *ms).is_ok(),
+        Event::Release(endpoint) => board.release(endpoint).is_ok(),
+        Event::Advance(to) => board.advance(*to).is_ok(),
+        Event::Answer(question, draws, answer) => {
+            plain_answer(rt, alloc, store, board, abilities, question, draws) == *answer
+        }
+    }
+}
+
+// How many events are legal, up to the first that is not.
+fn legal(rt: &impl Abort, alloc: Global, abilities: &Abilities, journal: &[Event]) -> usize {
+    let mut store = ZoneStore::with(alloc, 1, 1_048_576);
+    let mut board = Board::with(alloc, 4_096);
+    for (number, event) in journal.iter().enumerate() {
+        if !is_legal(rt, alloc, &mut store, &mut board, abilities, event) {
+            return number;
+        }
+    }
+    journal.len()
+}
+
+fn are_legal(rt: &impl Abort, alloc: Global, abilities: &Abilities, journal: &[Event]) {
+    assert!(rt; journal.len() > 8_000, "few calls were accepted");
+    assert_eq!(rt; legal(rt, alloc, abilities, journal), journal.len());
+}
+
+#[test]
+fn answers_of_threads_are_those_of_the_plain_program_at_their_places(rt: HostRuntime) {
+    let closing = closed(&rt, rt.alloc());
+    let service = new_service(&rt, rt.alloc(), 1);
+    are_legal(
+        &rt,
+        rt.alloc(),
+        service.abilities(),
+        closing.journal.as_slice(),
+    );
+}
