@@ -124,6 +124,13 @@ fn first_faulty_entry_is_reported_at_its_line(rt: HostRuntime) {
         ("a A 192.0.2.256 )", 1, ZoneCause::Parenthesis),
         ("\n\n\n;\n)", 5, ZoneCause::Parenthesis),
         ("a TXT \"b\nc\"", 1, ZoneCause::OpenQuote),
+    ];
+    has_fault_each(&rt, rt.alloc(), &rows);
+}
+
+#[test]
+fn first_refused_entry_is_reported_at_its_line(rt: HostRuntime) {
+    let rows = [
         ("a CH A 192.0.2.1", 1, ZoneCause::ClassNotIn),
         (
             "$TTL 5\n@ A 192.0.2.1\n$INCLUDE x\n)",

@@ -103,7 +103,7 @@ fn has_code_each(rt: &impl Abort, alloc: Global, rows: &[(&[u8], &str)]) {
 }
 
 #[test]
-fn parse_reports_the_first_fault_of_the_parameters(rt: HostRuntime) {
+fn parse_reports_the_first_parameter_that_is_malformed_or_repeated(rt: HostRuntime) {
     let rows = [
         (b"sip:a;".as_slice(), "U7"),
         (b"sip:a;;x", "U7"),
@@ -116,7 +116,14 @@ fn parse_reports_the_first_fault_of_the_parameters(rt: HostRuntime) {
         (b"sip:a;transport=tcp;transport=tcp", "U5"),
         (b"sip:a;Transport=tcp;transport=ws", "U5"),
         (b"sip:a;maddr=b;maddr=-", "U5"),
-        (b"sip:a;transport=ws", "U4"),
+    ];
+    has_code_each(&rt, rt.alloc(), &rows);
+}
+
+#[test]
+fn parse_reports_the_first_bad_value_of_a_parameter(rt: HostRuntime) {
+    let rows = [
+        (b"sip:a;transport=ws".as_slice(), "U4"),
         (b"sip:a;transport", "U4"),
         (b"sip:a;transport=", "U4"),
         (b"sip:a;transport=udp4", "U4"),

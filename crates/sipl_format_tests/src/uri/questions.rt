@@ -88,6 +88,12 @@ fn parsing_ignores_case(rt: HostRuntime) {
     ask_as(&rt, rt.alloc(), lower, &uris, true);
 }
 
+fn ask_the_same_each(rt: &impl Abort, alloc: Global, rows: &[(&[u8], &[u8])]) {
+    for (uri, text) in rows {
+        assert_eq!(rt; ask_the_same(alloc, uri, text), Some(true));
+    }
+}
+
 #[test]
 fn questions_are_written_as_uris(rt: HostRuntime) {
     let rows: [(&[u8], &[u8]); 9] = [
@@ -108,9 +114,7 @@ fn questions_are_written_as_uris(rt: HostRuntime) {
         (b"sip:a;maddr=b;x", b"sip:b."),
     ];
     print(&rt, rt.alloc(), &rows);
-    for (uri, text) in rows {
-        assert_eq!(rt; ask_the_same(rt.alloc(), uri, text), Some(true));
-    }
+    ask_the_same_each(&rt, rt.alloc(), &rows);
 }
 
 // Appends the URIs of two questions after other text.
