@@ -1,5 +1,5 @@
 -- A finding on the records of a book that is committed, or is not.
-use Rattle.std.proofs.Common.{◌≡◌, ℕ, ◌<◌, true, false, List, length, Option, Some, None, Result, Ok, Err, position, refl, sym, ap, subst, ◌∙◌}
+use Rattle.std.proofs.Common.{◌≡◌, ℕ, ◌<◌, true, false, List, length, Some, None, Result, Ok, Err, position, refl, sym, ap, subst, ◌∙◌}
 use Rattle.std.specs.Prelude.{option_map, IfOk, IfErr, OnOk, OnErr, IsErrAnd, MatchResult}
 use Rattle.sipl_plans.specs.Findings.{Found}
 use Rattle.sipl_uri.specs.declared.question.Question.{Question}

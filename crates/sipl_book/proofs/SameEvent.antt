@@ -1,5 +1,5 @@
 -- `==` of events is true exactly where they are equal.
-use Rattle.std.proofs.Common.{◌≡◌, ℕ, Bool, List, refl, ap, sym, subst, rules, nat_eq}
+use Rattle.std.proofs.Common.{◌≡◌, Bool, ap, sym, subst, rules, nat_eq}
 use Rattle.std.specs.Bool.{Decides}
 use Rattle.std.proofs.lemmas.Bool.Decides.{Decides-eqb, Decides-like, Decides-and}
 use lib.Pointwise.{pointwise, pointwise_decides, bytes_decides}

@@ -1,5 +1,5 @@
 -- What is so where a commit is not refused.
-use Rattle.std.proofs.Common.{◌≡◌, ℕ, ◌<◌, Bool, true, false, Option, None, Some, position, refl, sym, ap, subst, ◌∙◌}
+use Rattle.std.proofs.Common.{◌≡◌, ℕ, ◌<◌, Bool, true, false, Option, None, Some, position, refl, sym, subst, ◌∙◌}
 use Rattle.std.specs.Prelude.{nat_le, option_map}
 use Rattle.std.proofs.lemmas.Bool.{cond-true, cond-false, leb-false}
 use Rattle.sipl_plans.specs.Findings.{Found}

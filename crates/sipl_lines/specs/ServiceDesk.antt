@@ -5,7 +5,6 @@ use Rattle.std.specs.Result.{result_map_both}
 use Rattle.sipl_names.specs.Labels.{Octets}
 use Rattle.sipl_names.specs.NamePrint.{text_of}
 use Rattle.sipl_records.specs.Kinds.{text_of_kind}
-use Rattle.sipl_evidence.specs.Items.{Item}
 use Rattle.sipl_choice.specs.Abilities.{Client}
 use Rattle.sipl_uri.specs.declared.question.Question.{Question}
 use Rattle.sipl_book.specs.Calls.{board_event}

@@ -1,7 +1,7 @@
 -- Endpoints, each once.
 use Rattle.std.proofs.Common.{◌≡◌, ℕ, ◌+◌, ◌<◌, ◌≤◌, List, [], ◌∷◌, ◌++◌, length, take, drop, get_or, set, ◌||◌, if◌then◌else◌, true, false, refl, sym, ap, ◌∙◌, arith, rules}
 use Rattle.std.specs.List.{list_any}
-use Rattle.std.proofs.lemmas.List.{take_more, take_more_set, drop-set-lt, drop-drop, get_or-drop, length-set}
+use Rattle.std.proofs.lemmas.List.{take_more, take_more_set, drop-set-lt, drop-drop, get_or-drop}
 use Rattle.indexmap.specs.IndexSet.{insert_key}
 use Rattle.sipl_records.specs.Unique.{unique}
 use Rattle.sipl_records.proofs.Public.{transitive_from_equivalence, unique-append}
