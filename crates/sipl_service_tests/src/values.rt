@@ -163,21 +163,27 @@ pub(crate) fn is_tcp(answer: &Answer, numbers: &[u32]) -> bool {
     }
 }
 
-// The answer is these targets over TCP at port 5060.
-pub(crate) fn targets(rt: &impl Abort, told: Result<Told, ServiceFault>, numbers: &[u32]) {
-    let expected = match told {
+// Whether a lookup has given these targets over TCP at port 5060.
+fn gives(told: &Result<Told, ServiceFault>, numbers: &[u32]) -> bool {
+    match told {
         Ok(told) => is_tcp(told.answer(), numbers),
         Err(_) => false,
-    };
-    assert!(rt; expected, "other targets, or a fault");
+    }
+}
+
+pub(crate) fn targets(rt: &impl Abort, told: Result<Told, ServiceFault>, numbers: &[u32]) {
+    assert!(rt; gives(&told, numbers), "other targets, or a fault");
+}
+
+fn code_of(told: &Result<Told, ServiceFault>) -> Option<&'static str> {
+    match told {
+        Ok(_) => None,
+        Err(fault) => Some(fault.code()),
+    }
 }
 
 pub(crate) fn fails(rt: &impl Abort, told: Result<Told, ServiceFault>, code: &str) {
-    let expected = match told {
-        Ok(_) => false,
-        Err(fault) => fault.code() == code,
-    };
-    assert!(rt; expected, "an answer, or another fault");
+    assert_eq!(rt; code_of(&told), Some(code));
 }
 
 pub(crate) fn close(rt: &impl Abort, service: Service) -> Closing {

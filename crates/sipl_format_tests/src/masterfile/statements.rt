@@ -164,6 +164,13 @@ fn first_cause_from_the_left_is_reported(rt: HostRuntime) {
         ("@ hs 1x A", ZoneCause::ClassNotIn),
         ("@ 5 cs", ZoneCause::ClassNotIn),
         ("@ class1 A 192.0.2.1", ZoneCause::ClassNotIn),
+    ];
+    has_cause_each(&rt, rt.alloc(), &rows);
+}
+
+#[test]
+fn fault_in_the_data_comes_before_a_field_too_many(rt: HostRuntime) {
+    let rows = [
         ("@ A 192.0.2.256", ZoneCause::BadAddress),
         ("@ A 192.0.2.256 x", ZoneCause::BadAddress),
         ("@ A ::1", ZoneCause::BadAddress),

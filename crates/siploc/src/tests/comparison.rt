@@ -3,7 +3,7 @@ use super::streams::new_book;
 use itoa::Buffer;
 use sipl_book::{Book, Edit};
 use sipl_choice::{Abilities, Families, Transport};
-use sipl_masterfile::{read_record, read_zone};
+use sipl_masterfile::{ZoneText, read_record, read_zone};
 use sipl_names::Name;
 use sipl_outages::Board;
 use sipl_plans::{Answer, plan_of};
@@ -155,11 +155,16 @@ impl Numbers {
     }
 }
 
+// The zone `e.` of a text.
+pub fn zone(alloc: Global, text: &[u8]) -> Result<ZoneText, Fail> {
+    let apex = Name::from_text(alloc, b"e.", &Name::root(alloc))?;
+    Ok(read_zone(alloc, text, &apex)?)
+}
+
 // Loads the zone `e.` into a book and a store.
 fn load(alloc: Global, text: &[u8], book: &mut Book, store: &mut ZoneStore) -> Result<(), Fail> {
-    let apex = Name::from_text(alloc, b"e.", &Name::root(alloc))?;
-    store.load(&read_zone(alloc, text, &apex)?)?;
-    book.change(Edit::Load(read_zone(alloc, text, &apex)?))?;
+    store.load(&zone(alloc, text)?)?;
+    book.change(Edit::Load(zone(alloc, text)?))?;
     Ok(())
 }
 

@@ -5,24 +5,35 @@ use sipl_choice::{Abilities, Families, Transport};
 use std::alloc::{AllocError, Global};
 use std::test::Fail;
 
-// Appends a zone of such servers, in 32 + 2 * 1,024 lines, and its reply.
-fn push_zone(alloc: Global, input: &mut Vec<u8>) -> Result<(), AllocError> {
-    input.extend_from_slice(b"zone e. 2080\n")?;
-    for server in 0..32_u32 {
-        let line = format!(in alloc; "_sip._udp SRV 0 0 5060 s{server}\n")?;
-        input.extend_from_slice(line.as_bytes())?;
-        for number in 0..32_u32 {
-            let lines = format!(in alloc;
-                "s{server} A 10.0.{server}.{number}\ns{server} AAAA 2001:db8::{server:x}:{number:x}\n"
-            )?;
-            input.extend_from_slice(lines.as_bytes())?;
-        }
+// Appends the lines of the addresses of such a server.
+fn push_addresses(alloc: Global, input: &mut Vec<u8>, server: u32) -> Result<(), AllocError> {
+    for number in 0..32_u32 {
+        let lines = format!(in alloc;
+            "s{server} A 10.0.{server}.{number}\ns{server} AAAA 2001:db8::{server:x}:{number:x}\n"
+        )?;
+        input.extend_from_slice(lines.as_bytes())?;
     }
     Ok(())
 }
 
-// Appends the lines of the targets of a server, of which so many were before.
-fn push_targets(
+// Appends the lines of such a server.
+fn push_server(alloc: Global, input: &mut Vec<u8>, server: u32) -> Result<(), AllocError> {
+    let line = format!(in alloc; "_sip._udp SRV 0 0 5060 s{server}\n")?;
+    input.extend_from_slice(line.as_bytes())?;
+    push_addresses(alloc, input, server)
+}
+
+// Appends a zone of such servers, in 32 + 2 * 1,024 lines.
+fn push_zone(alloc: Global, input: &mut Vec<u8>) -> Result<(), AllocError> {
+    input.extend_from_slice(b"zone e. 2080\n")?;
+    for server in 0..32_u32 {
+        push_server(alloc, input, server)?;
+    }
+    Ok(())
+}
+
+// Appends the lines of the IPv4 targets of a server, of which so many were before.
+fn push_v4_targets(
     alloc: Global,
     want: &mut Vec<u8>,
     server: u32,
@@ -33,8 +44,18 @@ fn push_targets(
         let line = format!(in alloc; "target {place} udp 10.0.{server}.{number} 5060\n")?;
         want.extend_from_slice(line.as_bytes())?;
     }
+    Ok(())
+}
+
+// The same for IPv6.
+fn push_v6_targets(
+    alloc: Global,
+    want: &mut Vec<u8>,
+    server: u32,
+    before: u32,
+) -> Result<(), AllocError> {
     for number in 0..32_u32 {
-        let place = before.saturating_add(number).saturating_add(33);
+        let place = before.saturating_add(number).saturating_add(1);
         let line = format!(in alloc;
             "target {place} udp 2001:db8:0:0:0:0:{server:x}:{number:x} 5060\n"
         )?;
@@ -47,7 +68,9 @@ fn push_targets(
 fn all_replies(alloc: Global) -> Result<Vec<u8>, AllocError> {
     let mut want = Vec::from_slice(alloc, b"ok zone 2080 0 0 65\n")?;
     for server in 0..32_u32 {
-        push_targets(alloc, &mut want, server, server.saturating_mul(64))?;
+        let before = server.saturating_mul(64);
+        push_v4_targets(alloc, &mut want, server, before)?;
+        push_v6_targets(alloc, &mut want, server, before.saturating_add(32))?;
     }
     want.extend_from_slice(b"ok find 2048\n")?;
     Ok(want)

@@ -1,12 +1,12 @@
 // Books over some hundred lines, made from a seed, beside a plain store and a plain board: the reply to
 // each line is what these give, and that to a `find` is the plain program's on the records and the
 // holds as they are.
-use super::comparison::{Numbers, URIS, plain_answer};
+use super::comparison::{Numbers, URIS, plain_answer, zone};
 use super::streams::{new_book, replies_at};
 use itoa::Buffer;
 use sipl_book::Book;
 use sipl_choice::{Abilities, Endpoint, Transport};
-use sipl_masterfile::{read_record, read_zone};
+use sipl_masterfile::read_record;
 use sipl_names::Name;
 use sipl_outages::Board;
 use sipl_plans::Answer;
@@ -75,9 +75,7 @@ fn push_answer(text: &mut Vec<u8>, answer: &Answer) -> Result<bool, AllocError> 
 
 // Loads the empty zone `e.`.
 fn load_empty(alloc: Global, store: &mut ZoneStore) -> Result<(), Fail> {
-    let apex = Name::from_text(alloc, b"e.", &Name::root(alloc))?;
-    let text = read_zone(alloc, b"", &apex)?;
-    store.load(&text)?;
+    store.load(&zone(alloc, b"")?)?;
     Ok(())
 }
 
