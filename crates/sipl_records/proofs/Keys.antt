@@ -9,12 +9,12 @@ use Rattle.std.proofs.lemmas.Bool.Decides.{Decides-and, Decides-like, same_from_
 use Rattle.sipl_names.specs.Labels.{same_name}
 use Rattle.sipl_names.proofs.Public.{same_name_decides}
 use Rattle.sipl_records.specs.declared.kind.Kind.{Kind}
-use Rattle.sipl_records.specs.declared.kind.Kind.TheVariants.{Address4, Address6, Alias, Service, Pointer}
+use Rattle.sipl_records.specs.declared.kind.Kind.TheVariants.{Address4, Address6, Alias, Service, Pointer, Exists}
 use Rattle.sipl_records.specs.declared.record.Record.{Record}
 use Rattle.sipl_records.specs.declared.record.Key.{Key}
-use Rattle.sipl_records.specs.Sets.{has_kind, has_key, kind_of, same_kind, same_key, key_of, shares_set, set_of}
+use Rattle.sipl_records.specs.Sets.{has_own_kind, has_key, kind_of, same_kind, same_key, key_of, shares_set, data_of}
 use Rattle.sipl_records.proofs.Unique.{equivalence_from_decides}
-use Rattle.sipl_records.proofs.Sets.{set_of-is}
+use Rattle.sipl_records.proofs.Sets.{data_of-is}
 use Rattle.std.proofs.lemmas.List.{length-map}
 use Rattle.std.proofs.lemmas.List.Sums.{length-filter}
 
@@ -24,6 +24,7 @@ same_kind-Decides Address6 Address6 = (λ _. refl, λ _. refl)
 same_kind-Decides Alias Alias = (λ _. refl, λ _. refl)
 same_kind-Decides Service Service = (λ _. refl, λ _. refl)
 same_kind-Decides Pointer Pointer = (λ _. refl, λ _. refl)
+same_kind-Decides Exists Exists = (λ _. refl, λ _. refl)
 same_kind-Decides _ _ = (λ h. cc, λ h. cc)
 
 pub same_key-Decides : (a b : Key) → Decides (same_key a b) (a ≡ b)
@@ -76,9 +77,9 @@ pub same_name-sym : (a b : List (List ℕ)) → same_name a b ≡ same_name b a
 same_name-sym a b =
     same_from_decides (same_name a b) (same_name b a) (same_name_decides a b) (Decides-like (same_name b a) (λ e. sym e) (λ e. sym e) (same_name_decides b a))
 
-shared : (a b : Record) (own : Option Kind) → (same_name a.owner b.owner && option_map_or (λ kind. has_kind kind b.value) own false) ≡ option_map_or (λ key. has_key key b) (option_map (λ kind. record { name = a.owner; kind = kind }) own) false
+shared : (a b : Record) (own : Option Kind) → (same_name a.owner b.owner && option_map_or (λ kind. has_own_kind kind b.value) own false) ≡ option_map_or (λ key. has_key key b) (option_map (λ kind. record { name = a.owner; kind = kind }) own) false
 shared a b None = and-false (same_name a.owner b.owner)
-shared a b (Some kind) = ap (λ same. same && has_kind kind b.value) (same_name-sym a.owner b.owner)
+shared a b (Some kind) = ap (λ same. same && has_own_kind kind b.value) (same_name-sym a.owner b.owner)
 
 -- a record shares a set with those that have its key
 pub shares_set-key_of : (a b : Record) → shares_set a b ≡ option_map_or (λ key. has_key key b) (key_of a) false
@@ -99,5 +100,5 @@ shares_set-Decides a b =
     (λ e. own.0 (sym (shares_set-key_of a b) ∙ e), λ both. shares_set-key_of a b ∙ own.1 both)
 
 -- a set has as many data as records have its key
-pub length-set_of : (records : List Record) (key : Key) → length (set_of records key) ≡ count_by (has_key key) records
-length-set_of records key = ap length (set_of-is records key) ∙ length-map (filter (has_key key) records) (λ r. r.value) ∙ length-filter (has_key key) records
+pub length-data_of : (records : List Record) (key : Key) → length (data_of records key) ≡ count_by (has_key key) records
+length-data_of records key = ap length (data_of-is records key) ∙ length-map (filter (has_key key) records) (λ r. r.value) ∙ length-filter (has_key key) records

@@ -5,6 +5,7 @@ mod Sets
 mod Same
 mod SameData
 mod Keys
+mod Existence
 mod Conflicts
 mod Parts
 mod Groups

@@ -41,7 +41,8 @@ pub enum Data {
 }
 
 impl Data {
-    /// The kind of the set that the data are in; `None` for data that are in no set.
+    /// The kind of the set that a record of these data is in; `None` for data of which nothing is
+    /// kept.
     pub fn kind(&self) -> Option<Kind>
         ensures { result ≡ kind_of self.now }
     {
@@ -55,18 +56,20 @@ impl Data {
         }
     }
 
-    /// Whether the data are of this kind.
+    /// Whether a set of this kind can have the data. Data of which nothing is kept are those of
+    /// existence.
     pub fn has_kind(&self, kind: Kind) -> bool
         ensures { result ≡ has_kind kind self.now }
     {
-        self.kind() == Some(kind)
+        self.kind().unwrap_or(Kind::Exists) == kind
     }
 
-    /// Whether the two are of one kind. Data that are in no set are of none.
+    /// Whether records of the two data are in sets of one kind. Data of which nothing is kept are in
+    /// none.
     pub fn has_same_kind(&self, other: &Data) -> bool
         ensures { result ≡ has_same_kind self.now other.now }
     {
-        self.kind().is_some_and(|kind| other.has_kind(kind))
+        self.kind().is_some_and(|kind| other.kind() == Some(kind))
     }
 
     /// A copy of the data. Allocates only for names and strings.

@@ -16,10 +16,13 @@ pub enum Kind {
     Service,
     /// Pointers to a domain's services, `NAPTR` (RFC 3403).
     Pointer,
+    /// Whether a name exists (RFC 4592, 2.2.3): no type of records. It is last among the kinds.
+    Exists,
 }
 
 impl Kind {
-    /// The mnemonic in master files, such as `AAAA` (RFC 1035, 3.2.2).
+    /// The mnemonic in master files, such as `AAAA` (RFC 1035, 3.2.2); `EXISTS`, which is none, for
+    /// existence.
     pub fn name(self) -> &'static str
         ensures { result.now ≡ text_of_kind self }
     {
@@ -29,6 +32,7 @@ impl Kind {
             Kind::Alias => "CNAME",
             Kind::Service => "SRV",
             Kind::Pointer => "NAPTR",
+            Kind::Exists => "EXISTS",
         }
     }
 }

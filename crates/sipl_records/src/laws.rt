@@ -1,9 +1,9 @@
 //! What follows from the definitions. Each law is the contract of a function that does nothing.
 
-ghost use Rattle.std.specs.Prelude.{◌≡◌, ◌↔◌, ◌==◌, nat_lt, ℕ, ◌<◌, ◌≤◌, Bool, true, false, List, [], ◌∷◌, ◌++◌, Some, IsTrue, length, count_by, map, filter, find, All, AllPairs, Contains, if◌then◌else◌};
+ghost use Rattle.std.specs.Prelude.{◌≡◌, ◌↔◌, ◌==◌, nat_lt, ℕ, ◌<◌, ◌≤◌, Bool, true, false, ◌||◌, List, [], ◌∷◌, ◌++◌, Some, IsTrue, length, count_by, map, filter, find, All, AllPairs, Contains, if◌then◌else◌};
 ghost use Rattle.std.specs.Bool.{Decides};
 ghost use Rattle.std.specs.Cmp.{IsEquivalence};
-ghost use Rattle.std.specs.List.{IsDistinct, list_any, position_or_len, slice_split};
+ghost use Rattle.std.specs.List.{Any, IsDistinct, list_any, position_or_len, slice_split};
 ghost use Rattle.sipl_names.specs.Labels.{Labels};
 ghost use Rattle.sipl_records.specs.declared.data.Data.{Data};
 ghost use Rattle.sipl_records.specs.declared.record.Record.{Record};
@@ -13,7 +13,7 @@ ghost use Rattle.sipl_records.specs.declared.address.TheConstants.{MAX_ADDRESS_T
 ghost use Rattle.sipl_records.specs.Addresses.{address_of, text_of_address, IsAddress};
 ghost use Rattle.sipl_records.specs.Ipv6.{address6_of_text};
 ghost use Rattle.sipl_records.specs.Ipv6Grammar.{IsAddress6Text};
-ghost use Rattle.sipl_records.specs.Sets.{conflicts, has_key, key_of, same_data, same_record, set_of, shares_set};
+ghost use Rattle.sipl_records.specs.Sets.{conflicts, data_of, exists_in, existence_of, has_key, is_existence, key_of, same_data, same_record, set_of, shares_set};
 ghost use Rattle.sipl_records.specs.Unique.{unique};
 ghost use Rattle.sipl_records.specs.Parts.{parts};
 ghost use Rattle.sipl_records.specs.Fields.{fields_of, is_wsp};
@@ -76,36 +76,54 @@ pub fn records_of_one_set_have_one_key()
         ↔ ((key : Key) × (key_of a ≡ Some key) × (key_of b ≡ Some key)) }
 {}
 
-/// A set has as many data as records of the list have its key.
+/// A set has as many data as records of the list have its key; a set of existence has one datum, or
+/// none.
 pub fn set_length_counts_records()
-    ensures { (records : List Record) (key : Key)
+    ensures records { (records : List Record) (key : Key) → is_existence key ≡ false
         → length (set_of records key) ≡ count_by (has_key key) records }
+    ensures existence { (records : List Record) (key : Key) → is_existence key ≡ true
+        → length (set_of records key) ≤ 1 }
 {}
 
 /// A record set is the data of the records that have its key, in the order of the records.
 pub fn set_of_is_a_filter()
-    ensures { (records : List Record) (key : Key)
+    ensures { (records : List Record) (key : Key) → is_existence key ≡ false
         → set_of records key ≡ map (λ r. r.value) (filter (has_key key) records) }
 {}
 
-/// A set of two lists of records joined is its set of the first, then its set of the second.
+/// A set of two lists of records joined is its set of the first, then its set of the second; a name
+/// exists where it exists in one of the two.
 pub fn set_of_append()
-    ensures { (a b : List Record) (key : Key)
+    ensures records { (a b : List Record) (key : Key) → is_existence key ≡ false
         → set_of (a ++ b) key ≡ set_of a key ++ set_of b key }
+    ensures existence { (a b : List Record) (name : Labels)
+        → exists_in (a ++ b) name ≡ (exists_in a name || exists_in b name) }
 {}
 
 /// Of a filtered list, a set whose records are all kept is unchanged, and one whose records are
 /// all left out is empty. A filter by owners does one or the other with each set.
 pub fn set_of_filter()
-    ensures kept { (p : Record → Bool) (key : Key)
+    ensures kept { (p : Record → Bool) (key : Key) → is_existence key ≡ false
         → ((r : Record) → has_key key r ≡ true → p r ≡ true)
         → (records : List Record) → set_of (filter p records) key ≡ set_of records key }
-    ensures dropped { (p : Record → Bool) (key : Key)
+    ensures dropped { (p : Record → Bool) (key : Key) → is_existence key ≡ false
         → ((r : Record) → has_key key r ≡ true → p r ≡ false)
         → (records : List Record) → set_of (filter p records) key ≡ [] }
     ensures by_owner { (p : Labels → Bool) (records : List Record) (key : Key)
+        → is_existence key ≡ false
         → set_of (filter (λ r. p r.owner) records) key
         ≡ (if p key.name then set_of records key else []) }
+{}
+
+/// A name exists exactly where it is the owner of a record, or a name above one (RFC 4592, 2.2.3); so
+/// a name above one that exists does too.
+pub fn names_exist_at_and_above_owners()
+    ensures owners { (records : List Record) (name : Labels) → IsTrue (exists_in records name)
+        ↔ Any (λ r. (first : Labels) × (r.owner ≡ first ++ name)) records }
+    ensures above { (records : List Record) (first name : Labels)
+        → IsTrue (exists_in records (first ++ name)) → IsTrue (exists_in records name) }
+    ensures set { (records : List Record) (key : Key) → is_existence key ≡ true
+        → set_of records key ≡ existence_of (exists_in records key.name) }
 {}
 
 /// A printed address reads back to itself.

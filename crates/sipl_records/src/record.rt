@@ -17,11 +17,12 @@ pub struct Record {
 }
 
 impl Record {
-    /// Whether the record is in the key's set: it has that owner and kind (RFC 2181, 5).
+    /// Whether the record is in the key's set: it has that owner and kind (RFC 2181, 5). No record is
+    /// in a set of existence.
     pub fn has_key(&self, key: &Key) -> bool
         ensures { result ≡ has_key key.now self.now }
     {
-        self.owner == key.name && self.value.has_kind(key.kind)
+        self.owner == key.name && self.value.kind() == Some(key.kind)
     }
 
     /// Whether the two records are in one set: equal owners, and data of one kind.
@@ -65,7 +66,8 @@ impl Record {
     }
 }
 
-/// The owner and the kind of a record set (RFC 2181, 5).
+/// The owner and the kind of a record set (RFC 2181, 5), or the name whose existence is asked for
+/// (RFC 4592, 2.2.3).
 #[derive(Debug, PartialEq, Eq, Hash, Drop)]
 pub struct Key {
     pub name: Name,

@@ -1,5 +1,5 @@
-use Rattle.sipl_records.proofs.Sets.{set_of-append}
+use Rattle.sipl_records.proofs.Existence.{set_of-append, exists_in-append}
 use Rattle.sipl_records.proofs.laws.set_of_append.Goals as goal
 
 pub returns : goal.returns
-returns c = set_of-append
+returns c = record { records = set_of-append; existence = exists_in-append }
