@@ -3,6 +3,8 @@ mod SameName
 mod Lowercase
 mod Wires
 mod Within
+mod Counts
+mod Wildcards
 mod ReadText
 mod Denotes
 mod Prefixes

@@ -1,5 +1,5 @@
 -- Names below one another, by their labels and by their wire forms.
-use Rattle.std.proofs.Common.{◌≡◌, suc, ◌+◌, ◌≤◌, ◌<◌, ◌≢◌, Bool, true, false, ◌||◌, [], ◌∷◌, ◌++◌, Option, Some, None, length, refl, sym, ap, ◌∙◌, subst, arith, length-append, IsTrue, ◌↔◌, nat_eq}
+use Rattle.std.proofs.Common.{◌≡◌, suc, ◌+◌, ◌≤◌, ◌<◌, ◌≢◌, Bool, true, false, ◌||◌, [], ◌∷◌, ◌++◌, Option, Some, None, length, refl, sym, ap, ◌∙◌, subst, arith, append_assoc, length-append, IsTrue, ◌↔◌, nat_eq}
 use lib.Pointwise.{pointwise}
 use Rattle.sipl_names.specs.Labels.{Octets, Labels, wire_of, same_name, is_within, top_label_of}
 use Rattle.sipl_names.proofs.SameName.{same_name_decides}
@@ -64,17 +64,33 @@ or_true : (a b : Bool) → b ≡ true → (a || b) ≡ true
 or_true true b h = refl
 or_true false b h = h
 
-same_within : (labels : Labels) → is_within labels labels ≡ true
-same_within [] = refl
-same_within (label ∷ labels) = rw ((same_name_decides (label ∷ labels) (label ∷ labels)).1 refl) refl
+pub is_within-refl : (name : Labels) → is_within name name ≡ true
+is_within-refl [] = refl
+is_within-refl (label ∷ labels) = rw ((same_name_decides (label ∷ labels) (label ∷ labels)).1 refl) refl
 
 suffix_within : (first apex : Labels) → is_within (first ++ apex) apex ≡ true
-suffix_within [] apex = same_within apex
+suffix_within [] apex = is_within-refl apex
 suffix_within (label ∷ first) apex = or_true _ _ (suffix_within first apex)
 
 pub is_within-suffix : (labels apex : Labels) → IsTrue (is_within labels apex) ↔ ((first : Labels) × (labels ≡ first ++ apex))
 is_within-suffix labels apex =
     (within_suffix labels apex, λ some. subst (λ ls. is_within ls apex ≡ true) (sym some.1) (suffix_within some.0 apex))
+
+-- what is within a name is within each name above it
+pub is_within-trans : (name middle apex : Labels) → is_within name middle ≡ true → is_within middle apex ≡ true → is_within name apex ≡ true
+is_within-trans name middle apex lower upper =
+    let below = within_suffix name middle lower in
+    let above = within_suffix middle apex upper in
+    let whole : name ≡ (below.0 ++ above.0) ++ apex = below.1 ∙ ap (λ ls. below.0 ++ ls) above.1 ∙ sym (append_assoc below.0 above.0 apex) in
+    subst (λ ls. is_within ls apex ≡ true) (sym whole) (suffix_within (below.0 ++ above.0) apex)
+
+pub is_within-above : (name first apex : Labels) → is_within name (first ++ apex) ≡ true → is_within name apex ≡ true
+is_within-above name first apex within = is_within-trans name (first ++ apex) apex within (suffix_within first apex)
+
+-- each name is within the root
+pub is_within-root : (name : Labels) → is_within name [] ≡ true
+is_within-root [] = refl
+is_within-root (label ∷ labels) = or_true (same_name (label ∷ labels) []) (is_within labels []) (is_within-root labels)
 
 -- while the wire form is longer than that of the apex, its first label does not count
 pub within_step : (name apex : Labels) (rest label tail suffix octets : Octets) → is_within name apex ≡ is_within (labels_of_wire rest) apex → IsWire rest → labels_of_wire rest ≡ label ∷ labels_of_wire tail → suffix ≡ octets → IsWire octets → labels_of_wire octets ≡ apex → length suffix < length rest → is_within name apex ≡ is_within (labels_of_wire tail) apex

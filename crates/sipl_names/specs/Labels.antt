@@ -1,5 +1,5 @@
 -- Names as lists of labels, the one next to the root last (RFC 1034, 3.1), and their wire form.
-use Rattle.std.specs.Prelude.{◌≡◌, ℕ, ◌+◌, ◌<◌, ◌≤◌, Bool, ◌||◌, List, [], ◌∷◌, ◌++◌, length, map, Option, None, Some, Result, Ok, Err, nat_eq, nat_lt, if◌then◌else◌, ◌==◌}
+use Rattle.std.specs.Prelude.{◌≡◌, ℕ, ◌+◌, ◌<◌, ◌≤◌, Bool, false, ◌||◌, List, [], ◌∷◌, ◌++◌, length, map, Option, None, Some, Result, Ok, Err, nat_eq, nat_lt, if◌then◌else◌, ◌==◌, codes}
 use Rattle.std.specs.List.{AllByRecursion, flat_map}
 use Rattle.std.specs.Str.{str_to_ascii_lowercase}
 use lib.Pointwise.{pointwise}
@@ -51,6 +51,19 @@ is_within (label ∷ labels) apex = same_name (label ∷ labels) apex || is_with
 abbrev pub parent_of : Labels → Option Labels
 parent_of [] = None
 parent_of (label ∷ labels) = Some labels
+
+-- RFC 4592, 2.1.1: the wildcard domain name next below a name
+abbrev pub wildcard_at : Labels → Labels
+wildcard_at name = codes "*" ∷ name
+
+-- RFC 4592, 2.1.1: whether the name is a wildcard domain name: its first label is an asterisk
+abbrev pub is_wildcard : Labels → Bool
+is_wildcard [] = false
+is_wildcard (label ∷ labels) = pointwise nat_eq label (codes "*")
+
+-- the wildcard domain name next below the parent of a name; the root is its own
+abbrev pub wildcard_beside : Labels → Labels
+wildcard_beside name = elim (parent_of name) [ Some parent ↦ wildcard_at parent | None ↦ [] ]
 
 -- the fault of octets that are not a label: none, or more than 63
 abbrev pub label_fault : Octets → Option InvalidName

@@ -17,3 +17,8 @@ pub fn text_has_at_most_1004_octets()
     ensures bound { (labels : Labels) → IsName labels → length (text_of labels) ≤ 1004 }
     ensures constant { MAX_NAME_TEXT_LEN ≡ 1004 }
 {}
+
+/// A name has at most 127 labels.
+pub fn names_have_at_most_127_labels()
+    ensures { (labels : Labels) → IsName labels → length labels ≤ 127 }
+{}

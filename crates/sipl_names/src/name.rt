@@ -1,8 +1,8 @@
-ghost use Rattle.std.specs.Prelude.{◌≡◌, ◌↔◌, ◌+◌, ◌≤◌, [], ◌++◌, length, IsTrue, IsOk, IfOk, IfErr, IfSome, OnOk, OnErr, vec_len, vec_capacity};
+ghost use Rattle.std.specs.Prelude.{◌≡◌, ◌↔◌, ◌+◌, ◌≤◌, [], ◌++◌, Some, false, length, IsTrue, IsOk, IfOk, IfErr, IfSome, OnOk, OnErr, vec_len, vec_capacity};
 ghost use Rattle.std.specs.Option.{option_copied};
 ghost use Rattle.std.specs.Cmp.{partial_equiv_from_equiv};
 ghost use Rattle.std.specs.Cmp.Lexicographic.{lists_equiv, nat_list_eq_equiv};
-ghost use Rattle.sipl_names.specs.Labels.{Labels, IsName, wire_length, same_name, is_within, parent_of, prefixed_of, top_label_of};
+ghost use Rattle.sipl_names.specs.Labels.{Labels, IsName, wire_length, same_name, is_within, parent_of, wildcard_beside, is_wildcard, prefixed_of, top_label_of};
 ghost use Rattle.sipl_names.specs.LabelSlices.{octets_of};
 ghost use Rattle.sipl_names.specs.NameFault.{IfInvalid};
 ghost use Rattle.sipl_names.specs.NamePrint.{text_of};
@@ -177,6 +177,46 @@ impl Name {
         };
         let wire = Vec::from_slice(alloc, rest)?;
         Ok(Some(Name { wire }))
+    }
+
+    /// Drops the first label, so that the name is its parent (RFC 1034, 3.1). Returns false for the
+    /// root, which stays. Does not allocate.
+    pub fn pop_label(&mut self) -> bool
+        ensures popped { IsTrue result → parent_of self.old ≡ Some self.new }
+        ensures root { result ≡ false → (self.old ≡ []) × (self.new ≡ []) }
+        ensures limits { IsName self.new }
+    {
+        let Some((label, _)) = split_label(&self.wire) else {
+            return false;
+        };
+        let prefixed_len = label.len() + 1;
+        self.wire.drain(..prefixed_len);
+        true
+    }
+
+    /// Replaces the first label by an asterisk: the name is the wildcard domain name next below its
+    /// parent (RFC 4592, 2.1.1). The root stays. Does not allocate.
+    pub fn to_wildcard(&mut self)
+        ensures value { self.new ≡ wildcard_beside self.old }
+        ensures limits { IsName self.new }
+    {
+        let Some((label, _)) = split_label(&self.wire) else {
+            return;
+        };
+        let surplus = label.len() - 1;
+        self.wire.drain(..surplus);
+        self.wire[0] = 1;
+        self.wire[1] = b'*';
+    }
+
+    /// Whether the name is a wildcard domain name: its first label is an asterisk (RFC 4592, 2.1.1).
+    pub fn is_wildcard(&self) -> bool
+        ensures { result ≡ is_wildcard self.now }
+    {
+        let Some((label, _)) = split_label(&self.wire) else {
+            return false;
+        };
+        label == b"*".as_slice()
     }
 
     /// The label next to the root, as `com`; None for the root.
