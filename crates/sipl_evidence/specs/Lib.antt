@@ -5,6 +5,7 @@ pub mod Items
 pub mod Known
 pub mod Places
 pub mod Walks
+pub mod WalkPlaces
 pub mod Spots
 pub mod Lists
 pub mod Dependents

@@ -1,5 +1,5 @@
 -- Look-ups of record sets (RFC 2181, 5), and computations that make them one after another.
-use Rattle.std.specs.Prelude.{List, [], ◌∷◌}
+use Rattle.std.specs.Prelude.{List, [], ◌∷◌, Option, None, Some}
 use Rattle.sipl_names.specs.Labels.{Labels}
 use Rattle.sipl_records.specs.declared.data.Data.{Data}
 use Rattle.sipl_records.specs.declared.kind.Kind.{Kind}
@@ -27,6 +27,11 @@ result_of look (ask k next) = result_of look (next (look k))
 abbrev pub asked : {A : Type 0} → Look → Asking A → List Key
 asked look (done value) = []
 asked look (ask k next) = k ∷ asked look (next (look k))
+
+-- the key that is asked for next, if there is one
+abbrev pub next_key : {A : Type 0} → Asking A → Option Key
+next_key (done value) = None
+next_key (ask k next) = Some k
 
 -- one computation after another
 abbrev pub and_then : {A B : Type 0} → Asking A → (A → Asking B) → Asking B

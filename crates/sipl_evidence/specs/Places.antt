@@ -2,7 +2,7 @@
 use Rattle.std.specs.Prelude.{◌≡◌, ℕ, ◌<◌, List, length, Option, None, Some, position}
 use Rattle.sipl_names.specs.Labels.{Labels}
 use Rattle.sipl_records.specs.declared.kind.Kind.{Kind}
-use Rattle.sipl_records.specs.declared.kind.Kind.TheVariants.{Address4, Address6, Alias, Service, Pointer}
+use Rattle.sipl_records.specs.declared.kind.Kind.TheVariants.{Address4, Address6, Alias, Service, Pointer, Exists}
 use Rattle.sipl_records.specs.declared.record.Key.{Key}
 use Rattle.sipl_records.specs.Sets.{same_key}
 use Rattle.sipl_evidence.specs.declared.places.Places.{Places}
@@ -15,6 +15,7 @@ place_at places Address6 = places.address6
 place_at places Alias = places.alias
 place_at places Service = places.service
 place_at places Pointer = places.pointer
+place_at places Exists = places.exists
 
 -- the place of a kind, where there are places
 abbrev pub place_among : Option Places → Kind → Option ℕ

@@ -11,8 +11,11 @@ pub mod laws;
 mod linked;
 mod lists;
 mod places;
+mod reach;
 mod spot;
+mod turn;
 mod walk;
+mod walk_place;
 
 pub use dependents::Dependents;
 pub use evidence::{Evidence, Refused};

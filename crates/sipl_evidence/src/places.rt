@@ -22,6 +22,7 @@ pub(crate) struct Places {
     alias: Option<usize>,
     service: Option<usize>,
     pointer: Option<usize>,
+    exists: Option<usize>,
 }
 
 impl Places {
@@ -35,6 +36,7 @@ impl Places {
             alias: None,
             service: None,
             pointer: None,
+            exists: None,
         }
     }
 
@@ -48,6 +50,7 @@ impl Places {
             Kind::Alias => self.alias,
             Kind::Service => self.service,
             Kind::Pointer => self.pointer,
+            Kind::Exists => self.exists,
         }
     }
 
@@ -62,6 +65,7 @@ impl Places {
             Kind::Alias => self.alias = place,
             Kind::Service => self.service = place,
             Kind::Pointer => self.pointer = place,
+            Kind::Exists => self.exists = place,
         }
     }
 }
