@@ -4,6 +4,7 @@ pub mod EvidenceFault
 pub mod Items
 pub mod Known
 pub mod Places
+pub mod Enclosers
 pub mod Walks
 pub mod WalkPlaces
 pub mod Spots

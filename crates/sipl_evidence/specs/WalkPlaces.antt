@@ -1,12 +1,15 @@
 -- Places on walks, and what leads from one to another.
-use Rattle.std.specs.Prelude.{◌≡◌, ◌≢◌, ℕ, ◌-◌, ◌<◌, IsSome, IsSomeAnd, List, [], Some}
-use Rattle.sipl_names.specs.Labels.{Labels}
+use Rattle.std.specs.Prelude.{◌≡◌, ◌≢◌, ℕ, ◌-◌, ◌<◌, IsSome, IsSomeAnd, List, [], Option, Some, option_map}
+use Rattle.sipl_names.specs.Labels.{Labels, parent_of}
 use Rattle.sipl_records.specs.declared.data.Data.{Data}
 use Rattle.sipl_records.specs.declared.kind.Kind.{Kind}
+use Rattle.sipl_records.specs.declared.kind.Kind.TheVariants.{Alias as alias_kind, Exists}
 use Rattle.sipl_records.specs.declared.record.Key.{Key}
 use Rattle.sipl_evidence.specs.declared.walk_place.Held.{Held}
 use Rattle.sipl_evidence.specs.declared.walk_place.Held.TheVariants.{Lent, Own}
 use Rattle.sipl_evidence.specs.declared.walk_place.Place.{Place}
+use Rattle.sipl_evidence.specs.declared.walk_place.Stage.{Stage}
+use Rattle.sipl_evidence.specs.declared.walk_place.Stage.TheVariants.{Set, Alias, Existence, Ancestor, WildcardSet, WildcardAlias}
 use Rattle.sipl_evidence.specs.declared.reach.Climb.{Climb}
 use Rattle.sipl_evidence.specs.declared.reach.Climb.TheVariants.{Wildcard, Lacking as climb_lacking, Nothing as climb_nothing}
 use Rattle.sipl_evidence.specs.declared.reach.Leg.{Leg}
@@ -18,7 +21,7 @@ use Rattle.sipl_evidence.specs.declared.turn.Turn.TheVariants.{Answer, Target, L
 use Rattle.sipl_evidence.specs.Answers.{Next, at_alias, at_encloser, at_name, at_source, asking_within, max_ancestors}
 use Rattle.sipl_evidence.specs.Items.{Item}
 use Rattle.sipl_evidence.specs.Known.{advance}
-use Rattle.sipl_evidence.specs.Looks.{Asking, done, next_key}
+use Rattle.sipl_evidence.specs.Looks.{Asking, done, key, next_key}
 use Rattle.sipl_evidence.specs.Walks.{asking_from}
 
 -- the name that is held
@@ -40,9 +43,19 @@ abbrev pub IsLentApart : Held → Labels → Type 0
 IsLentApart (Lent name) from = name.now ≢ from
 IsLentApart (Own name) from = ⊥
 
--- a place asks for a set: where it lends a name, for one of that name
-abbrev pub PlaceAsks : Place → Kind → Type 0
-PlaceAsks place kind = IsSomeAnd (next_key (place_asking place kind)) (IsLentBy place.name)
+-- the key of the set that is asked for at a stage, if there is one
+abbrev pub stage_key : Stage → Kind → Labels → Option Key
+stage_key Set kind name = Some (key name kind)
+stage_key Alias kind name = Some (key name alias_kind)
+stage_key Existence kind name = Some (key name Exists)
+stage_key (Ancestor more) kind name = option_map (λ parent. key parent Exists) (parent_of name)
+stage_key WildcardSet kind name = Some (key name kind)
+stage_key WildcardAlias kind name = Some (key name alias_kind)
+
+-- a place asks for the set of its stage: where it lends a name, for one of that name
+pub record PlaceAsks (place : Place) (kind : Kind) : Type 0 where
+  pub some : IsSomeAnd (stage_key place.stage kind (name_of place.name)) (IsLentBy place.name)
+  pub key : next_key (place_asking place kind) ≡ stage_key place.stage kind (name_of place.name)
 
 -- what a name's set and alias lead to, where this follows an alias, and that where there is neither
 abbrev pub IsTurn : List Item → Asking (List Data) → Next → Kind → Labels → Asking (List Data) → Turn → Type 0

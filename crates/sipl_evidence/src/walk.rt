@@ -96,7 +96,7 @@ impl Walk {
     {
         match self.reach(alloc, evidence)? {
             Reach::Answer(set) => Ok(Some(set)),
-            Reach::Lacking(_) => Ok(None),
+            Reach::Lacking(_place) => Ok(None),
         }
     }
 
@@ -113,11 +113,13 @@ impl Walk {
             (IsSomeAnd (first_unknown evidence.now (walk_asking self.old))
             (λ k. k.name ≢ self.old.name) ⊎ MayCopy evidence.now self.old.stage) }
     {
-        let Reach::Lacking(place) = self.reach(alloc, evidence)? else {
-            return Ok(());
+        let walk = &*self;
+        let place = match walk.reach(alloc, evidence)? {
+            Reach::Answer(_) => return Ok(()),
+            Reach::Lacking(place) => place,
         };
         let (left, stage) = (place.left, place.stage);
-        let other = place.name.into_other(alloc, &self.name)?;
+        let other = place.name.into_other(alloc, &walk.name)?;
         self.go_to(other, left, stage);
         Ok(())
     }
@@ -142,13 +144,14 @@ impl Walk {
             (IsSome (first_unknown evidence.now (walk_asking self.old))
             ⊎ MayCopy evidence.now self.old.stage) }
     {
-        let place = match self.reach(alloc, evidence)? {
+        let walk = &*self;
+        let place = match walk.reach(alloc, evidence)? {
             Reach::Answer(set) => return Ok(Reached::Answer(set)),
             Reach::Lacking(place) => place,
         };
-        let key = place.wanted(alloc, self.kind)?;
+        let key = place.wanted(alloc, walk.kind)?;
         let (left, stage) = (place.left, place.stage);
-        let other = place.name.into_other(alloc, &self.name)?;
+        let other = place.name.into_other(alloc, &walk.name)?;
         self.go_to(other, left, stage);
         Ok(Reached::Wanting(key))
     }

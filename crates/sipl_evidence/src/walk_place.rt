@@ -1,8 +1,8 @@
 //! Places on walks.
-ghost use Rattle.std.specs.Prelude.{◌≡◌, ◌≢◌, Some, IfOk, OnErr, IsSome};
+ghost use Rattle.std.specs.Prelude.{◌≡◌, ◌≢◌, Some, IfOk, OnErr};
 ghost use Rattle.std.specs.Option.{unwrap_or};
 ghost use Rattle.sipl_evidence.specs.Looks.{next_key};
-ghost use Rattle.sipl_evidence.specs.WalkPlaces.{name_of, place_asking, IsLentApart};
+ghost use Rattle.sipl_evidence.specs.WalkPlaces.{name_of, place_asking, IsLentApart, PlaceAsks};
 
 use sipl_names::Name;
 use sipl_records::{Key, Kind};
@@ -70,8 +70,12 @@ impl Held<'_> {
         ensures memory { OnErr result (IsLentApart self.entry from.now) }
     {
         match self {
-            Held::Lent(name) if name == from => Ok(None),
-            Held::Lent(name) => Ok(Some(name.dup(alloc)?)),
+            Held::Lent(name) => {
+                if name == from {
+                    return Ok(None);
+                }
+                Ok(Some(name.dup(alloc)?))
+            }
             Held::Own(name) => Ok(Some(name)),
         }
     }
@@ -80,7 +84,7 @@ impl Held<'_> {
 impl Place<'_> {
     // The key of the set that is asked for next.
     pub(crate) fn wanted(&self, alloc: Global, kind: Kind) -> Result<Key, AllocError>
-        requires { IsSome (next_key (place_asking self.now kind)) }
+        requires { PlaceAsks self.now kind }
         ensures { IfOk result (λ k. next_key (place_asking self.now kind) ≡ Some k) }
     {
         let name = self.name.get();
