@@ -78,7 +78,7 @@ module _ (look : Look) where
   length-asking name kind = length-asked_within 127 8 name kind
 
 -- no more ancestors are asked for than a name has labels
-at_encloser-all : (ancestors : ℕ) (name : Labels) (next : Labels → Asking (List Data)) → length name ≤ ancestors → at_encloser ancestors name next ≡ at_encloser (length name) name next
+pub at_encloser-all : (ancestors : ℕ) (name : Labels) (next : Labels → Asking (List Data)) → length name ≤ ancestors → at_encloser ancestors name next ≡ at_encloser (length name) name next
 at_encloser-all zero [] next few = refl
 at_encloser-all zero (label ∷ parent) next few = absurd (omega (arith, few))
 at_encloser-all (suc more) [] next few = refl

@@ -1,6 +1,6 @@
 -- What proofs of the crates above cite.
 pub use Rattle.sipl_evidence.proofs.Alike.{result_of-alike, asked-alike}
-pub use Rattle.sipl_evidence.proofs.FewSets.{length-asked_within, length-asking}
+pub use Rattle.sipl_evidence.proofs.FewSets.{length-asked_within, length-asking, at_encloser-all, max_ancestors-is, max_aliases-is}
 pub use Rattle.sipl_evidence.proofs.AliasAnswers.{asking_within-is}
 pub use Rattle.sipl_evidence.proofs.Knowing.{advance-advance, first_unknown-advance, result_of-advance, first_unknown-find}
 pub use Rattle.sipl_evidence.proofs.Traces.{unique-trace, trace-push, unique-whole_trace}

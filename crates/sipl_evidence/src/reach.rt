@@ -98,8 +98,7 @@ fn leg_from<'a, 'e: 'a>(
         }
         Stage::WildcardSet => {
             let name = name.into_name(alloc)?;
-            let turn = set_turn(evidence, &name, kind, left);
-            Ok(wildcard_leg(name, left, turn))
+            Ok(source_leg(evidence, name, left, kind))
         }
         Stage::WildcardAlias => {
             let name = name.into_name(alloc)?;
@@ -177,10 +176,7 @@ fn ancestor_leg<'a, 'e: 'a>(
         (asking_from (Stage.Ancestor more) left kind name) left kind) }
 {
     match climb_from(alloc, evidence, name, more)? {
-        Climb::Wildcard(name) => {
-            let turn = set_turn(evidence, &name, kind, left);
-            Ok(wildcard_leg(name, left, turn))
-        }
+        Climb::Wildcard(name) => Ok(source_leg(evidence, name, left, kind)),
         Climb::Lacking(name, more) => {
             let name = Held::Own(name);
             let stage = Stage::Ancestor(more);
@@ -216,6 +212,15 @@ fn climb_from(
         more -= 1;
     }
     Ok(Climb::Nothing)
+}
+
+// What follows the wildcard that is the source of synthesis: its set, or where that is empty its
+// alias.
+fn source_leg<'a, 'e>(evidence: &'e Evidence, name: Name, left: u8, kind: Kind) -> Leg<'a, 'e>
+    ensures { IsLeg evidence.now (asking_from Stage.WildcardSet left kind name) left kind result }
+{
+    let turn = set_turn(evidence, &name, kind, left);
+    wildcard_leg(name, left, turn)
 }
 
 // What follows the set and the alias of a wildcard: where it has neither, no answer.

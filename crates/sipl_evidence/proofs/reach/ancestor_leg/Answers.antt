@@ -13,8 +13,7 @@ returns-in-Wildcard c =
     let next = next_within max_ancestors c.args.left kind in
     let asking = at_encloser c.args.more c.args.name (at_source next kind) in
     let source = at_name next kind c.in-Wildcard.name (done []) in
-    IsLeg-same items asking source (subst (IsClimb items asking next kind) c.in-Wildcard.is (c.in_ok-name.ensures next kind)) c.args.left kind c.wildcard_leg.result
-    (c.wildcard_leg.ensures items kind source (c.set_turn-turn.ensures (done [])))
+    IsLeg-same items asking source (subst (IsClimb items asking next kind) c.in-Wildcard.is (c.in_ok-name.ensures next kind)) c.args.left kind c.source_leg.result c.source_leg.ensures
 
 pub returns-in-Lacking : goal.returns-in-Lacking
 returns-in-Lacking c =

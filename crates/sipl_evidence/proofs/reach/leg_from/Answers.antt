@@ -1,8 +1,9 @@
 use Rattle.std.proofs.Common.{IfOk, sym, subst, []}
-use Rattle.sipl_evidence.specs.Answers.{answering, at_alias, at_name, at_source, max_ancestors, unless_exists}
+use Rattle.sipl_evidence.specs.Answers.{answering, at_alias, at_source, max_ancestors, unless_exists}
 use Rattle.sipl_evidence.specs.Looks.{done}
 use Rattle.sipl_evidence.specs.WalkPlaces.{IsLeg, IsTurn, name_of}
 use Rattle.sipl_evidence.specs.Walks.{asking_from, next_within}
+use Rattle.sipl_evidence.specs.declared.walk_place.Stage.TheVariants.{WildcardSet}
 use Rattle.sipl_evidence.proofs.reach.leg_from.Goals as goal
 
 pub returns-in-Set-clause-leg : goal.returns-in-Set-clause-leg
@@ -36,11 +37,8 @@ returns-in_ok-name-in-WildcardSet-clause-leg c =
     let items = c.args.evidence.now in
     let kind = c.args.kind in
     let left = c.args.place.left in
-    let next = next_within max_ancestors left kind in
-    let name = c.in_ok-name-in-WildcardSet.name in
-    let leg = c.wildcard_leg.ensures items kind (at_name next kind name (done [])) (c.set_turn-turn-in-WildcardSet.ensures (done [])) in
-    subst (λ stage. IsLeg items (asking_from stage left kind (name_of c.args.place.name)) left kind c.wildcard_leg.result) (sym c.in-WildcardSet.is)
-    (subst (λ n. IsLeg items (at_name next kind n (done [])) left kind c.wildcard_leg.result) c.in_ok-name-in-WildcardSet.ensures leg)
+    subst (λ stage. IsLeg items (asking_from stage left kind (name_of c.args.place.name)) left kind c.source_leg.result) (sym c.in-WildcardSet.is)
+    (subst (λ name. IsLeg items (asking_from WildcardSet left kind name) left kind c.source_leg.result) c.in_ok-name-in-WildcardSet.ensures c.source_leg.ensures)
 
 pub returns-in_ok-name-in-WildcardAlias-clause-leg : goal.returns-in_ok-name-in-WildcardAlias-clause-leg
 returns-in_ok-name-in-WildcardAlias-clause-leg c =
@@ -49,6 +47,6 @@ returns-in_ok-name-in-WildcardAlias-clause-leg c =
     let left = c.args.place.left in
     let next = next_within max_ancestors left kind in
     let name = c.in_ok-name-in-WildcardAlias.name in
-    let leg = c.wildcard_leg-in-WildcardAlias.ensures items kind (at_alias next name (done [])) (c.alias_turn-turn-in-WildcardAlias.ensures kind (done [])) in
-    subst (λ stage. IsLeg items (asking_from stage left kind (name_of c.args.place.name)) left kind c.wildcard_leg-in-WildcardAlias.result) (sym c.in-WildcardAlias.is)
-    (subst (λ n. IsLeg items (at_alias next n (done [])) left kind c.wildcard_leg-in-WildcardAlias.result) c.in_ok-name-in-WildcardAlias.ensures leg)
+    let leg = c.wildcard_leg.ensures items kind (at_alias next name (done [])) (c.alias_turn-turn-in-WildcardAlias.ensures kind (done [])) in
+    subst (λ stage. IsLeg items (asking_from stage left kind (name_of c.args.place.name)) left kind c.wildcard_leg.result) (sym c.in-WildcardAlias.is)
+    (subst (λ n. IsLeg items (at_alias next n (done [])) left kind c.wildcard_leg.result) c.in_ok-name-in-WildcardAlias.ensures leg)
