@@ -11,7 +11,7 @@ use Rattle.sipl_names.specs.Labels.{is_within}
 use Rattle.sipl_records.specs.declared.kind.Kind.TheVariants.{Alias}
 use Rattle.sipl_records.specs.declared.record.Record.{Record}
 use Rattle.sipl_records.specs.declared.record.Key.{Key}
-use Rattle.sipl_records.specs.Sets.{same_record, conflicts, has_kind, has_some_kind, key_of, shares_set}
+use Rattle.sipl_records.specs.Sets.{same_record, conflicts, has_own_kind, has_some_kind, key_of, shares_set}
 use Rattle.sipl_records.proofs.Public.{same_name-sym, shares_set-Decides, shares_set-Some, same_record-sym}
 use Rattle.sipl_masterfile.specs.Intake.{Fits}
 use Rattle.sipl_masterfile.specs.Zones.{Zone, IsZone, has_repeats, sets_fit}
@@ -49,7 +49,7 @@ repeats-push (x ∷ records) r distinct new =
 
 pub conflicts-sym : (a b : Record) → conflicts a b ≡ conflicts b a
 conflicts-sym a b =
-    swapped _ _ (has_some_kind a.value) (has_some_kind b.value) (has_kind Alias a.value) (has_kind Alias b.value) (same_name-sym a.owner b.owner)
+    swapped _ _ (has_some_kind a.value) (has_some_kind b.value) (has_own_kind Alias a.value) (has_own_kind Alias b.value) (same_name-sym a.owner b.owner)
   where
     swapped : (s t k l x y : Bool) → s ≡ t → (s && k && l && (x || y)) ≡ (t && l && k && (y || x))
     swapped s true true true true true same = rw same refl

@@ -10,7 +10,7 @@ use Rattle.sipl_records.specs.Octets.{begins_with_letter}
 use Rattle.sipl_records.specs.declared.data.Data.{Data}
 use Rattle.sipl_records.specs.declared.data.Data.TheVariants as values
 use Rattle.sipl_records.specs.declared.kind.Kind.{Kind}
-use Rattle.sipl_records.specs.declared.kind.Kind.TheVariants.{Address4, Address6, Alias, Service, Pointer}
+use Rattle.sipl_records.specs.declared.kind.Kind.TheVariants.{Address4, Address6, Alias, Service, Pointer, Exists}
 use Rattle.sipl_masterfile.specs.Readers.{◌>>=◌, first, last, name_in, number_in, address4_in, address6_in, string_of}
 use Rattle.sipl_masterfile.specs.declared.fault.ZoneCause.{ZoneCause}
 use Rattle.sipl_masterfile.specs.declared.fault.ZoneCause.TheVariants.{MissingField, GenericForm}
@@ -53,13 +53,14 @@ pointer_data origin fields = do
   replacement ← last (name_in origin) regexp.1
   Ok (values.Pointer order.0 preference.0 flags.0 services.0 regexp.0 replacement)
 
--- the data of a kind
+-- the data of a kind; those of existence keep nothing
 abbrev pub data_of_kind : Kind → Labels → List Octets → Result Data ZoneCause
 data_of_kind Address4 origin fields = address4_data fields
 data_of_kind Address6 origin fields = address6_data fields
 data_of_kind Alias origin fields = alias_data origin fields
 data_of_kind Service origin fields = service_data origin fields
 data_of_kind Pointer origin fields = pointer_data origin fields
+data_of_kind Exists origin fields = Ok values.Bare
 
 -- the kind whose mnemonic is this type, in either case
 abbrev pub kind_of_type : Octets → Option Kind

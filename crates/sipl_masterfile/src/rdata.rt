@@ -42,6 +42,7 @@ fn read_kind(alloc: Global, kind: Kind, fields: &[&[u8]], origin: &Name) -> Resu
         Kind::Alias => read_alias(alloc, fields, origin),
         Kind::Service => read_service(alloc, fields, origin),
         Kind::Pointer => read_pointer(alloc, fields, origin),
+        Kind::Exists => Ok(Data::Bare),
     }
 }
 
