@@ -1,15 +1,11 @@
 -- How far a computation gets with the sets that are known.
-use Rattle.std.proofs.Common.{◌≡◌, ℕ, suc, ◌+◌, ◌<◌, Bool, true, false, List, Option, None, Some, refl, sym, ap, ◌∙◌, arith}
-use Rattle.sipl_names.specs.Labels.{Labels}
+use Rattle.std.proofs.Common.{◌≡◌, ℕ, suc, ◌+◌, ◌<◌, Bool, true, false, List, Option, None, Some, IsSome, refl, sym, ap, ◌∙◌, arith}
 use Rattle.sipl_records.specs.declared.data.Data.{Data}
-use Rattle.sipl_records.specs.declared.kind.Kind.{Kind}
-use Rattle.sipl_records.specs.declared.kind.Kind.TheVariants.{Alias}
 use Rattle.sipl_records.specs.declared.record.Key.{Key}
 use Rattle.sipl_evidence.specs.Items.{Item}
 use Rattle.sipl_evidence.specs.Known.{known, first_unknown, advance, known_result}
-use Rattle.sipl_evidence.specs.Looks.{Asking, done, ask, and_then, key}
-use Rattle.sipl_evidence.specs.Walks.{WalkState, asking_at, walk_asking}
-use Rattle.sipl_evidence.proofs.Public.{first_unknown-next_key, next_key, next_key-alias, next_key-set}
+use Rattle.sipl_evidence.specs.Looks.{Asking, done, ask, and_then, next_key}
+use Rattle.sipl_evidence.proofs.Public.{first_unknown-next_key}
 
 -- equal continuations make equal computations
 pub and_then-alike : {A B : Type 0} (first : Asking A) (f g : A → Asking B) → ((x : A) → f x ≡ g x) → and_then first f ≡ and_then first g
@@ -89,17 +85,13 @@ known_count-asks {A = A} items k next value is = by (known items k) is
     by None is = let never : None ≡ Some value = is in cc
     by (Some set) is = omega arith
 
-known_count-some : {A : Type 0} (items : List Item) (asking : Asking A) (k : Key) (value : A) → next_key asking ≡ Some k → known_result items asking ≡ Some value → 0 < known_count items asking
-known_count-some items (done x) k value asks is = let never : None ≡ Some k = asks in cc
-known_count-some items (ask other next) k value asks is = known_count-asks items other next value is
+known_count-some : {A : Type 0} (items : List Item) (asking : Asking A) (value : A) → IsSome (next_key asking) → known_result items asking ≡ Some value → 0 < known_count items asking
+known_count-some items (done x) value asks is = let never : false ≡ true = asks in cc
+known_count-some items (ask k next) value asks is = known_count-asks items k next value is
 
-known_count-at : (items : List Item) (is_empty : Bool) (left : ℕ) (name : Labels) (kind : Kind) (set : List Data) → known_result items (asking_at is_empty left name kind) ≡ Some set → 0 < known_count items (asking_at is_empty left name kind)
-known_count-at items true left name kind set is = known_count-some items (asking_at true left name kind) (key name Alias) set (next_key-alias true left name kind refl) is
-known_count-at items false left name kind set is = known_count-some items (asking_at false left name kind) (key name kind) set (next_key-set false left name kind refl) is
-
--- after a walk fewer known sets are left
-pub known_count-walk : {B : Type 0} (items : List Item) (walk : WalkState) (next : List Data → Asking B) (set : List Data) (left : Asking B) → known_result items (walk_asking walk) ≡ Some set → left ≡ next set → known_count items left < known_count items (and_then (walk_asking walk) next)
-known_count-walk items walk next set left is same =
-    let some = known_count-at items walk.is_empty walk.left walk.name walk.kind set is in
-    let all = known_count-result items next (walk_asking walk) set is in
+-- after a walk, which asks for a set, fewer known sets are left
+pub known_count-walk : {B : Type 0} (items : List Item) (walk : Asking (List Data)) (next : List Data → Asking B) (set : List Data) (left : Asking B) → IsSome (next_key walk) → known_result items walk ≡ Some set → left ≡ next set → known_count items left < known_count items (and_then walk next)
+known_count-walk items walk next set left asks is same =
+    let some = known_count-some items walk set asks is in
+    let all = known_count-result items next walk set is in
     omega (arith, some, all, ap (known_count items) same)

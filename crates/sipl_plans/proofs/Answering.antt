@@ -1,45 +1,115 @@
--- One step of an answer over aliases.
-use Rattle.std.proofs.Common.{◌≡◌, ℕ, zero, suc, ◌+◌, ◌-◌, ◌<◌, ◌≤◌, false, nat_eq, List, [], ◌∷◌, length, Option, Some, None, sym, ap, ◌∙◌, arith}
+-- An answer at one name, over its alias and its wildcard.
+use Rattle.std.proofs.Common.{◌≡◌, ℕ, zero, suc, ◌-◌, ◌==◌, true, false, nat_eq, List, [], ◌∷◌, length, Option, None, Some, if◌then◌else◌, inl, inr, refl, sym, ap, ◌∙◌, arith}
+use Rattle.std.proofs.lemmas.Bool.{cases_Bool}
+use Rattle.std.proofs.lemmas.Map.Views.{exact_unsigned_eq}
 use Rattle.sipl_names.specs.Labels.{Labels}
 use Rattle.sipl_records.specs.declared.data.Data.{Data}
 use Rattle.sipl_records.specs.declared.kind.Kind.{Kind}
 use Rattle.sipl_records.specs.declared.kind.Kind.TheVariants.{Alias}
+use Rattle.sipl_evidence.specs.Answers.{Next, answer, asking_within, at_alias, at_name, at_source, first_target, max_aliases, max_ancestors, unless_exists}
 use Rattle.sipl_evidence.specs.Looks.{Look, key, Asking, done, result_of}
-use Rattle.sipl_evidence.specs.Answers.{asking_within, at_alias, first_target}
+use Rattle.sipl_evidence.specs.Walks.{next_within}
+use Rattle.sipl_evidence.proofs.Public.{asking_within-is}
+use Rattle.sipl_plans.specs.Synthesis.{IsSourceOfSynthesis}
 
--- what follows the set of a name, and its alias
-abbrev after_set : Labels → (Labels → Asking (List Data)) → List Data → Asking (List Data)
-after_set name next set = elim set as (λ _. Asking (List Data)) [ datum ∷ others ↦ done (datum ∷ others) | [] ↦ at_alias name next ]
+suc-apart : (n : ℕ) → nat_eq (suc n) 0 ≡ false
+suc-apart n = elim (cases_Bool (nat_eq (suc n) 0)) [
+  | inl same ↦ absurd (omega (arith, exact_unsigned_eq (suc n) 0 same))
+  | inr apart ↦ apart
+]
 
-abbrev after_alias : (Labels → Asking (List Data)) → Option Labels → Asking (List Data)
-after_alias next found = elim found as (λ _. Asking (List Data)) [ Some target ↦ next target | None ↦ done [] ]
+pub none_from_length : (set : List Data) → nat_eq (length set) 0 ≡ true → set ≡ []
+none_from_length [] none = refl
+none_from_length (datum ∷ others) none = let never : false ≡ true = sym (suc-apart (length others)) ∙ none in cc
 
--- the set of the name is the answer where it has data, or no alias is left
-pub own-answer : (look : Look) (name : Labels) (kind : Kind) (left : ℕ) (set : List Data) → set ≡ look (key name kind) → nat_eq (length set) 0 ≡ false → result_of look (asking_within left name kind) ≡ set
-own-answer look name kind zero set is some = sym is
-own-answer look name kind (suc left) [] is some = cc
-own-answer look name kind (suc left) (datum ∷ others) is some =
-    ap (λ s. result_of look (after_set name (λ target. asking_within left target kind) s)) (sym is)
+-- the target of a name's first alias, where so many may be followed
+abbrev pub target_of : Look → ℕ → Labels → Option Labels
+target_of look left name = if left == 0 then None else first_target (look (key name Alias))
 
--- the answer is that of the alias's target
-pub alias-answer : (look : Look) (name target : Labels) (kind : Kind) (left : ℕ) (set : List Data) → set ≡ look (key name kind) → length set ≡ 0 → first_target (look (key name Alias)) ≡ Some target → result_of look (asking_within (suc left) name kind) ≡ result_of look (asking_within left target kind)
-alias-answer look name target kind left [] is none to =
-    ap (λ s. result_of look (after_set name (λ t. asking_within left t kind) s)) (sym is)
-    ∙ ap (λ t. result_of look (after_alias (λ t. asking_within left t kind) t)) to
-alias-answer look name target kind left (datum ∷ others) is none to = let never : suc (length others) ≡ 0 = none in cc
+-- what follows the set of a name, and the first alias of a name
+abbrev after_set : Asking (List Data) → List Data → Asking (List Data)
+after_set otherwise set = elim set as (λ _. Asking (List Data)) [ datum ∷ others ↦ done (datum ∷ others) | [] ↦ otherwise ]
 
--- without an alias there is no answer
-pub no-answer : (look : Look) (name : Labels) (kind : Kind) (left : ℕ) (set : List Data) → set ≡ look (key name kind) → length set ≡ 0 → first_target (look (key name Alias)) ≡ None → result_of look (asking_within (suc left) name kind) ≡ set
-no-answer look name kind left [] is none to =
-    ap (λ s. result_of look (after_set name (λ t. asking_within left t kind) s)) (sym is)
-    ∙ ap (λ t. result_of look (after_alias (λ t. asking_within left t kind) t)) to
-no-answer look name kind left (datum ∷ others) is none to = let never : suc (length others) ≡ 0 = none in cc
+abbrev after_alias : (Labels → Asking (List Data)) → Asking (List Data) → Option Labels → Asking (List Data)
+after_alias next otherwise found = elim found as (λ _. Asking (List Data)) [ Some target ↦ next target | None ↦ otherwise ]
 
-pub one-less : (counter : ℕ) → counter < 8 → 8 - counter ≡ suc (8 - (counter + 1))
-one-less counter below = omega (arith, below)
+module _ (look : Look) (kind : Kind) where
+  -- the set of a name where it has data
+  own-name : (next : Next) (name : Labels) (otherwise : Asking (List Data)) (set : List Data) → set ≡ look (key name kind) → nat_eq (length set) 0 ≡ false → result_of look (at_name next kind name otherwise) ≡ set
+  own-name next name otherwise [] is some = let never : true ≡ false = some in cc
+  own-name next name otherwise (datum ∷ others) is some = ap (λ s. result_of look (after_set (at_alias next name otherwise) s)) (sym is)
 
--- where all aliases were followed, the set of the name is the answer
-pub last-answer : (look : Look) (name : Labels) (kind : Kind) (counter : ℕ) → 8 ≤ counter → look (key name kind) ≡ result_of look (asking_within (8 - counter) name kind)
-last-answer look name kind counter all =
-    let none : 0 ≡ 8 - counter = omega (arith, all) in
-    ap (λ left. result_of look (asking_within left name kind)) none
+  -- else what follows at its alias
+  none-name : (next : Next) (name : Labels) (otherwise : Asking (List Data)) (set : List Data) → set ≡ look (key name kind) → nat_eq (length set) 0 ≡ true → result_of look (at_name next kind name otherwise) ≡ result_of look (at_alias next name otherwise)
+  none-name next name otherwise [] is none = ap (λ s. result_of look (after_set (at_alias next name otherwise) s)) (sym is)
+  none-name next name otherwise (datum ∷ others) is none = let never : false ≡ true = sym (suc-apart (length others)) ∙ none in cc
+
+module _ (look : Look) (kind : Kind) where
+  target-suc : (left : ℕ) (name : Labels) → target_of look (suc left) name ≡ first_target (look (key name Alias))
+  target-suc left name = ap (λ b. if b then None else first_target (look (key name Alias))) (suc-apart left)
+
+  target-alias : (left : ℕ) (name target : Labels) (otherwise : Asking (List Data)) → Some target ≡ target_of look left name → result_of look (at_alias (next_within max_ancestors left kind) name otherwise) ≡ result_of look (asking_within max_ancestors (left - 1) target kind)
+  target-alias zero name target otherwise to = let never : Some target ≡ None = to in cc
+  target-alias (suc left) name target otherwise to =
+      let next : Labels → Asking (List Data) = λ t. asking_within max_ancestors left t kind in
+      let one : suc left - 1 ≡ left = omega arith in
+      ap (λ t. result_of look (after_alias next otherwise t)) (sym (to ∙ target-suc left name))
+      ∙ ap (λ n. result_of look (asking_within max_ancestors n target kind)) (sym one)
+
+  none-alias : (left : ℕ) (name : Labels) (otherwise : Asking (List Data)) → None ≡ target_of look left name → result_of look (at_alias (next_within max_ancestors left kind) name otherwise) ≡ result_of look otherwise
+  none-alias zero name otherwise to = refl
+  none-alias (suc left) name otherwise to = ap (λ t. result_of look (after_alias (λ t. asking_within max_ancestors left t kind) otherwise t)) (sym (to ∙ target-suc left name))
+
+  module _ (left : ℕ) (name : Labels) (set : List Data) (is : set ≡ look (key name kind)) where
+    abbrev source : Asking (List Data)
+    source = unless_exists max_ancestors name (at_source (next_within max_ancestors left kind) kind)
+
+    whole : result_of look (asking_within max_ancestors left name kind) ≡ result_of look (at_name (next_within max_ancestors left kind) kind name source)
+    whole = ap (result_of look) (asking_within-is max_ancestors left name kind)
+
+    -- data of the name are the answer
+    pub own-answer : nat_eq (length set) 0 ≡ false → result_of look (asking_within max_ancestors left name kind) ≡ set
+    own-answer some = whole ∙ own-name look kind (next_within max_ancestors left kind) name source set is some
+
+    module _ (none : nat_eq (length set) 0 ≡ true) where
+      -- else the answer is that at the target of its alias
+      pub alias-answer : (target : Labels) → Some target ≡ target_of look left name → result_of look (asking_within max_ancestors left name kind) ≡ result_of look (asking_within max_ancestors (left - 1) target kind)
+      alias-answer target to =
+          whole ∙ none-name look kind (next_within max_ancestors left kind) name source set is none ∙ target-alias left name target source to
+
+      module _ (to : None ≡ target_of look left name) where
+        -- else that at the wildcard
+        pub at-wildcard : result_of look (asking_within max_ancestors left name kind) ≡ result_of look source
+        at-wildcard =
+            whole ∙ none-name look kind (next_within max_ancestors left kind) name source set is none ∙ none-alias left name source to
+
+        -- which is nothing without a source of synthesis
+        pub no-answer : IsSourceOfSynthesis look name None → result_of look (asking_within max_ancestors left name kind) ≡ []
+        no-answer none = at-wildcard ∙ none (λ wildcard. at_name (next_within max_ancestors left kind) kind wildcard (done []))
+
+        module _ (wildcard : Labels) (at : IsSourceOfSynthesis look name (Some wildcard)) (there : List Data) (there_is : there ≡ look (key wildcard kind)) where
+          wildcard-whole : result_of look (asking_within max_ancestors left name kind) ≡ result_of look (at_name (next_within max_ancestors left kind) kind wildcard (done []))
+          wildcard-whole = at-wildcard ∙ at (λ wildcard. at_name (next_within max_ancestors left kind) kind wildcard (done []))
+
+          -- data of the wildcard are the answer
+          pub wildcard-answer : nat_eq (length there) 0 ≡ false → result_of look (asking_within max_ancestors left name kind) ≡ there
+          wildcard-answer some = wildcard-whole ∙ own-name look kind (next_within max_ancestors left kind) wildcard (done []) there there_is some
+
+          module _ (empty : nat_eq (length there) 0 ≡ true) where
+            -- else the answer is that at the target of its alias
+            pub wildcard_alias-answer : (target : Labels) → Some target ≡ target_of look left wildcard → result_of look (asking_within max_ancestors left name kind) ≡ result_of look (asking_within max_ancestors (left - 1) target kind)
+            wildcard_alias-answer target to =
+                wildcard-whole ∙ none-name look kind (next_within max_ancestors left kind) wildcard (done []) there there_is empty ∙ target-alias left wildcard target (done []) to
+
+            -- or nothing
+            pub wildcard_none-answer : None ≡ target_of look left wildcard → result_of look (asking_within max_ancestors left name kind) ≡ []
+            wildcard_none-answer to =
+                wildcard-whole ∙ none-name look kind (next_within max_ancestors left kind) wildcard (done []) there there_is empty ∙ none-alias left wildcard (done []) to
+
+max_aliases-is : max_aliases ≡ 8
+unfolding max_aliases
+max_aliases-is = refl
+
+-- the answer follows at most 8 aliases
+pub all-aliases : (look : Look) (name : Labels) (kind : Kind) → result_of look (asking_within max_ancestors 8 name kind) ≡ answer look name kind
+all-aliases look name kind = ap (λ left. result_of look (asking_within max_ancestors left name kind)) (sym max_aliases-is)

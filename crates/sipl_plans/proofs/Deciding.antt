@@ -37,14 +37,14 @@ module _ (question : Question) (client : Client) (items : List Item) where
     reads = λ look agrees. unique-whole_trace look (asking_route question client) items agrees run.trace (none-unknown items (asking_route question client) layout reached);
   }
 
-  -- a run reads at most 1,156 sets
-  pub few-read : IsRun (run_of question client items) → length items ≤ 1156
+  -- a run reads at most 80,648 sets
+  pub few-read : IsRun (run_of question client items) → length items ≤ 80648
   few-read run =
       let agrees = Agrees-known_look items (distinct-trace (asking_route question client) items run.trace) in
       omega (arith, length-trace (asking_route question client) items (known_look items) agrees run.trace, asked-few (known_look items) question client (few-sets items run.sets) run.client)
 
 -- and fewer where it still wants one
-pub few-wanting : (question : Question) (client : Client) (items : List Item) (k : Key) → IsRun (run_of question client items) → first_unknown items (asking_route question client) ≡ Some k → length items < 1156
+pub few-wanting : (question : Question) (client : Client) (items : List Item) (k : Key) → IsRun (run_of question client items) → first_unknown items (asking_route question client) ≡ Some k → length items < 80648
 few-wanting question client items k run next =
     let item : Item = record { key = k; number = 0; content = [] } in
     let set : IsSet k 0 [] = record { kind = All-nil _; few = omega arith; number = (λ _. refl, λ _. refl) } in
@@ -56,8 +56,8 @@ module _ (question : Question) (client : Client) (layout : Layout) (items : List
   few-found =
       subst HasFewServers (sound.route (known_look items) (Agrees-known_look items sound.distinct)) (route-few (known_look items) question client (few-sets items sound.sets))
 
-  -- and rests on at most 1,156 sets
-  pub few-items : length items ≤ 1156
+  -- and rests on at most 80,648 sets
+  pub few-items : length items ≤ 80648
   few-items =
       let look = known_look items in
       let keys : length (reads look question client) ≡ length (map (λ item. item.key) items) = ap length (sound.reads look (Agrees-known_look items sound.distinct)) in

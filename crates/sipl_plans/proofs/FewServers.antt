@@ -4,11 +4,11 @@ use Rattle.std.specs.List.{All, cons_option, filter_map, list_all}
 use Rattle.std.proofs.lemmas.Bool.{cases_Bool}
 use Rattle.std.proofs.lemmas.List.Elements.{All-nil, All-cons}
 use Rattle.std.proofs.lemmas.List.Sums.{length-filter, count_by-le-length}
-use Rattle.sipl_names.specs.Labels.{Labels}
+use Rattle.sipl_names.specs.Labels.{Labels, wildcard_at}
 use Rattle.sipl_records.specs.declared.address.Address.{Address}
 use Rattle.sipl_records.specs.declared.data.Data.{Data}
 use Rattle.sipl_records.specs.declared.kind.Kind.{Kind}
-use Rattle.sipl_records.specs.declared.kind.Kind.TheVariants.{Service, Pointer, Alias}
+use Rattle.sipl_records.specs.declared.kind.Kind.TheVariants.{Service, Pointer, Alias, Exists}
 use Rattle.sipl_records.specs.declared.record.Key.{Key}
 use Rattle.sipl_choice.specs.Abilities.{Client, supports}
 use Rattle.sipl_choice.specs.FamilyKinds.{address_kinds}
@@ -23,7 +23,7 @@ use Rattle.sipl_srv.specs.declared.pick.Pick.{Pick}
 use Rattle.sipl_srv.specs.declared.pick.Offer.{Offer}
 use Rattle.sipl_srv.specs.declared.pick.Offer.TheVariants.{Nothing, Closed, Picks}
 use Rattle.sipl_evidence.specs.Looks.{Look, key, Asking, done, ask, and_then, result_of}
-use Rattle.sipl_evidence.specs.Answers.{answer, asking, asking_within, first_target}
+use Rattle.sipl_evidence.specs.Answers.{Next, answer, answering, asking, asking_within, at_alias, at_encloser, at_name, at_source, first_target, max_aliases, max_ancestors, unless_exists}
 use Rattle.sipl_evidence.proofs.Public.{result_of-and_then}
 use Rattle.sipl_uri.specs.declared.question.Question.{Question}
 use Rattle.sipl_uri.specs.declared.question.Target.{Target}
@@ -65,33 +65,70 @@ length-address_kinds V6ThenV4 = omega arith
 
 module _ (look : Look) (few : (k : Key) → length (look k) ≤ 32) where
   -- an answer is one of the sets, or nothing
-  within-few : (left : ℕ) (name : Labels) (kind : Kind) → length (result_of look (asking_within left name kind)) ≤ 32
-  within-few zero name kind = few (key name kind)
-  within-few (suc left) name kind = by (look (key name kind)) (few (key name kind)) (within-few left)
-    where
-      at_target : (target : Option Labels) → ((name : Labels) (kind : Kind) → length (result_of look (asking_within left name kind)) ≤ 32)
-          → length (result_of look (elim target as (λ _. Asking (List Data)) [ Some target ↦ asking_within left target kind | None ↦ done [] ])) ≤ 32
-      at_target None rest = omega arith
-      at_target (Some target) rest = rest target kind
+  abbrev HasFew : Asking (List Data) → Type 0
+  HasFew asking = length (result_of look asking) ≤ 32
 
-      by : (set : List Data) → length set ≤ 32 → ((name : Labels) (kind : Kind) → length (result_of look (asking_within left name kind)) ≤ 32)
-          → length (result_of look (elim set as (λ _. Asking (List Data)) [ datum ∷ others ↦ done (datum ∷ others) | [] ↦ ask (key name Alias) (λ aliases. elim (first_target aliases) [ Some target ↦ asking_within left target kind | None ↦ done [] ]) ])) ≤ 32
-      by (datum ∷ others) own rest = own
-      by [] own rest = at_target (first_target (look (key name Alias))) rest
+  abbrev HasFewAt : Next → Type 0
+  HasFewAt None = Unit {0}
+  HasFewAt (Some next) = (target : Labels) → HasFew (next target)
+
+  alias-few : (next : Next) (name : Labels) (otherwise : Asking (List Data)) → HasFewAt next → HasFew otherwise → HasFew (at_alias next name otherwise)
+  alias-few None name otherwise targets rest = rest
+  alias-few (Some next) name otherwise targets rest = by (first_target (look (key name Alias)))
+    where
+      by : (target : Option Labels) → length (result_of look (elim target as (λ _. Asking (List Data)) [ Some target ↦ next target | None ↦ otherwise ])) ≤ 32
+      by None = rest
+      by (Some target) = targets target
+
+  name-few : (next : Next) (kind : Kind) (name : Labels) (otherwise : Asking (List Data)) → HasFewAt next → HasFew otherwise → HasFew (at_name next kind name otherwise)
+  name-few next kind name otherwise targets rest = by (look (key name kind)) (few (key name kind))
+    where
+      by : (set : List Data) → length set ≤ 32 → length (result_of look (elim set as (λ _. Asking (List Data)) [ datum ∷ others ↦ done (datum ∷ others) | [] ↦ at_alias next name otherwise ])) ≤ 32
+      by [] own = alias-few next name otherwise targets rest
+      by (datum ∷ others) own = own
+
+  encloser-few : (ancestors : ℕ) (name : Labels) (next : Labels → Asking (List Data)) → ((encloser : Labels) → HasFew (next encloser)) → HasFew (at_encloser ancestors name next)
+  encloser-few zero name next enclosers = omega arith
+  encloser-few (suc more) [] next enclosers = omega arith
+  encloser-few (suc more) (label ∷ parent) next enclosers = by (look (key parent Exists)) (encloser-few more parent next enclosers)
+    where
+      by : (found : List Data) → HasFew (at_encloser more parent next) → length (result_of look (elim found as (λ _. Asking (List Data)) [ datum ∷ others ↦ next parent | [] ↦ at_encloser more parent next ])) ≤ 32
+      by [] rest = rest
+      by (datum ∷ others) rest = enclosers parent
+
+  unless_exists-few : (ancestors : ℕ) (name : Labels) (next : Labels → Asking (List Data)) → ((encloser : Labels) → HasFew (next encloser)) → HasFew (unless_exists ancestors name next)
+  unless_exists-few ancestors name next enclosers = by (look (key name Exists))
+    where
+      by : (found : List Data) → length (result_of look (elim found as (λ _. Asking (List Data)) [ datum ∷ others ↦ done [] | [] ↦ at_encloser ancestors name next ])) ≤ 32
+      by [] = encloser-few ancestors name next enclosers
+      by (datum ∷ others) = omega arith
+
+  answering-few : (ancestors : ℕ) (next : Next) (kind : Kind) (name : Labels) → HasFewAt next → HasFew (answering ancestors next kind name)
+  answering-few ancestors next kind name targets =
+      name-few next kind name (unless_exists ancestors name (at_source next kind)) targets
+      (unless_exists-few ancestors name (at_source next kind) (λ encloser. name-few next kind (wildcard_at encloser) (done []) targets (omega arith)))
+
+  within-few : (ancestors left : ℕ) (name : Labels) (kind : Kind) → HasFew (asking_within ancestors left name kind)
+  within-few ancestors zero name kind = answering-few ancestors None kind name tt
+  within-few ancestors (suc left) name kind =
+      answering-few ancestors (Some (λ target. asking_within ancestors left target kind)) kind name (λ target. within-few ancestors left target kind)
+
+  answer-few : (name : Labels) (kind : Kind) → length (answer look name kind) ≤ 32
+  answer-few name kind = within-few max_ancestors max_aliases name kind
 
   addresses-few : (kinds : List Kind) (name : Labels) → length (addresses look kinds name) ≤ length kinds * 32
   addresses-few [] name = omega arith
   addresses-few (kind ∷ kinds) name =
       let here : List Address = filter_map address_of_data (answer look name kind) in
       let others : List Address = addresses look kinds name in
-      omega (arith, ap length (addresses_cons look kind kinds name), length-append here others, length-filter_map address_of_data (answer look name kind), within-few 8 name kind, addresses-few kinds name)
+      omega (arith, ap length (addresses_cons look kind kinds name), length-append here others, length-filter_map address_of_data (answer look name kind), answer-few name kind, addresses-few kinds name)
 
   pub offer_at-few : (name : Option Labels) → IsFew (offer_at look name)
   offer_at-few None = λ picks is. let never : Nothing ≡ Picks picks = is in cc
   offer_at-few (Some name) =
       let set : List Data = answer look name Service in
       subst IsFew (sym (offer_at_some look name))
-      (offer_of_picks-few (filter_map pick_of set) (omega (arith, length-filter_map pick_of set, within-few 8 name Service)))
+      (offer_of_picks-few (filter_map pick_of set) (omega (arith, length-filter_map pick_of set, answer-few name Service)))
 
   length-sources : (kinds : List Kind) (picks : List Pick) → length (sources look kinds picks) ≡ length picks
   length-sources kinds [] = refl

@@ -6,7 +6,7 @@ use Rattle.std.proofs.lemmas.List.{length-map}
 use Rattle.std.proofs.lemmas.List.Elements.{All-nil, All-cons, All-head, All-tail}
 use Rattle.std.proofs.lemmas.List.Quantifiers.{all_pairs_push}
 use Rattle.std.proofs.lemmas.List.Sums.{length-filter, count_by-le-length}
-use Rattle.sipl_records.specs.Sets.{same_key}
+use Rattle.sipl_records.specs.Sets.{has_kind, same_key}
 use Rattle.sipl_records.specs.Unique.{unique}
 use Rattle.sipl_records.specs.declared.data.Data.{Data}
 use Rattle.sipl_records.specs.declared.record.Key.{Key}
@@ -78,6 +78,20 @@ length-known_look [] most few k = omega arith
 length-known_look (item ∷ items) most few k = elim (cases_Bool (same_key item.key k)) [
   | inl same ↦ rw same (All-head (λ item. length item.content ≤ most) item items few)
   | inr other ↦ rw other (length-known_look items most (All-tail (λ item. length item.content ≤ most) item items few) k)
+]
+
+-- the data of an item are of its key's kind
+abbrev pub OfKind : Item → Type 0
+OfKind item = All (λ datum. has_kind item.key.kind datum ≡ true) item.content
+
+-- and their data are of their keys' kinds
+pub kinds-known_look : (items : List Item) → All OfKind items → (k : Key) → All (λ datum. has_kind k.kind datum ≡ true) (known_look items k)
+kinds-known_look [] kinds k = All-nil (λ datum. has_kind k.kind datum ≡ true)
+kinds-known_look (item ∷ items) kinds k = elim (cases_Bool (same_key item.key k)) [
+  | inl same ↦
+      let own : item.key ≡ k = (same_key-Decides item.key k).0 same in
+      rw same (subst (λ k. All (λ datum. has_kind k.kind datum ≡ true) item.content) own (All-head OfKind item items kinds))
+  | inr other ↦ rw other (kinds-known_look items (All-tail OfKind item items kinds) k)
 ]
 
 -- each value once is no more values

@@ -9,10 +9,10 @@ pub mod FewServers
 pub mod FewTargets
 pub mod FreeTargets
 pub mod Routing
-pub mod ItemRecords
 pub mod KnownLook
 pub mod Reaching
 pub mod Rows
 pub mod ServersLeft
 pub mod ServiceWalks
+pub mod Synthesizing
 pub mod Unread

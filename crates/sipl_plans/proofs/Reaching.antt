@@ -6,8 +6,8 @@ use Rattle.sipl_records.specs.declared.record.Key.{Key}
 use Rattle.sipl_choice.specs.Abilities.{Client}
 use Rattle.sipl_evidence.specs.Items.{Item}
 use Rattle.sipl_evidence.specs.Known.{advance, first_unknown}
-use Rattle.sipl_evidence.specs.Looks.{Asking, done}
-use Rattle.sipl_evidence.proofs.Public.{advance-advance, first_unknown-advance, trace-push, next_key, first_unknown-next_key}
+use Rattle.sipl_evidence.specs.Looks.{Asking, done, next_key}
+use Rattle.sipl_evidence.proofs.Public.{advance-advance, first_unknown-advance, trace-push, first_unknown-next_key}
 use Rattle.sipl_uri.specs.declared.question.Question.{Question}
 use Rattle.sipl_plans.specs.Route.{asking_route}
 use Rattle.sipl_plans.specs.Runs.{RunState, IsRun, IsSet, IsWanted}

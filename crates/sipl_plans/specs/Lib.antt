@@ -1,5 +1,6 @@
 pub mod Reasons
 pub mod Route
+pub mod Synthesis
 pub mod Servers
 pub mod Plan
 pub mod Runs

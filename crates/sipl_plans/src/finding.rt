@@ -91,11 +91,11 @@ impl Finding {
         &self.layout
     }
 
-    /// The record sets that the route looks at, in the order of reading: at most 1,156.
+    /// The record sets that the route looks at, in the order of reading: at most 80,648.
     pub fn evidence(&self) -> &Evidence
         ensures evidence { result.now ≡ self.now.items }
         ensures sound { IsSound self.now }
-        ensures few { length self.now.items ≤ 1156 }
+        ensures few { length self.now.items ≤ 80648 }
     {
         &self.evidence
     }

@@ -1,9 +1,9 @@
 //! What follows from the definitions. Each law is the contract of a function that does nothing.
 
-ghost use Rattle.std.specs.Prelude.{◌≡◌, ◌<◌, ◌++◌, [], ◌∷◌, List, map, filter, filter_map, length, All, IsSome};
-ghost use Rattle.sipl_records.specs.Sets.{set_of};
+ghost use Rattle.std.specs.Prelude.{◌≡◌, ◌<◌, ◌++◌, [], ◌∷◌, true, List, map, filter, filter_map, length, All, IsSome};
+ghost use Rattle.sipl_records.specs.Sets.{has_kind};
 ghost use Rattle.sipl_records.specs.declared.kind.Kind.{Kind};
-ghost use Rattle.sipl_records.specs.declared.record.Record.{Record};
+ghost use Rattle.sipl_records.specs.declared.record.Key.{Key};
 ghost use Rattle.sipl_names.specs.Labels.{Labels};
 ghost use Rattle.sipl_srv.specs.declared.pick.Pick.{Pick};
 ghost use Rattle.sipl_choice.specs.Abilities.{Client};
@@ -35,11 +35,12 @@ pub fn runs_want_what_the_route_reads()
         ++ filter (is_unknown run.items) (reads look run.question run.client) }
 {}
 
-/// A run that wants a set has read fewer than `MAX_SETS`, which are 1,156: 17 on each of 68 walks.
-pub fn runs_want_at_most_1156_sets()
+/// A run that wants a set has read fewer than `MAX_SETS`, which are 80,648: 1,186 on each of 68
+/// walks.
+pub fn runs_want_at_most_80648_sets()
     ensures fewer { (run : RunState) → IsRun run → IsSome (wanted run)
         → length run.items < MAX_SETS }
-    ensures constant { MAX_SETS ≡ 1156 }
+    ensures constant { MAX_SETS ≡ 80648 }
 {}
 
 /// The addresses of a name are those of its first family and then those of the next ones (RFC 3263,
@@ -60,8 +61,8 @@ pub fn sources_are_those_of_one_pick_after_another()
         ≡ source_of pick (addresses look kinds pick.target) ∷ sources look kinds picks }
 {}
 
-/// There are records that agree with a finding's evidence.
-pub fn findings_have_records_that_agree()
-    ensures { (found : Found) → IsSound found
-        → (records : List Record) × Agrees (set_of records) found.items }
+/// A table of record sets, each with data of its key's kind, agrees with a finding's evidence.
+pub fn findings_have_a_table_that_agrees()
+    ensures { (found : Found) → IsSound found → (look : Look) × Agrees look found.items
+        × ((k : Key) → All (λ datum. has_kind k.kind datum ≡ true) (look k)) }
 {}

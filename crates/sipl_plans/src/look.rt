@@ -1,33 +1,38 @@
 //! What the records have of a name, by scans of all records.
-ghost use Rattle.std.specs.Prelude.{◌≡◌, ◌++◌, IfOk, OnOk};
+ghost use Rattle.std.specs.Prelude.{◌≡◌, ◌==◌, ◌++◌, false, None, IfOk, OnOk, if◌then◌else◌};
 ghost use Rattle.std.specs.List.{filter_map};
 ghost use Rattle.std.specs.Option.{option_copied};
-ghost use Rattle.sipl_records.specs.Sets.{set_of};
+ghost use Rattle.sipl_records.specs.Sets.{data_of, exists_in, same_kind, set_of};
 ghost use Rattle.sipl_records.specs.declared.kind.Kind.{Kind};
 ghost use Rattle.sipl_choice.specs.FamilyKinds.{address_kinds};
-ghost use Rattle.sipl_evidence.specs.Looks.{key};
-ghost use Rattle.sipl_evidence.specs.Answers.{answer, first_target};
+ghost use Rattle.sipl_evidence.specs.Looks.{key, result_of};
+ghost use Rattle.sipl_evidence.specs.Answers.{answer, asking_within, first_target, max_ancestors};
 ghost use Rattle.sipl_plans.specs.Route.{address_of_data, addresses, offer_at};
+ghost use Rattle.sipl_plans.specs.Synthesis.{IsSourceOfSynthesis};
 
 use sipl_choice::Families;
 use sipl_evidence::MAX_ALIASES;
 use sipl_names::Name;
-use sipl_records::{Address, Data, Kind, Record};
+use sipl_records::{Address, Data, Key, Kind, Record};
 use sipl_srv::{Offer, offer};
 use std::alloc::{AllocError, Global};
 
-// The set of a name and kind, in the order of the records (RFC 2181, 5).
-fn set_of(
+// The data of a name and kind, in the order of the records (RFC 2181, 5).
+fn data_of(
     alloc: Global,
     records: &[Record],
     name: &Name,
     kind: Kind,
 ) -> Result<Vec<Data>, AllocError>
-    ensures { IfOk result (λ set. set.items ≡ set_of records.now (key name.now kind)) }
+    ensures { IfOk result (λ set. set.items ≡ data_of records.now (key name.now kind)) }
 {
+    let key = Key {
+        name: name.dup(alloc)?,
+        kind,
+    };
     let mut set = Vec::new(alloc);
     for record in records {
-        if record.value.has_kind(kind) && record.owner == *name {
+        if record.has_key(&key) {
             set.push(record.value.dup(alloc)?)?;
         }
     }
@@ -48,27 +53,97 @@ fn first_target<'a>(records: &'a [Record], name: &Name) -> Option<&'a Name>
     None
 }
 
-// The answer to a name and a kind, over at most 8 aliases (RFC 1034, 3.6.2).
+// Whether a name exists: it or a name below it owns a record (RFC 4592, 2.2.3).
+fn exists(records: &[Record], name: &Name) -> bool
+    ensures { result ≡ exists_in records.now name.now }
+{
+    for record in records {
+        if record.owner.is_within(name) {
+            return true;
+        }
+    }
+    false
+}
+
+// The source of synthesis of a name that does not exist: the wildcard of its nearest ancestor that
+// exists (RFC 4592, 3.3.1).
+fn source_of_synthesis(
+    alloc: Global,
+    records: &[Record],
+    name: &Name,
+) -> Result<Option<Name>, AllocError>
+    ensures { IfOk result (IsSourceOfSynthesis (set_of records.now) name.now) }
+{
+    if exists(records, name) {
+        return Ok(None);
+    }
+    let mut wildcard = name.dup(alloc)?;
+    let mut encloser = name.dup(alloc)?;
+    while encloser.pop_label() {
+        if exists(records, &encloser) {
+            wildcard.to_wildcard();
+            return Ok(Some(wildcard));
+        }
+        wildcard.pop_label();
+    }
+    Ok(None)
+}
+
+// The target of a name's first alias, where one may still be followed.
+fn target_within<'a>(records: &'a [Record], name: &Name, left: u8) -> Option<&'a Name>
+    ensures { option_copied result ≡ (if left == 0 then None
+        else first_target (set_of records.now (key name.now Kind.Alias))) }
+{
+    if left == 0 {
+        return None;
+    }
+    first_target(records, name)
+}
+
+// The answer to a name and a kind, over at most so many aliases (RFC 1034, 3.6.2), and by wildcards
+// (RFC 4592, 2.2.1).
+fn answer_within(
+    alloc: Global,
+    records: &[Record],
+    name: &Name,
+    kind: Kind,
+    left: u8,
+) -> Result<Vec<Data>, AllocError>
+    requires { same_kind kind Kind.Exists ≡ false }
+    ensures { IfOk result (λ set. set.items
+        ≡ result_of (set_of records.now) (asking_within max_ancestors left name.now kind)) }
+{
+    let set = data_of(alloc, records, name, kind)?;
+    if !set.is_empty() {
+        return Ok(set);
+    }
+    if let Some(target) = target_within(records, name, left) {
+        return answer_within(alloc, records, target, kind, left - 1);
+    }
+    let Some(wildcard) = source_of_synthesis(alloc, records, name)? else {
+        return Ok(set);
+    };
+    let set = data_of(alloc, records, &wildcard, kind)?;
+    if !set.is_empty() {
+        return Ok(set);
+    }
+    match target_within(records, &wildcard, left) {
+        Some(target) => answer_within(alloc, records, target, kind, left - 1),
+        None => Ok(set),
+    }
+}
+
+// The answer to a name and a kind, over at most 8 aliases.
 pub(crate) fn answer(
     alloc: Global,
     records: &[Record],
     name: &Name,
     kind: Kind,
 ) -> Result<Vec<Data>, AllocError>
+    requires { same_kind kind Kind.Exists ≡ false }
     ensures { IfOk result (λ set. set.items ≡ answer (set_of records.now) name.now kind) }
 {
-    let mut name = name;
-    for _ in 0..MAX_ALIASES {
-        let set = set_of(alloc, records, name, kind)?;
-        if !set.is_empty() {
-            return Ok(set);
-        }
-        let Some(target) = first_target(records, name) else {
-            return Ok(set);
-        };
-        name = target;
-    }
-    set_of(alloc, records, name, kind)
+    answer_within(alloc, records, name, kind, MAX_ALIASES)
 }
 
 // The addresses of a name, in the order of the families (RFC 3263, 4.2).

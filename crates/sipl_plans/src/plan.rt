@@ -19,9 +19,10 @@ use std::alloc::{AllocError, Global};
 /// There are at most 2,048 targets: 32 servers of 64 addresses. Each of at most 32 SRV records
 /// takes one of the draws.
 ///
-/// Linear in the records for each look-up of a record set. There are at most 1,156 look-ups: for
+/// Linear in the records for each look-up of a record set. There are at most 80,648 look-ups: for
 /// the NAPTR records of the domain, the SRV records over 3 transports, and the IPv4 and IPv6
-/// addresses of 32 servers, each over up to 8 aliases (RFC 1034, 3.6.2).
+/// addresses of 32 servers, each over up to 8 aliases (RFC 1034, 3.6.2) and, at a name without
+/// records of its own, over up to 127 ancestors and a wildcard (RFC 4592, 3.3.1).
 pub fn plan_of(
     alloc: Global,
     records: &[Record],

@@ -22,8 +22,9 @@ use std::sync::Arc;
 use std::{fmt, mem};
 use thiserror::Error;
 
-/// The maximum number of record sets that a run wants: those of 68 walks over 8 aliases each.
-pub const MAX_SETS: usize = 1156;
+/// The maximum number of record sets that a run wants: those of 68 walks over 8 aliases
+/// and 127 ancestors of a name each.
+pub const MAX_SETS: usize = 80_648;
 
 /// The route of a question, computed from record sets that are read one at a time (RFC 3263, 4).
 /// Contracts see the question, the client and the sets that were read.
@@ -76,7 +77,7 @@ impl Run {
         ensures wanted { option_copied result ≡ wanted self.now }
         ensures next { (look : Look) → Agrees look self.now.items → option_copied result
             ≡ first_unread self.now.items (reads look self.now.question self.now.client) }
-        ensures few { IsSome result → length self.now.items < 1156 }
+        ensures few { IsSome result → length self.now.items < 80648 }
         ensures valid { IsRun self.now }
     {
         match &self.progress {

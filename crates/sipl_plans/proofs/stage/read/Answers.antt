@@ -32,7 +32,7 @@ loop-purpose-smaller c =
     let items = c.args.evidence.now in
     let domain = c.args.domain in
     let known : known_result items (walk_asking c.loop-purpose.walk) ≡ Some c.in-Answer.set.now = subst (IsReached items (walk_asking c.loop-purpose.walk)) c.in-Answer.is c.in_ok-set.ensures.reached in
-    known_count-walk items c.loop-purpose.walk (follows domain c.loop-purpose.purpose) c.in-Answer.set.now (reading domain c.in-Reading.next_walk c.in-Reading.next_purpose) known
+    known_count-walk items (walk_asking c.loop-purpose.walk) (follows domain c.loop-purpose.purpose) c.in-Answer.set.now (reading domain c.in-Reading.next_walk c.in-Reading.next_purpose) c.in_ok-set.ensures.asks known
     (ap (step_asking domain) (sym c.in-Reading.is) ∙ c.in_ok-layout.ensures)
 
 pub loop-purpose-preserved : goal.loop-purpose-preserved

@@ -17,7 +17,7 @@ pub returns-in-Wanting-clause-few : goal.returns-in-Wanting-clause-few
 returns-in-Wanting-clause-few c = λ _.
     let run = c.self.inside in
     let reached = key-wanted run.question run.abilities (arc_value run.evidence) run.progress c.in-Wanting.key c.in-Wanting.field-1 c.self.invariant.1 c.in-Wanting.is in
-    subst (λ run. length run.items < 1156) c.self.view_is (few-wanting run.question run.abilities (arc_value run.evidence) c.in-Wanting.key c.self.invariant.0 reached.0)
+    subst (λ run. length run.items < 80648) c.self.view_is (few-wanting run.question run.abilities (arc_value run.evidence) c.in-Wanting.key c.self.invariant.0 reached.0)
 
 pub returns-in-Done-clause-wanted : goal.returns-in-Done-clause-wanted
 returns-in-Done-clause-wanted c =

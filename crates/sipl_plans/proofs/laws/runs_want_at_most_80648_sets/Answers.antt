@@ -2,9 +2,9 @@ use Rattle.std.proofs.Common.{◌≡◌, ◌<◌, Option, None, Some, IsSome, fa
 use Rattle.sipl_records.specs.declared.record.Key.{Key}
 use Rattle.sipl_plans.specs.Runs.{RunState, IsRun, wanted}
 use Rattle.sipl_plans.proofs.Deciding.{few-wanting}
-use Rattle.sipl_plans.proofs.laws.runs_want_at_most_1156_sets.Goals as goal
+use Rattle.sipl_plans.proofs.laws.runs_want_at_most_80648_sets.Goals as goal
 
-by_key : (run : RunState) (key : Option Key) → wanted run ≡ key → IsSome key → IsRun run → length run.items < 1156
+by_key : (run : RunState) (key : Option Key) → wanted run ≡ key → IsSome key → IsRun run → length run.items < 80648
 by_key run None is some valid = let never : false ≡ true = some in cc
 by_key run (Some k) is some valid = few-wanting run.question run.client run.items k valid is
 
