@@ -1,11 +1,14 @@
 -- An answer at one name, over its alias and its wildcard.
-use Rattle.std.proofs.Common.{◌≡◌, ℕ, zero, suc, ◌-◌, ◌==◌, true, false, nat_eq, List, [], ◌∷◌, length, Option, None, Some, if◌then◌else◌, inl, inr, refl, sym, ap, ◌∙◌, arith}
+use Rattle.std.proofs.Common.{◌≡◌, ℕ, zero, suc, ◌-◌, ◌==◌, true, false, nat_eq, List, [], ◌∷◌, length, Option, None, Some, if◌then◌else◌, inl, inr, refl, sym, ap, subst, ◌∙◌, arith}
 use Rattle.std.proofs.lemmas.Bool.{cases_Bool}
 use Rattle.std.proofs.lemmas.Map.Views.{exact_unsigned_eq}
 use Rattle.sipl_names.specs.Labels.{Labels}
 use Rattle.sipl_records.specs.declared.data.Data.{Data}
 use Rattle.sipl_records.specs.declared.kind.Kind.{Kind}
-use Rattle.sipl_records.specs.declared.kind.Kind.TheVariants.{Alias}
+use Rattle.sipl_records.specs.declared.kind.Kind.TheVariants.{Alias, Exists}
+use Rattle.sipl_records.specs.declared.record.Record.{Record}
+use Rattle.sipl_records.specs.Sets.{data_of, same_kind, set_of}
+use Rattle.sipl_records.proofs.Public.{set_of-data}
 use Rattle.sipl_evidence.specs.Answers.{Next, answer, asking_within, at_alias, at_name, at_source, first_target, max_aliases, max_ancestors, unless_exists}
 use Rattle.sipl_evidence.specs.Looks.{Look, key, Asking, done, result_of}
 use Rattle.sipl_evidence.specs.Walks.{next_within}
@@ -18,7 +21,7 @@ suc-apart n = elim (cases_Bool (nat_eq (suc n) 0)) [
   | inr apart ↦ apart
 ]
 
-pub none_from_length : (set : List Data) → nat_eq (length set) 0 ≡ true → set ≡ []
+none_from_length : (set : List Data) → nat_eq (length set) 0 ≡ true → set ≡ []
 none_from_length [] none = refl
 none_from_length (datum ∷ others) none = let never : false ≡ true = sym (suc-apart (length others)) ∙ none in cc
 
@@ -60,51 +63,69 @@ module _ (look : Look) (kind : Kind) where
   none-alias zero name otherwise to = refl
   none-alias (suc left) name otherwise to = ap (λ t. result_of look (after_alias (λ t. asking_within max_ancestors left t kind) otherwise t)) (sym (to ∙ target-suc left name))
 
-  module _ (left : ℕ) (name : Labels) (set : List Data) (is : set ≡ look (key name kind)) where
-    abbrev source : Asking (List Data)
-    source = unless_exists max_ancestors name (at_source (next_within max_ancestors left kind) kind)
+-- an answer of a kind of records, on a list of them
+module _ (records : List Record) (kind : Kind) (kept : same_kind kind Exists ≡ false) (left : ℕ) where
+  abbrev look : Look
+  look = set_of records
 
-    whole : result_of look (asking_within max_ancestors left name kind) ≡ result_of look (at_name (next_within max_ancestors left kind) kind name source)
+  abbrev onward : Next
+  onward = next_within max_ancestors left kind
+
+  abbrev IsAnswer : Labels → List Data → Type 0
+  IsAnswer name set = result_of look (asking_within max_ancestors left name kind) ≡ set
+
+  -- the answer at the target of an alias
+  abbrev answer_at : Labels → List Data
+  answer_at target = result_of look (asking_within max_ancestors (left - 1) target kind)
+
+  is_set : (name : Labels) (set : List Data) → set ≡ data_of records (key name kind) → set ≡ look (key name kind)
+  is_set name set is = is ∙ sym (set_of-data records (key name kind) kept)
+
+  module _ (name : Labels) (set : List Data) (is : set ≡ data_of records (key name kind)) where
+    abbrev source : Asking (List Data)
+    source = unless_exists max_ancestors name (at_source onward kind)
+
+    whole : result_of look (asking_within max_ancestors left name kind) ≡ result_of look (at_name onward kind name source)
     whole = ap (result_of look) (asking_within-is max_ancestors left name kind)
 
-    -- data of the name are the answer
-    pub own-answer : nat_eq (length set) 0 ≡ false → result_of look (asking_within max_ancestors left name kind) ≡ set
-    own-answer some = whole ∙ own-name look kind (next_within max_ancestors left kind) name source set is some
-
     module _ (none : nat_eq (length set) 0 ≡ true) where
-      -- else the answer is that at the target of its alias
-      pub alias-answer : (target : Labels) → Some target ≡ target_of look left name → result_of look (asking_within max_ancestors left name kind) ≡ result_of look (asking_within max_ancestors (left - 1) target kind)
+      -- without data it is that at the target of the alias
+      pub alias-answer : (target : Labels) → Some target ≡ target_of look left name → IsAnswer name (answer_at target)
       alias-answer target to =
-          whole ∙ none-name look kind (next_within max_ancestors left kind) name source set is none ∙ target-alias left name target source to
+          whole ∙ none-name look kind onward name source set (is_set name set is) none ∙ target-alias look kind left name target source to
 
-      module _ (to : None ≡ target_of look left name) where
-        -- else that at the wildcard
-        pub at-wildcard : result_of look (asking_within max_ancestors left name kind) ≡ result_of look source
-        at-wildcard =
-            whole ∙ none-name look kind (next_within max_ancestors left kind) name source set is none ∙ none-alias left name source to
+      module _ (to : None ≡ target_of look left name) (wildcards : Option Labels) (at : IsSourceOfSynthesis look name wildcards) where
+        -- without an alias that at the wildcard
+        at-source : (found : Option Labels) → wildcards ≡ found → result_of look (asking_within max_ancestors left name kind) ≡ (elim found as (λ _. List Data) [ Some wildcard ↦ result_of look (at_name onward kind wildcard (done [])) | None ↦ [] ])
+        at-source found found_is =
+            whole ∙ none-name look kind onward name source set (is_set name set is) none ∙ none-alias look kind left name source to
+            ∙ subst (λ (o : Option Labels). IsSourceOfSynthesis look name o) found_is at (λ wildcard. at_name onward kind wildcard (done []))
 
-        -- which is nothing without a source of synthesis
-        pub no-answer : IsSourceOfSynthesis look name None → result_of look (asking_within max_ancestors left name kind) ≡ []
-        no-answer none = at-wildcard ∙ none (λ wildcard. at_name (next_within max_ancestors left kind) kind wildcard (done []))
+        -- without a wildcard it is empty
+        pub no-answer : wildcards ≡ None → IsAnswer name set
+        no-answer absent = at-source None absent ∙ sym (none_from_length set none)
 
-        module _ (wildcard : Labels) (at : IsSourceOfSynthesis look name (Some wildcard)) (there : List Data) (there_is : there ≡ look (key wildcard kind)) where
-          wildcard-whole : result_of look (asking_within max_ancestors left name kind) ≡ result_of look (at_name (next_within max_ancestors left kind) kind wildcard (done []))
-          wildcard-whole = at-wildcard ∙ at (λ wildcard. at_name (next_within max_ancestors left kind) kind wildcard (done []))
-
+        module _ (wildcard : Labels) (found : wildcards ≡ Some wildcard) (there : List Data) (there_is : there ≡ data_of records (key wildcard kind)) where
           -- data of the wildcard are the answer
-          pub wildcard-answer : nat_eq (length there) 0 ≡ false → result_of look (asking_within max_ancestors left name kind) ≡ there
-          wildcard-answer some = wildcard-whole ∙ own-name look kind (next_within max_ancestors left kind) wildcard (done []) there there_is some
+          pub wildcard-answer : nat_eq (length there) 0 ≡ false → IsAnswer name there
+          wildcard-answer some =
+              at-source (Some wildcard) found ∙ own-name look kind onward wildcard (done []) there (is_set wildcard there there_is) some
 
           module _ (empty : nat_eq (length there) 0 ≡ true) where
-            -- else the answer is that at the target of its alias
-            pub wildcard_alias-answer : (target : Labels) → Some target ≡ target_of look left wildcard → result_of look (asking_within max_ancestors left name kind) ≡ result_of look (asking_within max_ancestors (left - 1) target kind)
+            -- without data it is that at the target of the wildcard's alias
+            pub wildcard_alias-answer : (target : Labels) → Some target ≡ target_of look left wildcard → IsAnswer name (answer_at target)
             wildcard_alias-answer target to =
-                wildcard-whole ∙ none-name look kind (next_within max_ancestors left kind) wildcard (done []) there there_is empty ∙ target-alias left wildcard target (done []) to
+                at-source (Some wildcard) found
+                ∙ none-name look kind onward wildcard (done []) there (is_set wildcard there there_is) empty
+                ∙ target-alias look kind left wildcard target (done []) to
 
-            -- or nothing
-            pub wildcard_none-answer : None ≡ target_of look left wildcard → result_of look (asking_within max_ancestors left name kind) ≡ []
+            -- without an alias it is empty
+            pub wildcard_none-answer : None ≡ target_of look left wildcard → IsAnswer name there
             wildcard_none-answer to =
-                wildcard-whole ∙ none-name look kind (next_within max_ancestors left kind) wildcard (done []) there there_is empty ∙ none-alias left wildcard (done []) to
+                at-source (Some wildcard) found
+                ∙ none-name look kind onward wildcard (done []) there (is_set wildcard there there_is) empty
+                ∙ none-alias look kind left wildcard (done []) to
+                ∙ sym (none_from_length there empty)
 
 max_aliases-is : max_aliases ≡ 8
 unfolding max_aliases
