@@ -12,7 +12,7 @@ use Rattle.sipl_records.proofs.Public.{set_of-data}
 use Rattle.sipl_evidence.specs.Answers.{Next, answer, asking_within, at_alias, at_name, at_source, first_target, max_aliases, max_ancestors, unless_exists}
 use Rattle.sipl_evidence.specs.Looks.{Look, key, Asking, done, result_of}
 use Rattle.sipl_evidence.specs.Walks.{next_within}
-use Rattle.sipl_evidence.proofs.Public.{asking_within-is}
+use Rattle.sipl_evidence.proofs.Public.{asking_within-is, max_aliases-is}
 use Rattle.sipl_plans.specs.Synthesis.{IsSourceOfSynthesis}
 
 suc-apart : (n : ℕ) → nat_eq (suc n) 0 ≡ false
@@ -126,10 +126,6 @@ module _ (records : List Record) (kind : Kind) (kept : same_kind kind Exists ≡
                 ∙ none-name look kind onward wildcard (done []) there (is_set wildcard there there_is) empty
                 ∙ none-alias look kind left wildcard (done []) to
                 ∙ sym (none_from_length there empty)
-
-max_aliases-is : max_aliases ≡ 8
-unfolding max_aliases
-max_aliases-is = refl
 
 -- the answer follows at most 8 aliases
 pub all-aliases : (look : Look) (name : Labels) (kind : Kind) → result_of look (asking_within max_ancestors 8 name kind) ≡ answer look name kind

@@ -1,6 +1,7 @@
 -- How far a run is, with one set more.
 use Rattle.std.proofs.Common.{◌≡◌, ℕ, List, [], ◌∷◌, ◌++◌, None, Some, ap, sym, subst, ◌∙◌}
 use Rattle.std.proofs.lemmas.List.Elements.{All-push}
+use Rattle.sipl_names.specs.Labels.{Labels}
 use Rattle.sipl_records.specs.declared.data.Data.{Data}
 use Rattle.sipl_records.specs.declared.record.Key.{Key}
 use Rattle.sipl_choice.specs.Abilities.{Client}
@@ -9,13 +10,17 @@ use Rattle.sipl_evidence.specs.Known.{advance, first_unknown}
 use Rattle.sipl_evidence.specs.Looks.{Asking, done, next_key}
 use Rattle.sipl_evidence.proofs.Public.{advance-advance, first_unknown-advance, trace-push, first_unknown-next_key}
 use Rattle.sipl_uri.specs.declared.question.Question.{Question}
-use Rattle.sipl_plans.specs.Route.{asking_route}
+use Rattle.sipl_uri.specs.declared.question.Target.TheVariants.{Numeric, Domain}
+use Rattle.sipl_plans.specs.Route.{asking_numeric, asking_route}
 use Rattle.sipl_plans.specs.Runs.{RunState, IsRun, IsSet, IsWanted}
-use Rattle.sipl_plans.specs.Stages.{rest, HasReached}
+use Rattle.sipl_plans.specs.Stages.{domain_rest, rest, HasReached}
 use Rattle.sipl_plans.specs.declared.layout.Layout.{Layout}
 use Rattle.sipl_plans.specs.declared.stage.Progress.{Progress}
 use Rattle.sipl_plans.specs.declared.stage.Progress.TheVariants.{Done, Wanting}
 use Rattle.sipl_plans.specs.declared.stage.Stage.{Stage}
+use Rattle.sipl_plans.specs.declared.stage.Stage.TheVariants.{Reading}
+use Rattle.sipl_plans.specs.declared.stage.Step.{Step}
+use Rattle.sipl_plans.specs.declared.stage.Step.TheVariants.{Done as step_done, Reading as step_reading}
 
 -- what callers see of a run with these sets
 abbrev pub run_of : Question → Client → List Item → RunState
@@ -83,3 +88,15 @@ given question client items new k number content stage progress run reached set 
     let on = subst (λ items. HasReached question client items (rest question client stage) progress) pushed later in
     let whole = reached-both question client items (item ∷ []) (rest question client stage) (asking_route question client) reached.1 progress on in
     subst (λ items. IsRun (run_of question client items) × IsAt question client items progress) (sym pushed) (is, whole)
+
+-- what is left of the route of a question for a domain is that of the route to the domain
+pub rest-domain : (question : Question) (client : Client) (name : Labels) → question.target ≡ Domain name → rest question client ≡ domain_rest name question client
+rest-domain question client name is = λ i stage. elim (is i) as (λ _. Asking Layout) [
+  | Numeric address ↦ asking_numeric client question address
+  | Domain name ↦ domain_rest name question client stage
+]
+
+-- what is left of the route to a domain after a step is that at the stage that the step gets to
+abbrev pub step_rest : Labels → Question → Client → Step → Asking Layout
+step_rest name question client (step_done layout) = done layout
+step_rest name question client (step_reading walk purpose) = domain_rest name question client (Reading walk purpose)

@@ -7,19 +7,8 @@ use Rattle.sipl_records.specs.declared.data.Data.{Data}
 use Rattle.sipl_records.specs.declared.kind.Kind.TheVariants.{Exists}
 use Rattle.sipl_records.specs.declared.record.Record.{Record}
 use Rattle.sipl_evidence.specs.Answers.{at_encloser, max_ancestors, unless_exists}
-use Rattle.sipl_evidence.specs.Looks.{key, Asking, done, ask, result_of}
-
--- the ancestors of a name are as many as its labels
-at_encloser-own : (more : ℕ) (name : Labels) (next : Labels → Asking (List Data)) → length name ≤ more → at_encloser more name next ≡ at_encloser (length name) name next
-at_encloser-own zero [] next short = refl
-at_encloser-own zero (label ∷ parent) next short = absurd (omega (arith, short))
-at_encloser-own (suc more) [] next short = refl
-at_encloser-own (suc more) (label ∷ parent) next short =
-    λ i. ask (key parent Exists) (λ found. elim found as (λ _. Asking (List Data)) [ datum ∷ others ↦ next parent | [] ↦ at_encloser-own more parent next (omega (arith, short)) i ])
-
-max_ancestors-is : max_ancestors ≡ 127
-unfolding max_ancestors
-max_ancestors-is = refl
+use Rattle.sipl_evidence.specs.Looks.{Asking, done, result_of}
+use Rattle.sipl_evidence.proofs.Public.{at_encloser-all, max_ancestors-is}
 
 module _ (records : List Record) (next : Labels → Asking (List Data)) where
   -- what follows whether a name exists
@@ -35,7 +24,7 @@ module _ (records : List Record) (next : Labels → Asking (List Data)) where
   pub all-enclosers : (name : Labels) → IsName name → exists_in records name ≡ false → result_of (set_of records) (unless_exists max_ancestors name next) ≡ result_of (set_of records) (at_encloser (length name) name next)
   all-enclosers name valid absent =
       ap (λ b. result_of (set_of records) (after_existence (done []) (at_encloser max_ancestors name next) (existence_of b))) absent
-      ∙ ap (result_of (set_of records)) (at_encloser-own max_ancestors name next (omega (arith, labels-at_most_127 name valid, max_ancestors-is)))
+      ∙ ap (result_of (set_of records)) (at_encloser-all max_ancestors name next (omega (arith, labels-at_most_127 name valid, max_ancestors-is)))
 
   -- the parent is the closest encloser where it exists
   pub encloser-parent : (name parent : Labels) → parent_of name ≡ Some parent → exists_in records parent ≡ true → result_of (set_of records) (at_encloser (length name) name next) ≡ result_of (set_of records) (next parent)
