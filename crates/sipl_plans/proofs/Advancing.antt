@@ -1,5 +1,5 @@
 -- How far a computation gets with the sets that are known.
-use Rattle.std.proofs.Common.{◌≡◌, ℕ, suc, ◌+◌, ◌<◌, Bool, true, false, List, Option, None, Some, IsSome, refl, sym, ap, ◌∙◌, arith}
+use Rattle.std.proofs.Common.{◌≡◌, ℕ, suc, ◌+◌, ◌<◌, true, false, List, Option, None, Some, IsSome, refl, sym, ap, ◌∙◌, arith}
 use Rattle.sipl_records.specs.declared.data.Data.{Data}
 use Rattle.sipl_records.specs.declared.record.Key.{Key}
 use Rattle.sipl_evidence.specs.Items.{Item}

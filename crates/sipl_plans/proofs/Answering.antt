@@ -9,7 +9,7 @@ use Rattle.sipl_records.specs.declared.kind.Kind.TheVariants.{Alias, Exists}
 use Rattle.sipl_records.specs.declared.record.Record.{Record}
 use Rattle.sipl_records.specs.Sets.{data_of, same_kind, set_of}
 use Rattle.sipl_records.proofs.Public.{set_of-data}
-use Rattle.sipl_evidence.specs.Answers.{Next, answer, asking_within, at_alias, at_name, at_source, first_target, max_aliases, max_ancestors, unless_exists}
+use Rattle.sipl_evidence.specs.Answers.{Next, answer, asking_within, at_alias, at_name, at_source, first_target, max_ancestors, unless_exists}
 use Rattle.sipl_evidence.specs.Looks.{Look, key, Asking, done, result_of}
 use Rattle.sipl_evidence.specs.Walks.{next_within}
 use Rattle.sipl_evidence.proofs.Public.{asking_within-is, max_aliases-is}

@@ -22,7 +22,7 @@ use Rattle.sipl_srv.specs.Offers.{pick_of, is_unavailable, offer_of_picks}
 use Rattle.sipl_srv.specs.declared.pick.Pick.{Pick}
 use Rattle.sipl_srv.specs.declared.pick.Offer.{Offer}
 use Rattle.sipl_srv.specs.declared.pick.Offer.TheVariants.{Nothing, Closed, Picks}
-use Rattle.sipl_evidence.specs.Looks.{Look, key, Asking, done, ask, and_then, result_of}
+use Rattle.sipl_evidence.specs.Looks.{Look, key, Asking, done, and_then, result_of}
 use Rattle.sipl_evidence.specs.Answers.{Next, answer, answering, asking, asking_within, at_alias, at_encloser, at_name, at_source, first_target, max_aliases, max_ancestors, unless_exists}
 use Rattle.sipl_evidence.proofs.Public.{result_of-and_then}
 use Rattle.sipl_uri.specs.declared.question.Question.{Question}

@@ -1,10 +1,9 @@
 -- The search for the closest encloser of a name (RFC 4592, 3.3.1), on lists of records.
-use Rattle.std.proofs.Common.{◌≡◌, ◌≤◌, ◌<◌, ℕ, zero, suc, Bool, true, false, IsTrue, List, [], ◌∷◌, length, Option, None, Some, refl, sym, ap, subst, ◌∙◌, arith}
+use Rattle.std.proofs.Common.{◌≡◌, ◌<◌, ℕ, Bool, true, false, IsTrue, List, [], ◌∷◌, length, Option, None, Some, refl, sym, ap, ◌∙◌, arith}
 use Rattle.sipl_names.specs.Labels.{Labels, IsName, parent_of, wildcard_at, wildcard_beside}
 use Rattle.sipl_names.proofs.Public.{labels-at_most_127}
 use Rattle.sipl_records.specs.Sets.{exists_in, existence_of, set_of}
 use Rattle.sipl_records.specs.declared.data.Data.{Data}
-use Rattle.sipl_records.specs.declared.kind.Kind.TheVariants.{Exists}
 use Rattle.sipl_records.specs.declared.record.Record.{Record}
 use Rattle.sipl_evidence.specs.Answers.{at_encloser, max_ancestors, unless_exists}
 use Rattle.sipl_evidence.specs.Looks.{Asking, done, result_of}

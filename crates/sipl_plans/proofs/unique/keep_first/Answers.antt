@@ -1,8 +1,8 @@
-use Rattle.std.proofs.Common.{◌≡◌, ◌+◌, ◌<◌, ◌∙◌, length, take, drop, sym, arith, rules, true, false}
+use Rattle.std.proofs.Common.{◌≡◌, ◌+◌, ◌<◌, ◌∙◌, length, take, drop, sym, arith, rules}
 use Rattle.std.specs.List.{list_any}
 use Rattle.std.proofs.lemmas.List.{length-set}
 use Rattle.sipl_choice.specs.Endpoints.{same_endpoint}
-use Rattle.sipl_plans.proofs.EachOnce.{derived_eq, first-known, first-new, rest-more, rest-new}
+use Rattle.sipl_plans.proofs.EachOnce.{first-known, first-new, rest-more, rest-new}
 use Rattle.sipl_plans.proofs.unique.keep_first.Goals.{then-not-contains, else-not-contains}
 use Rattle.sipl_plans.proofs.unique.keep_first.Goals as goal
 
