@@ -151,11 +151,11 @@ fn existence_leg<'a, 'e: 'a>(
         (asking_from Stage.Existence left kind (name_of name.entry)) left kind) }
     ensures memory { OnErr result (KnowsAbsence evidence.now) }
 {
-    let Some(found) = evidence.content_at(name.get(), Kind::Exists) else {
+    let Some(existence) = evidence.content_at(name.get(), Kind::Exists) else {
         let stage = Stage::Existence;
         return Ok(Leg::Lacking(Place { name, left, stage }));
     };
-    if !found.is_empty() {
+    if !existence.is_empty() {
         return Ok(Leg::Answer(&[]));
     }
     let name = name.into_name(alloc)?;
