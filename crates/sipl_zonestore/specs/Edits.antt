@@ -1,13 +1,13 @@
 -- The edits of a store's zones: what each changes, and why it is refused.
 use Rattle.std.specs.Prelude.{ℕ, not, List, [], ◌∷◌, ◌++◌, length, filter, count_by, Option, None, Some, nat_lt, nat_le, if◌then◌else◌}
 use Rattle.std.specs.List.{list_any}
-use Rattle.sipl_names.specs.Labels.{Labels, same_name}
+use Rattle.sipl_names.specs.Labels.{Labels, is_wildcard, same_name}
 use Rattle.sipl_records.specs.Sets.{conflicts, same_record, shares_set}
 use Rattle.sipl_records.specs.declared.record.Record.{Record}
 use Rattle.sipl_masterfile.specs.Zones.{Zone}
 use Rattle.sipl_zonestore.specs.Store.{Zones, overlaps, is_covered, records_outside, records_after_load, apexes_after_load, apexes_without}
 use Rattle.sipl_zonestore.specs.declared.fault.StoreFault.{StoreFault}
-use Rattle.sipl_zonestore.specs.declared.fault.StoreFault.TheVariants.{Overlap, NoZone, Duplicate, Absent, AliasBesideData, SetFull, StoreFull}
+use Rattle.sipl_zonestore.specs.declared.fault.StoreFault.TheVariants.{Overlap, NoZone, Duplicate, Absent, AliasBesideData, SetFull, StoreFull, WildApex}
 
 -- an edit: a zone is loaded or unloaded, a record is added or removed
 pub data Edit : Type 0 where
@@ -48,9 +48,10 @@ add_refusal max_records r zones =
 -- the fault of an edit of zones that have at most this many records: the first of its causes
 abbrev pub refusal_of : ℕ → Edit → Zones → Option StoreFault
 refusal_of max_records (load zone) zones =
-    if list_any (overlaps zone.apex) zones.apexes then Some Overlap
+    if is_wildcard zone.apex then Some WildApex
+    else (if list_any (overlaps zone.apex) zones.apexes then Some Overlap
     else (if nat_lt max_records (length (records_after_load zone zones.records)) then Some StoreFull
-    else None)
+    else None))
 refusal_of max_records (unload apex) zones =
     if list_any (same_name apex) zones.apexes then None else Some NoZone
 refusal_of max_records (add r) zones = add_refusal max_records r zones

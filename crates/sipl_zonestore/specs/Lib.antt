@@ -12,6 +12,7 @@ pub mod Content
 pub mod SetTable
 pub mod Lending
 pub mod BareOwners
+pub mod NameTable
 pub mod IndexedRecords
 pub mod RecordList
 pub use Rattle.sipl_masterfile.specs.Zones

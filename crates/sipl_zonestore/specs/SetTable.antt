@@ -5,7 +5,7 @@ use Rattle.std.specs.Map.{lookup}
 use Rattle.std.specs.Option.{option_to_list, unwrap_or}
 use lib.Pointwise.{pointwise}
 use Rattle.sipl_names.specs.Labels.{Labels, same_name}
-use Rattle.sipl_records.specs.Sets.{set_of, same_data, same_key, same_kind, key_of}
+use Rattle.sipl_records.specs.Sets.{data_of, same_data, same_key, same_kind, key_of}
 use Rattle.sipl_records.specs.declared.data.Data.{Data}
 use Rattle.sipl_records.specs.declared.kind.Kind.{Kind}
 use Rattle.sipl_records.specs.declared.kind.Kind.TheVariants.{Address4, Address6, Alias, Service, Pointer}
@@ -113,7 +113,7 @@ numbered_content sets keys next key =
 
 -- the sets of a table are those of the records
 abbrev pub HasSets : OwnerTable → List Record → Type 0
-HasSets sets records = (key : Key) → (content_of sets key).values ≡ set_of records key
+HasSets sets records = (key : Key) → (content_of sets key).values ≡ data_of records key
 
 -- whether a datum is the first of a set
 abbrev pub is_first : Data → List Data → Bool

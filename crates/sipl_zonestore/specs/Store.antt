@@ -2,18 +2,19 @@
 use Rattle.std.specs.Prelude.{ℕ, Bool, ◌&&◌, ◌||◌, not, List, [], ◌∷◌, ◌++◌, filter, if◌then◌else◌}
 use Rattle.std.specs.List.{list_any}
 use Rattle.sipl_names.specs.Labels.{Labels, same_name, is_within}
+use Rattle.sipl_records.specs.Sets.{exists_in, is_existence}
 use Rattle.sipl_records.specs.declared.record.Record.{Record}
 use Rattle.sipl_records.specs.declared.record.Key.{Key}
 use Rattle.sipl_masterfile.specs.Zones.{Zone}
-use Rattle.sipl_zonestore.specs.Numbers.{SetNumber, number_of}
+use Rattle.sipl_zonestore.specs.Numbers.{SetNumber, existence_number, number_of}
 
 -- the apexes of the loaded zones, and all records, each in the order of addition
 pub record Zones : Type 0 where
   pub apexes : List Labels
   pub records : List Record
 
--- what callers see of a store: its zones, the maximum of its records, the numbers of its sets, the
--- next number, and how many looks at its data were counted
+-- what callers see of a store: its zones, the maximum of its records, the numbers of its record
+-- sets, the next number, and how many looks at its data were counted
 pub record Store : Type 0 where
   pub zones : Zones
   pub max_records : ℕ
@@ -21,9 +22,11 @@ pub record Store : Type 0 where
   pub next : ℕ
   pub looks : ℕ
 
--- the number of a key's set in a store
+-- the number of a key's set in a store; that of existence says whether the name exists
 abbrev pub number_in : Store → Key → ℕ
-number_in store key = number_of store.numbers key
+number_in store key =
+    if is_existence key then existence_number (exists_in store.zones.records key.name)
+    else number_of store.numbers key
 
 -- nothing is loaded
 abbrev pub no_zones : Zones

@@ -1,7 +1,7 @@
 -- The codes of an edit's faults.
 use Rattle.std.specs.Prelude.{ℕ, List, codes}
 use Rattle.sipl_zonestore.specs.declared.fault.StoreFault.{StoreFault}
-use Rattle.sipl_zonestore.specs.declared.fault.StoreFault.TheVariants.{Overlap, NoZone, Duplicate, Absent, AliasBesideData, SetFull, StoreFull, NumberSpent, Memory}
+use Rattle.sipl_zonestore.specs.declared.fault.StoreFault.TheVariants.{Overlap, NoZone, Duplicate, Absent, AliasBesideData, SetFull, StoreFull, NumberSpent, WildApex, Memory}
 
 -- the fault's code in replies
 abbrev pub code_of : StoreFault → List ℕ
@@ -13,4 +13,5 @@ code_of AliasBesideData = codes "S5"
 code_of SetFull = codes "S6"
 code_of StoreFull = codes "S7"
 code_of NumberSpent = codes "S8"
+code_of WildApex = codes "S9"
 code_of Memory = codes "Memory"

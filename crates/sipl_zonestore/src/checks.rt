@@ -27,6 +27,9 @@ pub(crate) fn check_load(
         (record { apexes = apexes.now; records = records.now }) ≡ Some fault) }
 {
     let apex = zone.apex();
+    if apex.is_wildcard() {
+        return Err(StoreFault::WildApex);
+    }
     if overlaps_any(apex, apexes) {
         return Err(StoreFault::Overlap);
     }

@@ -31,6 +31,9 @@ pub enum StoreFault {
     /// S8: fewer set numbers up to 2^52 are left than the edit needs.
     #[error("no numbers are left")]
     NumberSpent,
+    /// S9: the apex is a wildcard domain name, whose first label is `*` (RFC 4592, 2.1.1 and 4.2).
+    #[error("a zone's apex is no wildcard")]
+    WildApex,
     /// An allocation failed.
     #[error("out of memory")]
     Memory,
@@ -50,6 +53,7 @@ impl StoreFault {
             StoreFault::SetFull => "S6",
             StoreFault::StoreFull => "S7",
             StoreFault::NumberSpent => "S8",
+            StoreFault::WildApex => "S9",
             StoreFault::Memory => "Memory",
         }
     }

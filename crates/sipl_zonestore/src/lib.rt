@@ -3,6 +3,7 @@
 
 mod apexes;
 mod bare_owners;
+mod changed;
 mod checks;
 mod compare;
 mod comparison;
@@ -18,6 +19,7 @@ mod set_numbers;
 mod sets;
 mod store;
 
+pub use changed::Changed;
 pub use fault::StoreFault;
 pub use store::ZoneStore;
 

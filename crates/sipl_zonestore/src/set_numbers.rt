@@ -3,7 +3,7 @@ ghost use Rattle.std.specs.Prelude.{◌≡◌, ◌≤◌, ◌<◌, ◌+◌, ◌^
 ghost use Rattle.std.specs.List.{IsDistinct, list_any};
 ghost use Rattle.std.specs.Option.{option_to_list};
 ghost use Rattle.sipl_records.specs.declared.record.Key.{Key};
-ghost use Rattle.sipl_records.specs.Sets.{has_key, key_of, same_data, same_key, set_of};
+ghost use Rattle.sipl_records.specs.Sets.{data_of, has_key, key_of, same_data, same_key};
 ghost use Rattle.sipl_zonestore.specs.Content.{carried, pushed, renumbered, without};
 ghost use Rattle.sipl_zonestore.specs.SetTable.{content_of, has_set, keys_left, numbered_content};
 
@@ -32,7 +32,7 @@ pub(crate) fn sets_of(
     old: &SetTable,
 ) -> Result<SetTable, AllocError>
     ensures { IfOk result (λ sets. (key : Key) → content_of sets key
-        ≡ carried (content_of old.now key).number (set_of records.now key)) }
+        ≡ carried (content_of old.now key).number (data_of records.now key)) }
 {
     let mut sets = SetTable::new(alloc);
     for record in records {

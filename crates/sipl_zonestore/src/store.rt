@@ -10,22 +10,26 @@ ghost use Rattle.sipl_zonestore.specs.Consistent.{IsConsistent};
 
 use crate::MAX_RECORDS;
 use crate::apexes::{new_apex, push_apex};
+use crate::changed::Changed;
 use crate::checks::{check_add, check_load, check_remove, check_unload};
 use crate::fault::StoreFault;
 use crate::indexed_records::IndexedRecords;
 use sipl_masterfile::ZoneText;
 use sipl_names::Name;
-use sipl_records::{Data, Key, Record, Sequence};
+use sipl_records::{Data, Key, Record};
 use std::alloc::Global;
 use std::marker::Model;
 
 /// The loaded zones and their records, seen as the list of their apexes, the list of all records,
 /// each in the order of addition, and a number for each record set (RFC 2181, 5). No zone is
-/// strictly within another (RFC 1034, 4.2), each owner is within a loaded zone, no record is there
-/// twice, no set has more than 32 records, and no alias has other data beside it (RFC 1034, 3.6.2).
+/// strictly within another (RFC 1034, 4.2), no apex is a wildcard (RFC 4592, 2.1.1), each owner is
+/// within a loaded zone, no record is there twice, no set has more than 32 records, and no alias has
+/// other data beside it (RFC 1034, 3.6.2).
 ///
 /// A set takes a new number whenever it changes, so a set whose number stayed has not changed; the
-/// number is 0 exactly where the set is empty.
+/// number is 0 exactly where the set is empty. The set of a name's existence, which is that of a key
+/// of kind `Exists`, takes no number: where the name exists (RFC 4592, 2.2.3) it has one `Data::Bare`
+/// and the number 1, else no data and the number 0.
 #[derive(Drop)]
 pub struct ZoneStore {
     alloc: Global,
@@ -88,16 +92,18 @@ impl ZoneStore {
     }
 
     /// Loads a zone: the records of its text replace those within its apex, and are last, and its
-    /// apex is last where it is new. Returns the keys of the sets that changed, in the order of
+    /// apex is last where it is new. Returns the keys of the record sets that changed, in the order of
     /// their first places in the old records followed by the new ones; in this order those that
-    /// are not empty take the next numbers. Linear in the number of all records, with look-ups of
-    /// its set for each record that the zone had and for each that it has; a look-up takes constant
-    /// time but for hashing.
+    /// are not empty take the next numbers. Then come the keys of the names that exist now and did
+    /// not, or did and do not now: of each owner in this order its own, its parent's, and so on up to
+    /// the root's. Linear in the number of all records, with look-ups of its set and its names for each
+    /// record that the zone had and for each that it has; a look-up takes constant time but for
+    /// hashing.
     ///
-    /// The fault is the first one: a loaded zone strictly above or below the apex (S1), more
-    /// records than the store's maximum (S7), too few numbers (S8). Memory is reported only where
-    /// neither S1 nor S7 is the fault.
-    pub fn load(&mut self, zone: &ZoneText) -> Result<Sequence<Key>, StoreFault>
+    /// The fault is the first one: an apex whose first label is `*` (S9), a loaded zone strictly above
+    /// or below the apex (S1), more records than the store's maximum (S7), too few numbers (S8).
+    /// Memory is reported only where none of S9, S1 and S7 is the fault.
+    pub fn load(&mut self, zone: &ZoneText) -> Result<Changed, StoreFault>
         ensures { IsEdited (load zone.now) self.old self.new result }
     {
         let records = self.records.as_slice();
@@ -110,11 +116,11 @@ impl ZoneStore {
     }
 
     /// Unloads the zone of this apex: the apex and all records within it are gone. Returns the keys
-    /// of the sets that changed, as `load` does. The cost is that of `load`.
+    /// of the sets that changed and of the names that no longer exist, as `load` does. The cost is that of `load`.
     ///
     /// The fault is that the apex is not loaded (S2). No set takes a number, so none is spent. Memory is
     /// reported only where the apex is loaded.
-    pub fn unload(&mut self, apex: &Name) -> Result<Sequence<Key>, StoreFault>
+    pub fn unload(&mut self, apex: &Name) -> Result<Changed, StoreFault>
         ensures edited { IsEdited (unload apex.now) self.old self.new result }
         ensures numbers { result ≢ Err StoreFault.NumberSpent }
     {
@@ -125,14 +131,15 @@ impl ZoneStore {
     }
 
     /// Adds a record, which is last. Returns the key of its set, if it is in one, which takes the
-    /// next number. But for hashing, linear in the number of loaded zones and of the data of its set,
-    /// which are at most 32.
+    /// next number, and then those of the names that exist now and did not: its owner, the parent of
+    /// that, and so on. But for hashing, linear in the number of loaded zones, of the labels of its
+    /// owner, and of the data of its set, which are at most 32.
     ///
     /// The fault is the first one: an owner in no loaded zone (S2), a record that is in the store
     /// already (S3), an alias beside other data (S5), a set of 32 records (S6), as many records as
     /// the store's maximum (S7), no number (S8). Memory is reported only where none of them is the
     /// fault.
-    pub fn add(&mut self, new: &Record) -> Result<Sequence<Key>, StoreFault>
+    pub fn add(&mut self, new: &Record) -> Result<Changed, StoreFault>
         ensures { IsEdited (add new.now) self.old self.new result }
     {
         check_add(self.max_records, new, &self.apexes, &self.records)?;
@@ -140,12 +147,13 @@ impl ZoneStore {
     }
 
     /// Removes the record that is equal to this one. Returns the key of its set, if it is in one,
-    /// which takes the next number unless it is now empty. Linear in the number of all records, of
-    /// which no more is looked at than 32 bits, and in the number of loaded zones.
+    /// which takes the next number unless it is now empty, and then those of the names that no longer
+    /// exist: its owner, the parent of that, and so on. Linear in the number of all records, of which no
+    /// more is looked at than 32 bits, in the number of loaded zones and in the labels of its owner.
     ///
     /// The fault is the first one: an owner in no loaded zone (S2), a record that is not in the
     /// store (S4), no number (S8). Memory is reported only where none of them is the fault.
-    pub fn remove(&mut self, old: &Record) -> Result<Sequence<Key>, StoreFault>
+    pub fn remove(&mut self, old: &Record) -> Result<Changed, StoreFault>
         ensures { IsEdited (remove old.now) self.old self.new result }
     {
         check_remove(old, &self.apexes, &self.records)?;
@@ -153,7 +161,7 @@ impl ZoneStore {
     }
 
     /// The number of the key's set and its data, in the order of addition; 0 and no data where it
-    /// is empty. Counts one look. Constant time but for hashing. Does not allocate.
+    /// is empty. Of existence it is 1 and one `Data::Bare`, or 0 and no data. Counts one look. Constant time but for hashing. Does not allocate.
     pub fn set(&mut self, key: &Key) -> (u64, &[Data])
         ensures number { result.0 ≡ number_in self.old key.now }
         ensures value { result.1.now ≡ set_of self.old.zones.records key.now }
