@@ -1,7 +1,8 @@
 -- Records with an index of their sets, each of which has a number.
-use Rattle.std.specs.Prelude.{◌≡◌, ◌≢◌, ℕ, ◌+◌, ◌^◌, ◌≤◌, Bool, false, List, None, Some, Result, OnOk, OnErr, IfOk, IfErr}
+use Rattle.std.specs.Prelude.{◌≡◌, ◌≢◌, ℕ, ◌+◌, ◌^◌, ◌≤◌, Bool, true, false, List, None, Some, Result, OnOk, OnErr, IfOk, IfErr}
 use Rattle.sipl_names.specs.Labels.{Labels}
-use Rattle.sipl_records.specs.Sets.{is_existence}
+use Rattle.sipl_records.specs.Sets.{existence_of, is_existence}
+use Rattle.sipl_records.specs.declared.data.Data.{Data}
 use Rattle.sipl_records.specs.declared.record.Record.{Record}
 use Rattle.sipl_records.specs.declared.record.Key.{Key}
 use Rattle.sipl_zonestore.specs.BareOwners.{HasBare}
@@ -20,12 +21,14 @@ pub record IndexedState : Type 0 where
   pub next : ℕ
 
 -- what always holds: the tables have the sets of the records, the owners of those of which nothing
--- is kept, and how many records are within each name; and no number is above 2^52
+-- is kept, and how many records are within each name; the set that is lent is that of a name that
+-- exists; and no number is above 2^52
 pub record IsIndexed (records : List Record) (sets : OwnerTable) (bare : Labels → Bool)
-    (names : NameTable) (next : ℕ) : Type 0 where
+    (names : NameTable) (existence : List Data) (next : ℕ) : Type 0 where
   pub has_sets : HasSets sets records
   pub has_bare : HasBare bare records
   pub has_names : HasNames names records
+  pub lent : existence ≡ existence_of true
   pub last : next ≤ 2 ^ 52 + 1
 
 -- the records become these, unless too few numbers are left

@@ -35,6 +35,12 @@ numbered_keys old new = filter (λ key. not (is_empty (data_of new key))) (chang
 abbrev pub existence_number : Bool → ℕ
 existence_number exists = if exists then 1 else 0
 
+-- the number of a key's set by the records and the numbers of their sets
+abbrev pub number_by : List Record → List SetNumber → Key → ℕ
+number_by records numbers key =
+    if is_existence key then existence_number (exists_in records key.name)
+    else number_of numbers key
+
 -- the number of a record set once the records have changed, where `next` is the first number that is
 -- taken: an empty set has the number 0, and a set that stays as it is keeps its number
 abbrev pub set_number_after : List Record → List Record → ℕ → (Key → ℕ) → Key → ℕ

@@ -8,20 +8,21 @@ use Rattle.sipl_names.specs.Labels.{Labels, same_name}
 use Rattle.sipl_records.specs.Sets.{data_of, same_data, same_key, same_kind, key_of}
 use Rattle.sipl_records.specs.declared.data.Data.{Data}
 use Rattle.sipl_records.specs.declared.kind.Kind.{Kind}
-use Rattle.sipl_records.specs.declared.kind.Kind.TheVariants.{Address4, Address6, Alias, Service, Pointer}
+use Rattle.sipl_records.specs.declared.kind.Kind.TheVariants.{Address4, Address6, Alias, Service, Pointer, Exists}
 use Rattle.sipl_records.specs.declared.record.Record.{Record}
 use Rattle.sipl_records.specs.declared.record.Key.{Key}
 use Rattle.sipl_zonestore.specs.Numbers.{SetNumber, is_empty}
 use Rattle.sipl_zonestore.specs.Content.{Content, no_content, carried, without}
 use Rattle.sipl_zonestore.specs.declared.owner_sets.OwnerSets.{OwnerSets}
 
--- the set of a kind among those of an owner
+-- the set of a kind among those of an owner; a table has no set of existence
 abbrev pub set_at : Kind → OwnerSets → Content
 set_at Address4 sets = sets.address4
 set_at Address6 sets = sets.address6
 set_at Alias sets = sets.alias
 set_at Service sets = sets.service
 set_at Pointer sets = sets.pointer
+set_at Exists sets = no_content
 
 -- the sets of an owner, where that of this kind is this one
 abbrev pub with_set : Kind → Content → OwnerSets → OwnerSets
@@ -30,6 +31,7 @@ with_set Address6 set sets = record sets { address6 = set }
 with_set Alias set sets = record sets { alias = set }
 with_set Service set sets = record sets { service = set }
 with_set Pointer set sets = record sets { pointer = set }
+with_set Exists set sets = sets
 
 -- empty sets
 abbrev pub no_sets : OwnerSets

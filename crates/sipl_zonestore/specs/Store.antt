@@ -2,11 +2,10 @@
 use Rattle.std.specs.Prelude.{ℕ, Bool, ◌&&◌, ◌||◌, not, List, [], ◌∷◌, ◌++◌, filter, if◌then◌else◌}
 use Rattle.std.specs.List.{list_any}
 use Rattle.sipl_names.specs.Labels.{Labels, same_name, is_within}
-use Rattle.sipl_records.specs.Sets.{exists_in, is_existence}
 use Rattle.sipl_records.specs.declared.record.Record.{Record}
 use Rattle.sipl_records.specs.declared.record.Key.{Key}
 use Rattle.sipl_masterfile.specs.Zones.{Zone}
-use Rattle.sipl_zonestore.specs.Numbers.{SetNumber, existence_number, number_of}
+use Rattle.sipl_zonestore.specs.Numbers.{SetNumber, number_by}
 
 -- the apexes of the loaded zones, and all records, each in the order of addition
 pub record Zones : Type 0 where
@@ -24,9 +23,7 @@ pub record Store : Type 0 where
 
 -- the number of a key's set in a store; that of existence says whether the name exists
 abbrev pub number_in : Store → Key → ℕ
-number_in store key =
-    if is_existence key then existence_number (exists_in store.zones.records key.name)
-    else number_of store.numbers key
+number_in store key = number_by store.zones.records store.numbers key
 
 -- nothing is loaded
 abbrev pub no_zones : Zones

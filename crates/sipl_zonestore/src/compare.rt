@@ -1,4 +1,4 @@
-//! The keys whose sets an edit changes.
+//! The keys of the record sets that an edit changes.
 ghost use Rattle.std.specs.Prelude.{◌≡◌, [], ◌∷◌, ◌++◌, List, true, false, not, IfOk, OnOk};
 ghost use Rattle.std.specs.List.{list_all};
 ghost use Rattle.std.specs.Option.{option_to_list};
@@ -8,7 +8,7 @@ ghost use Rattle.sipl_records.specs.Sets.{key_of, same_data};
 ghost use lib.Pointwise.{pointwise};
 ghost use Rattle.sipl_masterfile.specs.Zones.{has_repeats};
 ghost use Rattle.sipl_zonestore.specs.Store.{records_outside, records_within};
-ghost use Rattle.sipl_zonestore.specs.Changes.{changed_among, changed_keys};
+ghost use Rattle.sipl_zonestore.specs.Changes.{changed_among, changed_sets};
 ghost use Rattle.sipl_zonestore.specs.SetTable.{HasSets, is_first, changed_in, added_in};
 
 use crate::sets::SetTable;
@@ -27,7 +27,7 @@ pub(crate) fn own_key(alloc: Global, changed: &Record) -> Result<Vec<Key>, Alloc
     Ok(keys)
 }
 
-// The keys of the sets that change where the records within the apex are replaced by a text, whose
+// The keys of the record sets that change where the records within the apex are replaced by a text, whose
 // sets are `new`.
 pub(crate) fn changed_within(
     alloc: Global,
@@ -43,7 +43,7 @@ pub(crate) fn changed_within(
     requires sets { HasSets old.now records.now }
     requires text_sets { HasSets new.now text.now }
     ensures { IfOk result (λ keys. keys.items
-        ≡ changed_keys records.now (records_outside apex.now records.now ++ text.now)) }
+        ≡ changed_sets records.now (records_outside apex.now records.now ++ text.now)) }
 {
     let mut keys = Vec::new(alloc);
     push_changed(alloc, &mut keys, apex, records, old, new)?;

@@ -33,7 +33,7 @@ pub(crate) fn has_conflict(sets: &SetTable, owner: &Name, kind: Kind) -> bool
 {
     match kind {
         Kind::Alias => has_any_kind(sets, owner),
-        Kind::Address4 | Kind::Address6 | Kind::Service | Kind::Pointer => {
+        Kind::Address4 | Kind::Address6 | Kind::Service | Kind::Pointer | Kind::Exists => {
             has_kind(sets, owner, Kind::Alias)
         }
     }

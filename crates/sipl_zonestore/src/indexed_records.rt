@@ -4,43 +4,51 @@ ghost use Rattle.std.specs.Borrow.{sem};
 ghost use Rattle.std.specs.Io.BufRead.{Rests};
 ghost use Rattle.std.specs.List.{count_by, list_all, list_any};
 ghost use Rattle.indexmap.specs.IndexSet.{IsUnchanged, contains};
+ghost use Rattle.sipl_zonestore.specs.Numbers.{number_by, number_refusal};
 ghost use Rattle.sipl_names.specs.Labels.{Labels, is_within, same_name};
 ghost use Rattle.sipl_records.specs.declared.record.Key.{Key};
 ghost use Rattle.sipl_records.specs.Sets.{conflicts, same_record, set_of, shares_set};
 ghost use Rattle.sipl_masterfile.specs.Zones.{has_repeats};
 ghost use Rattle.sipl_zonestore.specs.BareOwners.{is_bare_at};
-ghost use Rattle.sipl_zonestore.specs.Numbers.{number_of, number_refusal};
 ghost use Rattle.sipl_zonestore.specs.Content.{no_content};
 ghost use Rattle.sipl_zonestore.specs.SetTable.{content_of};
 ghost use Rattle.sipl_zonestore.specs.Store.{records_outside};
 ghost use Rattle.sipl_zonestore.specs.Edits.{records_without};
 ghost use Rattle.sipl_zonestore.specs.IndexedRecords.{IsReplaced};
 
+use crate::ancestors::with_ancestors;
 use crate::bare_owners::{bare_owner, bare_owners, insert_owner, remove_owner, replace_owners};
-use crate::compare::{changed_within, own_key};
+use crate::changed::Changed;
+use crate::compare::changed_within;
 use crate::comparison::{Comparison, has_conflict, has_value};
+use crate::existence::{changed_by, changed_by_load};
 use crate::fault::StoreFault;
+use crate::name_table::{count_in, count_of, count_out, names_within, replace_names};
 use crate::record_list::RecordList;
 use crate::set_numbers::{
     added_count, check_numbers, count_numbered, number_sets, push_to_set, remove_from_set,
     removed_count, sets_of,
 };
 use crate::sets::SetTable;
-use indexmap::IndexSet;
+use indexmap::{IndexMap, IndexSet};
 use sipl_names::Name;
-use sipl_records::{Data, Key, Record, Sequence};
+use sipl_records::{Data, Key, Kind, Record};
 use std::alloc::{AllocError, Global};
 use std::marker::Model;
 
 // Records in the order of addition, a table of their sets by their keys, each set with its number,
-// and a table of the owners of those of which nothing is kept, which are in no set. A set takes the
-// next number whenever it changes.
+// a table of the owners of those of which nothing is kept, which are in no set, and a table of the
+// names that exist, each with how many records are within it. A set takes the next number whenever it
+// changes.
 #[derive(Drop)]
 pub(crate) struct IndexedRecords {
     alloc: Global,
     records: RecordList,
     sets: SetTable,
     bare: IndexSet<Name>,
+    names: IndexMap<Name, usize>,
+    // The set of a name's existence, which is lent.
+    existence: [Data; 1],
     next: u64,
 }
 
@@ -58,7 +66,8 @@ impl Model for IndexedRecords {
       next = r.next;
     } };
 
-    ghost invariant = { λ r. IsIndexed r.records.records r.sets (contains same_name r.bare) r.next };
+    ghost invariant = { λ r. IsIndexed r.records.records r.sets (contains same_name r.bare)
+        r.names.entries r.existence r.next };
 }
 
 impl IndexedRecords {
@@ -74,6 +83,8 @@ impl IndexedRecords {
             records: RecordList::new(alloc),
             sets: SetTable::new(alloc),
             bare: IndexSet::new(alloc),
+            names: IndexMap::new(alloc),
+            existence: [Data::Bare],
             next,
         }
     }
@@ -95,17 +106,27 @@ impl IndexedRecords {
 
     // The number of the key's set, and its data.
     pub(crate) fn set(&self, key: &Key) -> (u64, &[Data])
-        ensures number { result.0 ≡ number_of self.now.numbers key.now }
+        ensures number { result.0 ≡ number_by self.now.records self.now.numbers key.now }
         ensures values { result.1.now ≡ set_of self.now.records key.now }
     {
-        self.sets.get(&key.name, key.kind)
+        if key.kind != Kind::Exists {
+            return self.sets.get(&key.name, key.kind);
+        }
+        if count_of(&self.names, &key.name) == 0 {
+            (0, &[])
+        } else {
+            (1, &self.existence)
+        }
     }
 
     // The number of the key's set.
     pub(crate) fn number(&self, key: &Key) -> u64
-        ensures { result ≡ number_of self.now.numbers key.now }
+        ensures { result ≡ number_by self.now.records self.now.numbers key.now }
     {
-        self.sets.number(&key.name, key.kind)
+        if key.kind != Kind::Exists {
+            return self.sets.number(&key.name, key.kind);
+        }
+        u64::from(count_of(&self.names, &key.name) != 0)
     }
 
     // Whether the record that is sought is among these. Constant time but for hashing and the data of
@@ -141,13 +162,13 @@ impl IndexedRecords {
         }
     }
 
-    // Replaces the records within the apex by those of a text, which are last. Returns the keys of
-    // the sets that changed.
+    // Replaces the records within the apex by those of a text, which are last. Returns what they
+    // changed.
     pub(crate) fn replace_within(
         &mut self,
         apex: &Name,
         text: &[Record],
-    ) -> Result<Sequence<Key>, StoreFault>
+    ) -> Result<Changed, StoreFault>
         requires distinct { has_repeats self.old.records ≡ false }
         requires text_distinct { has_repeats text.now ≡ false }
         requires within { list_all (λ r. is_within r.owner apex.now) text.now ≡ true }
@@ -160,17 +181,22 @@ impl IndexedRecords {
         let count = count_numbered(&keys, &sets);
         check_numbers(self.next, count)?;
         number_sets(&mut sets, &keys, self.next);
+        let old = names_within(self.alloc, apex, records)?;
+        let new = names_within(self.alloc, apex, text)?;
+        let changed = changed_by_load(self.alloc, keys, &self.names, &old, &new)?;
         let copies = copy_records(self.alloc, text)?;
         self.records.reserve(copies.len())?;
+        self.names.reserve(new.len())?;
         replace_tables(self.alloc, &mut self.sets, &mut self.bare, apex, text, sets)?;
+        replace_names(&mut self.names, &old, new);
         self.records.replace_within(apex, copies);
         self.next += count as u64;
-        Ok(Sequence::from_vec(keys))
+        Ok(changed)
     }
 
-    // Appends a record. Returns the key of its set, which changed. Nothing is allocated where too few
+    // Appends a record. Returns what it changed. Nothing is allocated where too few
     // numbers are left.
-    pub(crate) fn push(&mut self, new: &Record) -> Result<Sequence<Key>, StoreFault>
+    pub(crate) fn push(&mut self, new: &Record) -> Result<Changed, StoreFault>
         requires { list_any (same_record new.now) self.old.records ≡ false }
         ensures replaced { IsReplaced (self.old.records ++ new.now ∷ []) self.old self.new result }
         ensures memory { IfErr result (λ fault. fault ≡ StoreFault.Memory
@@ -179,21 +205,24 @@ impl IndexedRecords {
     {
         let count = added_count(new);
         check_numbers(self.next, count)?;
-        let keys = own_key(self.alloc, new)?;
+        let owners = with_ancestors(self.alloc, &new.owner)?;
+        let changed = changed_by(self.alloc, new, &owners, &self.names, 0)?;
         let copy = new.dup(self.alloc)?;
         let owner = bare_owner(self.alloc, new)?;
         self.records.reserve(1)?;
         self.bare.reserve(usize::from(owner.is_some()))?;
+        self.names.reserve(owners.len())?;
         push_to_set(self.alloc, &mut self.sets, self.next, new)?;
         insert_owner(&mut self.bare, owner);
+        count_in(&mut self.names, owners);
         self.records.push_reserved(copy);
         self.next += count as u64;
-        Ok(Sequence::from_vec(keys))
+        Ok(changed)
     }
 
-    // Removes a record. Returns the key of its set, which changed. Nothing is allocated where too few
+    // Removes a record. Returns what it changed. Nothing is allocated where too few
     // numbers are left.
-    pub(crate) fn remove(&mut self, old: &Record) -> Result<Sequence<Key>, StoreFault>
+    pub(crate) fn remove(&mut self, old: &Record) -> Result<Changed, StoreFault>
         requires distinct { has_repeats self.old.records ≡ false }
         requires present { list_any (same_record old.now) self.old.records ≡ true }
         ensures replaced { IsReplaced (records_without old.now self.old.records) self.old self.new result }
@@ -203,12 +232,14 @@ impl IndexedRecords {
     {
         let count = removed_count(&self.sets, old);
         check_numbers(self.next, count)?;
-        let keys = own_key(self.alloc, old)?;
+        let owners = with_ancestors(self.alloc, &old.owner)?;
+        let changed = changed_by(self.alloc, old, &owners, &self.names, 1)?;
         remove_from_set(&mut self.sets, self.next, old);
         remove_owner(&mut self.bare, old);
+        count_out(&mut self.names, &owners);
         self.records.remove(old);
         self.next += count as u64;
-        Ok(Sequence::from_vec(keys))
+        Ok(changed)
     }
 }
 

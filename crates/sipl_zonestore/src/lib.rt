@@ -1,15 +1,18 @@
 //! The store of zones: which are loaded, and their records.
 #![tactic(auto)]
 
+mod ancestors;
 mod apexes;
 mod bare_owners;
 mod changed;
 mod checks;
 mod compare;
 mod comparison;
+mod existence;
 mod fault;
 mod indexed_records;
 pub mod laws;
+mod name_table;
 mod owner_codes;
 mod owner_sets;
 mod places;

@@ -1,8 +1,9 @@
 //! The record sets of one owner.
-ghost use Rattle.std.specs.Prelude.{◌≡◌, OnOk, OnErr};
+ghost use Rattle.std.specs.Prelude.{◌≡◌, [], false, OnOk, OnErr};
 ghost use Rattle.std.specs.Borrow.{sem};
 ghost use Rattle.sipl_zonestore.specs.Content.{data_without, pushed, with_number};
-ghost use Rattle.sipl_zonestore.specs.SetTable.{has_no_data, no_sets, set_at, with_set};
+ghost use Rattle.sipl_records.specs.Sets.{same_kind};
+ghost use Rattle.sipl_zonestore.specs.SetTable.{has_no_data, held, no_sets, set_at, with_set};
 ghost use Rattle.sipl_zonestore.specs.Lending.{LendsSet};
 
 use crate::record_set::RecordSet;
@@ -33,21 +34,24 @@ impl OwnerSets {
         }
     }
 
-    // The set of this kind.
-    pub(crate) fn set(&self, kind: Kind) -> &RecordSet
-        ensures { result.now ≡ set_at kind self.now }
+    // The number of the set of this kind and its data, 0 and none where it is empty.
+    pub(crate) fn get(&self, kind: Kind) -> (u64, &[Data])
+        ensures number { result.0 ≡ (held kind self.now).number }
+        ensures values { result.1.now ≡ (held kind self.now).values }
     {
         match kind {
-            Kind::Address4 => &self.address4,
-            Kind::Address6 => &self.address6,
-            Kind::Alias => &self.alias,
-            Kind::Service => &self.service,
-            Kind::Pointer => &self.pointer,
+            Kind::Address4 => self.address4.get(),
+            Kind::Address6 => self.address6.get(),
+            Kind::Alias => self.alias.get(),
+            Kind::Service => self.service.get(),
+            Kind::Pointer => self.pointer.get(),
+            Kind::Exists => (0, &[]),
         }
     }
 
     // The set of this kind, to be changed.
     fn set_mut(&mut self, kind: Kind) -> &mut RecordSet
+        requires { same_kind kind Kind.Exists ≡ false }
         ensures value { result.now ≡ set_at kind self.old }
         ensures* writes_back { sem 𝓛 (LendsSet self.entry kind result) }
     {
@@ -57,11 +61,13 @@ impl OwnerSets {
             Kind::Alias => &mut self.alias,
             Kind::Service => &mut self.service,
             Kind::Pointer => &mut self.pointer,
+            Kind::Exists => unreachable!(),
         }
     }
 
     // Appends a datum to the set of this kind, which gets this number.
     pub(crate) fn push(&mut self, kind: Kind, number: u64, value: Data) -> Result<(), AllocError>
+        requires { same_kind kind Kind.Exists ≡ false }
         ensures pushed { OnOk result
             (self.new ≡ with_set kind (pushed number value (set_at kind self.old)) self.old) }
         ensures unchanged { OnErr result (self.new ≡ self.old) }
@@ -71,6 +77,7 @@ impl OwnerSets {
 
     // Removes a datum from the set of this kind.
     pub(crate) fn remove(&mut self, kind: Kind, value: &Data)
+        requires { same_kind kind Kind.Exists ≡ false }
         ensures { self.new
             ≡ with_set kind (data_without value.now (set_at kind self.old)) self.old }
     {
@@ -79,6 +86,7 @@ impl OwnerSets {
 
     // Numbers the set of this kind.
     pub(crate) fn set_number(&mut self, kind: Kind, number: u64)
+        requires { same_kind kind Kind.Exists ≡ false }
         ensures { self.new ≡ with_set kind (with_number number (set_at kind self.old)) self.old }
     {
         self.set_mut(kind).set_number(number);

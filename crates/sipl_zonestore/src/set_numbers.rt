@@ -1,9 +1,9 @@
 //! The numbers that sets take in an edit.
-ghost use Rattle.std.specs.Prelude.{◌≡◌, ◌≤◌, ◌<◌, ◌+◌, ◌^◌, not, length, filter, if◌then◌else◌, IfOk, OnOk, OnErr, MatchResult};
+ghost use Rattle.std.specs.Prelude.{◌≡◌, ◌≤◌, ◌<◌, ◌+◌, ◌^◌, false, not, length, filter, if◌then◌else◌, IfOk, OnOk, OnErr, MatchResult};
 ghost use Rattle.std.specs.List.{IsDistinct, list_any};
 ghost use Rattle.std.specs.Option.{option_to_list};
 ghost use Rattle.sipl_records.specs.declared.record.Key.{Key};
-ghost use Rattle.sipl_records.specs.Sets.{data_of, has_key, key_of, same_data, same_key};
+ghost use Rattle.sipl_records.specs.Sets.{data_of, has_key, is_existence, key_of, same_data, same_key};
 ghost use Rattle.sipl_zonestore.specs.Content.{carried, pushed, renumbered, without};
 ghost use Rattle.sipl_zonestore.specs.SetTable.{content_of, has_set, keys_left, numbered_content};
 
@@ -57,6 +57,7 @@ pub(crate) fn count_numbered(keys: &[Key], sets: &SetTable) -> usize
 // Numbers the sets of the keys in their order, from this number on.
 pub(crate) fn number_sets(sets: &mut SetTable, keys: &[Key], mut next: u64)
     requires distinct { IsDistinct same_key keys.now }
+    requires of_records { list_any is_existence keys.now ≡ false }
     requires last { next + length (filter (has_set sets.old) keys.now) ≤ 2 ^ 52 + 1 }
     ensures { (key : Key) → content_of sets.new key
         ≡ numbered_content sets.old keys.now next key }

@@ -2,7 +2,7 @@
 ghost use Rattle.std.specs.Prelude.{◌≡◌, [], false, OnOk, OnErr, if◌then◌else◌};
 ghost use Rattle.sipl_names.specs.Labels.{is_within};
 ghost use Rattle.sipl_records.specs.declared.record.Key.{Key};
-ghost use Rattle.sipl_records.specs.Sets.{same_key};
+ghost use Rattle.sipl_records.specs.Sets.{same_key, same_kind};
 ghost use Rattle.sipl_zonestore.specs.Content.{no_content, pushed, without, renumbered};
 ghost use Rattle.sipl_zonestore.specs.SetTable.{content_of, has_set};
 
@@ -50,7 +50,7 @@ impl SetTable {
             ≡ (content_of self.now (record { name = owner.now; kind = kind })).values }
     {
         match self.owners.get(owner) {
-            Some(sets) => sets.set(kind).get(),
+            Some(sets) => sets.get(kind),
             None => (0, &[]),
         }
     }
@@ -80,6 +80,7 @@ impl SetTable {
         number: u64,
         value: Data,
     ) -> Result<(), AllocError>
+        requires { same_kind kind Kind.Exists ≡ false }
         ensures pushed { OnOk result ((key : Key) → content_of self.new key
             ≡ (if same_key (record { name = owner.now; kind = kind }) key
             then pushed number value (content_of self.old key)
@@ -99,6 +100,7 @@ impl SetTable {
     // Removes a datum from a set. Constant time but for hashing and the data of the set. Does not
     // allocate.
     pub(crate) fn remove(&mut self, owner: &Name, kind: Kind, value: &Data)
+        requires { same_kind kind Kind.Exists ≡ false }
         ensures { (key : Key) → content_of self.new key
             ≡ (if same_key (record { name = owner.now; kind = kind }) key
             then without value.now (content_of self.old key)
@@ -116,6 +118,7 @@ impl SetTable {
     // Numbers a set, unless it is empty, and returns whether it is not. Constant time but for
     // hashing. Does not allocate.
     pub(crate) fn set_number(&mut self, owner: &Name, kind: Kind, number: u64) -> bool
+        requires { same_kind kind Kind.Exists ≡ false }
         ensures found { result
             ≡ has_set self.old (record { name = owner.now; kind = kind }) }
         ensures numbered { (key : Key) → content_of self.new key
@@ -127,7 +130,7 @@ impl SetTable {
             return false;
         };
         sets.set_number(kind, number);
-        !sets.set(kind).is_empty()
+        !sets.get(kind).1.is_empty()
     }
 
     // Replaces the sets whose owners are within the apex by these, whose owners are within it too.

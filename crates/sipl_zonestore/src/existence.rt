@@ -1,0 +1,112 @@
+//! The keys of the names that an edit makes exist, or no longer exist.
+ghost use Rattle.std.specs.Prelude.{◌≡◌, ◌&&◌, ◌++◌, [], ◌∷◌, length, map, filter, nat_eq, IfOk, OnOk};
+ghost use Rattle.std.specs.Option.{option_to_list};
+ghost use Rattle.indexmap.specs.IndexMap.{keys};
+ghost use Rattle.sipl_records.specs.Sets.{key_of};
+ghost use Rattle.sipl_zonestore.specs.Changes.{existence_key};
+ghost use Rattle.sipl_zonestore.specs.NameTable.{count_at};
+
+use crate::changed::Changed;
+use crate::compare::own_key;
+use crate::name_table::count_of;
+use indexmap::IndexMap;
+use sipl_names::Name;
+use sipl_records::{Key, Kind, Record, Sequence};
+use std::alloc::{AllocError, Global};
+
+// What an edit of one record changes: the key of its set, if it is in one, and the existence of those
+// of these names that have this count: its owner and the ancestors of that.
+pub(crate) fn changed_by(
+    alloc: Global,
+    edited: &Record,
+    owners: &[Name],
+    names: &IndexMap<Name, usize>,
+    count: usize,
+) -> Result<Changed, AllocError>
+    ensures keys { IfOk result (λ changed. changed.keys ≡ option_to_list (key_of edited.now)
+        ++ map existence_key
+        (filter (λ name. nat_eq (count_at names.now.entries name) count) owners.now)) }
+    ensures sets { IfOk result (λ changed. changed.sets ≡ length (option_to_list (key_of edited.now))) }
+{
+    let mut keys = own_key(alloc, edited)?;
+    let sets = keys.len();
+    push_counted(alloc, &mut keys, owners, names, count)?;
+    let keys = Sequence::from_vec(keys);
+    Ok(Changed { keys, sets })
+}
+
+// What the load of a zone changes: the sets of these keys, and the existence of the names of its old
+// records that no other record is within, and of the names of its new ones that no record was within.
+pub(crate) fn changed_by_load(
+    alloc: Global,
+    mut keys: Vec<Key>,
+    names: &IndexMap<Name, usize>,
+    old: &IndexMap<Name, usize>,
+    new: &IndexMap<Name, usize>,
+) -> Result<Changed, AllocError>
+    ensures keys { IfOk result (λ changed. changed.keys ≡ keys.items
+        ++ (map existence_key
+        (filter (λ name. nat_eq (count_at names.now.entries name) (count_at old.now.entries name)
+        && nat_eq (count_at new.now.entries name) 0) (keys old.now))
+        ++ map existence_key
+        (filter (λ name. nat_eq (count_at names.now.entries name) 0) (keys new.now)))) }
+    ensures sets { IfOk result (λ changed. changed.sets ≡ length keys.items) }
+{
+    let sets = keys.len();
+    push_left(alloc, &mut keys, names, old, new)?;
+    push_counted(alloc, &mut keys, new.keys().as_slice(), names, 0)?;
+    let keys = Sequence::from_vec(keys);
+    Ok(Changed { keys, sets })
+}
+
+// Appends the keys of those of the names that have this count.
+fn push_counted(
+    alloc: Global,
+    keys: &mut Vec<Key>,
+    among: &[Name],
+    names: &IndexMap<Name, usize>,
+    count: usize,
+) -> Result<(), AllocError>
+    ensures { OnOk result (keys.new.items ≡ keys.old.items ++ map existence_key
+        (filter (λ name. nat_eq (count_at names.now.entries name) count) among.now)) }
+{
+    for name in among {
+        if count_of(names, name) == count {
+            push_existence(alloc, keys, name)?;
+        }
+    }
+    Ok(())
+}
+
+// Appends the keys of the old names with which no other record was counted, and that no new record is
+// within.
+fn push_left(
+    alloc: Global,
+    keys: &mut Vec<Key>,
+    names: &IndexMap<Name, usize>,
+    old: &IndexMap<Name, usize>,
+    new: &IndexMap<Name, usize>,
+) -> Result<(), AllocError>
+    ensures { OnOk result (keys.new.items ≡ keys.old.items ++ map existence_key
+        (filter (λ name. nat_eq (count_at names.now.entries name) (count_at old.now.entries name)
+        && nat_eq (count_at new.now.entries name) 0) (keys old.now))) }
+{
+    for name in old.keys().as_slice() {
+        if count_of(names, name) == count_of(old, name) && count_of(new, name) == 0 {
+            push_existence(alloc, keys, name)?;
+        }
+    }
+    Ok(())
+}
+
+// Appends the key of a name's existence.
+fn push_existence(alloc: Global, keys: &mut Vec<Key>, name: &Name) -> Result<(), AllocError>
+    ensures { OnOk result (keys.new.items ≡ keys.old.items ++ existence_key name.now ∷ []) }
+{
+    let name = name.dup(alloc)?;
+    keys.push(Key {
+        name,
+        kind: Kind::Exists,
+    })?;
+    Ok(())
+}

@@ -1,0 +1,125 @@
+//! The names that exist (RFC 4592, 2.2.3): of each, how many records are within it.
+ghost use Rattle.std.specs.Prelude.{◌≡◌, ◌≤◌, ◌<◌, ◌+◌, ◌-◌, ◌^◌, length, if◌then◌else◌, IfOk};
+ghost use Rattle.std.specs.List.{count_by};
+ghost use Rattle.indexmap.specs.IndexMap.{keys, index_map_len, spare};
+ghost use Rattle.indexmap.specs.IndexSet.{insert_all, insert_key};
+ghost use Rattle.sipl_names.specs.Labels.{Labels, same_name};
+ghost use Rattle.sipl_zonestore.specs.Changes.{existing_names};
+ghost use Rattle.sipl_zonestore.specs.NameTable.{HasNames, count_at};
+ghost use Rattle.sipl_zonestore.specs.Store.{records_within};
+
+use crate::ancestors::with_ancestors;
+use indexmap::IndexMap;
+use sipl_names::Name;
+use sipl_records::Record;
+use std::alloc::{AllocError, Global};
+
+// The count of a name, 0 where it has none. Constant time but for hashing.
+pub(crate) fn count_of(names: &IndexMap<Name, usize>, name: &Name) -> usize
+    ensures { result ≡ count_at names.now.entries name.now }
+{
+    match names.get(name) {
+        Some(count) => *count,
+        None => 0,
+    }
+}
+
+// Counts a name so many times more. Does not allocate.
+fn add_count(names: &mut IndexMap<Name, usize>, name: Name, count: usize)
+    requires space { 0 < spare names.old }
+    requires fits { count_at names.old.entries name + count < 2 ^ 64 }
+    ensures counts { (other : Labels) → count_at names.new.entries other
+        ≡ count_at names.old.entries other + (if same_name name other then count else 0) }
+    ensures keys { keys names.new ≡ insert_key same_name (keys names.old) name }
+    ensures space { spare names.old ≤ spare names.new + 1 }
+{
+    if let Some(own) = names.get_mut(&name) {
+        *own += count;
+        return;
+    }
+    names.insert(name, count).unwrap();
+}
+
+// Counts each of these names once more. Does not allocate.
+pub(crate) fn count_in(names: &mut IndexMap<Name, usize>, more: Vec<Name>)
+    requires space { length more.items ≤ spare names.old }
+    requires fits { (name : Labels) → count_at names.old.entries name + length more.items < 2 ^ 64 }
+    ensures counts { (name : Labels) → count_at names.new.entries name
+        ≡ count_at names.old.entries name + count_by (λ other. same_name other name) more.items }
+    ensures keys { keys names.new ≡ insert_all same_name (keys names.old) more.items }
+{
+    for name in more {
+        add_count(names, name, 1);
+    }
+}
+
+// Counts a name so many times less, and drops it where none is left. Does not allocate.
+fn take_count(names: &mut IndexMap<Name, usize>, name: &Name, count: usize)
+    ensures { (other : Labels) → count_at names.new.entries other
+        ≡ count_at names.old.entries other - (if same_name name.now other then count else 0) }
+{
+    let Some(own) = names.get_mut(name) else {
+        return;
+    };
+    if *own > count {
+        *own -= count;
+        return;
+    }
+    names.swap_remove(name);
+}
+
+// Counts each of these names once less. Does not allocate.
+pub(crate) fn count_out(names: &mut IndexMap<Name, usize>, less: &[Name])
+    ensures { (name : Labels) → count_at names.new.entries name
+        ≡ count_at names.old.entries name - count_by (λ other. same_name other name) less.now }
+{
+    for name in less {
+        take_count(names, name, 1);
+    }
+}
+
+// The names that exist by those of the records that are within the apex, in the order of their first
+// places.
+pub(crate) fn names_within(
+    alloc: Global,
+    apex: &Name,
+    records: &[Record],
+) -> Result<IndexMap<Name, usize>, AllocError>
+    ensures counts { IfOk result
+        (λ names. HasNames names.entries (records_within apex.now records.now)) }
+    ensures keys { IfOk result
+        (λ names. keys names ≡ existing_names (records_within apex.now records.now)) }
+{
+    let mut names = IndexMap::new(alloc);
+    for record in records {
+        if record.owner.is_within(apex) {
+            let owners = with_ancestors(alloc, &record.owner)?;
+            names.reserve(owners.len())?;
+            count_in(&mut names, owners);
+        }
+    }
+    Ok(names)
+}
+
+// Takes the counts of the old names away, and adds those of the new ones. Does not allocate.
+pub(crate) fn replace_names(
+    names: &mut IndexMap<Name, usize>,
+    old: &IndexMap<Name, usize>,
+    mut new: IndexMap<Name, usize>,
+)
+    requires space { index_map_len new ≤ spare names.old }
+    requires fits { (name : Labels)
+        → count_at names.old.entries name + count_at new.entries name < 2 ^ 64 }
+    ensures { (name : Labels) → count_at names.new.entries name
+        ≡ count_at names.old.entries name + count_at new.entries name - count_at old.now.entries name }
+{
+    if names.is_empty() {
+        std::mem::swap(names, &mut new);
+    }
+    for (name, count) in new {
+        add_count(names, name, count);
+    }
+    for (name, count) in old.iter() {
+        take_count(names, name, *count);
+    }
+}
