@@ -56,7 +56,7 @@ kept-bare r name before kept = none (same_name name r.owner) (has_some_kind r.va
   none same false is = let never : false ≡ true = is in cc
 
 -- a search among those that pass another test, whose answer is one for all that the search would find
-any-filter_tied : {X : Type 0} (p q : X → Bool) (b : Bool) → ((x : X) → p x ≡ true → q x ≡ b) → (xs : List X) → list_any p (filter q xs) ≡ (b && list_any p xs)
+pub any-filter_tied : {X : Type 0} (p q : X → Bool) (b : Bool) → ((x : X) → p x ≡ true → q x ≡ b) → (xs : List X) → list_any p (filter q xs) ≡ (b && list_any p xs)
 any-filter_tied p q true tied [] = refl
 any-filter_tied p q false tied [] = refl
 any-filter_tied p q true tied (x ∷ xs) = elim (cases_Bool (p x)) [

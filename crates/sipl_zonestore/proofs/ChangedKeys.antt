@@ -10,15 +10,15 @@ use Rattle.std.proofs.lemmas.Map.Views.{Contains-from_any}
 use Rattle.sipl_names.specs.Labels.{same_name, is_within}
 use Rattle.sipl_names.proofs.Public.{same_name_decides}
 use Rattle.sipl_records.specs.declared.data.Data.{Data}
-use Rattle.sipl_records.proofs.Public.{same_data-Decides, same_record-Decides, filter-none, filter-other, filter-all, list_any-filter, same_key-Decides, same_key-refl, same_key-sym, is_key, has_key-key_of, key_of-name, unique-append, unique-filter, list_any-unique, IsDistinct-unique, set_of-append, set_of-filter_kept, set_of-filter_dropped, has_key-name}
+use Rattle.sipl_records.proofs.Public.{same_data-Decides, same_record-Decides, filter-none, filter-other, filter-all, list_any-filter, same_key-Decides, same_key-refl, same_key-sym, is_key, has_key-key_of, key_of-name, unique-append, unique-filter, list_any-unique, IsDistinct-unique, data_of-append, data_of-filter_kept, data_of-filter_dropped, has_key-name, key_of-no_existence}
 use Rattle.sipl_zonestore.specs.Edits.{records_without}
 use Rattle.sipl_records.specs.declared.record.Record.{Record}
 use Rattle.sipl_records.specs.declared.record.Key.{Key}
-use Rattle.sipl_records.specs.Sets.{has_key, set_of, same_data, same_key, same_record, key_of}
+use Rattle.sipl_records.specs.Sets.{has_key, data_of, is_existence, same_data, same_key, same_record, key_of}
 use Rattle.sipl_records.specs.Unique.{unique}
 use Rattle.sipl_zonestore.specs.Store.{records_outside, records_within}
-use Rattle.sipl_zonestore.specs.Changes.{is_changed, changed_among, changed_keys}
-use Rattle.sipl_zonestore.proofs.Elements.{or_first, or_second, or_left, or_right}
+use Rattle.sipl_zonestore.specs.Changes.{is_changed, changed_among, changed_sets}
+use Rattle.sipl_zonestore.proofs.Elements.{any-filter, or_first, or_second, or_left, or_right}
 use Rattle.sipl_zonestore.proofs.Keys.{same_key-trans, list_any-filter_map}
 use Rattle.sipl_zonestore.proofs.SameSets.{same_set-refl, same_set-true, same_set-push}
 
@@ -114,29 +114,29 @@ keys-part p p' q drops agrees (r ∷ records) = elim (cases_Bool (q r)) [
 ]
 
 -- a text within a zone has no set outside it
-pub text-none : (apex : List (List ℕ)) (text : List Record) (key : Key) → list_all (λ r. is_within r.owner apex) text ≡ true → is_within key.name apex ≡ false → set_of text key ≡ []
+pub text-none : (apex : List (List ℕ)) (text : List Record) (key : Key) → list_all (λ r. is_within r.owner apex) text ≡ true → is_within key.name apex ≡ false → data_of text key ≡ []
 text-none apex text key all outside =
-    ap (λ rs. set_of rs key) (sym (filter-all (λ r. is_within r.owner apex) text all)) ∙ set_of-filter_dropped (λ r. is_within r.owner apex) key (λ r of. rw (has_key-name key r of) outside) text
+    ap (λ rs. data_of rs key) (sym (filter-all (λ r. is_within r.owner apex) text all)) ∙ data_of-filter_dropped (λ r. is_within r.owner apex) key (λ r of. rw (has_key-name key r of) outside) text
 
 -- a set outside a zone is that of the old records
-pub set-outside : (apex : List (List ℕ)) (old text : List Record) (key : Key) → list_all (λ r. is_within r.owner apex) text ≡ true → is_within key.name apex ≡ false → set_of (records_outside apex old ++ text) key ≡ set_of old key
+pub set-outside : (apex : List (List ℕ)) (old text : List Record) (key : Key) → list_all (λ r. is_within r.owner apex) text ≡ true → is_within key.name apex ≡ false → data_of (records_outside apex old ++ text) key ≡ data_of old key
 set-outside apex old text key all outside =
-    let kept : set_of (records_outside apex old) key ≡ set_of old key = set_of-filter_kept (λ r. not (is_within r.owner apex)) key (λ r of. rw (has_key-name key r of, outside) refl) old in
-    let none : set_of text key ≡ [] = text-none apex text key all outside in
-    set_of-append (records_outside apex old) text key ∙ rw (kept, none) (append-nil (set_of old key))
+    let kept : data_of (records_outside apex old) key ≡ data_of old key = data_of-filter_kept (λ r. not (is_within r.owner apex)) key (λ r of. rw (has_key-name key r of, outside) refl) old in
+    let none : data_of text key ≡ [] = text-none apex text key all outside in
+    data_of-append (records_outside apex old) text key ∙ rw (kept, none) (append-nil (data_of old key))
 
 -- and one within it that of the text
-pub set-inside : (apex : List (List ℕ)) (old text : List Record) (key : Key) → is_within key.name apex ≡ true → set_of (records_outside apex old ++ text) key ≡ set_of text key
+pub set-inside : (apex : List (List ℕ)) (old text : List Record) (key : Key) → is_within key.name apex ≡ true → data_of (records_outside apex old ++ text) key ≡ data_of text key
 set-inside apex old text key inside =
-    let gone : set_of (records_outside apex old) key ≡ [] = set_of-filter_dropped (λ r. not (is_within r.owner apex)) key (λ r of. rw (has_key-name key r of, inside) refl) old in
-    set_of-append (records_outside apex old) text key ∙ rw gone refl
+    let gone : data_of (records_outside apex old) key ≡ [] = data_of-filter_dropped (λ r. not (is_within r.owner apex)) key (λ r of. rw (has_key-name key r of, inside) refl) old in
+    data_of-append (records_outside apex old) text key ∙ rw gone refl
 
 -- so a set outside it stays as it is
 pub stays : (apex : List (List ℕ)) (old text : List Record) (key : Key) → list_all (λ r. is_within r.owner apex) text ≡ true → is_within key.name apex ≡ false → is_changed old (records_outside apex old ++ text) key ≡ false
-stays apex old text key all outside = rw (set-outside apex old text key all outside, same_set-refl (set_of old key)) refl
+stays apex old text key all outside = rw (set-outside apex old text key all outside, same_set-refl (data_of old key)) refl
 
 of_text : (apex : List (List ℕ)) (old text : List Record) (key : Key) → is_within key.name apex ≡ true → is_changed old (records_outside apex old ++ text) key ≡ is_changed old text key
-of_text apex old text key inside = ap (λ set. not (pointwise same_data (set_of old key) set)) (set-inside apex old text key inside)
+of_text apex old text key inside = ap (λ set. not (pointwise same_data (data_of old key) set)) (set-inside apex old text key inside)
 
 both_within : (apex : List (List ℕ)) (old text : List Record) → filter (λ r. is_within r.owner apex) (old ++ (records_outside apex old ++ text)) ≡ records_within apex old ++ records_within apex text
 both_within apex old text =
@@ -145,7 +145,7 @@ both_within apex old text =
 
 -- the keys of the records within the zone, old and new, whose sets differ between the old records and the
 -- text are those that changed
-pub changed-load : (apex : List (List ℕ)) (old text : List Record) → list_all (λ r. is_within r.owner apex) text ≡ true → changed_among old text (records_within apex old ++ records_within apex text) ≡ changed_keys old (records_outside apex old ++ text)
+pub changed-load : (apex : List (List ℕ)) (old text : List Record) → list_all (λ r. is_within r.owner apex) text ≡ true → changed_among old text (records_within apex old ++ records_within apex text) ≡ changed_sets old (records_outside apex old ++ text)
 changed-load apex old text all =
     let new : List Record = records_outside apex old ++ text in
     unique-filter same_key (is_changed old text) (respects (is_changed old text)) (filter_map key_of (records_within apex old ++ records_within apex text))
@@ -168,8 +168,8 @@ one_key key (first ∷ keys) = elim (cases_Bool (same_key first key)) [
 -- a set changes where the record that is added belongs to it
 pushed : (old : List Record) (r : Record) (key : Key) → is_changed old (old ++ r ∷ []) key ≡ is_key key (key_of r)
 pushed old r key = elim (cases_Bool (has_key key r)) [
-  | inl holds ↦ rw (set_of-append old (r ∷ []) key, holds, same_set-push (set_of old key) r.value) (sym holds ∙ has_key-key_of key r)
-  | inr fails ↦ rw (set_of-append old (r ∷ []) key, fails, append-nil (set_of old key), same_set-refl (set_of old key)) (sym fails ∙ has_key-key_of key r)
+  | inl holds ↦ rw (data_of-append old (r ∷ []) key, holds, same_set-push (data_of old key) r.value) (sym holds ∙ has_key-key_of key r)
+  | inr fails ↦ rw (data_of-append old (r ∷ []) key, fails, append-nil (data_of old key), same_set-refl (data_of old key)) (sym fails ∙ has_key-key_of key r)
 ]
 
 own_changed : (records : List Record) (own : Option Key) → ((key : Key) → own ≡ Some key → list_any (has_key key) records ≡ true) → filter (λ key. is_key key own) (unique same_key (filter_map key_of records)) ≡ option_to_list own
@@ -181,12 +181,12 @@ own_changed records (Some key) there =
     ∙ rw (list_any-filter_map key records, there key refl) refl
 
 -- where only the set of one record changes, and the record is there before or after
-changed-own : (old new : List Record) (r : Record) → ((key : Key) → is_changed old new key ≡ is_key key (key_of r)) → ((key : Key) → key_of r ≡ Some key → list_any (has_key key) (old ++ new) ≡ true) → changed_keys old new ≡ option_to_list (key_of r)
+changed-own : (old new : List Record) (r : Record) → ((key : Key) → is_changed old new key ≡ is_key key (key_of r)) → ((key : Key) → key_of r ≡ Some key → list_any (has_key key) (old ++ new) ≡ true) → changed_sets old new ≡ option_to_list (key_of r)
 changed-own old new r only there =
     filter_agree (is_changed old new) (λ key. is_key key (key_of r)) only (unique same_key (filter_map key_of (old ++ new))) ∙ own_changed (old ++ new) (key_of r) there
 
 -- adding a record changes its set, and no other
-pub changed-add : (old : List Record) (r : Record) → changed_keys old (old ++ r ∷ []) ≡ option_to_list (key_of r)
+pub changed-add : (old : List Record) (r : Record) → changed_sets old (old ++ r ∷ []) ≡ option_to_list (key_of r)
 changed-add old r =
     changed-own old (old ++ r ∷ []) r (pushed old r) (λ key own. list_any-append (has_key key) old (old ++ r ∷ []) ∙ or_second (list_any (has_key key) old) _ (list_any-append (has_key key) old (r ∷ []) ∙ or_second (list_any (has_key key) old) _ (or_first (has_key key r) false (has_key-key_of key r ∙ rw own (same_key-refl key)))))
 
@@ -205,33 +205,33 @@ without-differs value set some = elim (cases_Bool (pointwise same_data set (filt
   ]
 
 -- the set of a record that is removed is without its data
-pub set_of-without : (r : Record) (records : List Record) (key : Key) → has_key key r ≡ true → set_of (records_without r records) key ≡ filter (λ other. not (same_data r.value other)) (set_of records key)
-set_of-without r [] key own = refl
-set_of-without r (first ∷ records) key own =
-    let rest : set_of (records_without r records) key ≡ filter (λ other. not (same_data r.value other)) (set_of records key) = set_of-without r records key own in
+pub data_of-without : (r : Record) (records : List Record) (key : Key) → has_key key r ≡ true → data_of (records_without r records) key ≡ filter (λ other. not (same_data r.value other)) (data_of records key)
+data_of-without r [] key own = refl
+data_of-without r (first ∷ records) key own =
+    let rest : data_of (records_without r records) key ≡ filter (λ other. not (same_data r.value other)) (data_of records key) = data_of-without r records key own in
     elim (cases_Bool (has_key key first)) [
       | inl there ↦
           let owners : same_name r.owner first.owner ≡ true = (same_name_decides r.owner first.owner).1 (has_key-name key r own ∙ sym (has_key-name key first there)) in
           rw (owners, there) (data_case (same_data r.value first.value) there rest)
       | inr elsewhere ↦ rw elsewhere (other_case (same_record r first) elsewhere rest)
     ] where
-      data_case : (b : Bool) → has_key key first ≡ true → set_of (records_without r records) key ≡ filter (λ other. not (same_data r.value other)) (set_of records key) → set_of (cond (not b) (first ∷ records_without r records) (records_without r records)) key ≡ cond (not b) (first.value ∷ filter (λ other. not (same_data r.value other)) (set_of records key)) (filter (λ other. not (same_data r.value other)) (set_of records key))
+      data_case : (b : Bool) → has_key key first ≡ true → data_of (records_without r records) key ≡ filter (λ other. not (same_data r.value other)) (data_of records key) → data_of (cond (not b) (first ∷ records_without r records) (records_without r records)) key ≡ cond (not b) (first.value ∷ filter (λ other. not (same_data r.value other)) (data_of records key)) (filter (λ other. not (same_data r.value other)) (data_of records key))
       data_case true there rest = rest
       data_case false there rest = rw there (ap (λ set. first.value ∷ set) rest)
 
-      other_case : (b : Bool) → has_key key first ≡ false → set_of (records_without r records) key ≡ filter (λ other. not (same_data r.value other)) (set_of records key) → set_of (cond (not b) (first ∷ records_without r records) (records_without r records)) key ≡ filter (λ other. not (same_data r.value other)) (set_of records key)
+      other_case : (b : Bool) → has_key key first ≡ false → data_of (records_without r records) key ≡ filter (λ other. not (same_data r.value other)) (data_of records key) → data_of (cond (not b) (first ∷ records_without r records) (records_without r records)) key ≡ filter (λ other. not (same_data r.value other)) (data_of records key)
       other_case true elsewhere rest = rest
       other_case false elsewhere rest = rw elsewhere rest
 
 -- and each other set stays
-pub set_of-others : (r : Record) (records : List Record) (key : Key) → has_key key r ≡ false → set_of (records_without r records) key ≡ set_of records key
-set_of-others r records key other =
-    set_of-filter_kept (λ first. not (same_record r first)) key (λ first there. elim (cases_Bool (same_record r first)) [
+pub data_of-others : (r : Record) (records : List Record) (key : Key) → has_key key r ≡ false → data_of (records_without r records) key ≡ data_of records key
+data_of-others r records key other =
+    data_of-filter_kept (λ first. not (same_record r first)) key (λ first there. elim (cases_Bool (same_record r first)) [
       | inl same ↦ let never : true ≡ false = sym there ∙ ap (has_key key) (sym ((same_record-Decides r first).0 same)) ∙ other in cc
       | inr apart ↦ rw apart refl
     ]) records
 
-value-there : (r : Record) (records : List Record) (key : Key) → has_key key r ≡ true → list_any (same_record r) records ≡ true → list_any (same_data r.value) (set_of records key) ≡ true
+value-there : (r : Record) (records : List Record) (key : Key) → has_key key r ≡ true → list_any (same_record r) records ≡ true → list_any (same_data r.value) (data_of records key) ≡ true
 value-there r [] key own some = cc
 value-there r (first ∷ records) key own some = elim (cases_Bool (same_record r first)) [
   | inl same ↦
@@ -246,12 +246,12 @@ value-there r (first ∷ records) key own some = elim (cases_Bool (same_record r
 
 removed : (records : List Record) (r : Record) → list_any (same_record r) records ≡ true → (key : Key) → is_changed records (records_without r records) key ≡ is_key key (key_of r)
 removed records r some key = elim (cases_Bool (has_key key r)) [
-  | inl own ↦ rw (set_of-without r records key own, without-differs r.value (set_of records key) (value-there r records key own some)) (sym own ∙ has_key-key_of key r)
-  | inr other ↦ rw (set_of-others r records key other, same_set-refl (set_of records key)) (sym other ∙ has_key-key_of key r)
+  | inl own ↦ rw (data_of-without r records key own, without-differs r.value (data_of records key) (value-there r records key own some)) (sym own ∙ has_key-key_of key r)
+  | inr other ↦ rw (data_of-others r records key other, same_set-refl (data_of records key)) (sym other ∙ has_key-key_of key r)
 ]
 
 -- removing a record changes its set, and no other
-pub changed-remove : (records : List Record) (r : Record) → list_any (same_record r) records ≡ true → changed_keys records (records_without r records) ≡ option_to_list (key_of r)
+pub changed-remove : (records : List Record) (r : Record) → list_any (same_record r) records ≡ true → changed_sets records (records_without r records) ≡ option_to_list (key_of r)
 changed-remove records r some =
     changed-own records (records_without r records) r (removed records r some) (λ key own. list_any-append (has_key key) records (records_without r records) ∙ or_first (list_any (has_key key) records) _ (record-there key (has_key-key_of key r ∙ rw own (same_key-refl key)) records some)) where
       record-there : (key : Key) → has_key key r ≡ true → (rs : List Record) → list_any (same_record r) rs ≡ true → list_any (has_key key) rs ≡ true
@@ -266,50 +266,69 @@ not_false true e = sym e
 not_false false e = refl
 
 -- a set differs where the comparison says so
-differs-true : (old new : List Record) (key : Key) → is_changed old new key ≡ true → set_of old key ≢ set_of new key
+pub differs-true : (old new : List Record) (key : Key) → is_changed old new key ≡ true → data_of old key ≢ data_of new key
 differs-true old new key differs same =
-    let equal : pointwise same_data (set_of old key) (set_of new key) ≡ true = subst (λ set. pointwise same_data (set_of old key) set ≡ true) same (same_set-refl (set_of old key)) in
+    let equal : pointwise same_data (data_of old key) (data_of new key) ≡ true = subst (λ set. pointwise same_data (data_of old key) set ≡ true) same (same_set-refl (data_of old key)) in
     let never : true ≡ false = sym equal ∙ not_false _ differs in
     cc
 
-differs-is : (old new : List Record) (key : Key) → set_of old key ≢ set_of new key → is_changed old new key ≡ true
-differs-is old new key other = elim (cases_Bool (pointwise same_data (set_of old key) (set_of new key))) [
-  | inl same ↦ absurd (other (same_set-true (set_of old key) (set_of new key) same))
+pub differs-is : (old new : List Record) (key : Key) → data_of old key ≢ data_of new key → is_changed old new key ≡ true
+differs-is old new key other = elim (cases_Bool (pointwise same_data (data_of old key) (data_of new key))) [
+  | inl same ↦ absurd (other (same_set-true (data_of old key) (data_of new key) same))
   | inr differs ↦ rw differs refl
 ]
 
 -- a list without records of a set
-set_of-none : (key : Key) (records : List Record) → list_any (has_key key) records ≡ false → set_of records key ≡ []
-set_of-none key [] none = refl
-set_of-none key (r ∷ records) none =
-    rw (or_left (has_key key r) (list_any (has_key key) records) none) (set_of-none key records (or_right (has_key key r) (list_any (has_key key) records) none))
+data_of-none : (key : Key) (records : List Record) → list_any (has_key key) records ≡ false → data_of records key ≡ []
+data_of-none key [] none = refl
+data_of-none key (r ∷ records) none =
+    rw (or_left (has_key key r) (list_any (has_key key) records) none) (data_of-none key records (or_right (has_key key r) (list_any (has_key key) records) none))
 
 -- a set that differs has a record, old or new
-some_record : (old new : List Record) (key : Key) → set_of old key ≢ set_of new key → list_any (has_key key) (old ++ new) ≡ true
+some_record : (old new : List Record) (key : Key) → data_of old key ≢ data_of new key → list_any (has_key key) (old ++ new) ≡ true
 some_record old new key other = elim (cases_Bool (list_any (has_key key) (old ++ new))) [
   | inl some ↦ some
   | inr none ↦
       let neither : (list_any (has_key key) old || list_any (has_key key) new) ≡ false = sym (list_any-append (has_key key) old new) ∙ none in
-      absurd (other (set_of-none key old (or_left (list_any (has_key key) old) _ neither) ∙ sym (set_of-none key new (or_right (list_any (has_key key) old) _ neither))))
+      absurd (other (data_of-none key old (or_left (list_any (has_key key) old) _ neither) ∙ sym (data_of-none key new (or_right (list_any (has_key key) old) _ neither))))
 ]
 
 -- a key whose set differs is among the changed keys
-pub changed-any : (old new : List Record) (key : Key) → is_changed old new key ≡ true → list_any (λ other. same_key other key) (changed_keys old new) ≡ true
+pub changed-any : (old new : List Record) (key : Key) → is_changed old new key ≡ true → list_any (λ other. same_key other key) (changed_sets old new) ≡ true
 changed-any old new key differs =
     kept-any (is_changed old new) key differs (unique same_key (filter_map key_of (old ++ new)))
     ∙ list_any-unique same_key same_key-trans (filter_map key_of (old ++ new)) key
     ∙ list_any-filter_map key (old ++ new)
     ∙ some_record old new key (differs-true old new key differs)
 
--- the changed keys are exactly those whose set differs
-pub changed_keys-exact : (old new : List Record) (key : Key) → Contains (changed_keys old new) key ↔ (set_of old key ≢ set_of new key)
-changed_keys-exact old new key =
-    let keys : List Key = unique same_key (filter_map key_of (old ++ new)) in
-    let among : is_changed old new key ≡ true → list_any (has_key key) (old ++ new) ≡ true → list_any (λ other. same_key other key) (changed_keys old new) ≡ true = λ differs some. kept-any (is_changed old new) key differs keys ∙ list_any-unique same_key same_key-trans (filter_map key_of (old ++ new)) key ∙ list_any-filter_map key (old ++ new) ∙ some in
-    let equal : (a b : Key) → same_key b a ≡ true → a ≡ b = λ a b same. sym ((same_key-Decides b a).0 same) in
-    (λ there. differs-true old new key (All-contains (λ key. is_changed old new key ≡ true) (changed_keys old new) key (filter_passes (is_changed old new) keys) there), λ other. Contains-from_any equal key (changed_keys old new) (among (differs-is old new key other) (some_record old new key other)))
-
 -- each once
-pub changed_keys-once : (old new : List Record) → IsDistinct same_key (changed_keys old new)
-changed_keys-once old new =
+pub changed_sets-once : (old new : List Record) → IsDistinct same_key (changed_sets old new)
+changed_sets-once old new =
     subst (λ keys. IsDistinct same_key keys) (sym (unique-filter same_key (is_changed old new) (respects (is_changed old new)) (filter_map key_of (old ++ new)))) (IsDistinct-unique same_key (filter (is_changed old new) (filter_map key_of (old ++ new))))
+
+-- no key of a record's set is of existence
+keys-no_existence_step : (r : Record) (records : List Record) (own : Option Key) → key_of r ≡ own → list_any is_existence (filter_map key_of records) ≡ false → list_any is_existence (filter_map key_of (r ∷ records)) ≡ false
+keys-no_existence_step r records None is rest = rw is rest
+keys-no_existence_step r records (Some key) is rest = rw (is, key_of-no_existence r key is) rest
+
+keys-no_existence : (records : List Record) → list_any is_existence (filter_map key_of records) ≡ false
+keys-no_existence [] = refl
+keys-no_existence (r ∷ records) = keys-no_existence_step r records (key_of r) refl (keys-no_existence records)
+
+unique-none : (p : Key → Bool) (keys : List Key) → list_any p keys ≡ false → list_any p (unique same_key keys) ≡ false
+unique-none p [] none = refl
+unique-none p (key ∷ keys) none =
+    rw (or_left (p key) (list_any p keys) none) (any-filter p (λ other. not (same_key key other)) (unique same_key keys) (unique-none p keys (or_right (p key) (list_any p keys) none)))
+
+-- so none of the changed sets is
+pub changed-no_existence : (old new : List Record) → list_any is_existence (changed_sets old new) ≡ false
+changed-no_existence old new =
+    any-filter is_existence (is_changed old new) (unique same_key (filter_map key_of (old ++ new))) (unique-none is_existence (filter_map key_of (old ++ new)) (keys-no_existence (old ++ new)))
+
+-- a key that is among such keys is none of existence
+pub among-no_existence : (key : Key) (keys : List Key) → list_any is_existence keys ≡ false → list_any (λ other. same_key other key) keys ≡ true → is_existence key ≡ false
+among-no_existence key [] none some = cc
+among-no_existence key (first ∷ keys) none some = elim (cases_Bool (same_key first key)) [
+  | inl same ↦ sym (respects is_existence first key same) ∙ or_left (is_existence first) (list_any is_existence keys) none
+  | inr other ↦ among-no_existence key keys (or_right (is_existence first) (list_any is_existence keys) none) (rw other at some)
+]

@@ -12,7 +12,7 @@ use Rattle.sipl_records.specs.declared.kind.Kind.{Kind}
 use Rattle.sipl_records.specs.declared.kind.Kind.TheVariants.{Address4, Address6, Alias, Service, Pointer}
 use Rattle.sipl_records.specs.declared.record.Record.{Record}
 use Rattle.sipl_records.specs.declared.record.Key.{Key}
-use Rattle.sipl_records.specs.Sets.{conflicts, has_key, has_kind, has_some_kind, key_of, kind_of, same_data, same_kind, same_record, set_of, shares_set}
+use Rattle.sipl_records.specs.Sets.{conflicts, has_key, has_own_kind, has_some_kind, key_of, kind_of, same_data, same_kind, same_record, data_of, shares_set}
 use Rattle.sipl_records.proofs.Public.{filter-none, has_key-key_of, has_key-name, is_key, key_of-name, same_key-refl, same_name-sym, same_record-Decides, shares_set-Some}
 use Rattle.sipl_zonestore.specs.Numbers.{is_empty}
 use Rattle.sipl_zonestore.specs.SetTable.{OwnerTable, HasSets, conflicts_in, content_of, has_kind_set, has_set}
@@ -21,7 +21,7 @@ use Rattle.sipl_zonestore.proofs.Elements.{count-same}
 use Rattle.sipl_zonestore.proofs.BareOwners.{any-agree, any-none}
 
 -- a key has a set where a record has the key
-not_empty : (records : List Record) (key : Key) → not (is_empty (set_of records key)) ≡ list_any (has_key key) records
+not_empty : (records : List Record) (key : Key) → not (is_empty (data_of records key)) ≡ list_any (has_key key) records
 not_empty [] key = refl
 not_empty (r ∷ records) key = elim (cases_Bool (has_key key r)) [
   | inl here ↦ rw here refl
@@ -34,7 +34,7 @@ has_set-any sets records key has = ap (λ set. not (is_empty set)) (has key) ∙
 -- ---- a record of a set
 
 -- it is among the records where its datum is in its set
-repeated-in : (records : List Record) (new : Record) (key : Key) → key_of new ≡ Some key → list_any (same_data new.value) (set_of records key) ≡ list_any (same_record new) records
+repeated-in : (records : List Record) (new : Record) (key : Key) → key_of new ≡ Some key → list_any (same_data new.value) (data_of records key) ≡ list_any (same_record new) records
 repeated-in [] new key own = refl
 repeated-in (r ∷ records) new key own = elim (cases_Bool (has_key key r)) [
   | inl here ↦
@@ -52,7 +52,7 @@ repeated-in (r ∷ records) new key own = elim (cases_Bool (has_key key r)) [
 pub repeated-is : (sets : OwnerTable) (records : List Record) (new : Record) (key : Key) → HasSets sets records → key_of new ≡ Some key → list_any (same_data new.value) (content_of sets key).values ≡ list_any (same_record new) records
 repeated-is sets records new key has own = ap (list_any (same_data new.value)) (has key) ∙ repeated-in records new key own
 
-length-set : (records : List Record) (key : Key) → length (set_of records key) ≡ length (filter (has_key key) records)
+length-set : (records : List Record) (key : Key) → length (data_of records key) ≡ length (filter (has_key key) records)
 length-set [] key = refl
 length-set (r ∷ records) key = elim (cases_Bool (has_key key r)) [
   | inl here ↦ rw here (ap suc (length-set records key))
@@ -154,13 +154,13 @@ bare-repeated owners records new has none =
     has new.owner ∙ any-agree (is_bare_at new.owner) (same_record new) (λ r. ap (λ b. same_name new.owner r.owner && b) (same-bare new.value r.value (kindless new none))) records
 
 pub bare-conflicts : (records : List Record) (new : Record) → key_of new ≡ None → false ≡ list_any (conflicts new) records
-bare-conflicts records new none = sym (any-none (conflicts new) (λ r. ap (λ (own : Option Kind). same_name new.owner r.owner && is_some own && has_some_kind r.value && (option_map_or (λ own. same_kind own Alias) own false || has_kind Alias r.value)) (kindless new none) ∙ nothing (same_name new.owner r.owner) (has_some_kind r.value) (has_kind Alias r.value)) records) where
+bare-conflicts records new none = sym (any-none (conflicts new) (λ r. ap (λ (own : Option Kind). same_name new.owner r.owner && is_some own && has_some_kind r.value && (option_map_or (λ own. same_kind own Alias) own false || has_own_kind Alias r.value)) (kindless new none) ∙ nothing (same_name new.owner r.owner) (has_some_kind r.value) (has_own_kind Alias r.value)) records) where
   nothing : (a b c : Bool) → (a && false && b && (false || c)) ≡ false
   nothing true b c = refl
   nothing false b c = refl
 
 pub bare-count : (records : List Record) (new : Record) → key_of new ≡ None → 0 ≡ count_by (shares_set new) records
-bare-count records new none = sym (sym (length-filter (shares_set new) records) ∙ ap length (filter-none (shares_set new) (λ r. ap (λ (own : Option Kind). same_name new.owner r.owner && option_map_or (λ kind. has_kind kind r.value) own false) (kindless new none) ∙ nothing (same_name new.owner r.owner)) records)) where
+bare-count records new none = sym (sym (length-filter (shares_set new) records) ∙ ap length (filter-none (shares_set new) (λ r. ap (λ (own : Option Kind). same_name new.owner r.owner && option_map_or (λ kind. has_own_kind kind r.value) own false) (kindless new none) ∙ nothing (same_name new.owner r.owner)) records)) where
   nothing : (a : Bool) → (a && false) ≡ false
   nothing true = refl
   nothing false = refl

@@ -8,20 +8,20 @@ use Rattle.std.proofs.lemmas.List.Folds.{list_any-append, list_all-append}
 use Rattle.std.proofs.lemmas.List.Kept.{AllPairs-cons, AllPairs-filter}
 use Rattle.std.proofs.lemmas.List.Quantifiers.{all_pairs_push}
 use Rattle.std.proofs.lemmas.List.Sums.{sum_by-append, length-filter, count_by-le-length}
-use Rattle.sipl_names.specs.Labels.{same_name, is_within}
+use Rattle.sipl_names.specs.Labels.{same_name, is_wildcard, is_within}
 use Rattle.sipl_names.proofs.Public.{same_name_decides}
 use Rattle.sipl_records.specs.declared.kind.Kind.TheVariants.{Alias}
 use Rattle.sipl_records.specs.declared.record.Record.{Record}
 use Rattle.sipl_records.specs.declared.record.Key.{Key}
-use Rattle.sipl_records.specs.Sets.{conflicts, has_kind, has_some_kind, same_record, key_of, shares_set}
+use Rattle.sipl_records.specs.Sets.{conflicts, has_own_kind, has_some_kind, is_existence, same_record, key_of, shares_set}
 use Rattle.sipl_records.proofs.Public.{same_name-sym, shares_set-Decides, shares_set-Some, same_record-sym}
 use Rattle.sipl_masterfile.specs.Zones.{Zone, IsZone, has_repeats, sets_fit}
 use Rattle.sipl_zonestore.specs.declared.fault.StoreFault.{StoreFault}
-use Rattle.sipl_zonestore.specs.Numbers.{IsNumbered, number_after, next_after, number_refusal}
+use Rattle.sipl_zonestore.specs.Numbers.{IsNumbered, number_after, number_by, next_after, number_refusal}
 use Rattle.sipl_zonestore.specs.Store.{Zones, Store, number_in, overlaps, is_covered, records_outside, apexes_after_load, apexes_without}
 use Rattle.sipl_zonestore.specs.Edits.{Edit, load, unload, add, remove, after, refusal_of}
 use Rattle.sipl_zonestore.specs.Consistent.{IsConsistent}
-use Rattle.sipl_zonestore.proofs.Numbering.{numbered-after}
+use Rattle.sipl_zonestore.proofs.Numbering.{numbered-after, set_of-nothing}
 use Rattle.sipl_zonestore.proofs.Elements.{or_left, or_right, or_first, or_second, and_first, and_second, all-weaker, all-both, all-kept, all-filter_weaker, any-filter, none-at, count-filter-le, count-same}
 
 or_swapped : (a b : Bool) → (a || b) ≡ (b || a)
@@ -49,6 +49,13 @@ distinct_after : (apexes : List (List (List ℕ))) (apex : List (List ℕ)) → 
 distinct_after apexes apex distinct = elim (cases_Bool (list_any (same_name apex) apexes)) [
   | inl known ↦ rw known distinct
   | inr fresh ↦ rw fresh (all_pairs_push (λ a b. a ≢ b) apexes apex distinct (λ k d inside. other_name apex (get_or apexes k d) (none-at (same_name apex) apexes fresh k d inside)))
+]
+
+-- one more apex, which is no wildcard
+tame_after : (apexes : List (List (List ℕ))) (apex : List (List ℕ)) → is_wildcard apex ≡ false → list_any is_wildcard apexes ≡ false → list_any is_wildcard (apexes_after_load apex apexes) ≡ false
+tame_after apexes apex tame none = elim (cases_Bool (list_any (same_name apex) apexes)) [
+  | inl known ↦ rw known none
+  | inr fresh ↦ rw fresh (list_any-append is_wildcard apexes (apex ∷ []) ∙ rw (none, tame) refl)
 ]
 
 -- what is covered stays so
@@ -212,7 +219,7 @@ and_swapped false a b x y = refl
 
 conflicts-sym : (a b : Record) → conflicts a b ≡ conflicts b a
 conflicts-sym a b =
-    rw (same_name-sym a.owner b.owner) (and_swapped (same_name b.owner a.owner) (has_some_kind a.value) (has_some_kind b.value) (has_kind Alias a.value) (has_kind Alias b.value))
+    rw (same_name-sym a.owner b.owner) (and_swapped (same_name b.owner a.owner) (has_some_kind a.value) (has_some_kind b.value) (has_own_kind Alias a.value) (has_own_kind Alias b.value))
 
 -- records that conflict have one owner
 conflicts-owner : (a b : Record) → same_name a.owner b.owner ≡ false → conflicts a b ≡ false
@@ -226,7 +233,7 @@ other_zone apex a b outside inside = elim (cases_Bool (same_name a.owner b.owner
 ]
 
 -- two lists, each of whose pairs are related, and the elements of one to those of the other
-pairs-append : {X : Type 0} (R : X → X → Type 0) (P Q : X → Bool) → ((x y : X) → P x ≡ true → Q y ≡ true → R x y) → (xs ys : List X) → list_all P xs ≡ true → list_all Q ys ≡ true → AllPairs R xs → AllPairs R ys → AllPairs R (xs ++ ys)
+pub pairs-append : {X : Type 0} (R : X → X → Type 0) (P Q : X → Bool) → ((x y : X) → P x ≡ true → Q y ≡ true → R x y) → (xs ys : List X) → list_all P xs ≡ true → list_all Q ys ≡ true → AllPairs R xs → AllPairs R ys → AllPairs R (xs ++ ys)
 pairs-append R P Q across [] ys passes passes' apart apart' = apart'
 pairs-append {X} R P Q across (x ∷ xs) ys passes passes' apart apart' =
     let here : P x ≡ true = and_first (P x) (list_all P xs) passes in
@@ -298,6 +305,7 @@ pub record AreConsistent (max_records : ℕ) (zones : Zones) : Type 0 where
   pub sets_fit : sets_fit zones.records ≡ true
   pub aliases : AllPairs (λ a b. conflicts a b ≡ false) zones.records
   pub limit : length zones.records ≤ max_records
+  pub no_wildcard : list_any is_wildcard zones.apexes ≡ false
 
 pub consistent-zones : (store : Store) → IsConsistent store → AreConsistent store.max_records store.zones
 consistent-zones store held = record {
@@ -308,6 +316,7 @@ consistent-zones store held = record {
   sets_fit = held.sets_fit;
   aliases = held.aliases;
   limit = held.limit;
+  no_wildcard = held.no_wildcard;
 }
 
 -- a store of such zones, whose sets are numbered
@@ -320,8 +329,16 @@ consistent-store store held numbered = record {
   sets_fit = held.sets_fit;
   aliases = held.aliases;
   limit = held.limit;
+  no_wildcard = held.no_wildcard;
   numbered = numbered;
 }
+
+-- the number of each set of nothing
+number-nothing : (key : Key) → number_by [] [] key ≡ 0
+number-nothing key = elim (cases_Bool (is_existence key)) [
+  | inl of ↦ rw of refl
+  | inr other ↦ rw other refl
+]
 
 pub consistent-new : (max_records next : ℕ) → 1 ≤ next → next ≤ 2 ^ 52 → IsConsistent (record { zones = record { apexes = []; records = [] }; max_records = max_records; numbers = []; next = next; looks = 0 })
 consistent-new max_records next first last = record {
@@ -332,7 +349,8 @@ consistent-new max_records next first last = record {
   sets_fit = refl;
   aliases = λ i j d below inside. absurd (omega arith);
   limit = omega arith;
-  numbered = record { empty = λ key. (λ none. refl, λ empty. refl); below = λ key. omega arith; one_key = λ a b same some. absurd (some refl); last = omega arith };
+  no_wildcard = refl;
+  numbered = record { empty = λ key. (λ none. set_of-nothing key, λ empty. number-nothing key); below = λ key other. omega (arith, number-nothing key, first); one_key = λ a b _ _ same some. absurd (some (number-nothing a)); last = omega arith };
 }
 
 -- the zone that is loaded is one that a text gives
@@ -344,7 +362,8 @@ IsGood (remove r) = Unit {0}
 
 consistent-load : (max_records : ℕ) (zone : Zone) (zones : Zones) → IsZone zone → AreConsistent max_records zones → refusal_of max_records (load zone) zones ≡ None → AreConsistent max_records (after (load zone) zones)
 consistent-load max_records zone zones ok before refusal =
-    let first = accepted _ _ _ refusal in
+    let tame = accepted _ _ _ refusal in
+    let first = accepted _ _ _ tame.1 in
     let second = accepted _ _ _ first.1 in
     let apexes : List (List (List ℕ)) = apexes_after_load zone.apex zones.apexes in
     let old : list_all (λ (r : Record). is_covered apexes r.owner) (records_outside zone.apex zones.records) ≡ true = all-filter_weaker (λ (r : Record). is_covered zones.apexes r.owner) (λ r. is_covered apexes r.owner) (λ r. not (is_within r.owner zone.apex)) (λ r _ some. covered_more (λ apex. is_within r.owner apex) zones.apexes zone.apex some) zones.records before.covered in
@@ -357,6 +376,7 @@ consistent-load max_records zone zones ok before refusal =
       sets_fit = fit_after_load zone.apex zones.records zone.records ok.within before.sets_fit ok.fits;
       aliases = aliases_after_load zone.apex zones.records zone.records ok.within before.aliases ok.aliases;
       limit = few _ _ second.0;
+      no_wildcard = tame_after zones.apexes zone.apex tame.0 before.no_wildcard;
     }
 
 consistent-unload : (max_records : ℕ) (apex : List (List ℕ)) (zones : Zones) → AreConsistent max_records zones → AreConsistent max_records (after (unload apex) zones)
@@ -370,6 +390,7 @@ consistent-unload max_records apex zones before =
       sets_fit = fit-filter outside zones.records before.sets_fit;
       aliases = AllPairs-filter (λ a b. conflicts a b ≡ false) outside zones.records before.aliases;
       limit = filter-limit outside zones.records max_records before.limit;
+      no_wildcard = any-filter is_wildcard (λ other. not (same_name apex other)) zones.apexes before.no_wildcard;
     }
 
 consistent-add : (max_records : ℕ) (r : Record) (zones : Zones) → AreConsistent max_records zones → refusal_of max_records (add r) zones ≡ None → AreConsistent max_records (after (add r) zones)
@@ -388,6 +409,7 @@ consistent-add max_records r zones before refusal =
       sets_fit = fit_after_add zones.records r fourth.0 before.sets_fit;
       aliases = aliases_after_add zones.records r third.0 before.aliases;
       limit = still_few _ _ _ (length-append zones.records (r ∷ [])) fifth.0;
+      no_wildcard = before.no_wildcard;
     }
 
 consistent-remove : (max_records : ℕ) (r : Record) (zones : Zones) → AreConsistent max_records zones → AreConsistent max_records (after (remove r) zones)
@@ -401,6 +423,7 @@ consistent-remove max_records r zones before =
       sets_fit = fit-filter others zones.records before.sets_fit;
       aliases = AllPairs-filter (λ a b. conflicts a b ≡ false) others zones.records before.aliases;
       limit = filter-limit others zones.records max_records before.limit;
+      no_wildcard = before.no_wildcard;
     }
 
 -- an edit that is accepted keeps zones consistent

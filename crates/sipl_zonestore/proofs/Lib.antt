@@ -4,6 +4,9 @@ pub mod Keys
 pub mod Positions
 pub mod LiveRecords
 pub mod SameSets
+pub mod AncestorCounts
+pub mod ChangedNames
+pub mod NameTables
 pub mod SetTables
 pub mod BareOwners
 pub mod Comparing
@@ -16,4 +19,5 @@ pub mod Recorded
 pub mod Limits
 pub mod Consistency
 pub mod Runs
+pub mod ExactKeys
 pub mod Editing

@@ -1,2 +1,2 @@
 -- What proofs of the crates above cite.
-pub use Rattle.sipl_zonestore.proofs.Numbering.{IsTaken, IsGone, IsKept, number-cases, number-kept, none-changed}
+pub use Rattle.sipl_zonestore.proofs.Numbering.{IsTaken, IsGone, IsKept, number-cases, number_after-existence, number_after-set, number-kept, none-changed, unchanged-is}

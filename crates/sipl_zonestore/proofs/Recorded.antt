@@ -5,32 +5,32 @@ use Rattle.std.specs.Option.{option_to_list, unwrap_or}
 use Rattle.sipl_names.specs.Labels.{is_within}
 use Rattle.sipl_records.specs.declared.record.Record.{Record}
 use Rattle.sipl_records.specs.declared.record.Key.{Key}
-use Rattle.sipl_records.specs.Sets.{has_key, set_of, same_data, same_key, same_record, key_of}
+use Rattle.sipl_records.specs.Sets.{has_key, data_of, same_data, same_key, same_record, key_of}
 use Rattle.sipl_records.specs.Unique.{unique}
-use Rattle.sipl_records.proofs.Public.{filter-filter, filter-none, same_key-Decides, same_key-refl, has_key-key_of, is_key, set_of-append}
+use Rattle.sipl_records.proofs.Public.{filter-filter, filter-none, same_key-Decides, same_key-refl, has_key-key_of, is_key, data_of-append}
 use Rattle.sipl_zonestore.specs.declared.fault.StoreFault.{StoreFault}
 use Rattle.sipl_zonestore.specs.declared.fault.StoreFault.TheVariants.{Memory, NumberSpent}
 use Rattle.sipl_zonestore.specs.Store.{records_outside}
 use Rattle.sipl_zonestore.specs.Edits.{records_without}
-use Rattle.sipl_zonestore.specs.Changes.{is_changed, changed_keys}
-use Rattle.sipl_zonestore.specs.Numbers.{is_empty, number_of, numbered_keys, number_after, next_after, number_refusal}
+use Rattle.sipl_zonestore.specs.Changes.{is_changed, changed_sets}
+use Rattle.sipl_zonestore.specs.Numbers.{is_empty, number_of, numbered_keys, set_number_after, next_after, number_refusal}
 use Rattle.sipl_zonestore.specs.Content.{Content, carried, pushed, without, renumbered}
 use Rattle.sipl_zonestore.specs.SetTable.{OwnerTable, content_of, numbers_of, keys_left, has_set, HasSets}
 use Rattle.sipl_zonestore.specs.IndexedRecords.{IndexedState, IsReplaced}
-use Rattle.sipl_zonestore.proofs.ChangedKeys.{changed-add, changed-remove, set-inside, set_of-without, set_of-others, stays}
+use Rattle.sipl_zonestore.proofs.ChangedKeys.{changed-add, changed-remove, set-inside, data_of-without, data_of-others, stays}
 use Rattle.sipl_zonestore.proofs.Elements.{chosen-first, chosen-second}
 use Rattle.sipl_zonestore.proofs.SetTables.{number_of-numbers_of, is_empty-push}
 use Rattle.sipl_zonestore.proofs.Replacing.{IsReplacement, empty-number, accepted-numbers, refused-numbers, replaced-number, filter-numbered}
 
 -- the number of a set that stays
-kept-number : (old new : List Record) (sets : OwnerTable) (key : Key) → HasSets sets old → set_of new key ≡ set_of old key → (content_of sets key).number ≡ (if is_empty (set_of new key) then 0 else number_of (numbers_of sets) key)
-kept-number old new sets key has same = empty_case (is_empty (set_of new key)) refl where
-  empty_case : (b : Bool) → is_empty (set_of new key) ≡ b → (content_of sets key).number ≡ (if b then 0 else number_of (numbers_of sets) key)
+kept-number : (old new : List Record) (sets : OwnerTable) (key : Key) → HasSets sets old → data_of new key ≡ data_of old key → (content_of sets key).number ≡ (if is_empty (data_of new key) then 0 else number_of (numbers_of sets) key)
+kept-number old new sets key has same = empty_case (is_empty (data_of new key)) refl where
+  empty_case : (b : Bool) → is_empty (data_of new key) ≡ b → (content_of sets key).number ≡ (if b then 0 else number_of (numbers_of sets) key)
   empty_case true gone = empty-number sets key (ap is_empty (has key ∙ sym same) ∙ gone)
   empty_case false left = sym (number_of-numbers_of sets key)
 
 -- of a change that was made
-pub done : (records : List Record) (old new : IndexedState) (keys : List Key) → number_refusal old.records records old.next ≡ None → new.records ≡ records → keys ≡ changed_keys old.records records → ((key : Key) → number_of new.numbers key ≡ number_after old.records records old.next (number_of old.numbers) key) → new.next ≡ next_after old.records records old.next → IsReplaced records old new (Ok keys)
+pub done : (records : List Record) (old new : IndexedState) (keys : List Key) → number_refusal old.records records old.next ≡ None → new.records ≡ records → keys ≡ changed_sets old.records records → ((key : Key) → number_of new.numbers key ≡ set_number_after old.records records old.next (number_of old.numbers) key) → new.next ≡ next_after old.records records old.next → IsReplaced records old new (Ok keys)
 done records old new keys accepted after changed numbers next =
     record { accepted = accepted; after = after; changed = changed; numbers = numbers; next = next; refused = tt; unchanged = tt }
 
@@ -40,35 +40,35 @@ refused records old new fault why same =
     record { accepted = tt; after = tt; changed = tt; numbers = tt; next = tt; refused = why; unchanged = same }
 
 -- one record more
-set_of-pushed : (old : List Record) (r : Record) (key : Key) (b : Bool) → has_key key r ≡ b → set_of (old ++ r ∷ []) key ≡ set_of old key ++ cond b (r.value ∷ []) []
-set_of-pushed old r key b is = set_of-append old (r ∷ []) key ∙ ap (λ b. set_of old key ++ cond b (r.value ∷ []) []) is
+data_of-pushed : (old : List Record) (r : Record) (key : Key) (b : Bool) → has_key key r ≡ b → data_of (old ++ r ∷ []) key ≡ data_of old key ++ cond b (r.value ∷ []) []
+data_of-pushed old r key b is = data_of-append old (r ∷ []) key ∙ ap (λ b. data_of old key ++ cond b (r.value ∷ []) []) is
 
 pub numbered-add : (old : List Record) (r : Record) → numbered_keys old (old ++ r ∷ []) ≡ option_to_list (key_of r)
-numbered-add old r = ap (filter (λ key. not (is_empty (set_of (old ++ r ∷ []) key)))) (changed-add old r) ∙ own_case (key_of r) refl where
-  own_case : (own : Option Key) → key_of r ≡ own → filter (λ key. not (is_empty (set_of (old ++ r ∷ []) key))) (option_to_list own) ≡ option_to_list own
+numbered-add old r = ap (filter (λ key. not (is_empty (data_of (old ++ r ∷ []) key)))) (changed-add old r) ∙ own_case (key_of r) refl where
+  own_case : (own : Option Key) → key_of r ≡ own → filter (λ key. not (is_empty (data_of (old ++ r ∷ []) key))) (option_to_list own) ≡ option_to_list own
   own_case None is = refl
   own_case (Some key) is =
       let there : has_key key r ≡ true = has_key-key_of key r ∙ rw is (same_key-refl key) in
-      rw (set_of-pushed old r key true there, is_empty-push (set_of old key) r.value) refl
+      rw (data_of-pushed old r key true there, is_empty-push (data_of old key) r.value) refl
 
 -- a table with one datum more has the sets
 pub pushed-sets : (old : List Record) (r : Record) (next : ℕ) (sets sets' : OwnerTable) → HasSets sets old → ((key : Key) → content_of sets' key ≡ (if has_key key r then pushed next r.value (content_of sets key) else content_of sets key)) → HasSets sets' (old ++ r ∷ [])
 pushed-sets old r next sets sets' has put key = own_case (has_key key r) refl where
-  own_case : (b : Bool) → has_key key r ≡ b → (content_of sets' key).values ≡ set_of (old ++ r ∷ []) key
+  own_case : (b : Bool) → has_key key r ≡ b → (content_of sets' key).values ≡ data_of (old ++ r ∷ []) key
   own_case true own =
-      ap (λ (c : Content). c.values) (chosen-first _ _ _ _ (put key) own) ∙ ap (λ set. set ++ r.value ∷ []) (has key) ∙ sym (set_of-pushed old r key true own)
+      ap (λ (c : Content). c.values) (chosen-first _ _ _ _ (put key) own) ∙ ap (λ set. set ++ r.value ∷ []) (has key) ∙ sym (data_of-pushed old r key true own)
   own_case false other =
-      ap (λ (c : Content). c.values) (chosen-second _ _ _ _ (put key) other) ∙ has key ∙ sym (set_of-pushed old r key false other ∙ append-nil (set_of old key))
+      ap (λ (c : Content). c.values) (chosen-second _ _ _ _ (put key) other) ∙ has key ∙ sym (data_of-pushed old r key false other ∙ append-nil (data_of old key))
 
 -- and the numbers
-pub pushed-number : (old : List Record) (r : Record) (next : ℕ) (sets sets' : OwnerTable) → HasSets sets old → ((key : Key) → content_of sets' key ≡ (if has_key key r then pushed next r.value (content_of sets key) else content_of sets key)) → (key : Key) → number_of (numbers_of sets') key ≡ number_after old (old ++ r ∷ []) next (number_of (numbers_of sets)) key
+pub pushed-number : (old : List Record) (r : Record) (next : ℕ) (sets sets' : OwnerTable) → HasSets sets old → ((key : Key) → content_of sets' key ≡ (if has_key key r then pushed next r.value (content_of sets key) else content_of sets key)) → (key : Key) → number_of (numbers_of sets') key ≡ set_number_after old (old ++ r ∷ []) next (number_of (numbers_of sets)) key
 pushed-number old r next sets sets' has put key =
     number_of-numbers_of sets' key ∙ ap (λ (c : Content). c.number) (put key) ∙ own_case (key_of r) (has_key key r) refl refl (has_key-key_of key r)
-    ∙ ap (λ keys. unwrap_or (position_from (λ other. same_key other key) next keys) (if is_empty (set_of (old ++ r ∷ []) key) then 0 else number_of (numbers_of sets) key)) (sym (numbered-add old r)) where
-      stays : has_key key r ≡ false → (content_of sets key).number ≡ (if is_empty (set_of (old ++ r ∷ []) key) then 0 else number_of (numbers_of sets) key)
-      stays other = kept-number old (old ++ r ∷ []) sets key has (set_of-pushed old r key false other ∙ append-nil (set_of old key))
+    ∙ ap (λ keys. unwrap_or (position_from (λ other. same_key other key) next keys) (if is_empty (data_of (old ++ r ∷ []) key) then 0 else number_of (numbers_of sets) key)) (sym (numbered-add old r)) where
+      stays : has_key key r ≡ false → (content_of sets key).number ≡ (if is_empty (data_of (old ++ r ∷ []) key) then 0 else number_of (numbers_of sets) key)
+      stays other = kept-number old (old ++ r ∷ []) sets key has (data_of-pushed old r key false other ∙ append-nil (data_of old key))
 
-      own_case : (own : Option Key) (b : Bool) → key_of r ≡ own → has_key key r ≡ b → has_key key r ≡ is_key key (key_of r) → (if has_key key r then pushed next r.value (content_of sets key) else content_of sets key).number ≡ unwrap_or (position_from (λ other. same_key other key) next (option_to_list own)) (if is_empty (set_of (old ++ r ∷ []) key) then 0 else number_of (numbers_of sets) key)
+      own_case : (own : Option Key) (b : Bool) → key_of r ≡ own → has_key key r ≡ b → has_key key r ≡ is_key key (key_of r) → (if has_key key r then pushed next r.value (content_of sets key) else content_of sets key).number ≡ unwrap_or (position_from (λ other. same_key other key) next (option_to_list own)) (if is_empty (data_of (old ++ r ∷ []) key) then 0 else number_of (numbers_of sets) key)
       own_case None true is there same = let never : true ≡ false = sym there ∙ same ∙ ap (is_key key) is in cc
       own_case None false is other same = rw other (stays other)
       own_case (Some own) true is there same =
@@ -84,52 +84,52 @@ added old records r next after sets sets' keys has put records_are keys_are afte
 
 -- the keys that take a number where a record is removed
 pub numbered-remove : (old : List Record) (r : Record) (sets : OwnerTable) → HasSets sets old → list_any (same_record r) old ≡ true → numbered_keys old (records_without r old) ≡ keys_left sets r
-numbered-remove old r sets has some = ap (filter (λ key. not (is_empty (set_of (records_without r old) key)))) (changed-remove old r some) ∙ own_case (key_of r) refl where
-  own_case : (own : Option Key) → key_of r ≡ own → filter (λ key. not (is_empty (set_of (records_without r old) key))) (option_to_list own) ≡ filter (λ key. not (is_empty (without r.value (content_of sets key)).values)) (option_to_list own)
+numbered-remove old r sets has some = ap (filter (λ key. not (is_empty (data_of (records_without r old) key)))) (changed-remove old r some) ∙ own_case (key_of r) refl where
+  own_case : (own : Option Key) → key_of r ≡ own → filter (λ key. not (is_empty (data_of (records_without r old) key))) (option_to_list own) ≡ filter (λ key. not (is_empty (without r.value (content_of sets key)).values)) (option_to_list own)
   own_case None is = refl
   own_case (Some key) is =
       let there : has_key key r ≡ true = has_key-key_of key r ∙ rw is (same_key-refl key) in
-      rw (set_of-without r old key there, has key) refl
+      rw (data_of-without r old key there, has key) refl
 
 pub removed-sets : (old : List Record) (r : Record) (next : ℕ) (sets sets' : OwnerTable) → HasSets sets old → ((key : Key) → content_of sets' key ≡ (if has_key key r then renumbered next (without r.value (content_of sets key)) else content_of sets key)) → HasSets sets' (records_without r old)
 removed-sets old r next sets sets' has put key = own_case (has_key key r) refl where
-  own_case : (b : Bool) → has_key key r ≡ b → (content_of sets' key).values ≡ set_of (records_without r old) key
+  own_case : (b : Bool) → has_key key r ≡ b → (content_of sets' key).values ≡ data_of (records_without r old) key
   own_case true own =
-      ap (λ (c : Content). c.values) (chosen-first _ _ _ _ (put key) own) ∙ ap (filter (λ other. not (same_data r.value other))) (has key) ∙ sym (set_of-without r old key own)
+      ap (λ (c : Content). c.values) (chosen-first _ _ _ _ (put key) own) ∙ ap (filter (λ other. not (same_data r.value other))) (has key) ∙ sym (data_of-without r old key own)
   own_case false other =
-      ap (λ (c : Content). c.values) (chosen-second _ _ _ _ (put key) other) ∙ has key ∙ sym (set_of-others r old key other)
+      ap (λ (c : Content). c.values) (chosen-second _ _ _ _ (put key) other) ∙ has key ∙ sym (data_of-others r old key other)
 
-pub removed-number : (old : List Record) (r : Record) (next : ℕ) (sets sets' : OwnerTable) → HasSets sets old → list_any (same_record r) old ≡ true → ((key : Key) → content_of sets' key ≡ (if has_key key r then renumbered next (without r.value (content_of sets key)) else content_of sets key)) → (key : Key) → number_of (numbers_of sets') key ≡ number_after old (records_without r old) next (number_of (numbers_of sets)) key
+pub removed-number : (old : List Record) (r : Record) (next : ℕ) (sets sets' : OwnerTable) → HasSets sets old → list_any (same_record r) old ≡ true → ((key : Key) → content_of sets' key ≡ (if has_key key r then renumbered next (without r.value (content_of sets key)) else content_of sets key)) → (key : Key) → number_of (numbers_of sets') key ≡ set_number_after old (records_without r old) next (number_of (numbers_of sets)) key
 removed-number old r next sets sets' has some put key =
     number_of-numbers_of sets' key ∙ ap (λ (c : Content). c.number) (put key) ∙ own_case (key_of r) (has_key key r) refl refl (has_key-key_of key r)
-    ∙ ap (λ keys. unwrap_or (position_from (λ other. same_key other key) next keys) (if is_empty (set_of (records_without r old) key) then 0 else number_of (numbers_of sets) key)) (sym (ap (filter (λ key. not (is_empty (set_of (records_without r old) key)))) (changed-remove old r some))) where
+    ∙ ap (λ keys. unwrap_or (position_from (λ other. same_key other key) next keys) (if is_empty (data_of (records_without r old) key) then 0 else number_of (numbers_of sets) key)) (sym (ap (filter (λ key. not (is_empty (data_of (records_without r old) key)))) (changed-remove old r some))) where
       left : Key → Bool
-      left k = not (is_empty (set_of (records_without r old) k))
+      left k = not (is_empty (data_of (records_without r old) k))
 
-      stays : has_key key r ≡ false → (content_of sets key).number ≡ (if is_empty (set_of (records_without r old) key) then 0 else number_of (numbers_of sets) key)
-      stays other = kept-number old (records_without r old) sets key has (set_of-others r old key other)
+      stays : has_key key r ≡ false → (content_of sets key).number ≡ (if is_empty (data_of (records_without r old) key) then 0 else number_of (numbers_of sets) key)
+      stays other = kept-number old (records_without r old) sets key has (data_of-others r old key other)
 
-      values : has_key key r ≡ true → filter (λ other. not (same_data r.value other)) (content_of sets key).values ≡ set_of (records_without r old) key
-      values there = ap (filter (λ other. not (same_data r.value other))) (has key) ∙ sym (set_of-without r old key there)
+      values : has_key key r ≡ true → filter (λ other. not (same_data r.value other)) (content_of sets key).values ≡ data_of (records_without r old) key
+      values there = ap (filter (λ other. not (same_data r.value other))) (has key) ∙ sym (data_of-without r old key there)
 
-      empty_case : (own : Key) (b : Bool) → own ≡ key → is_empty (set_of (records_without r old) key) ≡ b → (if b then 0 else next) ≡ unwrap_or (position_from (λ other. same_key other key) next (filter (λ key. not (is_empty (set_of (records_without r old) key))) (own ∷ []))) (if is_empty (set_of (records_without r old) key) then 0 else number_of (numbers_of sets) key)
+      empty_case : (own : Key) (b : Bool) → own ≡ key → is_empty (data_of (records_without r old) key) ≡ b → (if b then 0 else next) ≡ unwrap_or (position_from (λ other. same_key other key) next (filter (λ key. not (is_empty (data_of (records_without r old) key))) (own ∷ []))) (if is_empty (data_of (records_without r old) key) then 0 else number_of (numbers_of sets) key)
       empty_case own true same gone =
-          let none : not (is_empty (set_of (records_without r old) own)) ≡ false = ap (λ k. not (is_empty (set_of (records_without r old) k))) same ∙ rw gone refl in rw (none, gone) refl
+          let none : not (is_empty (data_of (records_without r old) own)) ≡ false = ap (λ k. not (is_empty (data_of (records_without r old) k))) same ∙ rw gone refl in rw (none, gone) refl
       empty_case own false same left =
-          let kept : not (is_empty (set_of (records_without r old) own)) ≡ true = ap (λ k. not (is_empty (set_of (records_without r old) k))) same ∙ rw left refl in
+          let kept : not (is_empty (data_of (records_without r old) own)) ≡ true = ap (λ k. not (is_empty (data_of (records_without r old) k))) same ∙ rw left refl in
           let here : same_key own key ≡ true = ap (λ k. same_key k key) same ∙ same_key-refl key in
           rw (kept, here) refl
 
-      other_case : (own : Key) (b : Bool) → same_key own key ≡ false → left own ≡ b → (content_of sets key).number ≡ (if is_empty (set_of (records_without r old) key) then 0 else number_of (numbers_of sets) key) → (content_of sets key).number ≡ unwrap_or (position_from (λ other. same_key other key) next (cond b (own ∷ []) [])) (if is_empty (set_of (records_without r old) key) then 0 else number_of (numbers_of sets) key)
+      other_case : (own : Key) (b : Bool) → same_key own key ≡ false → left own ≡ b → (content_of sets key).number ≡ (if is_empty (data_of (records_without r old) key) then 0 else number_of (numbers_of sets) key) → (content_of sets key).number ≡ unwrap_or (position_from (λ other. same_key other key) next (cond b (own ∷ []) [])) (if is_empty (data_of (records_without r old) key) then 0 else number_of (numbers_of sets) key)
       other_case own true apart is kept = rw apart kept
       other_case own false apart is kept = kept
 
-      own_case : (own : Option Key) (b : Bool) → key_of r ≡ own → has_key key r ≡ b → has_key key r ≡ is_key key (key_of r) → (if has_key key r then renumbered next (without r.value (content_of sets key)) else content_of sets key).number ≡ unwrap_or (position_from (λ other. same_key other key) next (filter (λ key. not (is_empty (set_of (records_without r old) key))) (option_to_list own))) (if is_empty (set_of (records_without r old) key) then 0 else number_of (numbers_of sets) key)
+      own_case : (own : Option Key) (b : Bool) → key_of r ≡ own → has_key key r ≡ b → has_key key r ≡ is_key key (key_of r) → (if has_key key r then renumbered next (without r.value (content_of sets key)) else content_of sets key).number ≡ unwrap_or (position_from (λ other. same_key other key) next (filter (λ key. not (is_empty (data_of (records_without r old) key))) (option_to_list own))) (if is_empty (data_of (records_without r old) key) then 0 else number_of (numbers_of sets) key)
       own_case None true is there same = let never : true ≡ false = sym there ∙ same ∙ ap (is_key key) is in cc
       own_case None false is other same = rw other (stays other)
       own_case (Some own) true is there same =
           let here : same_key own key ≡ true = sym (sym there ∙ same ∙ ap (is_key key) is) in
-          rw (there, values there) (empty_case own (is_empty (set_of (records_without r old) key)) ((same_key-Decides own key).0 here) refl)
+          rw (there, values there) (empty_case own (is_empty (data_of (records_without r old) key)) ((same_key-Decides own key).0 here) refl)
       own_case (Some own) false is other same =
           let apart : same_key own key ≡ false = sym (sym other ∙ same ∙ ap (is_key key) is) in
           rw other (other_case own (left own) apart refl (stays other))
@@ -147,7 +147,7 @@ replaced apex old text records next after count sets text_sets numbered put keys
     done (records_outside apex old ++ text) (record { records = old; numbers = numbers_of sets; next = next }) (record { records = records; numbers = numbers_of put; next = after }) keys (accepted-numbers old (records_outside apex old ++ text) next count counted few) records_are is.changed (λ key. number_of-numbers_of put key ∙ replaced-number apex old text next sets text_sets numbered put keys is key) (after_is ∙ ap (λ n. next + n) counted)
 
 -- too few numbers are left to replace records
-pub refused-replace : (apex : List (List ℕ)) (old text : List Record) (next count : ℕ) (sets text_sets : OwnerTable) (keys : List Key) (fault : StoreFault) → list_all (λ r. is_within r.owner apex) text ≡ true → ((key : Key) → content_of text_sets key ≡ carried (content_of sets key).number (set_of text key)) → keys ≡ changed_keys old (records_outside apex old ++ text) → count ≡ length (filter (has_set text_sets) keys) → 2 ^ 52 + 1 < next + count → fault ≡ NumberSpent → number_refusal old (records_outside apex old ++ text) next ≡ Some fault
+pub refused-replace : (apex : List (List ℕ)) (old text : List Record) (next count : ℕ) (sets text_sets : OwnerTable) (keys : List Key) (fault : StoreFault) → list_all (λ r. is_within r.owner apex) text ≡ true → ((key : Key) → content_of text_sets key ≡ carried (content_of sets key).number (data_of text key)) → keys ≡ changed_sets old (records_outside apex old ++ text) → count ≡ length (filter (has_set text_sets) keys) → 2 ^ 52 + 1 < next + count → fault ≡ NumberSpent → number_refusal old (records_outside apex old ++ text) next ≡ Some fault
 refused-replace apex old text next count sets text_sets keys fault all made changed count_is many fault_is =
     let counted : count ≡ length (numbered_keys old (records_outside apex old ++ text)) = count_is ∙ ap (λ ks. length (filter (has_set text_sets) ks)) changed ∙ ap length (filter-numbered apex old text sets text_sets all made) in
     refused-numbers old (records_outside apex old ++ text) next count counted many ∙ ap (λ f. Some f) (sym fault_is)
@@ -175,16 +175,16 @@ enough-remove old r next count sets has some counted few =
 -- where records are only left out, no set takes a number
 numbered-outside : (apex : List (List ℕ)) (old : List Record) → numbered_keys old (records_outside apex old ++ []) ≡ []
 numbered-outside apex old =
-    filter-filter (λ key. not (is_empty (set_of (records_outside apex old ++ []) key))) (is_changed old (records_outside apex old ++ [])) (unique same_key (filter_map key_of (old ++ (records_outside apex old ++ []))))
-    ∙ filter-none (λ key. is_changed old (records_outside apex old ++ []) key && not (is_empty (set_of (records_outside apex old ++ []) key))) (λ key. by_case key (is_within key.name apex) refl) (unique same_key (filter_map key_of (old ++ (records_outside apex old ++ [])))) where
+    filter-filter (λ key. not (is_empty (data_of (records_outside apex old ++ []) key))) (is_changed old (records_outside apex old ++ [])) (unique same_key (filter_map key_of (old ++ (records_outside apex old ++ []))))
+    ∙ filter-none (λ key. is_changed old (records_outside apex old ++ []) key && not (is_empty (data_of (records_outside apex old ++ []) key))) (λ key. by_case key (is_within key.name apex) refl) (unique same_key (filter_map key_of (old ++ (records_outside apex old ++ [])))) where
       nothing : (b : Bool) → (b && false) ≡ false
       nothing true = refl
       nothing false = refl
 
-      by_case : (key : Key) (b : Bool) → is_within key.name apex ≡ b → (is_changed old (records_outside apex old ++ []) key && not (is_empty (set_of (records_outside apex old ++ []) key))) ≡ false
+      by_case : (key : Key) (b : Bool) → is_within key.name apex ≡ b → (is_changed old (records_outside apex old ++ []) key && not (is_empty (data_of (records_outside apex old ++ []) key))) ≡ false
       by_case key true inside =
           ap (λ set. is_changed old (records_outside apex old ++ []) key && not (is_empty set)) (set-inside apex old [] key inside) ∙ nothing (is_changed old (records_outside apex old ++ []) key)
-      by_case key false outside = ap (λ differs. differs && not (is_empty (set_of (records_outside apex old ++ []) key))) (stays apex old [] key refl outside)
+      by_case key false outside = ap (λ differs. differs && not (is_empty (data_of (records_outside apex old ++ []) key))) (stays apex old [] key refl outside)
 
 -- so numbers are left for that
 enough-outside : (apex : List (List ℕ)) (old : List Record) (next : ℕ) → next ≤ 2 ^ 52 + 1 → number_refusal old (records_outside apex old ++ []) next ≡ None

@@ -9,7 +9,7 @@ use Rattle.std.proofs.lemmas.List.Folds.{list_any-append}
 use Rattle.sipl_names.specs.Labels.{is_within}
 use Rattle.sipl_records.specs.declared.record.Record.{Record}
 use Rattle.sipl_records.specs.declared.record.Key.{Key}
-use Rattle.sipl_records.specs.Sets.{has_key, set_of, same_data, same_key, same_record, key_of}
+use Rattle.sipl_records.specs.Sets.{has_key, data_of, same_data, same_key, same_record, key_of}
 use Rattle.sipl_records.specs.Unique.{unique}
 use Rattle.sipl_records.proofs.Public.{list_any-filter, same_key-refl, has_key-key_of, key_of-name, same_data-refl, same_data-Decides, same_record-Decides, has_key-name, list_any-unique}
 use Rattle.sipl_masterfile.specs.Zones.{has_repeats}
@@ -32,7 +32,7 @@ same-in_set a b key in_a in_b same =
     (same_record-Decides b a).1 (λ i. record { owner = (has_key-name key b in_b ∙ sym (has_key-name key a in_a)) i; value = sym ((same_data-Decides a.value b.value).0 same) i })
 
 -- a record is the first of its set where no record before it is in the set
-pub first-is : (records : List Record) (i : ℕ) (r : Record) (key : Key) → has_repeats records ≡ false → i < length records → r ≡ get_or records i r → key_of r ≡ Some key → is_first r.value (set_of records key) ≡ not (list_any (has_key key) (take i records))
+pub first-is : (records : List Record) (i : ℕ) (r : Record) (key : Key) → has_repeats records ≡ false → i < length records → r ≡ get_or records i r → key_of r ≡ Some key → is_first r.value (data_of records key) ≡ not (list_any (has_key key) (take i records))
 first-is [] i r key distinct inside here own = absurd (omega arith)
 first-is (x ∷ records) zero r key distinct inside here own =
     let there : has_key key x ≡ true = ap (has_key key) (sym here) ∙ own_key r key own in
@@ -48,7 +48,7 @@ first-is (x ∷ records) (suc i) r key distinct inside here own = elim (cases_Bo
 ]
 
 -- a set is empty where no record is in it
-pub set-empty : (records : List Record) (key : Key) → is_empty (set_of records key) ≡ not (list_any (has_key key) records)
+pub set-empty : (records : List Record) (key : Key) → is_empty (data_of records key) ≡ not (list_any (has_key key) records)
 set-empty [] key = refl
 set-empty (x ∷ records) key = elim (cases_Bool (has_key key x)) [
   | inl there ↦ rw there refl
@@ -104,7 +104,7 @@ added-differs : (old text : List Record) (key : Key) → list_any (has_key key) 
 added-differs old text key none some = elim (cases_Bool (is_changed old text key)) [
   | inl differs ↦ differs
   | inr same ↦
-      let equal : set_of old key ≡ set_of text key = same_set-true (set_of old key) (set_of text key) (was_true _ same) in
+      let equal : data_of old key ≡ data_of text key = same_set-true (data_of old key) (data_of text key) (was_true _ same) in
       let never : true ≡ false = ap not (sym none) ∙ sym (set-empty old key) ∙ ap is_empty equal ∙ set-empty text key ∙ ap not some in cc
 ] where
   was_true : (b : Bool) → not b ≡ false → b ≡ true
@@ -134,7 +134,7 @@ step-added old text sets new apex i r distinct has has' all inside here =
       own_case None own = append-nil (changed_among old text (records_within apex old ++ take i text)) ∙ sym (among-none old text (records_within apex old ++ take i text) r own)
       own_case (Some key) own =
           let before : list_any (has_key key) (records_within apex old ++ take i text) ≡ (list_any (has_key key) old || list_any (has_key key) (take i text)) = list_any-append (has_key key) (records_within apex old) (take i text) ∙ ap (λ b. b || list_any (has_key key) (take i text)) (any-within apex old key (within-key apex r key own within)) in
-          let test : (is_empty (set_of old key) && is_first r.value (set_of text key)) ≡ (not (list_any (has_key key) old || list_any (has_key key) (take i text)) && is_changed old text key) =
+          let test : (is_empty (data_of old key) && is_first r.value (data_of text key)) ≡ (not (list_any (has_key key) old || list_any (has_key key) (take i text)) && is_changed old text key) =
           (λ j. set-empty old key j && first-is text i r key distinct inside here own j)
           ∙ choice (list_any (has_key key) old) (list_any (has_key key) (take i text)) (is_changed old text key) (λ none _. added-differs old text key none (any-at (has_key key) text i r inside here (own_key r key own)))
           in

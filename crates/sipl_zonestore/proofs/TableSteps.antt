@@ -11,8 +11,8 @@ use Rattle.sipl_names.specs.Labels.{same_name}
 use Rattle.sipl_records.specs.declared.data.Data.{Data}
 use Rattle.sipl_records.specs.declared.record.Record.{Record}
 use Rattle.sipl_records.specs.declared.record.Key.{Key}
-use Rattle.sipl_records.specs.Sets.{set_of, same_data, same_key, key_of}
-use Rattle.sipl_records.proofs.Public.{same_key-Decides, has_key-key_of, is_key, set_of-append}
+use Rattle.sipl_records.specs.Sets.{data_of, same_data, same_key, key_of}
+use Rattle.sipl_records.proofs.Public.{same_key-Decides, has_key-key_of, is_key, data_of-append}
 use Rattle.sipl_zonestore.specs.Numbers.{is_empty}
 use Rattle.sipl_zonestore.specs.Content.{Content, carried, pushed, renumbered}
 use Rattle.sipl_zonestore.specs.SetTable.{OwnerTable, set_at, content_of, has_set, keys_left, numbered_content}
@@ -21,28 +21,28 @@ use Rattle.sipl_zonestore.proofs.Positions.{from-append, from-none}
 use Rattle.sipl_zonestore.proofs.SetTables.{is_empty-push}
 
 -- the set of a key with one more record
-set_of-more : (records : List Record) (i : ℕ) (r : Record) (own : Option Key) (key : Key) → i < length records → r ≡ get_or records i r → key_of r ≡ own → set_of (take (i + 1) records) key ≡ set_of (take i records) key ++ cond (is_key key own) (r.value ∷ []) []
-set_of-more records i r own key inside here is =
-    ap (λ rs. set_of rs key) (take_more records i r inside ∙ ap (λ s. take i records ++ s ∷ []) (sym here))
-    ∙ set_of-append (take i records) (r ∷ []) key
-    ∙ ap (λ b. set_of (take i records) key ++ cond b (r.value ∷ []) []) (has_key-key_of key r ∙ ap (is_key key) is)
+data_of-more : (records : List Record) (i : ℕ) (r : Record) (own : Option Key) (key : Key) → i < length records → r ≡ get_or records i r → key_of r ≡ own → data_of (take (i + 1) records) key ≡ data_of (take i records) key ++ cond (is_key key own) (r.value ∷ []) []
+data_of-more records i r own key inside here is =
+    ap (λ rs. data_of rs key) (take_more records i r inside ∙ ap (λ s. take i records ++ s ∷ []) (sym here))
+    ∙ data_of-append (take i records) (r ∷ []) key
+    ∙ ap (λ b. data_of (take i records) key ++ cond b (r.value ∷ []) []) (has_key-key_of key r ∙ ap (is_key key) is)
 
 -- a record that is in no set
-pub made-none : (sets old : OwnerTable) (records : List Record) (i : ℕ) (r : Record) → i < length records → r ≡ get_or records i r → key_of r ≡ None → ((key : Key) → content_of sets key ≡ carried (content_of old key).number (set_of (take i records) key)) → (key : Key) → content_of sets key ≡ carried (content_of old key).number (set_of (take (i + 1) records) key)
+pub made-none : (sets old : OwnerTable) (records : List Record) (i : ℕ) (r : Record) → i < length records → r ≡ get_or records i r → key_of r ≡ None → ((key : Key) → content_of sets key ≡ carried (content_of old key).number (data_of (take i records) key)) → (key : Key) → content_of sets key ≡ carried (content_of old key).number (data_of (take (i + 1) records) key)
 made-none sets old records i r inside here none made key =
-    made key ∙ ap (carried (content_of old key).number) (sym (set_of-more records i r None key inside here none ∙ append-nil (set_of (take i records) key)))
+    made key ∙ ap (carried (content_of old key).number) (sym (data_of-more records i r None key inside here none ∙ append-nil (data_of (take i records) key)))
 
 -- a record of a set
-pub made-some : (sets sets' old : OwnerTable) (records : List Record) (i : ℕ) (r : Record) (own : Key) (number : ℕ) (value : Data) → i < length records → r ≡ get_or records i r → key_of r ≡ Some own → number ≡ (content_of old own).number → value ≡ r.value → ((key : Key) → content_of sets key ≡ carried (content_of old key).number (set_of (take i records) key)) → ((key : Key) → content_of sets' key ≡ (if same_key own key then pushed number value (content_of sets key) else content_of sets key)) → (key : Key) → content_of sets' key ≡ carried (content_of old key).number (set_of (take (i + 1) records) key)
+pub made-some : (sets sets' old : OwnerTable) (records : List Record) (i : ℕ) (r : Record) (own : Key) (number : ℕ) (value : Data) → i < length records → r ≡ get_or records i r → key_of r ≡ Some own → number ≡ (content_of old own).number → value ≡ r.value → ((key : Key) → content_of sets key ≡ carried (content_of old key).number (data_of (take i records) key)) → ((key : Key) → content_of sets' key ≡ (if same_key own key then pushed number value (content_of sets key) else content_of sets key)) → (key : Key) → content_of sets' key ≡ carried (content_of old key).number (data_of (take (i + 1) records) key)
 made-some sets sets' old records i r own number value inside here is number_is value_is made more key =
     more key ∙ own_case (same_key own key) refl where
-      own_case : (b : Bool) → same_key own key ≡ b → (if b then pushed number value (content_of sets key) else content_of sets key) ≡ carried (content_of old key).number (set_of (take (i + 1) records) key)
+      own_case : (b : Bool) → same_key own key ≡ b → (if b then pushed number value (content_of sets key) else content_of sets key) ≡ carried (content_of old key).number (data_of (take (i + 1) records) key)
       own_case true same =
-          let there : set_of (take (i + 1) records) key ≡ set_of (take i records) key ++ r.value ∷ [] = set_of-more records i r (Some own) key inside here is ∙ rw same refl in
+          let there : data_of (take (i + 1) records) key ≡ data_of (take i records) key ++ r.value ∷ [] = data_of-more records i r (Some own) key inside here is ∙ rw same refl in
           let numbers : number ≡ (content_of old key).number = number_is ∙ ap (λ k. (content_of old k).number) ((same_key-Decides own key).0 same) in
-          rw (there, is_empty-push (set_of (take i records) key) r.value) (λ j. record { number = numbers j; values = (ap (λ (c : Content). c.values) (made key)) j ++ value_is j ∷ [] })
+          rw (there, is_empty-push (data_of (take i records) key) r.value) (λ j. record { number = numbers j; values = (ap (λ (c : Content). c.values) (made key)) j ++ value_is j ∷ [] })
       own_case false other =
-          made key ∙ ap (carried (content_of old key).number) (sym (set_of-more records i r (Some own) key inside here is ∙ rw other (append-nil (set_of (take i records) key))))
+          made key ∙ ap (carried (content_of old key).number) (sym (data_of-more records i r (Some own) key inside here is ∙ rw other (append-nil (data_of (take i records) key))))
 
 any-take_none : {X : Type 0} (p : X → Bool) (xs : List X) (i : ℕ) (d : X) → i ≤ length xs → ((j : ℕ) → j < i → p (get_or xs j d) ≡ false) → list_any p (take i xs) ≡ false
 any-take_none p [] zero d inside none = refl

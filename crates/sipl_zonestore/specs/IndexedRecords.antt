@@ -1,7 +1,7 @@
 -- Records with an index of their sets, each of which has a number.
-use Rattle.std.specs.Prelude.{◌≡◌, ◌≢◌, ℕ, ◌+◌, ◌^◌, ◌≤◌, Bool, true, false, List, None, Some, Result, OnOk, OnErr, IfOk, IfErr}
+use Rattle.std.specs.Prelude.{◌≡◌, ◌≢◌, ℕ, ◌+◌, ◌^◌, ◌≤◌, Bool, true, List, None, Some, Result, OnOk, OnErr, IfOk, IfErr}
 use Rattle.sipl_names.specs.Labels.{Labels}
-use Rattle.sipl_records.specs.Sets.{existence_of, is_existence}
+use Rattle.sipl_records.specs.Sets.{existence_of}
 use Rattle.sipl_records.specs.declared.data.Data.{Data}
 use Rattle.sipl_records.specs.declared.record.Record.{Record}
 use Rattle.sipl_records.specs.declared.record.Key.{Key}
@@ -38,7 +38,7 @@ pub record IsReplaced (records : List Record) (old new : IndexedState)
   pub after : OnOk result (new.records ≡ records)
   pub changed : IfOk result (λ changed. changed.keys ≡ changed_keys old.records records)
   pub counted : IfOk result (λ changed. changed.sets ≡ changed_count old.records records)
-  pub numbers : OnOk result ((key : Key) → is_existence key ≡ false → number_of new.numbers key
+  pub numbers : OnOk result ((key : Key) → number_of new.numbers key
       ≡ set_number_after old.records records old.next (number_of old.numbers) key)
   pub next : OnOk result (new.next ≡ next_after old.records records old.next)
   pub refused : IfErr result (λ fault. fault ≢ Memory

@@ -1,4 +1,4 @@
-use Rattle.sipl_zonestore.proofs.ChangedKeys.{changed_keys-exact, changed_keys-once}
+use Rattle.sipl_zonestore.proofs.ExactKeys.{changed_keys-exact, changed_keys-once}
 use Rattle.sipl_zonestore.proofs.laws.changed_keys_are_exact.Goals as goal
 
 pub returns-clause-exact : goal.returns-clause-exact

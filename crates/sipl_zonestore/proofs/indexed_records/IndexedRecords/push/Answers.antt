@@ -4,7 +4,7 @@ use mir.Val.{bool_byte}
 use Rattle.std.proofs.lemmas.Result.{err_from_is_err_and}
 use Rattle.indexmap.specs.IndexSet.{contains}
 use Rattle.sipl_names.specs.Labels.{same_name}
-use Rattle.sipl_records.specs.Sets.{set_of}
+use Rattle.sipl_records.specs.Sets.{data_of}
 use Rattle.sipl_zonestore.specs.BareOwners.{is_bare_at, is_name}
 use Rattle.sipl_zonestore.proofs.BareOwners.{bare-added, owner-fits}
 use Rattle.sipl_zonestore.proofs.Recorded.{added, enough-add, pushed-sets, refused, refused-add}
@@ -19,7 +19,7 @@ insert_owner-requires c =
 
 pub invariant_of-self-2 : goal.invariant_of-self-2
 invariant_of-self-2 c = record {
-  has_sets = λ key. pushed-sets c.self.inside.records.records c.args.new.now c.self.inside.next c.self.inside.sets c.push_to_set.new.sets c.self.invariant.has_sets c.in_ok-push_to_set.ensures.content key ∙ ap (λ rs. set_of rs key) (sym (c.push_reserved.ensures ∙ (λ i. c.in_ok-reserve.ensures.records i ++ c.in_ok-copy.ensures i ∷ [])));
+  has_sets = λ key. pushed-sets c.self.inside.records.records c.args.new.now c.self.inside.next c.self.inside.sets c.push_to_set.new.sets c.self.invariant.has_sets c.in_ok-push_to_set.ensures.content key ∙ ap (λ rs. data_of rs key) (sym (c.push_reserved.ensures ∙ (λ i. c.in_ok-reserve.ensures.records i ++ c.in_ok-copy.ensures i ∷ [])));
   has_bare = λ name.
       bare-added c.self.inside.records.records c.args.new.now c.in_ok-owner.owner (contains same_name c.self.inside.bare) (contains same_name c.insert_owner.new.owners) c.in_ok-owner.ensures c.self.invariant.has_bare (λ name. c.insert_owner.ensures name ∙ ap (λ keys. is_name name c.in_ok-owner.owner || list_any (same_name name) keys) c.in_ok-reserve-2.ensures.keys) name
       ∙ ap (λ rs. list_any (is_bare_at name) rs) (sym (c.push_reserved.ensures ∙ (λ i. c.in_ok-reserve.ensures.records i ++ c.in_ok-copy.ensures i ∷ [])));

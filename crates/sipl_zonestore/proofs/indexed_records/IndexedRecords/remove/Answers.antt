@@ -3,7 +3,7 @@ use Rattle.std.proofs.lemmas.Result.{err_from_is_err_and}
 use Rattle.indexmap.specs.IndexSet.{contains}
 use Rattle.std.specs.List.{list_any}
 use Rattle.sipl_names.specs.Labels.{same_name}
-use Rattle.sipl_records.specs.Sets.{set_of}
+use Rattle.sipl_records.specs.Sets.{data_of}
 use Rattle.sipl_zonestore.specs.BareOwners.{is_bare_at}
 use Rattle.sipl_zonestore.specs.Edits.{records_without}
 use Rattle.sipl_zonestore.proofs.BareOwners.{bare-removed}
@@ -14,7 +14,7 @@ use Rattle.sipl_zonestore.proofs.indexed_records.IndexedRecords.remove.Goals as 
 pub invariant_of-self : goal.invariant_of-self
 invariant_of-self c =
     record {
-      has_sets = λ key. removed-sets c.self.inside.records.records c.args.old.now c.self.inside.next c.self.inside.sets c.remove_from_set.new.sets c.self.invariant.has_sets c.remove_from_set.ensures key ∙ ap (λ rs. set_of rs key) (sym c.remove.ensures);
+      has_sets = λ key. removed-sets c.self.inside.records.records c.args.old.now c.self.inside.next c.self.inside.sets c.remove_from_set.new.sets c.self.invariant.has_sets c.remove_from_set.ensures key ∙ ap (λ rs. data_of rs key) (sym c.remove.ensures);
       has_bare = λ name.
           bare-removed c.self.inside.records.records c.args.old.now (contains same_name c.self.inside.bare) (contains same_name c.remove_owner.new.owners) c.self.invariant.has_bare c.remove_owner.ensures name
           ∙ ap (λ rs. list_any (is_bare_at name) rs) (sym c.remove.ensures);
