@@ -78,7 +78,7 @@ any-names [] name = refl
 any-names (r ∷ records) name =
     list_any-append (λ other. same_name other name) (with_ancestors r.owner) (names_of records) ∙ (λ i. any-ancestors r.owner name i || any-names records name i)
 
-all-any : (names : List Labels) (p : Labels → Bool) → ((name : Labels) → list_any (λ other. same_name other name) names ≡ true → p name ≡ true) → list_all p names ≡ true
+pub all-any : (names : List Labels) (p : Labels → Bool) → ((name : Labels) → list_any (λ other. same_name other name) names ≡ true → p name ≡ true) → list_all p names ≡ true
 all-any [] p passes = refl
 all-any (first ∷ names) p passes =
     rw (passes first (or_first (same_name first first) (list_any (λ other. same_name other first) names) ((same_name_decides first first).1 refl))) (all-any names p (λ name some. passes name (or_second (same_name first name) (list_any (λ other. same_name other name) names) some)))

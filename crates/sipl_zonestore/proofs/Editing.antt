@@ -1,22 +1,29 @@
 -- What an edit does to a store, from what it does to its records.
-use Rattle.std.proofs.Common.{◌≡◌, ◌≢◌, ℕ, Bool, true, false, not, if◌then◌else◌, List, Option, None, Some, Result, Ok, Err, length, nat_le, nat_lt, refl, ap, subst, sym, ◌∙◌}
+use Rattle.std.proofs.Common.{◌≡◌, ◌≢◌, ℕ, Bool, true, false, not, if◌then◌else◌, List, Option, None, Some, Result, Ok, Err, length, nat_le, nat_lt, refl, ap, subst, sym, ◌∙◌, inl, inr}
 use Rattle.std.specs.Prelude.{OnOk, OnErr, IfErr}
-use Rattle.std.specs.Option.{option_or}
-use Rattle.std.specs.List.{count_by, list_any}
+use Rattle.std.specs.Option.{option_or, unwrap_or}
+use Rattle.std.specs.List.{count_by, list_any, position_from}
+use Rattle.std.proofs.lemmas.Bool.{cases_Bool}
+use Rattle.std.proofs.lemmas.List.Folds.{list_any-append}
 use Rattle.sipl_names.specs.Labels.{same_name}
-use Rattle.sipl_records.specs.Sets.{conflicts, same_record, same_key, shares_set}
+use Rattle.sipl_names.specs.Labels.{is_wildcard}
+use Rattle.sipl_records.proofs.Public.{set_of-existence}
+use Rattle.sipl_records.specs.Sets.{conflicts, data_of, exists_in, existence_of, is_existence, same_record, same_key, shares_set}
 use Rattle.sipl_records.specs.declared.record.Record.{Record}
 use Rattle.sipl_records.specs.declared.record.Key.{Key}
+use Rattle.sipl_zonestore.specs.declared.changed.Changed.{Changed}
 use Rattle.sipl_zonestore.specs.declared.fault.StoreFault.{StoreFault}
-use Rattle.sipl_zonestore.specs.declared.fault.StoreFault.TheVariants.{Overlap, NoZone, Duplicate, Absent, AliasBesideData, SetFull, StoreFull, Memory}
+use Rattle.sipl_zonestore.specs.declared.fault.StoreFault.TheVariants.{Overlap, NoZone, Duplicate, Absent, AliasBesideData, SetFull, StoreFull, WildApex, Memory}
 use Rattle.sipl_zonestore.specs.Store.{Zones, Store, number_in, overlaps, is_covered, records_after_load}
 use Rattle.sipl_zonestore.specs.Edits.{Edit, load, unload, add, remove, after, refusal_of}
-use Rattle.sipl_zonestore.specs.Changes.{changed_keys}
-use Rattle.sipl_zonestore.specs.Numbers.{number_after, next_after, number_refusal}
+use Rattle.sipl_zonestore.specs.Changes.{changed_count, changed_existence, changed_keys, changed_names, changed_sets, exists_in_one}
+use Rattle.sipl_zonestore.specs.Numbers.{SetNumber, existence_number, is_empty, number_after, number_by, number_of, numbered_keys, next_after, number_refusal, set_number_after}
 use Rattle.sipl_zonestore.specs.IndexedRecords.{IndexedState, IsReplaced}
-use Rattle.sipl_zonestore.specs.Edited.{IsEdited, store_refusal, early_refusal}
+use Rattle.sipl_zonestore.specs.Edited.{IsEdited, IsKept, store_refusal, early_refusal}
 use Rattle.sipl_zonestore.specs.Consistent.{IsConsistent}
-use Rattle.sipl_zonestore.proofs.Numbering.{kept-after}
+use Rattle.sipl_zonestore.proofs.Numbering.{kept-after, same_key-flipped}
+use Rattle.sipl_zonestore.proofs.ExactKeys.{changed-existence_any}
+use Rattle.sipl_zonestore.proofs.Elements.{or_left}
 use Rattle.sipl_zonestore.proofs.Consistency.{IsGood, consistent-edited}
 
 -- the records of a store, with their numbers
@@ -35,30 +42,61 @@ first_some : (first second : Option StoreFault) (fault : StoreFault) → first �
 first_some None other fault is = cc
 first_some (Some first) other fault is = is
 
+-- the number of a record set in a store is that of the table
+number_by-set : (records : List Record) (numbers : List SetNumber) (key : Key) → is_existence key ≡ false → number_by records numbers key ≡ number_of numbers key
+number_by-set records numbers key other = rw other refl
+
+-- a name whose key is not among the changed ones exists as it did
+existence-kept : (old new : Store) (key : Key) → is_existence key ≡ true → list_any (same_key key) (changed_keys old.zones.records new.zones.records) ≡ false → IsKept old new key
+existence-kept old new key of none =
+    let unchanged : exists_in_one old.zones.records new.zones.records key.name ≡ false = sym (changed-existence_any old.zones.records new.zones.records key of) ∙ same_key-flipped key (changed_keys old.zones.records new.zones.records) ∙ none in
+    let same : exists_in new.zones.records key.name ≡ exists_in old.zones.records key.name = agree (exists_in old.zones.records key.name) (exists_in new.zones.records key.name) unchanged in
+    (set_of-existence new.zones.records key of ∙ ap existence_of same ∙ sym (set_of-existence old.zones.records key of), rw of (ap existence_number same)) where
+      agree : (a b : Bool) → (if a then not b else b) ≡ false → b ≡ a
+      agree true true same = refl
+      agree true false same = cc
+      agree false true same = cc
+      agree false false same = refl
+
 -- an edit that the zones accept is what the records say
-pub edited : (edit : Edit) (old new : Store) (result : Result (List Key) StoreFault) → IsGood edit → IsConsistent old → refusal_of old.max_records edit old.zones ≡ None → IsReplaced (after edit old.zones).records (part old) (part new) result → IfErr result (λ fault. fault ≡ Memory → early_refusal edit old ≡ None) → OnOk result (new.zones.apexes ≡ (after edit old.zones).apexes) → OnErr result (new.zones.apexes ≡ old.zones.apexes) → new.max_records ≡ old.max_records → new.looks ≡ old.looks → IsEdited edit old new result
-edited edit old new (Ok keys) good held accepted is _ apexes _ limit looks = record {
+pub edited : (edit : Edit) (old new : Store) (result : Result Changed StoreFault) → IsGood edit → IsConsistent old → refusal_of old.max_records edit old.zones ≡ None → IsReplaced (after edit old.zones).records (part old) (part new) result → IfErr result (λ fault. fault ≡ Memory → early_refusal edit old ≡ None) → OnOk result (new.zones.apexes ≡ (after edit old.zones).apexes) → OnErr result (new.zones.apexes ≡ old.zones.apexes) → new.max_records ≡ old.max_records → new.looks ≡ old.looks → IsEdited edit old new result
+edited edit old new (Ok done) good held accepted is _ apexes _ limit looks = record {
   accepted = second_none (refusal_of old.max_records edit old.zones) (number_refusal old.zones.records (after edit old.zones).records old.next) accepted is.accepted;
   after = λ i. record { apexes = apexes i; records = is.after i };
   changed = is.changed ∙ ap (changed_keys old.zones.records) (sym is.after);
-  numbers = λ key. is.numbers key ∙ ap (λ records. number_after old.zones.records records old.next (number_in old) key) (sym is.after);
-  kept = λ key other.
-      let same = kept-after old.zones.records new.zones.records old.next (number_in old) held.numbered key (ap (list_any (same_key key)) (ap (changed_keys old.zones.records) is.after ∙ sym is.changed) ∙ other) in
-      (same.0, is.numbers key ∙ ap (λ records. number_after old.zones.records records old.next (number_in old) key) (sym is.after) ∙ same.1);
+  counted = is.counted ∙ ap (changed_count old.zones.records) (sym is.after);
+  numbers = λ key. numbers key ∙ ap (λ records. number_after old.zones.records records old.next (number_in old) key) (sym is.after);
+  kept = λ key other. kept key (ap (list_any (same_key key)) (ap (changed_keys old.zones.records) is.after ∙ sym is.changed) ∙ other);
   next = is.next ∙ ap (λ records. next_after old.zones.records records old.next) (sym is.after);
   refused = tt;
   memory = tt;
   unchanged = tt;
   limit = limit;
   looks = looks;
-  consistent = consistent-edited edit old new good held accepted is.accepted (λ i. record { apexes = apexes i; records = is.after i }) limit is.next is.numbers;
-}
+  consistent = consistent-edited edit old new good held accepted is.accepted (λ i. record { apexes = apexes i; records = is.after i }) limit is.next numbers;
+} where
+  numbers : (key : Key) → number_in new key ≡ number_after old.zones.records (after edit old.zones).records old.next (number_in old) key
+  numbers key = elim (cases_Bool (is_existence key)) [
+    | inl of ↦ rw of (ap (λ records. existence_number (exists_in records key.name)) is.after)
+    | inr other ↦ rw other (is.numbers key ∙ numbers-same (after edit old.zones).records key other)
+  ] where
+    numbers-same : (records : List Record) (key : Key) → is_existence key ≡ false → set_number_after old.zones.records records old.next (number_of old.numbers) key ≡ set_number_after old.zones.records records old.next (number_in old) key
+    numbers-same records key other = ap (λ n. unwrap_or (position_from (λ other. same_key other key) old.next (numbered_keys old.zones.records records)) (if is_empty (data_of records key) then 0 else n)) (sym (number_by-set old.zones.records old.numbers key other))
+
+  kept : (key : Key) → list_any (same_key key) (changed_keys old.zones.records new.zones.records) ≡ false → IsKept old new key
+  kept key none = elim (cases_Bool (is_existence key)) [
+    | inl of ↦ existence-kept old new key of none
+    | inr other ↦
+        let same = kept-after old.zones.records new.zones.records old.next (number_in old) held.numbered key other (or_left _ _ (sym (list_any-append (same_key key) (changed_sets old.zones.records new.zones.records) (changed_existence old.zones.records new.zones.records)) ∙ none)) in
+        (same.0, numbers key ∙ ap (λ records. number_after old.zones.records records old.next (number_in old) key) (sym is.after) ∙ same.1)
+  ]
 edited edit old new (Err fault) good held accepted is memory _ apexes limit looks =
     let same : new ≡ old = λ i. record { zones = record { apexes = apexes i; records = (is.unchanged i).records }; max_records = limit i; numbers = (is.unchanged i).numbers; next = (is.unchanged i).next; looks = looks i } in
     record {
       accepted = tt;
       after = tt;
       changed = tt;
+      counted = tt;
       numbers = tt;
       kept = tt;
       next = tt;
@@ -82,7 +120,7 @@ none_memory = λ is. cc
 
 no_memory : (max_records : ℕ) (edit : Edit) (zones : Zones) → refusal_of max_records edit zones ≢ Some Memory
 no_memory max_records (load zone) zones =
-    unless (list_any (overlaps zone.apex) zones.apexes) Overlap _ (λ is. cc) (unless (nat_lt max_records (length (records_after_load zone zones.records))) StoreFull None (λ is. cc) none_memory)
+    unless (is_wildcard zone.apex) WildApex _ (λ is. cc) (unless (list_any (overlaps zone.apex) zones.apexes) Overlap _ (λ is. cc) (unless (nat_lt max_records (length (records_after_load zone zones.records))) StoreFull None (λ is. cc) none_memory))
 no_memory max_records (unload apex) zones = by_case (list_any (same_name apex) zones.apexes) where
   by_case : (b : Bool) → (if b then None else Some NoZone) ≢ Some Memory
   by_case true = λ is. cc
@@ -95,8 +133,8 @@ no_memory max_records (remove r) zones = unless (not (is_covered zones.apexes r.
   by_case false = λ is. cc
 
 -- nor are there too few numbers where an allocation failed
-pub memory-edit : (edit : Edit) (store : Store) (result : Result (List Key) StoreFault) → refusal_of store.max_records edit store.zones ≡ None → IfErr result (λ fault. fault ≡ Memory → number_refusal store.zones.records (after edit store.zones).records store.next ≡ None) → IfErr result (λ fault. fault ≡ Memory → store_refusal edit store ≡ None)
-memory-edit edit store (Ok keys) accepted none = tt
+pub memory-edit : (edit : Edit) (store : Store) (result : Result Changed StoreFault) → refusal_of store.max_records edit store.zones ≡ None → IfErr result (λ fault. fault ≡ Memory → number_refusal store.zones.records (after edit store.zones).records store.next ≡ None) → IfErr result (λ fault. fault ≡ Memory → store_refusal edit store ≡ None)
+memory-edit edit store (Ok done) accepted none = tt
 memory-edit edit store (Err fault) accepted none = λ memory. second_none (refusal_of store.max_records edit store.zones) (number_refusal store.zones.records (after edit store.zones).records store.next) accepted (none memory)
 
 -- a fact, where the result is out of memory
@@ -110,6 +148,7 @@ out_of_memory edit store held early = record {
   accepted = tt;
   after = tt;
   changed = tt;
+  counted = tt;
   numbers = tt;
   kept = tt;
   next = tt;
@@ -127,6 +166,7 @@ refused-edit edit store fault held why = record {
   accepted = tt;
   after = tt;
   changed = tt;
+  counted = tt;
   numbers = tt;
   kept = tt;
   next = tt;
@@ -139,12 +179,12 @@ refused-edit edit store fault held why = record {
 }
 
 -- a fact, whatever the result
-pub always-ok : {P : Type 0} (result : Result (List Key) StoreFault) → P → OnOk result P
-always-ok (Ok keys) p = p
+pub always-ok : {P : Type 0} (result : Result Changed StoreFault) → P → OnOk result P
+always-ok (Ok done) p = p
 always-ok (Err fault) p = tt
 
-pub always-err : {P : Type 0} (result : Result (List Key) StoreFault) → P → OnErr result P
-always-err (Ok keys) p = tt
+pub always-err : {P : Type 0} (result : Result Changed StoreFault) → P → OnErr result P
+always-err (Ok done) p = tt
 always-err (Err fault) p = p
 
 -- a store by its parts
@@ -152,7 +192,7 @@ abbrev pub store_of : List (List (List ℕ)) → IndexedState → ℕ → ℕ �
 store_of apexes records max_records looks =
     record { zones = record { apexes = apexes; records = records.records }; max_records = max_records; numbers = records.numbers; next = records.next; looks = looks }
 
-pub edited-with : (edit : Edit) (apexes apexes' : List (List (List ℕ))) (records records' : IndexedState) (max_records looks : ℕ) (result : Result (List Key) StoreFault) → IsGood edit → IsConsistent (store_of apexes records max_records looks) → refusal_of max_records edit (record { apexes = apexes; records = records.records }) ≡ None → IsReplaced (after edit (record { apexes = apexes; records = records.records })).records records records' result → IfErr result (λ fault. fault ≡ Memory → early_refusal edit (store_of apexes records max_records looks) ≡ None) → OnOk result (apexes' ≡ (after edit (record { apexes = apexes; records = records.records })).apexes) → OnErr result (apexes' ≡ apexes) → IsEdited edit (store_of apexes records max_records looks) (store_of apexes' records' max_records looks) result
+pub edited-with : (edit : Edit) (apexes apexes' : List (List (List ℕ))) (records records' : IndexedState) (max_records looks : ℕ) (result : Result Changed StoreFault) → IsGood edit → IsConsistent (store_of apexes records max_records looks) → refusal_of max_records edit (record { apexes = apexes; records = records.records }) ≡ None → IsReplaced (after edit (record { apexes = apexes; records = records.records })).records records records' result → IfErr result (λ fault. fault ≡ Memory → early_refusal edit (store_of apexes records max_records looks) ≡ None) → OnOk result (apexes' ≡ (after edit (record { apexes = apexes; records = records.records })).apexes) → OnErr result (apexes' ≡ apexes) → IsEdited edit (store_of apexes records max_records looks) (store_of apexes' records' max_records looks) result
 edited-with edit apexes apexes' records records' max_records looks result good held accepted is memory done kept =
     edited edit (store_of apexes records max_records looks) (store_of apexes' records' max_records looks) result good held accepted is memory done kept refl refl
 

@@ -7,6 +7,7 @@ pub mod SameSets
 pub mod AncestorCounts
 pub mod ChangedNames
 pub mod NameTables
+pub mod Counts
 pub mod SetTables
 pub mod BareOwners
 pub mod Comparing

@@ -3,7 +3,7 @@ use Rattle.std.proofs.Common.{◌≡◌, ℕ, ◌+◌, ◌-◌, ◌≤◌, Bool,
 use Rattle.std.specs.List.{list_any}
 use Rattle.std.proofs.lemmas.Bool.Decides.{nat_tests}
 use Rattle.std.proofs.lemmas.List.Sums.{length-filter, count_by-le-length}
-use Rattle.sipl_names.specs.Labels.{is_within}
+use Rattle.sipl_names.specs.Labels.{is_wildcard, is_within}
 use Rattle.sipl_records.specs.declared.record.Record.{Record}
 use Rattle.sipl_masterfile.specs.Zones.{Zone}
 use Rattle.sipl_zonestore.specs.Store.{records_outside, overlaps}
@@ -19,8 +19,9 @@ few : (max_records kept count : ℕ) → kept ≤ max_records → count ≤ max_
 few max_records kept count below fits = grind (arith, nat_tests)
 
 -- a zone that neither overlaps nor has too many records is not refused
-pub no_load_refusal : (max_records : ℕ) (zone : Zone) (apexes : List (List (List ℕ))) (records : List Record) (apex : List (List ℕ)) (kept : ℕ) (text : List Record) → apex ≡ zone.apex → list_any (overlaps apex) apexes ≡ false → kept ≡ length (records_outside apex records) → text ≡ zone.records → length text ≤ max_records - kept → kept ≤ max_records → refusal_of max_records (load zone) (record { apexes = apexes; records = records }) ≡ None
-no_load_refusal max_records zone apexes records apex kept text apex_is none kept_is text_is fits below =
+pub no_load_refusal : (max_records : ℕ) (zone : Zone) (apexes : List (List (List ℕ))) (records : List Record) (apex : List (List ℕ)) (kept : ℕ) (text : List Record) → apex ≡ zone.apex → is_wildcard apex ≡ false → list_any (overlaps apex) apexes ≡ false → kept ≡ length (records_outside apex records) → text ≡ zone.records → length text ≤ max_records - kept → kept ≤ max_records → refusal_of max_records (load zone) (record { apexes = apexes; records = records }) ≡ None
+no_load_refusal max_records zone apexes records apex kept text apex_is tame none kept_is text_is fits below =
+    let other : is_wildcard zone.apex ≡ false = rw (← apex_is) tame in
     let apart : list_any (overlaps zone.apex) apexes ≡ false = rw (← apex_is) none in
     let all : nat_lt max_records (length (records_outside zone.apex records ++ zone.records)) ≡ false = rw (← apex_is, ← text_is, length-append (records_outside apex records) text, ← kept_is) (few max_records kept (length text) below fits) in
-    rw (apart, all) refl
+    rw (other, apart, all) refl

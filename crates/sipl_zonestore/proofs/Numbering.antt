@@ -111,7 +111,7 @@ number-cases old new next numbers key other = elim (cases_Bool (is_empty (data_o
   ]
 ]
 
-same_key-flipped : (key : Key) (keys : List Key) → list_any (λ other. same_key other key) keys ≡ list_any (same_key key) keys
+pub same_key-flipped : (key : Key) (keys : List Key) → list_any (λ other. same_key other key) keys ≡ list_any (same_key key) keys
 same_key-flipped key [] = refl
 same_key-flipped key (first ∷ keys) = λ i. same_key-sym first key i || same_key-flipped key keys i
 

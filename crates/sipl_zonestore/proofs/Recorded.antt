@@ -1,18 +1,19 @@
 -- Records whose sets are numbered, once records have changed.
-use Rattle.std.proofs.Common.{◌≡◌, ◌≢◌, ℕ, ◌+◌, ◌^◌, ◌<◌, ◌≤◌, Bool, true, false, not, ◌&&◌, List, [], ◌∷◌, ◌++◌, length, Option, None, Some, Ok, Err, if◌then◌else◌, cond, refl, ap, subst, sym, ◌∙◌, arith, append-nil}
+use Rattle.std.proofs.Common.{◌≡◌, ◌≢◌, ℕ, ◌+◌, ◌^◌, ◌<◌, ◌≤◌, Bool, true, false, not, ◌&&◌, List, [], ◌∷◌, ◌++◌, length, map, Option, None, Some, Ok, Err, if◌then◌else◌, cond, refl, ap, subst, sym, ◌∙◌, arith, append-nil}
 use Rattle.std.specs.List.{filter, filter_map, list_any, list_all, position_from}
 use Rattle.std.specs.Option.{option_to_list, unwrap_or}
-use Rattle.sipl_names.specs.Labels.{is_within}
+use Rattle.sipl_names.specs.Labels.{Labels, is_within}
 use Rattle.sipl_records.specs.declared.record.Record.{Record}
 use Rattle.sipl_records.specs.declared.record.Key.{Key}
 use Rattle.sipl_records.specs.Sets.{has_key, data_of, same_data, same_key, same_record, key_of}
 use Rattle.sipl_records.specs.Unique.{unique}
 use Rattle.sipl_records.proofs.Public.{filter-filter, filter-none, same_key-Decides, same_key-refl, has_key-key_of, is_key, data_of-append}
+use Rattle.sipl_zonestore.specs.declared.changed.Changed.{Changed}
 use Rattle.sipl_zonestore.specs.declared.fault.StoreFault.{StoreFault}
 use Rattle.sipl_zonestore.specs.declared.fault.StoreFault.TheVariants.{Memory, NumberSpent}
 use Rattle.sipl_zonestore.specs.Store.{records_outside}
 use Rattle.sipl_zonestore.specs.Edits.{records_without}
-use Rattle.sipl_zonestore.specs.Changes.{is_changed, changed_sets}
+use Rattle.sipl_zonestore.specs.Changes.{is_changed, changed_count, changed_existence, changed_keys, changed_names, changed_sets, existence_key}
 use Rattle.sipl_zonestore.specs.Numbers.{is_empty, number_of, numbered_keys, set_number_after, next_after, number_refusal}
 use Rattle.sipl_zonestore.specs.Content.{Content, carried, pushed, without, renumbered}
 use Rattle.sipl_zonestore.specs.SetTable.{OwnerTable, content_of, numbers_of, keys_left, has_set, HasSets}
@@ -30,14 +31,14 @@ kept-number old new sets key has same = empty_case (is_empty (data_of new key)) 
   empty_case false left = sym (number_of-numbers_of sets key)
 
 -- of a change that was made
-pub done : (records : List Record) (old new : IndexedState) (keys : List Key) → number_refusal old.records records old.next ≡ None → new.records ≡ records → keys ≡ changed_sets old.records records → ((key : Key) → number_of new.numbers key ≡ set_number_after old.records records old.next (number_of old.numbers) key) → new.next ≡ next_after old.records records old.next → IsReplaced records old new (Ok keys)
-done records old new keys accepted after changed numbers next =
-    record { accepted = accepted; after = after; changed = changed; numbers = numbers; next = next; refused = tt; unchanged = tt }
+pub done : (records : List Record) (old new : IndexedState) (changed : Changed) → number_refusal old.records records old.next ≡ None → new.records ≡ records → changed.keys ≡ changed_keys old.records records → changed.sets ≡ changed_count old.records records → ((key : Key) → number_of new.numbers key ≡ set_number_after old.records records old.next (number_of old.numbers) key) → new.next ≡ next_after old.records records old.next → IsReplaced records old new (Ok changed)
+done records old new changed accepted after keys counted numbers next =
+    record { accepted = accepted; after = after; changed = keys; counted = counted; numbers = numbers; next = next; refused = tt; unchanged = tt }
 
 -- and of one that was refused
 pub refused : (records : List Record) (old new : IndexedState) (fault : StoreFault) → (fault ≢ Memory → number_refusal old.records records old.next ≡ Some fault) → new ≡ old → IsReplaced records old new (Err fault)
 refused records old new fault why same =
-    record { accepted = tt; after = tt; changed = tt; numbers = tt; next = tt; refused = why; unchanged = same }
+    record { accepted = tt; after = tt; changed = tt; counted = tt; numbers = tt; next = tt; refused = why; unchanged = same }
 
 -- one record more
 data_of-pushed : (old : List Record) (r : Record) (key : Key) (b : Bool) → has_key key r ≡ b → data_of (old ++ r ∷ []) key ≡ data_of old key ++ cond b (r.value ∷ []) []
@@ -77,10 +78,10 @@ pushed-number old r next sets sets' has put key =
           let apart : same_key own key ≡ false = sym (sym other ∙ same ∙ ap (is_key key) is) in rw (other, apart) (stays other)
 
 -- a record was added
-pub added : (old records : List Record) (r : Record) (next after : ℕ) (sets sets' : OwnerTable) (keys : List Key) → HasSets sets old → ((key : Key) → content_of sets' key ≡ (if has_key key r then pushed next r.value (content_of sets key) else content_of sets key)) → records ≡ old ++ r ∷ [] → keys ≡ option_to_list (key_of r) → after ≡ next + length (option_to_list (key_of r)) → after ≤ 2 ^ 52 + 1 → IsReplaced (old ++ r ∷ []) (record { records = old; numbers = numbers_of sets; next = next }) (record { records = records; numbers = numbers_of sets'; next = after }) (Ok keys)
-added old records r next after sets sets' keys has put records_are keys_are after_is few =
+pub added : (old records : List Record) (r : Record) (next after : ℕ) (sets sets' : OwnerTable) (changed : Changed) (names : List Labels) → HasSets sets old → ((key : Key) → content_of sets' key ≡ (if has_key key r then pushed next r.value (content_of sets key) else content_of sets key)) → records ≡ old ++ r ∷ [] → changed.keys ≡ option_to_list (key_of r) ++ map existence_key names → names ≡ changed_names old (old ++ r ∷ []) → changed.sets ≡ length (option_to_list (key_of r)) → after ≡ next + length (option_to_list (key_of r)) → after ≤ 2 ^ 52 + 1 → IsReplaced (old ++ r ∷ []) (record { records = old; numbers = numbers_of sets; next = next }) (record { records = records; numbers = numbers_of sets'; next = after }) (Ok changed)
+added old records r next after sets sets' changed names has put records_are keys_are names_are sets_are after_is few =
     let counted : length (option_to_list (key_of r)) ≡ length (numbered_keys old (old ++ r ∷ [])) = ap length (sym (numbered-add old r)) in
-    done (old ++ r ∷ []) (record { records = old; numbers = numbers_of sets; next = next }) (record { records = records; numbers = numbers_of sets'; next = after }) keys (accepted-numbers old (old ++ r ∷ []) next (length (option_to_list (key_of r))) counted (omega (arith, after_is, few))) records_are (keys_are ∙ sym (changed-add old r)) (pushed-number old r next sets sets' has put) (after_is ∙ ap (λ n. next + n) counted)
+    done (old ++ r ∷ []) (record { records = old; numbers = numbers_of sets; next = next }) (record { records = records; numbers = numbers_of sets'; next = after }) changed (accepted-numbers old (old ++ r ∷ []) next (length (option_to_list (key_of r))) counted (omega (arith, after_is, few))) records_are (keys_are ∙ (λ i. sym (changed-add old r) i ++ map existence_key (names_are i))) (sets_are ∙ ap length (sym (changed-add old r))) (pushed-number old r next sets sets' has put) (after_is ∙ ap (λ n. next + n) counted)
 
 -- the keys that take a number where a record is removed
 pub numbered-remove : (old : List Record) (r : Record) (sets : OwnerTable) → HasSets sets old → list_any (same_record r) old ≡ true → numbered_keys old (records_without r old) ≡ keys_left sets r
@@ -135,16 +136,16 @@ removed-number old r next sets sets' has some put key =
           rw other (other_case own (left own) apart refl (stays other))
 
 -- a record was removed
-pub taken_out : (old records : List Record) (r : Record) (next after : ℕ) (sets sets' : OwnerTable) (keys : List Key) → HasSets sets old → list_any (same_record r) old ≡ true → ((key : Key) → content_of sets' key ≡ (if has_key key r then renumbered next (without r.value (content_of sets key)) else content_of sets key)) → records ≡ records_without r old → keys ≡ option_to_list (key_of r) → after ≡ next + length (keys_left sets r) → after ≤ 2 ^ 52 + 1 → IsReplaced (records_without r old) (record { records = old; numbers = numbers_of sets; next = next }) (record { records = records; numbers = numbers_of sets'; next = after }) (Ok keys)
-taken_out old records r next after sets sets' keys has some put records_are keys_are after_is few =
+pub taken_out : (old records : List Record) (r : Record) (next after : ℕ) (sets sets' : OwnerTable) (changed : Changed) (names : List Labels) → HasSets sets old → list_any (same_record r) old ≡ true → ((key : Key) → content_of sets' key ≡ (if has_key key r then renumbered next (without r.value (content_of sets key)) else content_of sets key)) → records ≡ records_without r old → changed.keys ≡ option_to_list (key_of r) ++ map existence_key names → names ≡ changed_names old (records_without r old) → changed.sets ≡ length (option_to_list (key_of r)) → after ≡ next + length (keys_left sets r) → after ≤ 2 ^ 52 + 1 → IsReplaced (records_without r old) (record { records = old; numbers = numbers_of sets; next = next }) (record { records = records; numbers = numbers_of sets'; next = after }) (Ok changed)
+taken_out old records r next after sets sets' changed names has some put records_are keys_are names_are sets_are after_is few =
     let counted : length (keys_left sets r) ≡ length (numbered_keys old (records_without r old)) = ap length (sym (numbered-remove old r sets has some)) in
-    done (records_without r old) (record { records = old; numbers = numbers_of sets; next = next }) (record { records = records; numbers = numbers_of sets'; next = after }) keys (accepted-numbers old (records_without r old) next (length (keys_left sets r)) counted (omega (arith, after_is, few))) records_are (keys_are ∙ sym (changed-remove old r some)) (removed-number old r next sets sets' has some put) (after_is ∙ ap (λ n. next + n) counted)
+    done (records_without r old) (record { records = old; numbers = numbers_of sets; next = next }) (record { records = records; numbers = numbers_of sets'; next = after }) changed (accepted-numbers old (records_without r old) next (length (keys_left sets r)) counted (omega (arith, after_is, few))) records_are (keys_are ∙ (λ i. sym (changed-remove old r some) i ++ map existence_key (names_are i))) (sets_are ∙ ap length (sym (changed-remove old r some))) (removed-number old r next sets sets' has some put) (after_is ∙ ap (λ n. next + n) counted)
 
 -- records were replaced
-pub replaced : (apex : List (List ℕ)) (old text records : List Record) (next after count : ℕ) (sets text_sets numbered put : OwnerTable) (keys : List Key) → IsReplacement apex old text next sets text_sets numbered put keys → records ≡ records_outside apex old ++ text → count ≡ length (filter (has_set text_sets) keys) → after ≡ next + count → next + count ≤ 2 ^ 52 + 1 → IsReplaced (records_outside apex old ++ text) (record { records = old; numbers = numbers_of sets; next = next }) (record { records = records; numbers = numbers_of put; next = after }) (Ok keys)
-replaced apex old text records next after count sets text_sets numbered put keys is records_are count_is after_is few =
+pub replaced : (apex : List (List ℕ)) (old text records : List Record) (next after count : ℕ) (sets text_sets numbered put : OwnerTable) (keys : List Key) (changed : Changed) (names : List Key) → IsReplacement apex old text next sets text_sets numbered put keys → records ≡ records_outside apex old ++ text → changed.keys ≡ keys ++ names → names ≡ changed_existence old (records_outside apex old ++ text) → changed.sets ≡ length keys → count ≡ length (filter (has_set text_sets) keys) → after ≡ next + count → next + count ≤ 2 ^ 52 + 1 → IsReplaced (records_outside apex old ++ text) (record { records = old; numbers = numbers_of sets; next = next }) (record { records = records; numbers = numbers_of put; next = after }) (Ok changed)
+replaced apex old text records next after count sets text_sets numbered put keys changed names is records_are keys_are names_are sets_are count_is after_is few =
     let counted : count ≡ length (numbered_keys old (records_outside apex old ++ text)) = count_is ∙ ap (λ ks. length (filter (has_set text_sets) ks)) is.changed ∙ ap length (filter-numbered apex old text sets text_sets is.within is.made) in
-    done (records_outside apex old ++ text) (record { records = old; numbers = numbers_of sets; next = next }) (record { records = records; numbers = numbers_of put; next = after }) keys (accepted-numbers old (records_outside apex old ++ text) next count counted few) records_are is.changed (λ key. number_of-numbers_of put key ∙ replaced-number apex old text next sets text_sets numbered put keys is key) (after_is ∙ ap (λ n. next + n) counted)
+    done (records_outside apex old ++ text) (record { records = old; numbers = numbers_of sets; next = next }) (record { records = records; numbers = numbers_of put; next = after }) changed (accepted-numbers old (records_outside apex old ++ text) next count counted few) records_are (keys_are ∙ (λ i. is.changed i ++ names_are i)) (sets_are ∙ ap length is.changed) (λ key. number_of-numbers_of put key ∙ replaced-number apex old text next sets text_sets numbered put keys is key) (after_is ∙ ap (λ n. next + n) counted)
 
 -- too few numbers are left to replace records
 pub refused-replace : (apex : List (List ℕ)) (old text : List Record) (next count : ℕ) (sets text_sets : OwnerTable) (keys : List Key) (fault : StoreFault) → list_all (λ r. is_within r.owner apex) text ≡ true → ((key : Key) → content_of text_sets key ≡ carried (content_of sets key).number (data_of text key)) → keys ≡ changed_sets old (records_outside apex old ++ text) → count ≡ length (filter (has_set text_sets) keys) → 2 ^ 52 + 1 < next + count → fault ≡ NumberSpent → number_refusal old (records_outside apex old ++ text) next ≡ Some fault

@@ -1,7 +1,7 @@
 //! The keys of the names that an edit makes exist, or no longer exist.
 ghost use Rattle.std.specs.Prelude.{◌≡◌, ◌&&◌, ◌++◌, [], ◌∷◌, length, map, filter, nat_eq, IfOk, OnOk};
+ghost use Rattle.std.specs.Map.{keys_of};
 ghost use Rattle.std.specs.Option.{option_to_list};
-ghost use Rattle.indexmap.specs.IndexMap.{keys};
 ghost use Rattle.sipl_records.specs.Sets.{key_of};
 ghost use Rattle.sipl_zonestore.specs.Changes.{existence_key};
 ghost use Rattle.sipl_zonestore.specs.NameTable.{count_at};
@@ -47,9 +47,9 @@ pub(crate) fn changed_by_load(
     ensures keys { IfOk result (λ changed. changed.keys ≡ keys.items
         ++ (map existence_key
         (filter (λ name. nat_eq (count_at names.now.entries name) (count_at old.now.entries name)
-        && nat_eq (count_at new.now.entries name) 0) (keys old.now))
+        && nat_eq (count_at new.now.entries name) 0) (keys_of old.now.entries))
         ++ map existence_key
-        (filter (λ name. nat_eq (count_at names.now.entries name) 0) (keys new.now)))) }
+        (filter (λ name. nat_eq (count_at names.now.entries name) 0) (keys_of new.now.entries)))) }
     ensures sets { IfOk result (λ changed. changed.sets ≡ length keys.items) }
 {
     let sets = keys.len();
@@ -89,14 +89,27 @@ fn push_left(
 ) -> Result<(), AllocError>
     ensures { OnOk result (keys.new.items ≡ keys.old.items ++ map existence_key
         (filter (λ name. nat_eq (count_at names.now.entries name) (count_at old.now.entries name)
-        && nat_eq (count_at new.now.entries name) 0) (keys old.now))) }
+        && nat_eq (count_at new.now.entries name) 0) (keys_of old.now.entries))) }
 {
     for name in old.keys().as_slice() {
-        if count_of(names, name) == count_of(old, name) && count_of(new, name) == 0 {
+        if is_left(names, old, new, name) {
             push_existence(alloc, keys, name)?;
         }
     }
     Ok(())
+}
+
+// Whether all records that are within the name are among the old ones, and no new one is within it.
+fn is_left(
+    names: &IndexMap<Name, usize>,
+    old: &IndexMap<Name, usize>,
+    new: &IndexMap<Name, usize>,
+    name: &Name,
+) -> bool
+    ensures { result ≡ (nat_eq (count_at names.now.entries name.now) (count_at old.now.entries name.now)
+        && nat_eq (count_at new.now.entries name.now) 0) }
+{
+    count_of(names, name) == count_of(old, name) && count_of(new, name) == 0
 }
 
 // Appends the key of a name's existence.

@@ -1,0 +1,10 @@
+use Rattle.std.proofs.Common.{◌≡◌, ◌&&◌, ◌++◌, map, take, nat_eq}
+use Rattle.std.specs.List.{filter}
+use Rattle.std.specs.Map.{keys_of}
+use Rattle.sipl_zonestore.specs.Changes.{existence_key}
+use Rattle.sipl_zonestore.specs.NameTable.{count_at}
+use Rattle.sipl_zonestore.proofs.existence.push_left.Given as goal
+
+abbrev pub invariant-loop-name : goal.invariant-loop-name
+invariant-loop-name l =
+    l.keys.items ≡ l.initial.keys.items ++ map existence_key (filter (λ name. nat_eq (count_at l.names.entries name) (count_at l.old.entries name) && nat_eq (count_at l.new.entries name) 0) (take l.name-index (keys_of l.old.entries)))
