@@ -1,6 +1,6 @@
 -- Tables of names after one count was written.
 use Rattle.std.proofs.Common.{◌≡◌, ℕ, ◌+◌, ◌-◌, ◌≤◌, Bool, true, false, ◌||◌, List, [], ◌∷◌, ◌++◌, cond, Option, None, Some, is_some, if◌then◌else◌, refl, ap, sym, ◌∙◌, arith, append-nil, append_assoc}
-use Rattle.std.specs.List.{count_by, list_any}
+use Rattle.std.specs.List.{AllByRecursion, IsDistinct, list_any}
 use Rattle.std.specs.Map.{keys_of, lookup}
 use Rattle.std.specs.Option.{unwrap_or}
 use Rattle.std.proofs.lemmas.Map.Made.{is_some-lookup}
@@ -92,3 +92,28 @@ pub insert_all-unique : (names more : List Labels) → insert_all same_name (uni
 insert_all-unique names [] = ap (unique same_name) (sym (append-nil names))
 insert_all-unique names (name ∷ more) =
     ap (λ keys. insert_all same_name keys more) (insert-unique names name) ∙ insert_all-unique (names ++ name ∷ []) more ∙ ap (unique same_name) (append_assoc names (name ∷ []) more)
+
+none-apart : (name : Labels) (names : List Labels) → AllByRecursion (λ other. same_name name other ≡ false) names → list_any (same_name name) names ≡ false
+none-apart name [] all = refl
+none-apart name (first ∷ names) all = rw all.0 (none-apart name names all.1)
+
+no-value : (found : Option ℕ) → is_some found ≡ false → found ≡ None
+no-value None none = refl
+no-value (Some count) none = cc
+
+pub distinct-rest : (name : Labels) (names : List Labels) → IsDistinct same_name (name ∷ names) → IsDistinct same_name names
+unfolding IsDistinct
+distinct-rest name names distinct = distinct.1
+
+-- the count of the first name, and those of the others
+pub count-first : (name : Labels) (count : ℕ) (others : NameTable) → IsDistinct same_name (name ∷ keys_of others) → (other : Labels) → count_at ((name, count) ∷ others) other ≡ (if same_name name other then count else 0) + count_at others other
+unfolding IsDistinct
+count-first name count others distinct other =
+    ap (λ b. unwrap_or (cond b (Some count) (lookup (same_name other) others)) 0) (same_name-sym other name) ∙ by_case (same_name name other) refl where
+      by_case : (b : Bool) → same_name name other ≡ b → unwrap_or (cond b (Some count) (lookup (same_name other) others)) 0 ≡ (if b then count else 0) + count_at others other
+      by_case true same =
+          let none : list_any (same_name other) (keys_of others) ≡ false = ap (λ n. list_any (same_name n) (keys_of others)) (sym ((same_name_decides name other).0 same)) ∙ none-apart name (keys_of others) distinct.0 in
+          let absent : lookup (same_name other) others ≡ None = no-value (lookup (same_name other) others) (is_some-lookup (same_name other) others ∙ none) in
+          let zero_count : count_at others other ≡ 0 = ap (λ c. unwrap_or c 0) absent in
+          omega (arith, zero_count)
+      by_case false apart = omega arith

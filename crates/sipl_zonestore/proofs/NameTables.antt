@@ -1,11 +1,15 @@
 -- What a table of names tells of an edit, and what the edit makes of it.
-use Rattle.std.proofs.Common.{◌≡◌, ℕ, suc, ◌+◌, ◌-◌, ◌<◌, ◌≤◌, Bool, true, false, not, ◌&&◌, ◌||◌, List, [], ◌∷◌, ◌++◌, cond, nat_eq, refl, ap, sym, subst, ◌∙◌, inl, inr, arith, append-nil}
+use Rattle.std.proofs.Common.{◌≡◌, ℕ, suc, ◌+◌, ◌-◌, ◌<◌, ◌≤◌, Bool, true, false, not, ◌&&◌, ◌||◌, List, [], ◌∷◌, ◌++◌, cond, length, take, nat_eq, refl, ap, sym, subst, ◌∙◌, inl, inr, arith, append-nil, length-append, length-take}
 use Rattle.std.specs.List.{count_by, filter, list_any, list_all}
 use Rattle.std.proofs.lemmas.Bool.{cases_Bool}
 use Rattle.std.proofs.lemmas.Bool.Decides.{nat_tests}
 use Rattle.std.proofs.lemmas.List.Elements.{filter_agree}
+use Rattle.std.proofs.lemmas.List.Concat.{flat_map-append}
+use Rattle.std.proofs.lemmas.List.Sums.{count_by-le-length, length-filter}
+use Rattle.indexmap.specs.IndexSet.{insert_all}
 use Rattle.sipl_names.specs.Labels.{Labels, is_within, same_name}
 use Rattle.sipl_records.specs.Sets.{exists_in, same_record}
+use Rattle.sipl_records.specs.Unique.{unique}
 use Rattle.sipl_records.specs.declared.record.Record.{Record}
 use Rattle.sipl_records.proofs.Public.{exists_in-append, filter-none, same_record-Decides}
 use Rattle.sipl_masterfile.specs.Zones.{has_repeats}
@@ -14,7 +18,8 @@ use Rattle.sipl_zonestore.specs.Edits.{records_without}
 use Rattle.sipl_zonestore.specs.NameTable.{NameTable, HasNames, count_at, count_within}
 use Rattle.sipl_zonestore.specs.Store.{records_outside, records_within}
 use Rattle.sipl_zonestore.proofs.AncestorCounts.{any-ancestors, count-ancestors, count-append, count-exists, count-owner, count-parts, count-within_push}
-use Rattle.sipl_zonestore.proofs.ChangedNames.{all-any, changed-replaced, filter-agree_all, is_absent, names-one}
+use Rattle.sipl_zonestore.proofs.ChangedNames.{all-any, changed-replaced, filter-agree_all, is_absent, names-one, names_of}
+use Rattle.sipl_zonestore.proofs.Counts.{insert_all-unique}
 use Rattle.sipl_zonestore.proofs.Elements.{or_left, or_right, or_first, or_second}
 
 -- ---- one record of a list
@@ -122,3 +127,16 @@ names-load apex old text names gone new names' has has_gone has_new counted name
     let parts : count_within old name ≡ count_within (records_within apex old) name + count_within (records_outside apex old) name = count-parts (λ r. is_within r.owner name) (λ r. is_within r.owner apex) old in
     let whole : count_within (records_outside apex old ++ text) name ≡ count_within (records_outside apex old) name + count_within text name = count-append (λ r. is_within r.owner name) (records_outside apex old) text in
     omega (arith, parts, whole, counted name, has name, has_gone name, has_new name)
+
+-- ---- the names of a list of records, record by record
+
+-- no more records are within a name than there are
+pub count-taken : (apex : Labels) (records : List Record) (i : ℕ) (r : Record) (name : Labels) → i ≤ length records → count_within (records_within apex (take i records) ++ r ∷ []) name ≤ i + 1
+count-taken apex records i r name below =
+    let within : Record → Bool = λ r. is_within r.owner apex in
+    omega (arith, count_by-le-length (λ r. is_within r.owner name) (records_within apex (take i records) ++ r ∷ []), length-append (records_within apex (take i records)) (r ∷ []), length-filter within (take i records), count_by-le-length within (take i records), length-take i records, below)
+
+-- the names of one record more
+pub names-next : (records : List Record) (r : Record) → insert_all same_name (existing_names records) (with_ancestors r.owner) ≡ existing_names (records ++ r ∷ [])
+names-next records r =
+    insert_all-unique (names_of records) (with_ancestors r.owner) ∙ ap (unique same_name) (sym (flat_map-append (λ r. with_ancestors r.owner) records (r ∷ []) ∙ ap (λ names. names_of records ++ names) (append-nil (with_ancestors r.owner))))

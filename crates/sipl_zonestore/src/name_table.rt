@@ -1,7 +1,8 @@
 //! The names that exist (RFC 4592, 2.2.3): of each, how many records are within it.
 ghost use Rattle.std.specs.Prelude.{◌≡◌, ◌≤◌, ◌<◌, ◌+◌, ◌-◌, ◌^◌, length, if◌then◌else◌, IfOk};
 ghost use Rattle.std.specs.List.{count_by};
-ghost use Rattle.indexmap.specs.IndexMap.{keys, index_map_len, spare};
+ghost use Rattle.std.specs.Map.{keys_of};
+ghost use Rattle.indexmap.specs.IndexMap.{index_map_len, spare};
 ghost use Rattle.indexmap.specs.IndexSet.{insert_all, insert_key};
 ghost use Rattle.sipl_names.specs.Labels.{Labels, same_name};
 ghost use Rattle.sipl_zonestore.specs.Changes.{existing_names};
@@ -30,7 +31,7 @@ fn add_count(names: &mut IndexMap<Name, usize>, name: Name, count: usize)
     requires fits { count_at names.old.entries name + count < 2 ^ 64 }
     ensures counts { (other : Labels) → count_at names.new.entries other
         ≡ count_at names.old.entries other + (if same_name name other then count else 0) }
-    ensures keys { keys names.new ≡ insert_key same_name (keys names.old) name }
+    ensures keys { keys_of names.new.entries ≡ insert_key same_name (keys_of names.old.entries) name }
     ensures space { spare names.old ≤ spare names.new + 1 }
 {
     if let Some(own) = names.get_mut(&name) {
@@ -43,10 +44,11 @@ fn add_count(names: &mut IndexMap<Name, usize>, name: Name, count: usize)
 // Counts each of these names once more. Does not allocate.
 pub(crate) fn count_in(names: &mut IndexMap<Name, usize>, more: Vec<Name>)
     requires space { length more.items ≤ spare names.old }
-    requires fits { (name : Labels) → count_at names.old.entries name + length more.items < 2 ^ 64 }
+    requires fits { (name : Labels) → count_at names.old.entries name
+        + count_by (λ other. same_name other name) more.items < 2 ^ 64 }
     ensures counts { (name : Labels) → count_at names.new.entries name
         ≡ count_at names.old.entries name + count_by (λ other. same_name other name) more.items }
-    ensures keys { keys names.new ≡ insert_all same_name (keys names.old) more.items }
+    ensures keys { keys_of names.new.entries ≡ insert_all same_name (keys_of names.old.entries) more.items }
 {
     for name in more {
         add_count(names, name, 1);
@@ -88,7 +90,7 @@ pub(crate) fn names_within(
     ensures counts { IfOk result
         (λ names. HasNames names.entries (records_within apex.now records.now)) }
     ensures keys { IfOk result
-        (λ names. keys names ≡ existing_names (records_within apex.now records.now)) }
+        (λ names. keys_of names.entries ≡ existing_names (records_within apex.now records.now)) }
 {
     let mut names = IndexMap::new(alloc);
     for record in records {
@@ -101,11 +103,39 @@ pub(crate) fn names_within(
     Ok(names)
 }
 
-// Takes the counts of the old names away, and adds those of the new ones. Does not allocate.
+// Adds the counts of other names. Does not allocate.
+fn add_counts(names: &mut IndexMap<Name, usize>, more: IndexMap<Name, usize>)
+    requires space { index_map_len more ≤ spare names.old }
+    requires fits { (name : Labels)
+        → count_at names.old.entries name + count_at more.entries name < 2 ^ 64 }
+    ensures { (name : Labels) → count_at names.new.entries name
+        ≡ count_at names.old.entries name + count_at more.entries name }
+{
+    if names.is_empty() {
+        *names = more;
+        return;
+    }
+    for (name, count) in more {
+        add_count(names, name, count);
+    }
+}
+
+// Takes the counts of other names away. Does not allocate.
+fn take_counts(names: &mut IndexMap<Name, usize>, less: &IndexMap<Name, usize>)
+    ensures { (name : Labels) → count_at names.new.entries name
+        ≡ count_at names.old.entries name - count_at less.now.entries name }
+{
+    for (name, count) in less {
+        take_count(names, name, *count);
+    }
+}
+
+// Takes the counts of the old names away, and adds those of the new ones, so that a name which has
+// both stays where it is. Does not allocate.
 pub(crate) fn replace_names(
     names: &mut IndexMap<Name, usize>,
     old: &IndexMap<Name, usize>,
-    mut new: IndexMap<Name, usize>,
+    new: IndexMap<Name, usize>,
 )
     requires space { index_map_len new ≤ spare names.old }
     requires fits { (name : Labels)
@@ -113,13 +143,6 @@ pub(crate) fn replace_names(
     ensures { (name : Labels) → count_at names.new.entries name
         ≡ count_at names.old.entries name + count_at new.entries name - count_at old.now.entries name }
 {
-    if names.is_empty() {
-        std::mem::swap(names, &mut new);
-    }
-    for (name, count) in new {
-        add_count(names, name, count);
-    }
-    for (name, count) in old.iter() {
-        take_count(names, name, *count);
-    }
+    add_counts(names, new);
+    take_counts(names, old);
 }
