@@ -9,11 +9,11 @@ use Rattle.sipl_names.proofs.Public.{same_name_decides}
 use Rattle.sipl_records.specs.declared.data.Data.{Data}
 use Rattle.sipl_records.specs.declared.data.Data.TheVariants.{Bare}
 use Rattle.sipl_records.specs.declared.kind.Kind.{Kind}
-use Rattle.sipl_records.specs.declared.kind.Kind.TheVariants.{Address4, Address6, Alias, Service, Pointer}
+use Rattle.sipl_records.specs.declared.kind.Kind.TheVariants.{Address4, Address6, Alias, Service, Pointer, Exists}
 use Rattle.sipl_records.specs.declared.record.Record.{Record}
 use Rattle.sipl_records.specs.declared.record.Key.{Key}
 use Rattle.sipl_records.specs.Sets.{conflicts, has_key, has_own_kind, has_some_kind, key_of, kind_of, same_data, same_kind, same_record, data_of, shares_set}
-use Rattle.sipl_records.proofs.Public.{filter-none, has_key-key_of, has_key-name, is_key, key_of-name, same_key-refl, same_name-sym, same_record-Decides, shares_set-Some}
+use Rattle.sipl_records.proofs.Public.{own_kind-no_existence, filter-none, has_key-key_of, has_key-name, is_key, key_of-name, same_key-refl, same_name-sym, same_record-Decides, shares_set-Some}
 use Rattle.sipl_zonestore.specs.Numbers.{is_empty}
 use Rattle.sipl_zonestore.specs.SetTable.{OwnerTable, HasSets, conflicts_in, content_of, has_kind_set, has_set}
 use Rattle.sipl_zonestore.specs.BareOwners.{HasBare, is_bare_at}
@@ -86,15 +86,23 @@ any-or p q (x ∷ xs) = ap (λ b. (p x || q x) || b) (any-or p q xs) ∙ moved (
 abbrev of_kind : Labels → Kind → Record → Bool
 of_kind name kind r = has_key (record { name = name; kind = kind }) r
 
-beside-alias : (same : Bool) (other : Option Kind) → (same && true && is_some other && (true || option_map_or (λ own. same_kind own Alias) other false)) ≡ (same && option_map_or (λ own. same_kind own Address4) other false || same && option_map_or (λ own. same_kind own Address6) other false || same && option_map_or (λ own. same_kind own Alias) other false || same && option_map_or (λ own. same_kind own Service) other false || same && option_map_or (λ own. same_kind own Pointer) other false)
-beside-alias true None = refl
-beside-alias false None = refl
-beside-alias true (Some Address4) = refl
-beside-alias true (Some Address6) = refl
-beside-alias true (Some Alias) = refl
-beside-alias true (Some Service) = refl
-beside-alias true (Some Pointer) = refl
-beside-alias false (Some kind) = refl
+-- no record is of the kind of existence
+no_record-exists : (value : Data) → option_map_or (λ own. same_kind own Exists) (kind_of value) false ≡ false
+no_record-exists value = elim (cases_Bool (has_own_kind Exists value)) [
+  | inr other ↦ other
+  | inl own ↦ let never : true ≡ false = own_kind-no_existence Exists value own in cc
+]
+
+beside-alias : (same : Bool) (other : Option Kind) → option_map_or (λ own. same_kind own Exists) other false ≡ false → (same && true && is_some other && (true || option_map_or (λ own. same_kind own Alias) other false)) ≡ (same && option_map_or (λ own. same_kind own Address4) other false || same && option_map_or (λ own. same_kind own Address6) other false || same && option_map_or (λ own. same_kind own Alias) other false || same && option_map_or (λ own. same_kind own Service) other false || same && option_map_or (λ own. same_kind own Pointer) other false)
+beside-alias true None none = refl
+beside-alias false None none = refl
+beside-alias true (Some Address4) none = refl
+beside-alias true (Some Address6) none = refl
+beside-alias true (Some Alias) none = refl
+beside-alias true (Some Service) none = refl
+beside-alias true (Some Pointer) none = refl
+beside-alias true (Some Exists) none = let never : true ≡ false = none in cc
+beside-alias false (Some kind) none = refl
 
 beside-other : (same : Bool) (other : Option Kind) → (same && true && is_some other && (false || option_map_or (λ own. same_kind own Alias) other false)) ≡ (same && option_map_or (λ own. same_kind own Alias) other false)
 beside-other true None = refl
@@ -123,7 +131,7 @@ conflicts-is sets records new key has own = by_case (same_kind key.kind Alias) r
       ∙ ap (λ b. b || list_any (of_kind key.name Service) records || list_any (of_kind key.name Pointer) records) (sym (any-or (λ r. of_kind key.name Address4 r || of_kind key.name Address6 r) (of_kind key.name Alias) records))
       ∙ ap (λ b. b || list_any (of_kind key.name Pointer) records) (sym (any-or (λ r. of_kind key.name Address4 r || of_kind key.name Address6 r || of_kind key.name Alias r) (of_kind key.name Service) records))
       ∙ sym (any-or (λ r. of_kind key.name Address4 r || of_kind key.name Address6 r || of_kind key.name Alias r || of_kind key.name Service r) (of_kind key.name Pointer) records)
-      ∙ any-agree _ (conflicts new) (λ r. sym (conflicts-of new r key own ∙ ap (λ b. same_name r.owner key.name && true && is_some (kind_of r.value) && (b || option_map_or (λ own. same_kind own Alias) (kind_of r.value) false)) alias ∙ beside-alias (same_name r.owner key.name) (kind_of r.value))) records
+      ∙ any-agree _ (conflicts new) (λ r. sym (conflicts-of new r key own ∙ ap (λ b. same_name r.owner key.name && true && is_some (kind_of r.value) && (b || option_map_or (λ own. same_kind own Alias) (kind_of r.value) false)) alias ∙ beside-alias (same_name r.owner key.name) (kind_of r.value) (no_record-exists r.value))) records
   by_case false other =
       found Alias
       ∙ any-agree (of_kind key.name Alias) (conflicts new) (λ r. sym (conflicts-of new r key own ∙ ap (λ b. same_name r.owner key.name && true && is_some (kind_of r.value) && (b || option_map_or (λ own. same_kind own Alias) (kind_of r.value) false)) other ∙ beside-other (same_name r.owner key.name) (kind_of r.value))) records
@@ -164,3 +172,7 @@ bare-count records new none = sym (sym (length-filter (shares_set new) records) 
   nothing : (a : Bool) → (a && false) ≡ false
   nothing true = refl
   nothing false = refl
+
+-- the kind of a record's data is not that of existence
+pub kind-of_records : (value : Data) (kind : Kind) → kind_of value ≡ Some kind → same_kind kind Exists ≡ false
+kind-of_records value kind is = sym (ap (λ own. option_map_or (λ own. same_kind own Exists) own false) is) ∙ no_record-exists value

@@ -1,10 +1,11 @@
 -- Look-ups in tables of record sets.
-use Rattle.std.proofs.Common.{◌≡◌, ℕ, Bool, true, false, not, ◌&&◌, cond, List, [], ◌∷◌, ◌++◌, Option, None, Some, Result, Ok, Err, if◌then◌else◌, refl, ap, subst, sym, ◌∙◌, inl, inr}
+use Rattle.std.proofs.Common.{◌≡◌, ℕ, Bool, true, false, not, ◌&&◌, cond, List, [], ◌∷◌, ◌++◌, ◌==◌, length, Option, None, Some, Result, Ok, Err, if◌then◌else◌, refl, ap, subst, sym, ◌∙◌, inl, inr, arith}
 use Rattle.std.specs.Prelude.{IfSome, OnOk, OnErr}
 use Rattle.std.specs.List.{filter, IsDistinct}
 use Rattle.std.specs.Map.{keys_of, lookup, set_value, update_all}
 use Rattle.std.specs.Option.{option_or}
 use Rattle.std.proofs.lemmas.Bool.{cases_Bool}
+use Rattle.std.proofs.lemmas.Bool.Decides.{nat_tests}
 use Rattle.std.proofs.lemmas.Map.Entries.{lookup-filter-keys}
 use Rattle.std.proofs.lemmas.Map.Made.{update_all_distinct}
 use Rattle.sipl_names.specs.Labels.{Labels, is_within, same_name}
@@ -12,7 +13,7 @@ use Rattle.sipl_names.proofs.Public.{same_name_decides}
 use Rattle.sipl_records.specs.declared.data.Data.{Data}
 use Rattle.sipl_records.specs.declared.record.Key.{Key}
 use Rattle.sipl_records.specs.declared.kind.Kind.{Kind}
-use Rattle.sipl_records.specs.declared.kind.Kind.TheVariants.{Address4, Address6, Alias, Service, Pointer}
+use Rattle.sipl_records.specs.declared.kind.Kind.TheVariants.{Address4, Address6, Alias, Service, Pointer, Exists}
 use Rattle.sipl_records.specs.Sets.{same_data, same_key, same_kind}
 use Rattle.sipl_records.proofs.Public.{equivalence_from_decides, same_key-Decides, same_name-sym}
 use Rattle.sipl_zonestore.specs.Numbers.{number_of, is_empty}
@@ -23,6 +24,11 @@ use Rattle.sipl_zonestore.specs.declared.owner_sets.OwnerSets.{OwnerSets}
 pub is_empty-push : (values : List Data) (value : Data) → is_empty (values ++ value ∷ []) ≡ false
 is_empty-push [] value = refl
 is_empty-push (first ∷ values) value = refl
+
+-- a set without a length is empty
+pub length-empty : (values : List Data) → (length values == 0) ≡ is_empty values
+length-empty [] = refl
+length-empty (first ∷ values) = grind (arith, nat_tests)
 
 -- the content that a look-up found
 abbrev pub content_at : Option OwnerSets → Kind → Content
@@ -107,55 +113,63 @@ set_value-same test (e ∷ es) sets found = elim (cases_Bool (test e.0)) [
 ]
 
 -- the sets of a kind, and of each other one
-pub at_kind : (f g : Content → Content) (sets : OwnerSets) (kind other : Kind) → ((set : Content) → carried (g set).number (g set).values ≡ f (carried set.number set.values)) → held other (with_set kind (g (set_at kind sets)) sets) ≡ (if same_kind kind other then f (held other sets) else held other sets)
-at_kind f g sets Address4 Address4 is = is sets.address4
-at_kind f g sets Address6 Address6 is = is sets.address6
-at_kind f g sets Alias Alias is = is sets.alias
-at_kind f g sets Service Service is = is sets.service
-at_kind f g sets Pointer Pointer is = is sets.pointer
-at_kind f g sets Address4 Address6 is = refl
-at_kind f g sets Address4 Alias is = refl
-at_kind f g sets Address4 Service is = refl
-at_kind f g sets Address4 Pointer is = refl
-at_kind f g sets Address6 Address4 is = refl
-at_kind f g sets Address6 Alias is = refl
-at_kind f g sets Address6 Service is = refl
-at_kind f g sets Address6 Pointer is = refl
-at_kind f g sets Alias Address4 is = refl
-at_kind f g sets Alias Address6 is = refl
-at_kind f g sets Alias Service is = refl
-at_kind f g sets Alias Pointer is = refl
-at_kind f g sets Service Address4 is = refl
-at_kind f g sets Service Address6 is = refl
-at_kind f g sets Service Alias is = refl
-at_kind f g sets Service Pointer is = refl
-at_kind f g sets Pointer Address4 is = refl
-at_kind f g sets Pointer Address6 is = refl
-at_kind f g sets Pointer Alias is = refl
-at_kind f g sets Pointer Service is = refl
+pub at_kind : (f g : Content → Content) (sets : OwnerSets) (kind other : Kind) → same_kind kind Exists ≡ false → ((set : Content) → carried (g set).number (g set).values ≡ f (carried set.number set.values)) → held other (with_set kind (g (set_at kind sets)) sets) ≡ (if same_kind kind other then f (held other sets) else held other sets)
+at_kind f g sets Address4 Address4 of_records is = is sets.address4
+at_kind f g sets Address6 Address6 of_records is = is sets.address6
+at_kind f g sets Alias Alias of_records is = is sets.alias
+at_kind f g sets Service Service of_records is = is sets.service
+at_kind f g sets Pointer Pointer of_records is = is sets.pointer
+at_kind f g sets Address4 Address6 of_records is = refl
+at_kind f g sets Address4 Alias of_records is = refl
+at_kind f g sets Address4 Service of_records is = refl
+at_kind f g sets Address4 Pointer of_records is = refl
+at_kind f g sets Address6 Address4 of_records is = refl
+at_kind f g sets Address6 Alias of_records is = refl
+at_kind f g sets Address6 Service of_records is = refl
+at_kind f g sets Address6 Pointer of_records is = refl
+at_kind f g sets Alias Address4 of_records is = refl
+at_kind f g sets Alias Address6 of_records is = refl
+at_kind f g sets Alias Service of_records is = refl
+at_kind f g sets Alias Pointer of_records is = refl
+at_kind f g sets Service Address4 of_records is = refl
+at_kind f g sets Service Address6 of_records is = refl
+at_kind f g sets Service Alias of_records is = refl
+at_kind f g sets Service Pointer of_records is = refl
+at_kind f g sets Pointer Address4 of_records is = refl
+at_kind f g sets Pointer Address6 of_records is = refl
+at_kind f g sets Pointer Alias of_records is = refl
+at_kind f g sets Pointer Service of_records is = refl
+at_kind f g sets Address4 Exists of_records is = refl
+at_kind f g sets Address6 Exists of_records is = refl
+at_kind f g sets Alias Exists of_records is = refl
+at_kind f g sets Service Exists of_records is = refl
+at_kind f g sets Pointer Exists of_records is = refl
+at_kind f g sets Exists other of_records is = let never : true ≡ false = of_records in cc
 
-pub set_at-with_set : (kind : Kind) (set : Content) (sets : OwnerSets) → set_at kind (with_set kind set sets) ≡ set
-set_at-with_set Address4 set sets = refl
-set_at-with_set Address6 set sets = refl
-set_at-with_set Alias set sets = refl
-set_at-with_set Service set sets = refl
-set_at-with_set Pointer set sets = refl
+pub set_at-with_set : (kind : Kind) (set : Content) (sets : OwnerSets) → same_kind kind Exists ≡ false → set_at kind (with_set kind set sets) ≡ set
+set_at-with_set Address4 set sets of_records = refl
+set_at-with_set Address6 set sets of_records = refl
+set_at-with_set Alias set sets of_records = refl
+set_at-with_set Service set sets of_records = refl
+set_at-with_set Pointer set sets of_records = refl
+set_at-with_set Exists set sets of_records = let never : true ≡ false = of_records in cc
 
 -- where a look-up found the owner, and one of its sets was written
-pub becomes-found : (f g : Content → Content) (es : OwnerTable) (name : Labels) (kind : Kind) (sets : OwnerSets) → ((set : Content) → carried (g set).number (g set).values ≡ f (carried set.number set.values)) → Some sets ≡ lookup (same_name name) es → Becomes f es name kind (Some (with_set kind (g (set_at kind sets)) sets))
-becomes-found f g es name kind sets is found other =
-    at_kind f g sets kind other is ∙ ap (λ content. if same_kind kind other then f content else content) (sym (content-is es name other sets found))
+pub becomes-found : (f g : Content → Content) (es : OwnerTable) (name : Labels) (kind : Kind) (sets : OwnerSets) → same_kind kind Exists ≡ false → ((set : Content) → carried (g set).number (g set).values ≡ f (carried set.number set.values)) → Some sets ≡ lookup (same_name name) es → Becomes f es name kind (Some (with_set kind (g (set_at kind sets)) sets))
+becomes-found f g es name kind sets of_records is found other =
+    at_kind f g sets kind other of_records is ∙ ap (λ content. if same_kind kind other then f content else content) (sym (content-is es name other sets found))
 
 -- where it found none
-pub becomes-new : (f g : Content → Content) (es : OwnerTable) (name : Labels) (kind : Kind) → ((set : Content) → carried (g set).number (g set).values ≡ f (carried set.number set.values)) → None ≡ lookup (same_name name) es → Becomes f es name kind (Some (with_set kind (g (set_at kind no_sets)) no_sets))
-becomes-new f g es name kind is none other =
-    at_kind f g no_sets kind other is ∙ ap (λ content. if same_kind kind other then f content else content) (nothing other ∙ sym (content-none es name other none)) where
+pub becomes-new : (f g : Content → Content) (es : OwnerTable) (name : Labels) (kind : Kind) → same_kind kind Exists ≡ false → ((set : Content) → carried (g set).number (g set).values ≡ f (carried set.number set.values)) → None ≡ lookup (same_name name) es → Becomes f es name kind (Some (with_set kind (g (set_at kind no_sets)) no_sets))
+becomes-new f g es name kind of_records is none other =
+    at_kind f g no_sets kind other of_records is ∙ ap (λ content. if same_kind kind other then f content else content) (nothing other ∙ sym (content-none es name other none)) where
       nothing : (kind : Kind) → held kind no_sets ≡ no_content
       nothing Address4 = refl
       nothing Address6 = refl
       nothing Alias = refl
       nothing Service = refl
       nothing Pointer = refl
+      nothing Exists = refl
 
 -- what edits make of the content
 pub carried-pushed : (number : ℕ) (value : Data) (set : Content) → carried number (set.values ++ value ∷ []) ≡ pushed number value (carried set.number set.values)
@@ -193,31 +207,33 @@ all_empty sets none kind = at kind where
   at Alias = second (is_empty sets.address4.values && is_empty sets.address6.values) (is_empty sets.alias.values) three
   at Service = second (is_empty sets.address4.values && is_empty sets.address6.values && is_empty sets.alias.values) (is_empty sets.service.values) four
   at Pointer = second (is_empty sets.address4.values && is_empty sets.address6.values && is_empty sets.alias.values && is_empty sets.service.values) (is_empty sets.pointer.values) none
+  at Exists = refl
 
 carried-none : (number : ℕ) (values : List Data) → is_empty values ≡ true → no_content ≡ carried number values
 carried-none number [] empty = refl
 carried-none number (first ∷ values) empty = cc
 
 -- so that the owner may be removed
-pub becomes-gone : (f g : Content → Content) (es : OwnerTable) (name : Labels) (kind : Kind) (sets : OwnerSets) → ((set : Content) → carried (g set).number (g set).values ≡ f (carried set.number set.values)) → Some sets ≡ lookup (same_name name) es → has_no_data (with_set kind (g (set_at kind sets)) sets) ≡ true → Becomes f es name kind None
-becomes-gone f g es name kind sets is found none other =
+pub becomes-gone : (f g : Content → Content) (es : OwnerTable) (name : Labels) (kind : Kind) (sets : OwnerSets) → same_kind kind Exists ≡ false → ((set : Content) → carried (g set).number (g set).values ≡ f (carried set.number set.values)) → Some sets ≡ lookup (same_name name) es → has_no_data (with_set kind (g (set_at kind sets)) sets) ≡ true → Becomes f es name kind None
+becomes-gone f g es name kind sets of_records is found none other =
     carried-none (set_at other (with_set kind (g (set_at kind sets)) sets)).number (set_at other (with_set kind (g (set_at kind sets)) sets)).values (all_empty (with_set kind (g (set_at kind sets)) sets) none other)
-    ∙ becomes-found f g es name kind sets is found other
+    ∙ becomes-found f g es name kind sets of_records is found other
 
 -- an owner has data where one of its sets does
 and_false : (a : Bool) → (a && false) ≡ false
 and_false true = refl
 and_false false = refl
 
-pub data-with_set : (kind : Kind) (set : Content) (sets : OwnerSets) → is_empty set.values ≡ false → has_no_data (with_set kind set sets) ≡ false
-data-with_set Address4 set sets filled = rw filled refl
-data-with_set Address6 set sets filled = rw (filled, and_false (is_empty sets.address4.values)) refl
-data-with_set Alias set sets filled =
+pub data-with_set : (kind : Kind) (set : Content) (sets : OwnerSets) → same_kind kind Exists ≡ false → is_empty set.values ≡ false → has_no_data (with_set kind set sets) ≡ false
+data-with_set Address4 set sets of_records filled = rw filled refl
+data-with_set Address6 set sets of_records filled = rw (filled, and_false (is_empty sets.address4.values)) refl
+data-with_set Alias set sets of_records filled =
     rw (filled, and_false (is_empty sets.address4.values && is_empty sets.address6.values)) refl
-data-with_set Service set sets filled =
+data-with_set Service set sets of_records filled =
     rw (filled, and_false (is_empty sets.address4.values && is_empty sets.address6.values && is_empty sets.alias.values)) refl
-data-with_set Pointer set sets filled =
+data-with_set Pointer set sets of_records filled =
     rw filled (and_false (is_empty sets.address4.values && is_empty sets.address6.values && is_empty sets.alias.values && is_empty sets.service.values))
+data-with_set Exists set sets of_records filled = let never : true ≡ false = of_records in cc
 
 -- and a set with the same data
 pub data-same : (kind : Kind) (set : Content) (sets : OwnerSets) → is_empty set.values ≡ is_empty (set_at kind sets).values → has_no_data (with_set kind set sets) ≡ has_no_data sets
@@ -226,11 +242,12 @@ data-same Address6 set sets same = rw same refl
 data-same Alias set sets same = rw same refl
 data-same Service set sets same = rw same refl
 data-same Pointer set sets same = rw same refl
+data-same Exists set sets same = refl
 
 -- an owner has data after an attempt to append to one of its sets
-pub filled-push : {T E : Type 0} (result : Result T E) (kind : Kind) (old new : OwnerSets) (number : ℕ) (value : Data) → OnOk result (new ≡ with_set kind (pushed number value (set_at kind old)) old) → OnErr result (new ≡ old) → has_no_data old ≡ false → has_no_data new ≡ false
-filled-push (Ok done) kind old new number value is _ filled = ap has_no_data is ∙ data-with_set kind (pushed number value (set_at kind old)) old (is_empty-push (set_at kind old).values value)
-filled-push (Err fault) kind old new number value _ is filled = ap has_no_data is ∙ filled
+pub filled-push : {T E : Type 0} (result : Result T E) (kind : Kind) (old new : OwnerSets) (number : ℕ) (value : Data) → same_kind kind Exists ≡ false → OnOk result (new ≡ with_set kind (pushed number value (set_at kind old)) old) → OnErr result (new ≡ old) → has_no_data old ≡ false → has_no_data new ≡ false
+filled-push (Ok done) kind old new number value of_records is _ filled = ap has_no_data is ∙ data-with_set kind (pushed number value (set_at kind old)) old of_records (is_empty-push (set_at kind old).values value)
+filled-push (Err fault) kind old new number value _ _ is filled = ap has_no_data is ∙ filled
 
 pub OnErr-map : {T E : Type 0} (result : Result T E) (P Q : Type 0) → (P → Q) → OnErr result P → OnErr result Q
 OnErr-map (Ok done) P Q f p = tt
@@ -275,16 +292,25 @@ data-replaced apex old text new is have text_data name =
       by_case None true own = have name
       by_case None false own = tt
 
+-- no number is of existence
+number_of-existence : (owners : OwnerTable) (name : Labels) → number_of (numbers_of owners) (record { name = name; kind = Exists }) ≡ 0
+number_of-existence [] name = refl
+number_of-existence (owner ∷ owners) name = elim (cases_Bool (same_name owner.0 name)) [
+  | inl here ↦ rw here (number_of-existence owners name)
+  | inr other ↦ rw other (number_of-existence owners name)
+]
+
 -- the number that callers see is that of the content
 pub number_of-numbers_of : (owners : OwnerTable) (key : Key) → number_of (numbers_of owners) key ≡ (content_of owners key).number
 number_of-numbers_of [] key = refl
 number_of-numbers_of (owner ∷ owners) key = elim (cases_Bool (same_name owner.0 key.name)) [
-  | inl here ↦ rw here (own key.kind)
+  | inl here ↦ rw here (own key.kind refl)
   | inr other ↦ rw other (number_of-numbers_of owners key)
 ] where
-  own : (kind : Kind) → (if same_kind Address4 kind then (held Address4 owner.1).number else (if same_kind Address6 kind then (held Address6 owner.1).number else (if same_kind Alias kind then (held Alias owner.1).number else (if same_kind Service kind then (held Service owner.1).number else (if same_kind Pointer kind then (held Pointer owner.1).number else number_of (numbers_of owners) key))))) ≡ (held kind owner.1).number
-  own Address4 = refl
-  own Address6 = refl
-  own Alias = refl
-  own Service = refl
-  own Pointer = refl
+  own : (kind : Kind) → key.kind ≡ kind → (if same_kind Address4 kind then (held Address4 owner.1).number else (if same_kind Address6 kind then (held Address6 owner.1).number else (if same_kind Alias kind then (held Alias owner.1).number else (if same_kind Service kind then (held Service owner.1).number else (if same_kind Pointer kind then (held Pointer owner.1).number else number_of (numbers_of owners) key))))) ≡ (held kind owner.1).number
+  own Address4 is = refl
+  own Address6 is = refl
+  own Alias is = refl
+  own Service is = refl
+  own Pointer is = refl
+  own Exists is = ap (λ kind. number_of (numbers_of owners) (record { name = key.name; kind = kind })) is ∙ number_of-existence owners key.name

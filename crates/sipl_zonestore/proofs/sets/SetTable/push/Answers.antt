@@ -15,7 +15,7 @@ invariant_of-self c =
     let written = c.push.new.self in
     data-updated c.self.inside.owners.entries (c.get_mut.follows.lender written).entries c.args.owner.now (Some written)
     ((c.get_mut.follows.holds written).3 (subst IsSome c.in-Some.ensures.value refl)).0 c.self.invariant
-    (filled-push c.push.result c.args.kind c.in-Some.sets.now written c.args.number c.args.value c.push.ensures.pushed c.push.ensures.unchanged (data-found c.self.inside.owners.entries c.args.owner.now c.in-Some.sets.now c.self.invariant c.in-Some.ensures.value))
+    (filled-push c.push.result c.args.kind c.in-Some.sets.now written c.args.number c.args.value c.requires c.push.ensures.pushed c.push.ensures.unchanged (data-found c.self.inside.owners.entries c.args.owner.now c.in-Some.sets.now c.self.invariant c.in-Some.ensures.value))
 
 pub returns-in-Some-clause-pushed : goal.returns-in-Some-clause-pushed
 returns-in-Some-clause-pushed c =
@@ -25,7 +25,7 @@ returns-in-Some-clause-pushed c =
     subst (λ (owners : OwnerTable). (key : Key) → content_of new key ≡ (if same_key (record { name = c.args.owner.now; kind = c.args.kind }) key then pushed c.args.number c.args.value (content_of owners key) else content_of owners key)) c.self.view_is
     (content-updated (pushed c.args.number c.args.value) c.self.inside.owners.entries new c.args.owner.now c.args.kind (Some written)
     ((c.get_mut.follows.holds written).3 (subst IsSome c.in-Some.ensures.value refl)).0
-    (subst (λ sets. Becomes (pushed c.args.number c.args.value) c.self.inside.owners.entries c.args.owner.now c.args.kind (Some sets)) (sym is) (becomes-found (pushed c.args.number c.args.value) (pushed c.args.number c.args.value) c.self.inside.owners.entries c.args.owner.now c.args.kind c.in-Some.sets.now (carried-pushed c.args.number c.args.value) c.in-Some.ensures.value))))
+    (subst (λ sets. Becomes (pushed c.args.number c.args.value) c.self.inside.owners.entries c.args.owner.now c.args.kind (Some sets)) (sym is) (becomes-found (pushed c.args.number c.args.value) (pushed c.args.number c.args.value) c.self.inside.owners.entries c.args.owner.now c.args.kind c.in-Some.sets.now c.requires (carried-pushed c.args.number c.args.value) c.in-Some.ensures.value))))
     c.push.ensures.pushed
 
 pub returns-in-Some-clause-unchanged : goal.returns-in-Some-clause-unchanged
@@ -41,7 +41,7 @@ invariant_of-self-2 c =
     let made : c.push-2.new.self ≡ with_set c.args.kind (pushed c.args.number c.args.value (set_at c.args.kind no_sets)) no_sets = c.in_ok-push.ensures.pushed ∙ ap (λ sets. with_set c.args.kind (pushed c.args.number c.args.value (set_at c.args.kind sets)) sets) c.new-sets.ensures in
     data-updated c.self.inside.owners.entries c.insert.new.self.entries c.args.owner.now (Some c.push-2.new.self)
     (λ other. c.in_ok-insert.ensures.updates.0 other ∙ (λ i. cond (same_name (c.in_ok-name.ensures.value i) other) (Some c.push-2.new.self) (lookup (same_name other) (stored i)))) c.self.invariant
-    (ap has_no_data made ∙ data-with_set c.args.kind (pushed c.args.number c.args.value (set_at c.args.kind no_sets)) no_sets (is_empty-push (set_at c.args.kind no_sets).values c.args.value))
+    (ap has_no_data made ∙ data-with_set c.args.kind (pushed c.args.number c.args.value (set_at c.args.kind no_sets)) no_sets c.requires (is_empty-push (set_at c.args.kind no_sets).values c.args.value))
 
 pub returns-clause-pushed : goal.returns-clause-pushed
 returns-clause-pushed c =
@@ -51,4 +51,4 @@ returns-clause-pushed c =
     subst (λ (owners : OwnerTable). (key : Key) → content_of new key ≡ (if same_key (record { name = c.args.owner.now; kind = c.args.kind }) key then pushed c.args.number c.args.value (content_of owners key) else content_of owners key)) c.self.view_is
     (content-updated (pushed c.args.number c.args.value) c.self.inside.owners.entries new c.args.owner.now c.args.kind (Some c.push-2.new.self)
     (λ other. c.in_ok-insert.ensures.updates.0 other ∙ (λ i. cond (same_name (c.in_ok-name.ensures.value i) other) (Some c.push-2.new.self) (lookup (same_name other) (stored i))))
-    (subst (λ sets. Becomes (pushed c.args.number c.args.value) c.self.inside.owners.entries c.args.owner.now c.args.kind (Some sets)) (sym made) (becomes-new (pushed c.args.number c.args.value) (pushed c.args.number c.args.value) c.self.inside.owners.entries c.args.owner.now c.args.kind (carried-pushed c.args.number c.args.value) c.in_default.ensures.value)))
+    (subst (λ sets. Becomes (pushed c.args.number c.args.value) c.self.inside.owners.entries c.args.owner.now c.args.kind (Some sets)) (sym made) (becomes-new (pushed c.args.number c.args.value) (pushed c.args.number c.args.value) c.self.inside.owners.entries c.args.owner.now c.args.kind c.requires (carried-pushed c.args.number c.args.value) c.in_default.ensures.value)))

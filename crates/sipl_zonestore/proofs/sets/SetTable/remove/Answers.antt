@@ -38,7 +38,7 @@ returns-then-is_empty c =
     subst (λ (owners : OwnerTable). (key : Key) → content_of new key ≡ (if same_key (record { name = c.args.owner.now; kind = c.args.kind }) key then without c.args.value.now (content_of owners key) else content_of owners key)) c.self.view_is
     (content-updated (without c.args.value.now) es new c.args.owner.now c.args.kind None
     (updated-gone es between new c.args.owner.now (Some written) ((c.get_mut.follows.holds written).3 (subst IsSome c.in-Some.ensures.value refl)).0 c.swap_remove.ensures.updates.0)
-    (becomes-gone (without c.args.value.now) (data_without c.args.value.now) es c.args.owner.now c.args.kind c.in-Some.sets.now (carried-without c.args.value.now) c.in-Some.ensures.value empty)) in
+    (becomes-gone (without c.args.value.now) (data_without c.args.value.now) es c.args.owner.now c.args.kind c.in-Some.sets.now c.requires (carried-without c.args.value.now) c.in-Some.ensures.value empty)) in
     elim c.match-swap_remove.branch [
       | in-Some-1 w ↦ λ key. ap (λ owners. content_of owners key) w.self-is ∙ gone key
       | in-None-1 w ↦ λ key. ap (λ owners. content_of owners key) w.self-is ∙ gone key
@@ -51,4 +51,4 @@ returns-else-is_empty c =
     subst (λ (owners : OwnerTable). (key : Key) → content_of new key ≡ (if same_key (record { name = c.args.owner.now; kind = c.args.kind }) key then without c.args.value.now (content_of owners key) else content_of owners key)) c.self.view_is
     (content-updated (without c.args.value.now) c.self.inside.owners.entries new c.args.owner.now c.args.kind (Some written)
     ((c.get_mut.follows.holds written).3 (subst IsSome c.in-Some.ensures.value refl)).0
-    (subst (λ sets. Becomes (without c.args.value.now) c.self.inside.owners.entries c.args.owner.now c.args.kind (Some sets)) (sym c.remove.ensures) (becomes-found (without c.args.value.now) (data_without c.args.value.now) c.self.inside.owners.entries c.args.owner.now c.args.kind c.in-Some.sets.now (carried-without c.args.value.now) c.in-Some.ensures.value)))
+    (subst (λ sets. Becomes (without c.args.value.now) c.self.inside.owners.entries c.args.owner.now c.args.kind (Some sets)) (sym c.remove.ensures) (becomes-found (without c.args.value.now) (data_without c.args.value.now) c.self.inside.owners.entries c.args.owner.now c.args.kind c.in-Some.sets.now c.requires (carried-without c.args.value.now) c.in-Some.ensures.value)))

@@ -1,10 +1,11 @@
-use Rattle.std.proofs.Common.{◌≡◌, not, IsSome, if◌then◌else◌, Some, refl, sym, ap, subst, ◌∙◌}
+use Rattle.std.proofs.Common.{◌≡◌, List, not, IsSome, if◌then◌else◌, Some, refl, sym, ap, subst, ◌∙◌}
+use Rattle.sipl_records.specs.declared.data.Data.{Data}
 use Rattle.sipl_records.specs.declared.record.Key.{Key}
 use Rattle.sipl_records.specs.Sets.{same_key}
 use Rattle.sipl_zonestore.specs.Numbers.{is_empty}
 use Rattle.sipl_zonestore.specs.Content.{Content, renumbered, with_number}
 use Rattle.sipl_zonestore.specs.SetTable.{OwnerTable, content_of, has_no_data, set_at}
-use Rattle.sipl_zonestore.proofs.SetTables.{becomes-found, content-is, content-none, content-stays, content-updated, data-found, data-same, data-updated, set_at-with_set, Becomes}
+use Rattle.sipl_zonestore.proofs.SetTables.{becomes-found, content-is, content-none, content-stays, content-updated, data-found, data-same, data-updated, length-empty, set_at-with_set, Becomes}
 use Rattle.sipl_zonestore.proofs.sets.SetTable.set_number.Goals as goal
 
 pub returns-in_default-clause-found : goal.returns-in_default-clause-found
@@ -25,8 +26,8 @@ invariant_of-self-2 c =
 
 pub returns-clause-found : goal.returns-clause-found
 returns-clause-found c =
-    ap not c.is_empty.ensures
-    ∙ ap (λ (set : Content). not (is_empty set.values)) (c.set.ensures ∙ ap (set_at c.args.kind) c.set_number.ensures ∙ set_at-with_set c.args.kind (with_number c.args.number (set_at c.args.kind c.in-Some.sets.now)) c.in-Some.sets.now)
+    ap not (c.is_empty.ensures ∙ length-empty c.get.result.1.now)
+    ∙ ap (λ (values : List Data). not (is_empty values)) (c.get.ensures.values ∙ ap (λ (set : Content). set.values) (ap (set_at c.args.kind) c.set_number.ensures ∙ set_at-with_set c.args.kind (with_number c.args.number (set_at c.args.kind c.in-Some.sets.now)) c.in-Some.sets.now c.requires))
     ∙ ap (λ (content : Content). not (is_empty content.values)) (sym (content-is c.self.inside.owners.entries c.args.owner.now c.args.kind c.in-Some.sets.now c.in-Some.ensures.value) ∙ ap (λ owners. content_of owners (record { name = c.args.owner.now; kind = c.args.kind })) c.self.view_is)
 
 pub returns-clause-numbered : goal.returns-clause-numbered
@@ -36,4 +37,4 @@ returns-clause-numbered c =
     subst (λ (owners : OwnerTable). (key : Key) → content_of new key ≡ (if same_key (record { name = c.args.owner.now; kind = c.args.kind }) key then renumbered c.args.number (content_of owners key) else content_of owners key)) c.self.view_is
     (content-updated (renumbered c.args.number) c.self.inside.owners.entries new c.args.owner.now c.args.kind (Some written)
     ((c.get_mut.follows.holds written).3 (subst IsSome c.in-Some.ensures.value refl)).0
-    (subst (λ sets. Becomes (renumbered c.args.number) c.self.inside.owners.entries c.args.owner.now c.args.kind (Some sets)) (sym c.set_number.ensures) (becomes-found (renumbered c.args.number) (with_number c.args.number) c.self.inside.owners.entries c.args.owner.now c.args.kind c.in-Some.sets.now (λ set. refl) c.in-Some.ensures.value)))
+    (subst (λ sets. Becomes (renumbered c.args.number) c.self.inside.owners.entries c.args.owner.now c.args.kind (Some sets)) (sym c.set_number.ensures) (becomes-found (renumbered c.args.number) (with_number c.args.number) c.self.inside.owners.entries c.args.owner.now c.args.kind c.in-Some.sets.now c.requires (λ set. refl) c.in-Some.ensures.value)))
