@@ -3,7 +3,7 @@ use Rattle.std.proofs.Common.{◌≡◌, ℕ, suc, ◌+◌, ◌<◌, ◌≤◌, 
 use Rattle.std.specs.List.{count_by, filter, list_any}
 use Rattle.std.proofs.lemmas.Bool.{cases_Bool}
 use Rattle.std.proofs.lemmas.Bool.Decides.{nat_tests}
-use Rattle.std.proofs.lemmas.List.Sums.{sum_by-append}
+use Rattle.std.proofs.lemmas.List.Sums.{count_by-le-length, sum_by-append}
 use Rattle.sipl_names.specs.Labels.{Labels, is_within, same_name}
 use Rattle.sipl_names.proofs.Public.{is_within-refl, is_within-suffix, same_name_decides}
 use Rattle.sipl_records.specs.Sets.{exists_in}
@@ -106,3 +106,7 @@ count-within_push records r name = count-push (λ r. is_within r.owner name) rec
 pub count-owner : (records : List Record) (r : Record) (name : Labels) → count_within records name + count_by (λ other. same_name other name) (with_ancestors r.owner) ≡ count_within (records ++ r ∷ []) name
 count-owner records r name =
     ap (λ n. count_within records name + n) (count-ancestors r.owner name) ∙ sym (count-within_push records r name)
+
+-- no more records are within a name than there are
+pub count-limit : (records : List Record) (name : Labels) → count_within records name ≤ length records
+count-limit records name = count_by-le-length (λ r. is_within r.owner name) records

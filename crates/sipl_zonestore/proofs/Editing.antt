@@ -42,10 +42,6 @@ first_some : (first second : Option StoreFault) (fault : StoreFault) → first �
 first_some None other fault is = cc
 first_some (Some first) other fault is = is
 
--- the number of a record set in a store is that of the table
-number_by-set : (records : List Record) (numbers : List SetNumber) (key : Key) → is_existence key ≡ false → number_by records numbers key ≡ number_of numbers key
-number_by-set records numbers key other = rw other refl
-
 -- a name whose key is not among the changed ones exists as it did
 existence-kept : (old new : Store) (key : Key) → is_existence key ≡ true → list_any (same_key key) (changed_keys old.zones.records new.zones.records) ≡ false → IsKept old new key
 existence-kept old new key of none =
@@ -78,10 +74,8 @@ edited edit old new (Ok done) good held accepted is _ apexes _ limit looks = rec
   numbers : (key : Key) → number_in new key ≡ number_after old.zones.records (after edit old.zones).records old.next (number_in old) key
   numbers key = elim (cases_Bool (is_existence key)) [
     | inl of ↦ rw of (ap (λ records. existence_number (exists_in records key.name)) is.after)
-    | inr other ↦ rw other (is.numbers key ∙ numbers-same (after edit old.zones).records key other)
-  ] where
-    numbers-same : (records : List Record) (key : Key) → is_existence key ≡ false → set_number_after old.zones.records records old.next (number_of old.numbers) key ≡ set_number_after old.zones.records records old.next (number_in old) key
-    numbers-same records key other = ap (λ n. unwrap_or (position_from (λ other. same_key other key) old.next (numbered_keys old.zones.records records)) (if is_empty (data_of records key) then 0 else n)) (sym (number_by-set old.zones.records old.numbers key other))
+    | inr other ↦ rw other (is.numbers key)
+  ]
 
   kept : (key : Key) → list_any (same_key key) (changed_keys old.zones.records new.zones.records) ≡ false → IsKept old new key
   kept key none = elim (cases_Bool (is_existence key)) [

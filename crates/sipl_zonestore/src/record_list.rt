@@ -1,5 +1,5 @@
 //! Records in the order of addition, of which one is removed without moving those after it.
-ghost use Rattle.std.specs.Prelude.{◌≡◌, ◌≤◌, ◌+◌, ◌++◌, ◌∷◌, [], length, true, false, OnOk, vec_len, vec_capacity};
+ghost use Rattle.std.specs.Prelude.{◌≡◌, ◌≤◌, ◌<◌, ◌+◌, ◌^◌, ◌++◌, ◌∷◌, [], length, true, false, OnOk, vec_len, vec_capacity};
 ghost use Rattle.std.specs.Borrow.{sem};
 ghost use Rattle.std.specs.Io.BufRead.{Rests};
 ghost use Rattle.std.specs.List.{list_any};
@@ -73,6 +73,7 @@ impl RecordList {
     pub(crate) fn reserve(&mut self, additional: usize) -> Result<(), AllocError>
         ensures records { self.new.records ≡ self.old.records }
         ensures room { OnOk result (additional ≤ self.new.room) }
+        ensures limit { OnOk result (length self.new.records + additional < 2 ^ 63) }
     {
         if self.records.len() - self.len > self.len {
             compact(&mut self.records, &mut self.codes, self.len);
