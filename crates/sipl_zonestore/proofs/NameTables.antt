@@ -1,5 +1,6 @@
 -- What a table of names tells of an edit, and what the edit makes of it.
-use Rattle.std.proofs.Common.{◌≡◌, ℕ, suc, ◌+◌, ◌-◌, ◌<◌, ◌≤◌, Bool, true, false, not, ◌&&◌, ◌||◌, List, [], ◌∷◌, ◌++◌, cond, length, take, nat_eq, refl, ap, sym, subst, ◌∙◌, inl, inr, arith, append-nil, length-append, length-take}
+use Rattle.std.proofs.Common.{◌≡◌, ℕ, suc, ◌+◌, ◌-◌, ◌<◌, ◌≤◌, Bool, true, false, not, ◌&&◌, ◌||◌, List, [], ◌∷◌, ◌++◌, cond, length, map, take, nat_eq, refl, ap, sym, subst, ◌∙◌, inl, inr, arith, append-nil, length-append, length-take}
+use Rattle.std.proofs.lemmas.List.{map-append}
 use Rattle.std.specs.List.{count_by, filter, list_any, list_all}
 use Rattle.std.proofs.lemmas.Bool.{cases_Bool}
 use Rattle.std.proofs.lemmas.Bool.Decides.{nat_tests}
@@ -11,13 +12,13 @@ use Rattle.sipl_names.specs.Labels.{Labels, is_within, same_name}
 use Rattle.sipl_records.specs.Sets.{exists_in, same_record}
 use Rattle.sipl_records.specs.Unique.{unique}
 use Rattle.sipl_records.specs.declared.record.Record.{Record}
-use Rattle.sipl_records.proofs.Public.{exists_in-append, filter-none, same_record-Decides}
+use Rattle.sipl_records.proofs.Public.{exists_in-append, filter-all, filter-none, same_record-Decides}
 use Rattle.sipl_masterfile.specs.Zones.{has_repeats}
-use Rattle.sipl_zonestore.specs.Changes.{changed_names, existing_names, with_ancestors}
+use Rattle.sipl_zonestore.specs.Changes.{changed_existence, changed_names, existence_key, existing_names, with_ancestors}
 use Rattle.sipl_zonestore.specs.Edits.{records_without}
 use Rattle.sipl_zonestore.specs.NameTable.{NameTable, HasNames, count_at, count_within}
 use Rattle.sipl_zonestore.specs.Store.{records_outside, records_within}
-use Rattle.sipl_zonestore.proofs.AncestorCounts.{any-ancestors, count-ancestors, count-append, count-exists, count-owner, count-parts, count-within_push}
+use Rattle.sipl_zonestore.proofs.AncestorCounts.{any-ancestors, count-ancestors, count-append, count-exists, count-limit, count-owner, count-parts, count-within_push}
 use Rattle.sipl_zonestore.proofs.ChangedNames.{all-any, changed-replaced, filter-agree_all, is_absent, names-one, names_of}
 use Rattle.sipl_zonestore.proofs.Counts.{insert_all-unique}
 use Rattle.sipl_zonestore.proofs.Elements.{or_left, or_right, or_first, or_second}
@@ -140,3 +141,15 @@ count-taken apex records i r name below =
 pub names-next : (records : List Record) (r : Record) → insert_all same_name (existing_names records) (with_ancestors r.owner) ≡ existing_names (records ++ r ∷ [])
 names-next records r =
     insert_all-unique (names_of records) (with_ancestors r.owner) ∙ ap (unique same_name) (sym (flat_map-append (λ r. with_ancestors r.owner) records (r ∷ []) ∙ ap (λ names. names_of records ++ names) (append-nil (with_ancestors r.owner))))
+
+-- ---- a zone's text, whose records are all within its apex
+
+pub text-names : (apex : Labels) (text : List Record) (new : NameTable) → list_all (λ r. is_within r.owner apex) text ≡ true → HasNames new (records_within apex text) → HasNames new text
+text-names apex text new all has = subst (HasNames new) (filter-all (λ r. is_within r.owner apex) text all) has
+
+-- the keys of the names that change
+pub existence-keys : (apex : Labels) (old text : List Record) (names gone new : NameTable) (old_names new_names : List Labels) → list_all (λ r. is_within r.owner apex) text ≡ true → HasNames names old → HasNames gone (records_within apex old) → HasNames new (records_within apex text) → old_names ≡ existing_names (records_within apex old) → new_names ≡ existing_names (records_within apex text) → map existence_key (filter (λ name. nat_eq (count_at names name) (count_at gone name) && nat_eq (count_at new name) 0) old_names) ++ map existence_key (filter (λ name. nat_eq (count_at names name) 0) new_names) ≡ changed_existence old (records_outside apex old ++ text)
+existence-keys apex old text names gone new old_names new_names all has has_gone has_new old_are new_are =
+    (λ i. map existence_key (filter (λ name. nat_eq (count_at names name) (count_at gone name) && nat_eq (count_at new name) 0) (old_are i)) ++ map existence_key (filter (λ name. nat_eq (count_at names name) 0) ((new_are ∙ ap existing_names (filter-all (λ r. is_within r.owner apex) text all)) i)))
+    ∙ sym (map-append existence_key (filter (λ name. nat_eq (count_at names name) (count_at gone name) && nat_eq (count_at new name) 0) (existing_names (records_within apex old))) (filter (λ name. nat_eq (count_at names name) 0) (existing_names text)))
+    ∙ ap (map existence_key) (existence-load apex old text names gone new has has_gone (text-names apex text new all has_new))

@@ -1,14 +1,17 @@
 //! The keys of the names that an edit makes exist, or no longer exist.
-ghost use Rattle.std.specs.Prelude.{◌≡◌, ◌&&◌, ◌++◌, [], ◌∷◌, length, map, filter, nat_eq, IfOk, OnOk};
+ghost use Rattle.std.specs.Prelude.{◌≡◌, ◌&&◌, ◌++◌, [], ◌∷◌, true, length, map, filter, nat_eq, IfOk, OnOk};
+ghost use Rattle.std.specs.List.{list_all};
 ghost use Rattle.std.specs.Map.{keys_of};
 ghost use Rattle.std.specs.Option.{option_to_list};
 ghost use Rattle.sipl_records.specs.Sets.{key_of};
-ghost use Rattle.sipl_zonestore.specs.Changes.{existence_key};
-ghost use Rattle.sipl_zonestore.specs.NameTable.{count_at};
+ghost use Rattle.sipl_names.specs.Labels.{is_within};
+ghost use Rattle.sipl_zonestore.specs.Changes.{changed_existence, existence_key};
+ghost use Rattle.sipl_zonestore.specs.NameTable.{HasNames, count_at};
+ghost use Rattle.sipl_zonestore.specs.Store.{records_outside, records_within};
 
 use crate::changed::Changed;
 use crate::compare::own_key;
-use crate::name_table::count_of;
+use crate::name_table::{count_of, names_within};
 use indexmap::IndexMap;
 use sipl_names::Name;
 use sipl_records::{Key, Kind, Record, Sequence};
@@ -35,28 +38,47 @@ pub(crate) fn changed_by(
     Ok(Changed { keys, sets })
 }
 
+// The names of the records that a load replaces, and those of its text.
+#[derive(Drop)]
+pub(crate) struct LoadedNames {
+    // What the load changes.
+    pub(crate) changed: Changed,
+    // The counts of the records that are replaced.
+    pub(crate) old: IndexMap<Name, usize>,
+    // The counts of the text.
+    pub(crate) new: IndexMap<Name, usize>,
+}
+
 // What the load of a zone changes: the sets of these keys, and the existence of the names of its old
-// records that no other record is within, and of the names of its new ones that no record was within.
+// records that no other record is within, and of the names of its text that no record was within.
 pub(crate) fn changed_by_load(
     alloc: Global,
     mut keys: Vec<Key>,
     names: &IndexMap<Name, usize>,
-    old: &IndexMap<Name, usize>,
-    new: &IndexMap<Name, usize>,
-) -> Result<Changed, AllocError>
-    ensures keys { IfOk result (λ changed. changed.keys ≡ keys.items
-        ++ (map existence_key
-        (filter (λ name. nat_eq (count_at names.now.entries name) (count_at old.now.entries name)
-        && nat_eq (count_at new.now.entries name) 0) (keys_of old.now.entries))
-        ++ map existence_key
-        (filter (λ name. nat_eq (count_at names.now.entries name) 0) (keys_of new.now.entries)))) }
-    ensures sets { IfOk result (λ changed. changed.sets ≡ length keys.items) }
+    apex: &Name,
+    records: &[Record],
+    text: &[Record],
+) -> Result<LoadedNames, AllocError>
+    requires names { HasNames names.now.entries records.now }
+    requires within { list_all (λ r. is_within r.owner apex.now) text.now ≡ true }
+    ensures keys { IfOk result (λ loaded. loaded.changed.keys ≡ keys.items
+        ++ changed_existence records.now (records_outside apex.now records.now ++ text.now)) }
+    ensures sets { IfOk result (λ loaded. loaded.changed.sets ≡ length keys.items) }
+    ensures old { IfOk result
+        (λ loaded. HasNames loaded.old.entries (records_within apex.now records.now)) }
+    ensures new { IfOk result (λ loaded. HasNames loaded.new.entries text.now) }
 {
+    let old = names_within(alloc, apex, records)?;
+    let new = names_within(alloc, apex, text)?;
     let sets = keys.len();
-    push_left(alloc, &mut keys, names, old, new)?;
+    push_left(alloc, &mut keys, names, &old, &new)?;
     push_counted(alloc, &mut keys, new.keys().as_slice(), names, 0)?;
     let keys = Sequence::from_vec(keys);
-    Ok(Changed { keys, sets })
+    Ok(LoadedNames {
+        changed: Changed { keys, sets },
+        old,
+        new,
+    })
 }
 
 // Appends the keys of those of the names that have this count.

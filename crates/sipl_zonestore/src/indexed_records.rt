@@ -21,9 +21,9 @@ use crate::bare_owners::{bare_owner, bare_owners, insert_owner, remove_owner, re
 use crate::changed::Changed;
 use crate::compare::changed_within;
 use crate::comparison::{Comparison, has_conflict, has_value};
-use crate::existence::{changed_by, changed_by_load};
+use crate::existence::{LoadedNames, changed_by, changed_by_load};
 use crate::fault::StoreFault;
-use crate::name_table::{count_in, count_of, count_out, names_within, replace_names};
+use crate::name_table::{count_in, count_of, count_out, replace_names};
 use crate::record_list::RecordList;
 use crate::set_numbers::{
     added_count, check_numbers, count_numbered, number_sets, push_to_set, remove_from_set,
@@ -181,9 +181,8 @@ impl IndexedRecords {
         let count = count_numbered(&keys, &sets);
         check_numbers(self.next, count)?;
         number_sets(&mut sets, &keys, self.next);
-        let old = names_within(self.alloc, apex, records)?;
-        let new = names_within(self.alloc, apex, text)?;
-        let changed = changed_by_load(self.alloc, keys, &self.names, &old, &new)?;
+        let LoadedNames { changed, old, new } =
+            changed_by_load(self.alloc, keys, &self.names, apex, records, text)?;
         let copies = copy_records(self.alloc, text)?;
         self.records.reserve(copies.len())?;
         self.names.reserve(new.len())?;
