@@ -17,6 +17,7 @@ pub mod TableSteps
 pub mod Numbering
 pub mod Replacing
 pub mod Recorded
+pub mod Lookups
 pub mod Limits
 pub mod Consistency
 pub mod Runs

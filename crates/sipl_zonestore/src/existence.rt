@@ -3,7 +3,7 @@ ghost use Rattle.std.specs.Prelude.{◌≡◌, ◌&&◌, ◌++◌, [], ◌∷◌
 ghost use Rattle.std.specs.List.{list_all};
 ghost use Rattle.std.specs.Map.{keys_of};
 ghost use Rattle.std.specs.Option.{option_to_list};
-ghost use Rattle.sipl_records.specs.Sets.{key_of};
+ghost use Rattle.sipl_records.specs.Sets.{is_existence, key_of};
 ghost use Rattle.sipl_names.specs.Labels.{is_within};
 ghost use Rattle.sipl_zonestore.specs.Changes.{changed_existence, existence_key};
 ghost use Rattle.sipl_zonestore.specs.NameTable.{HasNames, count_at};
@@ -132,6 +132,13 @@ fn is_left(
         && nat_eq (count_at new.now.entries name.now) 0) }
 {
     count_of(names, name) == count_of(old, name) && count_of(new, name) == 0
+}
+
+// Whether the key is that of a name's existence (RFC 4592, 2.2.3).
+pub(crate) fn is_existence(key: &Key) -> bool
+    ensures { result ≡ is_existence key.now }
+{
+    matches!(key.kind, Kind::Exists)
 }
 
 // Appends the key of a name's existence.

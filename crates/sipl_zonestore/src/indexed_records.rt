@@ -21,7 +21,7 @@ use crate::bare_owners::{bare_owner, bare_owners, insert_owner, remove_owner, re
 use crate::changed::Changed;
 use crate::compare::changed_within;
 use crate::comparison::{Comparison, has_conflict, has_value};
-use crate::existence::{LoadedNames, changed_by, changed_by_load};
+use crate::existence::{LoadedNames, changed_by, changed_by_load, is_existence};
 use crate::fault::StoreFault;
 use crate::name_table::{count_in, count_of, count_out, replace_names};
 use crate::record_list::RecordList;
@@ -32,7 +32,7 @@ use crate::set_numbers::{
 use crate::sets::SetTable;
 use indexmap::{IndexMap, IndexSet};
 use sipl_names::Name;
-use sipl_records::{Data, Key, Kind, Record};
+use sipl_records::{Data, Key, Record};
 use std::alloc::{AllocError, Global};
 use std::marker::Model;
 
@@ -109,21 +109,20 @@ impl IndexedRecords {
         ensures number { result.0 ≡ number_by self.now.records self.now.numbers key.now }
         ensures values { result.1.now ≡ set_of self.now.records key.now }
     {
-        if key.kind != Kind::Exists {
+        if !is_existence(key) {
             return self.sets.get(&key.name, key.kind);
         }
         if count_of(&self.names, &key.name) == 0 {
-            (0, &[])
-        } else {
-            (1, &self.existence)
+            return (0, &[]);
         }
+        (1, &self.existence)
     }
 
     // The number of the key's set.
     pub(crate) fn number(&self, key: &Key) -> u64
         ensures { result ≡ number_by self.now.records self.now.numbers key.now }
     {
-        if key.kind != Kind::Exists {
+        if !is_existence(key) {
             return self.sets.number(&key.name, key.kind);
         }
         u64::from(count_of(&self.names, &key.name) != 0)
