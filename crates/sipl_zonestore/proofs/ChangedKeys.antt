@@ -1,12 +1,10 @@
 -- Which sets loading a zone changes, and which adding a record changes.
 use Rattle.std.proofs.Common.{◌≡◌, ◌≢◌, ℕ, ◌+◌, ◌<◌, Bool, true, false, not, ◌&&◌, ◌||◌, List, [], ◌∷◌, ◌++◌, length, take, get_or, Option, None, Some, option_to_list, cond, refl, ap, subst, sym, ◌∙◌, inl, inr, append-nil, append_assoc}
-use Rattle.std.specs.Prelude.{◌↔◌}
-use Rattle.std.specs.List.{filter, filter_map, list_any, list_all, Contains, IsDistinct}
+use Rattle.std.specs.List.{filter, filter_map, list_any, list_all, IsDistinct}
 use lib.Pointwise.{pointwise}
 use Rattle.std.proofs.lemmas.Bool.{cases_Bool}
-use Rattle.std.proofs.lemmas.List.Elements.{filter_agree, filter-append, filter_more, filter_passes, filter_map-append, All-contains}
+use Rattle.std.proofs.lemmas.List.Elements.{filter_agree, filter-append, filter_more, filter_map-append}
 use Rattle.std.proofs.lemmas.List.Folds.{list_any-append}
-use Rattle.std.proofs.lemmas.Map.Views.{Contains-from_any}
 use Rattle.sipl_names.specs.Labels.{same_name, is_within}
 use Rattle.sipl_names.proofs.Public.{same_name_decides}
 use Rattle.sipl_records.specs.declared.data.Data.{Data}

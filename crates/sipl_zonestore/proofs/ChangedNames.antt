@@ -1,19 +1,17 @@
 -- Which names an edit makes exist, or no longer exist.
-use Rattle.std.proofs.Common.{◌≡◌, ℕ, ◌+◌, ◌≤◌, Bool, true, false, not, ◌&&◌, ◌||◌, List, [], ◌∷◌, ◌++◌, cond, nat_eq, refl, ap, sym, ◌∙◌, inl, inr, arith, append-nil}
+use Rattle.std.proofs.Common.{◌≡◌, Bool, true, false, not, ◌&&◌, ◌||◌, List, [], ◌∷◌, ◌++◌, cond, refl, ap, sym, ◌∙◌, inl, inr, append-nil}
 use Rattle.std.specs.List.{filter, flat_map, list_any, list_all}
 use Rattle.std.proofs.lemmas.Bool.{cases_Bool}
 use Rattle.std.proofs.lemmas.List.Concat.{flat_map-append}
-use Rattle.std.proofs.lemmas.List.Elements.{filter-append, filter_agree}
+use Rattle.std.proofs.lemmas.List.Elements.{filter-append}
 use Rattle.std.proofs.lemmas.List.Folds.{list_any-append, list_all-append}
 use Rattle.sipl_names.specs.Labels.{Labels, is_within, same_name}
 use Rattle.sipl_names.proofs.Public.{same_name_decides}
-use Rattle.sipl_records.specs.Sets.{exists_in, same_record}
+use Rattle.sipl_records.specs.Sets.{exists_in}
 use Rattle.sipl_records.specs.Unique.{unique}
 use Rattle.sipl_records.specs.declared.record.Record.{Record}
-use Rattle.sipl_records.proofs.Public.{exists_in-append, same_name-sym, unique-filter}
+use Rattle.sipl_records.proofs.Public.{exists_in-append, unique-filter}
 use Rattle.sipl_zonestore.specs.Changes.{changed_names, existing_names, exists_in_one, with_ancestors}
-use Rattle.sipl_zonestore.specs.Edits.{records_without}
-use Rattle.sipl_zonestore.specs.Store.{records_outside, records_within}
 use Rattle.sipl_zonestore.proofs.AncestorCounts.{any-ancestors, unique-ancestors}
 use Rattle.sipl_zonestore.proofs.Elements.{all-kept, all-weaker, and_first, and_second, any-filter, or_first, or_second}
 

@@ -1,5 +1,5 @@
 -- Tables of names after one count was written.
-use Rattle.std.proofs.Common.{◌≡◌, ℕ, ◌+◌, ◌-◌, ◌≤◌, Bool, true, false, ◌||◌, List, [], ◌∷◌, ◌++◌, cond, Option, None, Some, is_some, if◌then◌else◌, refl, ap, sym, ◌∙◌, arith, append-nil, append_assoc}
+use Rattle.std.proofs.Common.{◌≡◌, ℕ, ◌+◌, ◌-◌, Bool, true, false, ◌||◌, List, [], ◌∷◌, ◌++◌, cond, Option, None, Some, is_some, if◌then◌else◌, refl, ap, sym, ◌∙◌, arith, append-nil, append_assoc}
 use Rattle.std.specs.List.{AllByRecursion, IsDistinct, list_any}
 use Rattle.std.specs.Map.{keys_of, lookup}
 use Rattle.std.specs.Option.{unwrap_or}
@@ -8,7 +8,7 @@ use Rattle.indexmap.specs.IndexSet.{insert_all, insert_key}
 use Rattle.sipl_names.specs.Labels.{Labels, same_name}
 use Rattle.sipl_names.proofs.Public.{same_name_decides}
 use Rattle.sipl_records.specs.Unique.{unique}
-use Rattle.sipl_records.proofs.Public.{equivalence_from_decides, list_any-unique, same_name-sym, transitive_from_equivalence, unique-append}
+use Rattle.sipl_records.proofs.Public.{equivalence_from_decides, same_name-sym, transitive_from_equivalence, unique-append}
 use Rattle.sipl_zonestore.specs.NameTable.{NameTable, count_at}
 
 -- a table has this count at a name, and at each other name that of another table

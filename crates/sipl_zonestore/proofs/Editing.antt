@@ -1,14 +1,14 @@
 -- What an edit does to a store, from what it does to its records.
 use Rattle.std.proofs.Common.{◌≡◌, ◌≢◌, ℕ, Bool, true, false, not, if◌then◌else◌, List, Option, None, Some, Result, Ok, Err, length, nat_le, nat_lt, refl, ap, subst, sym, ◌∙◌, inl, inr}
 use Rattle.std.specs.Prelude.{OnOk, OnErr, IfErr}
-use Rattle.std.specs.Option.{option_or, unwrap_or}
-use Rattle.std.specs.List.{count_by, list_any, position_from}
+use Rattle.std.specs.Option.{option_or}
+use Rattle.std.specs.List.{count_by, list_any}
 use Rattle.std.proofs.lemmas.Bool.{cases_Bool}
 use Rattle.std.proofs.lemmas.List.Folds.{list_any-append}
 use Rattle.sipl_names.specs.Labels.{same_name}
 use Rattle.sipl_names.specs.Labels.{is_wildcard}
 use Rattle.sipl_records.proofs.Public.{set_of-existence}
-use Rattle.sipl_records.specs.Sets.{conflicts, data_of, exists_in, existence_of, is_existence, same_record, same_key, shares_set}
+use Rattle.sipl_records.specs.Sets.{conflicts, exists_in, existence_of, is_existence, same_record, same_key, shares_set}
 use Rattle.sipl_records.specs.declared.record.Record.{Record}
 use Rattle.sipl_records.specs.declared.record.Key.{Key}
 use Rattle.sipl_zonestore.specs.declared.changed.Changed.{Changed}
@@ -16,8 +16,8 @@ use Rattle.sipl_zonestore.specs.declared.fault.StoreFault.{StoreFault}
 use Rattle.sipl_zonestore.specs.declared.fault.StoreFault.TheVariants.{Overlap, NoZone, Duplicate, Absent, AliasBesideData, SetFull, StoreFull, WildApex, Memory}
 use Rattle.sipl_zonestore.specs.Store.{Zones, Store, number_in, overlaps, is_covered, records_after_load}
 use Rattle.sipl_zonestore.specs.Edits.{Edit, load, unload, add, remove, after, refusal_of}
-use Rattle.sipl_zonestore.specs.Changes.{changed_count, changed_existence, changed_keys, changed_names, changed_sets, exists_in_one}
-use Rattle.sipl_zonestore.specs.Numbers.{SetNumber, existence_number, is_empty, number_after, number_by, number_of, numbered_keys, next_after, number_refusal, set_number_after}
+use Rattle.sipl_zonestore.specs.Changes.{changed_count, changed_existence, changed_keys, changed_sets, exists_in_one}
+use Rattle.sipl_zonestore.specs.Numbers.{existence_number, number_after, next_after, number_refusal}
 use Rattle.sipl_zonestore.specs.IndexedRecords.{IndexedState, IsReplaced}
 use Rattle.sipl_zonestore.specs.Edited.{IsEdited, IsKept, store_refusal, early_refusal}
 use Rattle.sipl_zonestore.specs.Consistent.{IsConsistent}

@@ -1,5 +1,5 @@
 -- The changed keys are exactly those whose set differs, each once.
-use Rattle.std.proofs.Common.{◌≡◌, ◌≢◌, Bool, true, false, not, ◌&&◌, ◌||◌, List, [], ◌∷◌, ◌++◌, map, cond, if◌then◌else◌, refl, ap, sym, subst, ◌∙◌, inl, inr}
+use Rattle.std.proofs.Common.{◌≡◌, ◌≢◌, Bool, true, false, not, ◌&&◌, ◌||◌, List, [], ◌∷◌, ◌++◌, map, cond, refl, ap, sym, subst, ◌∙◌, inl, inr}
 use Rattle.std.specs.Prelude.{◌↔◌}
 use Rattle.std.specs.Cmp.{IsEquivalence}
 use Rattle.std.specs.List.{filter, list_any, list_all, AllPairs, Contains, IsDistinct}
@@ -17,7 +17,7 @@ use Rattle.sipl_records.specs.declared.kind.Kind.TheVariants.{Address4, Address6
 use Rattle.sipl_records.specs.declared.record.Record.{Record}
 use Rattle.sipl_records.specs.declared.record.Key.{Key}
 use Rattle.sipl_records.proofs.Public.{equivalence_from_decides, exists_in-append, IsDistinct-unique, list_any-unique, same_key-Decides, set_of-data, set_of-existence, transitive_from_equivalence, unique-filter}
-use Rattle.sipl_zonestore.specs.Changes.{changed_existence, changed_keys, changed_names, changed_sets, existence_key, existing_names, exists_in_one, is_changed, with_ancestors}
+use Rattle.sipl_zonestore.specs.Changes.{changed_existence, changed_keys, changed_names, changed_sets, existence_key, existing_names, exists_in_one, is_changed}
 use Rattle.sipl_zonestore.proofs.BareOwners.{any-filter_tied}
 use Rattle.sipl_zonestore.proofs.ChangedKeys.{among-no_existence, changed-any, changed-no_existence, changed_sets-once, differs-is, differs-true, failed-none}
 use Rattle.sipl_zonestore.proofs.ChangedNames.{any-names, names_of, respects_name}

@@ -1,5 +1,5 @@
 -- What the tables tell of a key's set.
-use Rattle.std.proofs.Common.{◌≡◌, ◌≢◌, ℕ, Bool, true, false, not, List, nat_eq, if◌then◌else◌, refl, ap, sym, ◌∙◌, inl, inr, arith}
+use Rattle.std.proofs.Common.{◌≡◌, ◌≢◌, ℕ, Bool, true, false, not, List, nat_eq, refl, ap, sym, ◌∙◌, inl, inr, arith}
 use Rattle.std.proofs.lemmas.Bool.{cases_Bool}
 use Rattle.std.proofs.lemmas.Bool.Decides.{nat_tests}
 use mir.Val.{bool_byte}
@@ -8,7 +8,7 @@ use Rattle.sipl_records.specs.declared.record.Record.{Record}
 use Rattle.sipl_records.specs.declared.record.Key.{Key}
 use Rattle.sipl_records.proofs.Public.{set_of-existence}
 use Rattle.sipl_zonestore.specs.NameTable.{NameTable, HasNames, count_at}
-use Rattle.sipl_zonestore.specs.Numbers.{SetNumber, existence_number, number_by, number_of}
+use Rattle.sipl_zonestore.specs.Numbers.{SetNumber, existence_number, number_by}
 use Rattle.sipl_zonestore.specs.SetTable.{OwnerTable, content_of, numbers_of}
 use Rattle.sipl_zonestore.proofs.AncestorCounts.{count-exists}
 use Rattle.sipl_zonestore.proofs.SetTables.{number_of-numbers_of}

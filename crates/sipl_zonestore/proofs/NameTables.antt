@@ -1,5 +1,5 @@
 -- What a table of names tells of an edit, and what the edit makes of it.
-use Rattle.std.proofs.Common.{◌≡◌, ℕ, suc, ◌+◌, ◌-◌, ◌<◌, ◌≤◌, Bool, true, false, not, ◌&&◌, ◌||◌, List, [], ◌∷◌, ◌++◌, cond, length, map, take, nat_eq, refl, ap, sym, subst, ◌∙◌, inl, inr, arith, append-nil, length-append, length-take}
+use Rattle.std.proofs.Common.{◌≡◌, ℕ, ◌+◌, ◌-◌, ◌≤◌, Bool, true, false, not, ◌&&◌, ◌||◌, List, [], ◌∷◌, ◌++◌, cond, length, map, take, nat_eq, refl, ap, sym, subst, ◌∙◌, inl, inr, arith, append-nil, length-append, length-take}
 use Rattle.std.proofs.lemmas.List.{map-append}
 use Rattle.std.specs.List.{count_by, filter, list_any, list_all}
 use Rattle.std.proofs.lemmas.Bool.{cases_Bool}
@@ -18,10 +18,10 @@ use Rattle.sipl_zonestore.specs.Changes.{changed_existence, changed_names, exist
 use Rattle.sipl_zonestore.specs.Edits.{records_without}
 use Rattle.sipl_zonestore.specs.NameTable.{NameTable, HasNames, count_at, count_within}
 use Rattle.sipl_zonestore.specs.Store.{records_outside, records_within}
-use Rattle.sipl_zonestore.proofs.AncestorCounts.{any-ancestors, count-ancestors, count-append, count-exists, count-limit, count-owner, count-parts, count-within_push}
+use Rattle.sipl_zonestore.proofs.AncestorCounts.{any-ancestors, count-ancestors, count-append, count-exists, count-owner, count-parts, count-within_push}
 use Rattle.sipl_zonestore.proofs.ChangedNames.{all-any, changed-replaced, filter-agree_all, is_absent, names-one, names_of}
 use Rattle.sipl_zonestore.proofs.Counts.{insert_all-unique}
-use Rattle.sipl_zonestore.proofs.Elements.{or_left, or_right, or_first, or_second}
+use Rattle.sipl_zonestore.proofs.Elements.{or_left, or_right}
 
 -- ---- one record of a list
 

@@ -180,8 +180,14 @@ impl IndexedRecords {
         let count = count_numbered(&keys, &sets);
         check_numbers(self.next, count)?;
         number_sets(&mut sets, &keys, self.next);
-        let LoadedNames { changed, old, new } =
-            changed_by_load(self.alloc, keys, &self.names, apex, records, text)?;
+        let LoadedNames { changed, old, new } = changed_by_load(
+            self.alloc,
+            keys,
+            &self.names,
+            apex,
+            records,
+            text,
+        )?;
         let copies = copy_records(self.alloc, text)?;
         self.records.reserve(copies.len())?;
         self.names.reserve(new.len())?;

@@ -110,9 +110,9 @@ impl ZoneStore {
         check_load(self.max_records, zone, &self.apexes, records)?;
         let apex = new_apex(self.alloc, zone.apex(), &self.apexes)?;
         self.apexes.reserve(1)?;
-        let keys = self.records.replace_within(zone.apex(), zone.records())?;
+        let changed = self.records.replace_within(zone.apex(), zone.records())?;
         push_apex(&mut self.apexes, apex);
-        Ok(keys)
+        Ok(changed)
     }
 
     /// Unloads the zone of this apex: the apex and all records within it are gone. Returns the keys
@@ -125,9 +125,9 @@ impl ZoneStore {
         ensures numbers { result ≢ Err StoreFault.NumberSpent }
     {
         check_unload(apex, &self.apexes)?;
-        let keys = self.records.replace_within(apex, &[])?;
+        let changed = self.records.replace_within(apex, &[])?;
         self.apexes.retain(|other| *apex != *other);
-        Ok(keys)
+        Ok(changed)
     }
 
     /// Adds a record, which is last. Returns the key of its set, if it is in one, which takes the

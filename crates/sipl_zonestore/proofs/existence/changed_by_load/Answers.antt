@@ -1,4 +1,4 @@
-use Rattle.std.proofs.Common.{◌≡◌, ◌&&◌, ◌++◌, map, nat_eq, ap, ◌∙◌, append_assoc}
+use Rattle.std.proofs.Common.{◌&&◌, ◌++◌, map, nat_eq, ap, ◌∙◌, append_assoc}
 use Rattle.std.specs.List.{filter}
 use Rattle.std.specs.Map.{keys_of}
 use Rattle.sipl_zonestore.specs.NameTable.{count_at}

@@ -1,7 +1,7 @@
-use Rattle.std.proofs.Common.{◌≡◌, ◌+◌, ◌∷◌, true, length, if◌then◌else◌, subst, refl, ap, sym, ◌∙◌, arith}
+use Rattle.std.proofs.Common.{◌≡◌, ◌∷◌, length, if◌then◌else◌, subst, refl, ap, arith}
 use Rattle.std.specs.List.{IsDistinct}
 use Rattle.std.specs.Map.{keys_of}
-use Rattle.sipl_names.specs.Labels.{Labels, same_name}
+use Rattle.sipl_names.specs.Labels.{same_name}
 use Rattle.sipl_names.proofs.Public.{same_name_decides}
 use Rattle.sipl_zonestore.specs.NameTable.{NameTable, count_at}
 use Rattle.sipl_zonestore.proofs.Counts.{count-first, distinct-rest}

@@ -1,11 +1,10 @@
-use Rattle.std.proofs.Common.{◌≡◌, ℕ, ◌+◌, ◌≤◌, ◌∷◌, [], cond, if◌then◌else◌, true, List, length, ap, subst, sym, refl, ◌∙◌, arith}
+use Rattle.std.proofs.Common.{◌≡◌, ℕ, ◌∷◌, [], cond, length, ap, sym, refl, ◌∙◌, arith}
 use Rattle.std.specs.List.{count_by}
 use Rattle.std.specs.Map.{keys_of}
 use Rattle.std.specs.Vec.Iter.{into_iter_items}
 use Rattle.indexmap.specs.IndexSet.{insert_all}
-use Rattle.sipl_names.specs.Labels.{Labels, same_name}
+use Rattle.sipl_names.specs.Labels.{same_name}
 use Rattle.sipl_names.proofs.Public.{same_name_decides}
-use Rattle.sipl_zonestore.specs.NameTable.{count_at}
 use Rattle.sipl_zonestore.proofs.AncestorCounts.{count-cons}
 use Rattle.sipl_zonestore.proofs.Elements.{nothing_left}
 use Rattle.sipl_zonestore.proofs.name_table.count_in.Goals as goal

@@ -1,12 +1,10 @@
-use Rattle.std.proofs.Common.{◌≡◌, ◌+◌, ◌≤◌, ◌<◌, ◌++◌, ◌∷◌, [], true, false, length, take, refl, ap, sym, ◌∙◌, arith}
+use Rattle.std.proofs.Common.{◌≡◌, ◌+◌, [], true, false, take, ap, sym, ◌∙◌, arith}
 use Rattle.std.specs.List.{count_by}
 use Rattle.std.specs.Map.{keys_of}
-use Rattle.std.proofs.lemmas.List.Sums.{count_by-le-length, length-filter}
 use Rattle.indexmap.specs.IndexSet.{insert_all}
-use Rattle.sipl_names.specs.Labels.{Labels, is_within, same_name}
-use Rattle.sipl_records.specs.declared.record.Record.{Record}
-use Rattle.sipl_zonestore.specs.Changes.{existing_names, with_ancestors}
-use Rattle.sipl_zonestore.specs.NameTable.{NameTable, HasNames, count_at, count_within}
+use Rattle.sipl_names.specs.Labels.{is_within, same_name}
+use Rattle.sipl_zonestore.specs.Changes.{with_ancestors}
+use Rattle.sipl_zonestore.specs.NameTable.{NameTable, count_at, count_within}
 use Rattle.sipl_zonestore.specs.Store.{records_within}
 use Rattle.sipl_zonestore.proofs.ChangedKeys.{within-more, within-same}
 use Rattle.sipl_zonestore.proofs.NameTables.{count-taken, names-add, names-next}

@@ -1,6 +1,4 @@
-use Rattle.std.proofs.Common.{◌≡◌, ◌-◌, cond, IsSome, Some, None, subst, refl, sym, ap, ◌∙◌, arith}
-use Rattle.std.specs.Map.{lookup}
-use Rattle.sipl_names.specs.Labels.{same_name}
+use Rattle.std.proofs.Common.{◌≡◌, ◌-◌, IsSome, Some, None, subst, refl, sym, ap, ◌∙◌, arith}
 use Rattle.sipl_zonestore.specs.NameTable.{NameTable, count_at}
 use Rattle.sipl_zonestore.proofs.Counts.{counted-less, counted-none, written-gone}
 use Rattle.sipl_zonestore.proofs.name_table.take_count.Goals as goal

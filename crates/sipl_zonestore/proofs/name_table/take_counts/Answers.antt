@@ -1,7 +1,7 @@
-use Rattle.std.proofs.Common.{◌≡◌, ◌+◌, ◌∷◌, subst, ap, arith}
+use Rattle.std.proofs.Common.{◌≡◌, ◌∷◌, subst, ap, arith}
 use Rattle.std.specs.List.{IsDistinct}
 use Rattle.std.specs.Map.{keys_of}
-use Rattle.sipl_names.specs.Labels.{Labels, same_name}
+use Rattle.sipl_names.specs.Labels.{same_name}
 use Rattle.sipl_zonestore.specs.NameTable.{NameTable, count_at}
 use Rattle.sipl_zonestore.proofs.Counts.{count-first, distinct-rest}
 use Rattle.sipl_zonestore.proofs.name_table.take_counts.Goals as goal

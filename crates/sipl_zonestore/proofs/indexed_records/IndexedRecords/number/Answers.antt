@@ -1,5 +1,4 @@
 use Rattle.std.proofs.Common.{◌≡◌, not, nat_eq, sym, ap, ◌∙◌}
-use mir.Val.{bool_byte}
 use Rattle.sipl_zonestore.specs.NameTable.{count_at}
 use Rattle.sipl_zonestore.specs.SetTable.{numbers_of}
 use Rattle.sipl_zonestore.proofs.Lookups.{byte-number, number-existence, number-of_set}

@@ -1,5 +1,4 @@
 use Rattle.std.proofs.Common.{◌≡◌, nat_eq, true, false, sym, ap, ◌∙◌}
-use Rattle.sipl_records.specs.Sets.{is_existence}
 use Rattle.sipl_zonestore.specs.NameTable.{count_at}
 use Rattle.sipl_zonestore.specs.SetTable.{numbers_of}
 use Rattle.sipl_zonestore.proofs.Lookups.{number-existence, number-of_set, set-existence, some-count, zero-count}

@@ -1,5 +1,5 @@
 use Rattle.std.proofs.Common.{sym, ap, ◌∙◌}
-use Rattle.sipl_zonestore.specs.Content.{Content, carried}
+use Rattle.sipl_zonestore.specs.Content.{Content}
 use Rattle.sipl_zonestore.specs.SetTable.{content_of}
 use Rattle.sipl_zonestore.proofs.SetTables.{content-is, content-none}
 use Rattle.sipl_zonestore.proofs.sets.SetTable.get.Goals as goal
