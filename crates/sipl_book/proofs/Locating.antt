@@ -119,7 +119,7 @@ module _ (before now later : BookState) (question : Question) (old new : RunStat
             (ap (λ (b : BookState). number_in b.store k) (sym so.book) ∙ sym number_is));
       }
 
-  pub given_less : length old.items < 1156 → 1156 - length new.items < 1156 - length old.items
+  pub given_less : length old.items < 80648 → 80648 - length new.items < 80648 - length old.items
   given_less few = omega (arith, few, one_more)
 
 -- what a run over a book's sets finds

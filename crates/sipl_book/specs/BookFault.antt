@@ -3,7 +3,7 @@ use Rattle.std.specs.Prelude.{ℕ, List, codes}
 use Rattle.sipl_outages.specs.declared.fault.BoardFault.{BoardFault}
 use Rattle.sipl_outages.specs.declared.fault.BoardFault.TheVariants.{ClockBack, TooFar, NotHeld, BoardFull, Memory as BoardMemory}
 use Rattle.sipl_zonestore.specs.declared.fault.StoreFault.{StoreFault}
-use Rattle.sipl_zonestore.specs.declared.fault.StoreFault.TheVariants.{Overlap, NoZone, Duplicate, Absent, AliasBesideData, SetFull, StoreFull, NumberSpent, Memory as StoreMemory}
+use Rattle.sipl_zonestore.specs.declared.fault.StoreFault.TheVariants.{Overlap, NoZone, Duplicate, Absent, AliasBesideData, SetFull, StoreFull, NumberSpent, WildApex, Memory as StoreMemory}
 use Rattle.sipl_zonestore.specs.StoreFault.{code_of as store_code}
 use Rattle.sipl_outages.specs.BoardFault.{code_of as board_code}
 use Rattle.sipl_repair.specs.QueueFault.{code_of as queue_code}
@@ -32,6 +32,7 @@ of_store AliasBesideData = Store AliasBesideData
 of_store SetFull = Store SetFull
 of_store StoreFull = Store StoreFull
 of_store NumberSpent = Store NumberSpent
+of_store WildApex = Store WildApex
 of_store StoreMemory = Memory
 
 -- the fault of a change that the holds or the clock refuse

@@ -38,6 +38,6 @@ AreMarkable queue (id ∷ ids) = IsTrue (has_capacity_for queue id) × AreMarkab
 -- those of all entries
 pub record IsIndexedCache (entries : List EntryState) (queue : QueueState) (room places more : ℕ) : Type 0 where
   pub cache : IsCache entries queue
-  pub leases : set.len queue.leased * 1156 ≤ room
+  pub leases : set.len queue.leased * 80648 ≤ room
   pub candidates : length entries ≤ places
   pub ids : length entries ≤ more

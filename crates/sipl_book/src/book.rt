@@ -12,6 +12,7 @@ ghost use Rattle.sipl_book.specs.Book.{HasRoute, IsGoodEntry, answer_now, new_bo
 ghost use Rattle.sipl_book.specs.Calls.{IsChanged, MovesBoard, IsHanded, IsForgotten, after_look, answer_event, recorded, unless_full};
 ghost use Rattle.sipl_book.specs.Lookups.{IsFound};
 ghost use Rattle.sipl_book.specs.Entries.{depends_on, entry_of};
+ghost use Rattle.sipl_book.specs.Honesty.{WasGiven};
 ghost use Rattle.sipl_book.specs.Repairs.{IsQueueOf};
 ghost use Rattle.sipl_book.specs.Machine.{IsLegal, replay, empty_state};
 
@@ -100,7 +101,7 @@ impl Book {
     /// then, and are marked in their order, but for those that are leased. The cost is that of the
     /// edit, a search for each entry that depends on a changed set, and a sort of their ids.
     ///
-    /// The fault is the first one: a full journal (B3), a fault of the zones (S1 to S8).
+    /// The fault is the first one: a full journal (B3), a fault of the zones (S1 to S9).
     pub fn change(&mut self, edit: Edit) -> Result<Done, BookFault>
         ensures { IsChanged edit self.old self.new result }
     {
@@ -153,7 +154,8 @@ impl Book {
         Ok(record_event(&mut self.journal, Event::Advance(to)))
     }
 
-    /// The number of the key's set, 0 where it is empty. Counts no look. Does not allocate.
+    /// The number of the key's set, 0 where it is empty; of a name's existence 1 where it exists.
+    /// Counts no look. Does not allocate.
     pub fn number(&self, key: &Key) -> u64
         ensures { result ≡ number_in self.now.store key.now }
     {
@@ -167,7 +169,8 @@ impl Book {
         ensures value { IfOk result
             (λ read. read.1 ≡ set_of self.old.store.zones.records key.now) }
         ensures set { IfOk result (λ read. IsSet key.now read.0 read.1) }
-        ensures given { IfOk result (λ read. read.0 < self.old.store.next) }
+        ensures given { IfOk result (λ read. WasGiven self.old.store
+            (record { key = key.now; number = read.0; content = read.1 })) }
         ensures consistent { IsConsistentStore self.old.store }
         ensures looked { self.new ≡ after_look self.old }
     {

@@ -259,7 +259,7 @@ impl Cache {
     pub(crate) fn settle(&mut self, lease: Lease, finding: Finding)
         requires order { InOrder self.old.entries }
         requires leased { IsTrue (is_leased_for self.old.entries self.old.queue lease finding.question) }
-        requires few { length finding.items ≤ 1156 }
+        requires few { length finding.items ≤ 80648 }
         ensures { self.new ≡ record self.old {
           entries = map (renewed finding) self.old.entries;
           queue = after_settle self.old.queue lease;

@@ -112,7 +112,7 @@ impl Entry {
         self.finding.layout()
     }
 
-    /// The record sets that the route looks at, in the order of reading: at most 1,156.
+    /// The record sets that the route looks at, in the order of reading: at most 80,648.
     pub fn evidence(&self) -> &Evidence
         ensures evidence { result.now ≡ self.now.found.items }
         ensures sound { IsSound self.now.found }

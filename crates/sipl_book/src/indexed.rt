@@ -55,7 +55,7 @@ impl Indexed {
     pub(crate) fn reserve(&mut self, leases: usize, pairs: usize) -> Result<(), AllocError>
         ensures entries { self.new.entries ≡ self.old.entries }
         ensures room { self.old.room ≤ self.new.room }
-        ensures ok { OnOk result (leases * 1156 + pairs ≤ self.new.room) }
+        ensures ok { OnOk result (leases * 80648 + pairs ≤ self.new.room) }
     {
         let room = leases
             .checked_mul(MAX_SETS)

@@ -87,7 +87,7 @@ impl Book {
         requires client { finding.client ≡ self.old.client }
         requires leased { IsTrue (is_leased_for self.old.entries self.old.queue lease finding.question) }
         requires sound { IsSound finding }
-        requires few { length finding.items ≤ 1156 }
+        requires few { length finding.items ≤ 80648 }
         requires current { changed ≡ None → AreCurrent self.old.store finding.items }
         ensures accepted { OnOk result (changed ≡ None) }
         ensures after { OnOk result (self.new ≡ after_settlement lease finding self.old) }

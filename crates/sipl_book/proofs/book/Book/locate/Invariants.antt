@@ -6,4 +6,4 @@ abbrev pub invariant-loop-key : goal.invariant-loop-key
 invariant-loop-key l = GoesOn l.fn.self l.self l.fn.question l.run
 
 abbrev pub decreases-loop-key : goal.decreases-loop-key
-decreases-loop-key l = 1156 - length l.run.items
+decreases-loop-key l = 80648 - length l.run.items
