@@ -10,7 +10,7 @@ use Rattle.sipl_records.specs.Sets.{same_key, same_record, conflicts, shares_set
 use Rattle.sipl_evidence.specs.Items.{Item}
 use Rattle.sipl_evidence.specs.Known.{is_unknown}
 use Rattle.sipl_zonestore.specs.declared.fault.StoreFault.{StoreFault}
-use Rattle.sipl_zonestore.specs.declared.fault.StoreFault.TheVariants.{Overlap, NoZone, Duplicate, Absent, AliasBesideData, SetFull, StoreFull, NumberSpent, Memory}
+use Rattle.sipl_zonestore.specs.declared.fault.StoreFault.TheVariants.{Overlap, NoZone, Duplicate, Absent, AliasBesideData, SetFull, StoreFull, NumberSpent, WildApex, Memory}
 use Rattle.sipl_zonestore.specs.Store.{Zones, Store, overlaps, is_covered, records_after_load}
 use Rattle.sipl_zonestore.specs.Edits.{Edit as ZoneEdit, load, unload, add, remove, refusal_of}
 use Rattle.sipl_zonestore.specs.Edited.{IsEdited, IsKept}
@@ -49,7 +49,8 @@ add_with_more max larger n within accepted = elim (cases_Bool (leb max n)) [
 
 pub edit_with_more : (max larger : ℕ) (edit : ZoneEdit) (zones : Zones) → max ≤ larger → refusal_of max edit zones ≡ None → refusal_of larger edit zones ≡ None
 edit_with_more max larger (load zone) zones within accepted =
-    guarded (list_any (overlaps zone.apex) zones.apexes) Overlap _ _ (load_with_more max larger (length (records_after_load zone zones.records)) within) accepted
+    guarded (is_wildcard zone.apex) WildApex _ _
+    (guarded (list_any (overlaps zone.apex) zones.apexes) Overlap _ _ (load_with_more max larger (length (records_after_load zone zones.records)) within)) accepted
 edit_with_more max larger (unload apex) zones within accepted = accepted
 edit_with_more max larger (add r) zones within accepted =
     guarded (not (is_covered zones.apexes r.owner)) NoZone _ _
@@ -152,6 +153,7 @@ fault-of AliasBesideData some = refl
 fault-of SetFull some = refl
 fault-of StoreFull some = refl
 fault-of NumberSpent some = refl
+fault-of WildApex some = refl
 fault-of Memory some = absurd (some refl)
 
 pub refused-change : (edit : Edit) (old : BookState) (store : Store) (journal : List Event) (fault : StoreFault)

@@ -3,20 +3,17 @@ use Rattle.std.proofs.Common.{◌≡◌, ℕ, ◌^◌, ◌+◌, ◌<◌, ◌≤�
 use Rattle.std.specs.List.{All}
 use Rattle.std.proofs.lemmas.Bool.{cases_Bool, cond-false, lt-leb, leb-false}
 use Rattle.std.proofs.lemmas.List.Elements.{All-weaker}
-use Rattle.sipl_records.specs.Sets.{set_of}
 use Rattle.sipl_choice.specs.Abilities.{Client}
-use Rattle.sipl_evidence.specs.Known.{Agrees}
 use Rattle.sipl_outages.specs.Board.{BoardState, IsConsistent as IsConsistentBoard}
 use Rattle.sipl_outages.specs.declared.fault.BoardFault.TheVariants.{TooFar, BoardFull}
 use Rattle.sipl_outages.specs.Holds.{Holds, BoardEvent, is_new_hold, refusal_of}
 use Rattle.sipl_outages.specs.Holds.BoardEvent.{Hold, Release, Advance}
-use Rattle.sipl_zonestore.specs.Numbers.{SetNumber, number_of}
-use Rattle.sipl_zonestore.specs.Store.{Zones}
 use Rattle.sipl_book.specs.Book.{BookState, IsConsistent, IsGoodEntry, state_of}
 use Rattle.sipl_book.specs.Calls.{recorded}
 use Rattle.sipl_book.specs.Entries.{EntryState}
 use Rattle.sipl_book.specs.Machine.{State, IsAccepted, IsLegal, after, empty_state, replay}
 use Rattle.sipl_book.specs.declared.event.Event.{Event}
+use Rattle.sipl_book.proofs.Honest.{current-as, read-as}
 
 -- a legal journal stays legal with an event that is accepted in the state that it leads to
 pub legal-push : (client : Client) (events : List Event) (event : Event) (state : State) → IsLegal client events state
@@ -58,16 +55,8 @@ module _ (old new : BookState) (client : new.client ≡ old.client) (zones : new
       record {
         client = good.client ∙ sym client;
         sound = good.sound;
-        read = record {
-          sets = good.read.sets;
-          given = λ k d below. omega (arith, good.read.given k d below, next);
-          honest = subst (λ (p : Zones × List SetNumber). All (λ item. number_of p.1 item.key ≡ item.number → set_of p.0.records item.key ≡ item.content) entry.found.items)
-              (λ i. (sym zones i, sym numbers i)) good.read.honest;
-        };
-        up_to_date = λ current. let fresh = good.up_to_date current in record {
-          agrees = subst (λ loaded. Agrees (set_of loaded.records) entry.found.items) (sym zones) fresh.agrees;
-          numbers = subst (λ numbered. All (λ item. number_of numbered item.key ≡ item.number) entry.found.items) (sym numbers) fresh.numbers;
-        };
+        read = read-as old.store new.store zones numbers entry.found.items next good.read;
+        up_to_date = λ current. current-as old.store new.store zones numbers entry.found.items (good.up_to_date current);
         made = omega (arith, good.made, longer);
       }
 

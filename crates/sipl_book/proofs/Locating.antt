@@ -10,31 +10,22 @@ use Rattle.sipl_records.specs.declared.record.Key.{Key}
 use Rattle.sipl_choice.specs.Abilities.{Client}
 use Rattle.sipl_uri.specs.declared.question.Question.{Question}
 use Rattle.sipl_evidence.specs.Items.{Item}
-use Rattle.sipl_evidence.specs.Known.{Agrees}
 use Rattle.sipl_plans.specs.Findings.{Found, IsFound}
 use Rattle.sipl_plans.specs.Runs.{RunState, IsGiven, wanted}
-use Rattle.sipl_zonestore.specs.Numbers.{SetNumber, number_of}
-use Rattle.sipl_zonestore.specs.Store.{Store, Zones, number_in}
+use Rattle.sipl_zonestore.specs.Store.{Store, number_in}
 use Rattle.sipl_book.specs.Book.{BookState}
 use Rattle.sipl_book.specs.Calls.{after_look, is_renumbered, with_looks}
 use Rattle.sipl_book.specs.Honesty.{AreCurrent, IsHonest}
 use Rattle.sipl_book.specs.Lookups.{IsLocated, after_reads}
+use Rattle.sipl_book.proofs.Honest.{current-as}
 use Rattle.sipl_book.proofs.Staleness.{looked_once, position-none}
 
 -- ---- stores with the same sets
 
 module _ (old new : Store) (zones : new.zones ≡ old.zones) (numbers : new.numbers ≡ old.numbers) where
-  -- what is current in the one is so in the other
-  pub current-as : (items : List Item) → AreCurrent old items → AreCurrent new items
-  current-as items now =
-      record {
-        agrees = subst (λ (z : Zones). Agrees (set_of z.records) items) (sym zones) now.agrees;
-        numbers = subst (λ (ns : List SetNumber). All (λ item. number_of ns item.key ≡ item.number) items) (sym numbers) now.numbers;
-      }
-
   pub located-as : (question : Question) (client : Client) (found : Found) → IsLocated old question client found → IsLocated new question client found
   located-as question client found is =
-      record { question = is.question; client = is.client; current = current-as found.items is.current; sound = is.sound }
+      record { question = is.question; client = is.client; current = current-as old new zones numbers found.items is.current; sound = is.sound }
 
 -- what is current is honest
 pub honest-current : (store : Store) (items : List Item) → AreCurrent store items → IsHonest store items

@@ -2,7 +2,7 @@ use Rattle.std.proofs.Common.{◌<◌, rules, ap, sym, subst}
 use Rattle.std.proofs.lemmas.Result.{MatchResult-weaker}
 use Rattle.sipl_book.specs.Book.{BookState, next_event}
 use Rattle.sipl_book.proofs.Finding.{as_committed, found_anew}
-use Rattle.sipl_book.proofs.Locating.{current-as}
+use Rattle.sipl_book.proofs.Honest.{current-as}
 use Rattle.sipl_book.proofs.book.Book.find_anew.Goals as goal
 
 pub commit_current-requires-clause-current : goal.commit_current-requires-clause-current
