@@ -5,10 +5,12 @@ use Rattle.std.specs.List.{All, count_by, list_any}
 use Rattle.std.proofs.Math.ListN.{length-map}
 use Rattle.std.proofs.lemmas.Bool.{cases_Bool, and_parts, cond-false, lt-leb, le-ltb, leb-false, ltb-false}
 use Rattle.std.proofs.lemmas.List.Elements.{All-nil, All-cons, All-map, All-weaker}
+use Rattle.sipl_names.specs.Labels.{is_wildcard}
 use Rattle.sipl_records.specs.declared.record.Key.{Key}
 use Rattle.sipl_records.specs.Sets.{same_key, same_record, conflicts, shares_set}
 use Rattle.sipl_evidence.specs.Items.{Item}
 use Rattle.sipl_evidence.specs.Known.{is_unknown}
+use Rattle.sipl_zonestore.specs.declared.changed.Changed.{Changed}
 use Rattle.sipl_zonestore.specs.declared.fault.StoreFault.{StoreFault}
 use Rattle.sipl_zonestore.specs.declared.fault.StoreFault.TheVariants.{Overlap, NoZone, Duplicate, Absent, AliasBesideData, SetFull, StoreFull, NumberSpent, WildApex, Memory}
 use Rattle.sipl_zonestore.specs.Store.{Zones, Store, overlaps, is_covered, records_after_load}
@@ -117,11 +119,12 @@ module _ (old new : BookState) (keys : List Key) (client : new.client ≡ old.cl
 
 -- ---- an edit that is made
 
-pub consistent-changed : (edit : Edit) (old : BookState) (store : Store) (keys : List Key) (journal : List Event) (entries : List EntryState) (queue : QueueState)
-    → IsConsistent old → IsEdited (zone_edit edit) old.store store (Ok keys) → length old.journal < old.max_events
-    → journal ≡ old.journal ++ Change edit ∷ [] → entries ≡ map (after_change keys) old.entries
+pub consistent-changed : (edit : Edit) (old : BookState) (store : Store) (changed : Changed) (journal : List Event) (entries : List EntryState) (queue : QueueState)
+    → IsConsistent old → IsEdited (zone_edit edit) old.store store (Ok changed) → length old.journal < old.max_events
+    → journal ≡ old.journal ++ Change edit ∷ [] → entries ≡ map (after_change changed.keys) old.entries
     → IsConsistent (record old { store = store; journal = journal; entries = entries; queue = queue })
-consistent-changed edit old store keys journal entries queue good edited space journal_is entries_is =
+consistent-changed edit old store changed journal entries queue good edited space journal_is entries_is =
+    let keys = changed.keys in
     let events = old.journal ++ Change edit ∷ [] in
     let longer : length events ≡ length old.journal + 1 = length-append old.journal (Change edit ∷ []) in
     let accepted = edit_with_more old.store.max_records 1048576 (zone_edit edit) old.store.zones good.records_limit (first_none (refusal_of old.store.max_records (zone_edit edit) old.store.zones) _ edited.accepted) in

@@ -9,7 +9,7 @@ use Rattle.sipl_zonestore.specs.Store.{Store, number_in}
 use Rattle.sipl_zonestore.specs.Edits.{after as after_edit}
 use Rattle.sipl_zonestore.specs.Edited.{store_refusal}
 use Rattle.sipl_zonestore.specs.Looks.{looked}
-use Rattle.sipl_zonestore.specs.Changes.{changed_keys}
+use Rattle.sipl_zonestore.specs.Changes.{changed_count, changed_keys}
 use Rattle.sipl_zonestore.specs.Numbers.{number_after, next_after}
 use Rattle.sipl_outages.specs.Holds.{BoardEvent, refusal_of as hold_refusal, after as after_hold}
 use Rattle.sipl_outages.specs.Holds.BoardEvent.{Hold as HoldFor, Release as ReleaseOf, Advance as AdvanceTo}
@@ -52,7 +52,7 @@ pub record IsChanged (edit : Edit) (old new : BookState) (result : Result Done B
   pub accepted : OnOk result (change_refusal edit old ≡ None)
   pub number : IfOk result (λ done. done.number ≡ next_event old)
   pub changed : IfOk result (λ done. done.changed
-      ≡ length (changed_keys old.store.zones.records new.store.zones.records))
+      ≡ changed_count old.store.zones.records new.store.zones.records)
   pub zones : OnOk result (new.store.zones ≡ after_edit (zone_edit edit) old.store.zones)
   pub numbers : OnOk result ((key : Key) → number_in new.store key
       ≡ number_after old.store.zones.records new.store.zones.records old.store.next

@@ -4,8 +4,8 @@ ghost use Rattle.sipl_book.specs.Machine.{zone_edit};
 
 use sipl_masterfile::ZoneText;
 use sipl_names::Name;
-use sipl_records::{Key, Record, Sequence};
-use sipl_zonestore::{StoreFault, ZoneStore};
+use sipl_records::Record;
+use sipl_zonestore::{Changed, StoreFault, ZoneStore};
 use std::alloc::{AllocError, Global};
 
 /// A change of the loaded zones.
@@ -34,8 +34,8 @@ impl Edit {
         })
     }
 
-    // Makes the edit. Returns the keys of the sets that changed.
-    pub(crate) fn apply(&self, store: &mut ZoneStore) -> Result<Sequence<Key>, StoreFault>
+    // Makes the edit. Returns the keys of the sets that changed, and how many are those of record sets.
+    pub(crate) fn apply(&self, store: &mut ZoneStore) -> Result<Changed, StoreFault>
         ensures { IsEdited (zone_edit self.now) store.old store.new result }
     {
         match self {

@@ -9,15 +9,15 @@ use Rattle.sipl_book.specs.declared.event.Event.TheVariants.{Change}
 use Rattle.sipl_book.proofs.Changing.{consistent-changed, refused-change}
 use Rattle.sipl_book.proofs.book.Book.change.Goals as goal
 
-pub returns-in_err-keys : goal.returns-in_err-keys
-returns-in_err-keys c =
-    let p = err_from_is_err_and c.from_residual-in_err-keys.result c.from_residual-in_err-keys.ensures.1 in
-    rw (p.1, p.2, ← c.self.view_is) (refused-change c.args.edit _ c.apply.new.store c.reserve_event.new.journal.items c.in_err-keys.field-0.0 c.in_err-keys.ensures c.in_ok-reserve_event.ensures.few c.reserve_event.ensures.items)
+pub returns-in_err-changed : goal.returns-in_err-changed
+returns-in_err-changed c =
+    let p = err_from_is_err_and c.from_residual-in_err-changed.result c.from_residual-in_err-changed.ensures.1 in
+    rw (p.1, p.2, ← c.self.view_is) (refused-change c.args.edit _ c.apply.new.store c.reserve_event.new.journal.items c.in_err-changed.field-0.0 c.in_err-changed.ensures c.in_ok-reserve_event.ensures.few c.reserve_event.ensures.items)
 
 pub invariant_of-self-2 : goal.invariant_of-self-2
 invariant_of-self-2 c =
     let inside = c.self.inside in
-    let keys = c.in_ok-keys.keys in
+    let keys = c.in_ok-changed.changed.keys in
     let events = c.record_event-number.new.journal.items in
     let changed = λ (changes : List Key). record inside.cache {
       entries = map (after_change changes) inside.cache.entries;
@@ -34,5 +34,5 @@ invariant_of-self-2 c =
       max_entries = k.max_entries;
       max_events = inside.max_events;
     })) (sym cache)
-    (consistent-changed c.args.edit _ c.apply.new.store keys events (changed keys).entries (changed keys).queue c.self.invariant c.in_ok-keys.ensures c.in_ok-reserve_event.ensures.few
+    (consistent-changed c.args.edit _ c.apply.new.store c.in_ok-changed.changed events (changed keys).entries (changed keys).queue c.self.invariant c.in_ok-changed.ensures c.in_ok-reserve_event.ensures.few
     (c.record_event-number.ensures.items ∙ ap (λ events. events ++ Change c.args.edit ∷ []) c.reserve_event.ensures.items) refl)
