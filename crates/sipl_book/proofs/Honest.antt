@@ -37,7 +37,7 @@ same-existence m n a b (inr present) (inr present_too) same = present.1 ∙ sym 
 -- ---- sets that a store has
 
 -- a set as a store has it was given by it
-pub given-now : (store : Store) (item : Item) → IsConsistent store → number_in store item.key ≡ item.number → set_of store.zones.records item.key ≡ item.content → WasGiven store item
+pub given-now : (store : Store) (item : Item) → IsConsistent store → number_in store item.key ≡ item.number → set_of store.zones.records item.key ≡ item.content → WasGiven store.next item
 given-now store item good number content =
     record {
       set = λ other. subst (λ (n : ℕ). n < store.next) number (good.numbered.below item.key other);
@@ -101,7 +101,7 @@ honest-set old new edited item other is_item given honest same =
     ]
 
 -- and so is a name's existence, whose number is that of no other data
-honest-after : (old new : Store) → TakesNumbers old new → (item : Item) → IsItem item → WasGiven old item
+honest-after : (old new : Store) → TakesNumbers old new → (item : Item) → IsItem item → WasGiven old.next item
     → (number_in old item.key ≡ item.number → set_of old.zones.records item.key ≡ item.content)
     → number_in new item.key ≡ item.number → set_of new.zones.records item.key ≡ item.content
 honest-after old new edited item is_item given honest same = elim (cases_Bool (is_existence item.key)) [
@@ -109,7 +109,7 @@ honest-after old new edited item is_item given honest same = elim (cases_Bool (i
   | inr other ↦ honest-set old new edited item other is_item (given.set other) honest same
 ]
 
-given-after : (old new : Store) → TakesNumbers old new → (item : Item) → WasGiven old item → WasGiven new item
+given-after : (old new : Store) → TakesNumbers old new → (item : Item) → WasGiven old.next item → WasGiven new.next item
 given-after old new edited item given =
     record { set = λ other. omega (arith, given.set other, edited.next); existence = given.existence }
 

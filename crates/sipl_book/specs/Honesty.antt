@@ -19,17 +19,17 @@ IsHonest store items =
 abbrev pub IsExistence : ℕ → List Data → Type 0
 IsExistence number content = ((number ≡ 0) × (content ≡ [])) ⊎ ((number ≡ 1) × (content ≡ Bare ∷ []))
 
--- an item as a store may have given it, now or before an edit: the number of a set of records was
--- given before the next one, and a name's existence has numbers of its own
-pub record WasGiven (store : Store) (item : Item) : Type 0 where
-  pub set : is_existence item.key ≡ false → item.number < store.next
+-- an item as a store with this number next may have given it, now or before an edit: the number of a
+-- set of records was given before the next one, and a name's existence has numbers of its own
+pub record WasGiven (next : ℕ) (item : Item) : Type 0 where
+  pub set : is_existence item.key ≡ false → item.number < next
   pub existence : is_existence item.key ≡ true → IsExistence item.number item.content
 
 -- sets as they may have been read from a store, now or before an edit: 0 is the number of no data,
 -- each was given by the store, and where a set's number is the store's, so are the data
 pub record WereRead (store : Store) (items : List Item) : Type 0 where
   pub sets : All IsItem items
-  pub given : All (WasGiven store) items
+  pub given : All (WasGiven store.next) items
   pub honest : IsHonest store items
 
 -- sets are as the store has them, and so are their numbers

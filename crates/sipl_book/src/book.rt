@@ -171,7 +171,7 @@ impl Book {
         ensures value { IfOk result
             (λ read. read.1 ≡ set_of self.old.store.zones.records key.now) }
         ensures set { IfOk result (λ read. IsSet key.now read.0 read.1) }
-        ensures given { IfOk result (λ read. WasGiven self.old.store
+        ensures given { IfOk result (λ read. WasGiven self.old.store.next
             (record { key = key.now; number = read.0; content = read.1 })) }
         ensures consistent { IsConsistentStore self.old.store }
         ensures looked { self.new ≡ after_look self.old }

@@ -15,7 +15,7 @@ use Rattle.sipl_zonestore.specs.Store.{Store, number_in}
 use Rattle.sipl_book.specs.Book.{BookState, next_event}
 use Rattle.sipl_book.specs.Calls.{IsLeased, IsSettled, after_commit, after_give_back, after_look, after_settlement, after_stale, is_renumbered}
 use Rattle.sipl_book.specs.Entries.{EntryState, entry_of, renewed}
-use Rattle.sipl_book.specs.Honesty.{WereRead}
+use Rattle.sipl_book.specs.Honesty.{WasGiven, WereRead}
 use Rattle.sipl_book.specs.Repairs.{entry_with}
 use Rattle.sipl_book.specs.declared.fault.BookFault.{BookFault}
 use Rattle.sipl_book.specs.declared.fault.BookFault.TheVariants.{JournalFull, NotCurrent, Stale, Unknown, Gone, Queue, Store as OfStore, Board, Memory}
@@ -87,17 +87,17 @@ world-started old w run good within idle client none =
 
 -- ---- a set is read
 
-read-push : (store : Store) (items : List Item) (item : Item) → WereRead store items → IsItem item → item.number < store.next
+read-push : (store : Store) (items : List Item) (item : Item) → WereRead store items → IsItem item → WasGiven store.next item
     → set_of store.zones.records item.key ≡ item.content → WereRead store (items ++ item ∷ [])
 read-push store items item was set given content =
     record {
       sets = All-push IsItem items item was.sets set;
-      given = All-push (λ x. x.number < store.next) items item was.given given;
+      given = All-push (WasGiven store.next) items item was.given given;
       honest = All-push (λ x. number_in store x.key ≡ x.number → set_of store.zones.records x.key ≡ x.content) items item was.honest (λ _. content);
     }
 
 good-read : (book : BookState) (worker : Option Job) (item : Item) → ((job : Job) → worker ≡ Some job → IsGoodJob book job) → IsItem item
-    → item.number < book.store.next → set_of book.store.zones.records item.key ≡ item.content
+    → WasGiven book.store.next item → set_of book.store.zones.records item.key ≡ item.content
     → (job : Job) → with_item item worker ≡ Some job → IsGoodJob (after_look book) job
 good-read book None item good set given content job is = cc
 good-read book (Some was) item good set given content job is =
@@ -113,7 +113,7 @@ lease-with_item item None = refl
 lease-with_item item (Some job) = refl
 
 pub world-read : (old : WorldState) (book : BookState) (w : ℕ) (item : Item) → IsWorld old → w < length old.workers → book ≡ after_look old.book
-    → IsItem item → item.number < old.book.store.next → set_of old.book.store.zones.records item.key ≡ item.content
+    → IsItem item → WasGiven old.book.store.next item → set_of old.book.store.zones.records item.key ≡ item.content
     → IsWorld (record { book = book; workers = set old.workers w (with_item item (job_at old.workers w)) })
 world-read old book w item good within is is_set given content =
     subst (λ (b : BookState). IsWorld (record { book = b; workers = set old.workers w (with_item item (job_at old.workers w)) })) (sym is)
