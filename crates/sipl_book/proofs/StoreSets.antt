@@ -61,8 +61,8 @@ few_or_none k all (r ∷ records) fit =
       | inr other ↦ elim (few_or_none k all records both.1) [ inl none ↦ inl (rw (other, none) refl) | inr few ↦ inr few ]
     ]
 
-few : (k : Key) (records : List Record) → list_all (λ r. leb (count_by (shares_set r) records) 32) records ≡ true → length (set_of records k) ≤ 32
-few k records fit = elim (cases_Bool (is_existence k)) [
+length-few : (k : Key) (records : List Record) → list_all (λ r. leb (count_by (shares_set r) records) 32) records ≡ true → length (set_of records k) ≤ 32
+length-few k records fit = elim (cases_Bool (is_existence k)) [
   | inl of ↦ omega (arith, length-existence records k of)
   | inr other ↦ rw (set_of-data records k other) (elim (few_or_none k records records fit) [ inl none ↦ omega (arith, ap length none) | inr few ↦ few ])
 ]
@@ -74,6 +74,6 @@ pub set_is_set : (store : Store) (k : Key) → IsConsistent store → IsSet k (n
 set_is_set store k good =
     record {
       kind = set_of-kind store.zones.records k;
-      few = few k store.zones.records good.sets_fit;
+      few = length-few k store.zones.records good.sets_fit;
       number = good.numbered.empty k;
     }
