@@ -98,10 +98,9 @@ impl Book {
     }
 
     /// Edits the zones. The entries whose evidence has the key of a set that changed are outdated
-    /// then, and are marked in their order, but for those that are leased; so are those whose evidence
-    /// has the existence of a name that exists now and did not, or did and does not now, though such
-    /// a name is not counted as a change. The cost is that of the edit, a search for each entry that
-    /// depends on a changed set, and a sort of their ids.
+    /// then, and are marked in their order, but for those that are leased. The existence of a name is
+    /// a set too (RFC 4592, 2.2.3), but is not counted among those that changed. The cost is that of
+    /// the edit, a search for each entry that depends on a changed set, and a sort of their ids.
     ///
     /// The fault is the first one: a full journal (B3), a fault of the zones (S1 to S9).
     pub fn change(&mut self, edit: Edit) -> Result<Done, BookFault>

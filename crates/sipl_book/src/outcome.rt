@@ -11,7 +11,7 @@ use thiserror::Error;
 pub struct Done {
     /// The number of its event.
     pub number: u64,
-    /// How many record sets changed. A name that begins or ceases to exist does not count.
+    /// How many record sets changed, without those of existence.
     pub changed: u64,
 }
 
