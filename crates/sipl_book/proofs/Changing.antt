@@ -21,6 +21,7 @@ use Rattle.sipl_book.specs.Book.{BookState, IsConsistent, IsGoodEntry}
 use Rattle.sipl_book.specs.BookFault.{of_store}
 use Rattle.sipl_book.specs.Calls.{IsChanged}
 use Rattle.sipl_book.specs.Entries.{EntryState, depends_on, after_change}
+use Rattle.sipl_book.specs.Repairs.{after_marks, dependents}
 use Rattle.sipl_book.specs.Machine.{IsAccepted, zone_edit, empty_state, after}
 use Rattle.sipl_book.specs.declared.edit.Edit.{Edit}
 use Rattle.sipl_book.specs.declared.event.Event.{Event}
@@ -144,6 +145,32 @@ consistent-changed edit old store changed journal entries queue good edited spac
       entries_limit = good.entries_limit;
       events_limit = good.events_limit;
     })
+
+pub made-change : (edit : Edit) (old : BookState) (store : Store) (changed : Changed) (number : ℕ) (journal : List Event) (entries : List EntryState) (queue : QueueState)
+    → IsEdited (zone_edit edit) old.store store (Ok changed) → length old.journal < old.max_events → number ≡ length old.journal
+    → journal ≡ old.journal ++ Change edit ∷ [] → entries ≡ map (after_change changed.keys) old.entries → queue ≡ after_marks old.queue (dependents changed.keys old.entries)
+    → IsChanged edit old (record old { store = store; journal = journal; entries = entries; queue = queue }) (Ok (record { number = number; changed = changed.sets }))
+made-change edit old store changed number journal entries queue edited space number_is journal_is entries_is queue_is =
+    record {
+      accepted = cond-false (leb old.max_events (length old.journal)) (Some JournalFull) _ (lt-leb old.max_events (length old.journal) space)
+          ∙ ap (option_map OfStore) edited.accepted;
+      number = number_is;
+      changed = edited.counted;
+      zones = edited.after;
+      numbers = edited.numbers;
+      next = edited.next;
+      journal = journal_is;
+      entries = entries_is ∙ ap (λ keys. map (after_change keys) old.entries) edited.changed;
+      queue = queue_is ∙ ap (λ keys. after_marks old.queue (dependents keys old.entries)) edited.changed;
+      refused = tt;
+      unchanged = tt;
+      looks = edited.looks;
+      max_records = edited.limit;
+      board = refl;
+      client = refl;
+      max_entries = refl;
+      max_events = refl;
+    }
 
 -- ---- an edit that is refused
 

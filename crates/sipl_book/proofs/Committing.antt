@@ -25,6 +25,7 @@ module _ (looks : ℕ) (book : BookState) (so : IsConsistent book) where
         store = record {
           apart = so.store.apart;
           apexes_distinct = so.store.apexes_distinct;
+          no_wildcard = so.store.no_wildcard;
           covered = so.store.covered;
           records_distinct = so.store.records_distinct;
           sets_fit = so.store.sets_fit;

@@ -1,4 +1,4 @@
-use Rattle.std.proofs.Common.{◌≡◌, List, [], ◌∷◌, ◌++◌, map, refl, sym, ap, subst, ◌∙◌}
+use Rattle.std.proofs.Common.{◌≡◌, List, [], ◌∷◌, ◌++◌, length, map, refl, sym, ap, subst, ◌∙◌}
 use Rattle.std.proofs.lemmas.Result.{err_from_is_err_and}
 use Rattle.sipl_records.specs.declared.record.Key.{Key}
 use Rattle.sipl_book.specs.Book.{IsConsistent}
@@ -6,7 +6,7 @@ use Rattle.sipl_book.specs.Cache.{CacheState}
 use Rattle.sipl_book.specs.Entries.{after_change}
 use Rattle.sipl_book.specs.Repairs.{after_marks, dependents}
 use Rattle.sipl_book.specs.declared.event.Event.TheVariants.{Change}
-use Rattle.sipl_book.proofs.Changing.{consistent-changed, refused-change}
+use Rattle.sipl_book.proofs.Changing.{consistent-changed, made-change, refused-change}
 use Rattle.sipl_book.proofs.book.Book.change.Goals as goal
 
 pub returns-in_err-changed : goal.returns-in_err-changed
@@ -36,3 +36,18 @@ invariant_of-self-2 c =
     })) (sym cache)
     (consistent-changed c.args.edit _ c.apply.new.store c.in_ok-changed.changed events (changed keys).entries (changed keys).queue c.self.invariant c.in_ok-changed.ensures c.in_ok-reserve_event.ensures.few
     (c.record_event-number.ensures.items ∙ ap (λ events. events ++ Change c.args.edit ∷ []) c.reserve_event.ensures.items) refl)
+
+pub returns : goal.returns
+returns c =
+    let inside = c.self.inside in
+    let keys = c.in_ok-changed.changed.keys in
+    let changed = λ (changes : List Key). record inside.cache {
+      entries = map (after_change changes) inside.cache.entries;
+      queue = after_marks inside.cache.queue (dependents changes inside.cache.entries);
+    } in
+    let cache : c.outdate.new.self ≡ changed keys = c.outdate.ensures ∙ ap changed c.as_slice.ensures in
+    rw (← c.self.view_is) (made-change c.args.edit _ c.apply.new.store c.in_ok-changed.changed c.record_event-number.result c.record_event-number.new.journal.items
+    c.outdate.new.self.entries c.outdate.new.self.queue c.in_ok-changed.ensures c.in_ok-reserve_event.ensures.few
+    (c.record_event-number.ensures.number ∙ ap length c.reserve_event.ensures.items)
+    (c.record_event-number.ensures.items ∙ ap (λ events. events ++ Change c.args.edit ∷ []) c.reserve_event.ensures.items)
+    (ap (λ (k : CacheState). k.entries) cache) (ap (λ (k : CacheState). k.queue) cache))

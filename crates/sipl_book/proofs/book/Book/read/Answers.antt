@@ -15,5 +15,5 @@ returns-clause-set c =
 
 pub returns-clause-given : goal.returns-clause-given
 returns-clause-given c =
-    given-now c.self.inside.store (record { key = c.args.key.now; number = c.set.result.0; content = c.from_vec.result }) c.self.invariant.store
-    (sym c.set.ensures.number) (sym (c.from_vec.ensures ∙ c.in_ok-copy.ensures ∙ c.set.ensures.value))
+    rw (← c.self.view_is) (given-now c.self.inside.store (record { key = c.args.key.now; number = c.set.result.0; content = c.from_vec.result }) c.self.invariant.store
+    (sym c.set.ensures.number) (sym (c.from_vec.ensures ∙ c.in_ok-copy.ensures ∙ c.set.ensures.value)))
