@@ -146,11 +146,15 @@ consistent-changed edit old store changed journal entries queue good edited spac
       events_limit = good.events_limit;
     })
 
-pub made-change : (edit : Edit) (old : BookState) (store : Store) (changed : Changed) (number : ℕ) (journal : List Event) (entries : List EntryState) (queue : QueueState)
-    → IsEdited (zone_edit edit) old.store store (Ok changed) → length old.journal < old.max_events → number ≡ length old.journal
-    → journal ≡ old.journal ++ Change edit ∷ [] → entries ≡ map (after_change changed.keys) old.entries → queue ≡ after_marks old.queue (dependents changed.keys old.entries)
-    → IsChanged edit old (record old { store = store; journal = journal; entries = entries; queue = queue }) (Ok (record { number = number; changed = changed.sets }))
-made-change edit old store changed number journal entries queue edited space number_is journal_is entries_is queue_is =
+pub made-change : (edit : Edit) (old : BookState) (store : Store) (changed : Changed) (number : ℕ) (journal : List Event)
+    → IsEdited (zone_edit edit) old.store store (Ok changed) → length old.journal < old.max_events → number ≡ length old.journal → journal ≡ old.journal ++ Change edit ∷ []
+    → IsChanged edit old (record old {
+      store = store;
+      journal = journal;
+      entries = map (after_change changed.keys) old.entries;
+      queue = after_marks old.queue (dependents changed.keys old.entries);
+    }) (Ok (record { number = number; changed = changed.sets }))
+made-change edit old store changed number journal edited space number_is journal_is =
     record {
       accepted = cond-false (leb old.max_events (length old.journal)) (Some JournalFull) _ (lt-leb old.max_events (length old.journal) space)
           ∙ ap (option_map OfStore) edited.accepted;
@@ -160,8 +164,8 @@ made-change edit old store changed number journal entries queue edited space num
       numbers = edited.numbers;
       next = edited.next;
       journal = journal_is;
-      entries = entries_is ∙ ap (λ keys. map (after_change keys) old.entries) edited.changed;
-      queue = queue_is ∙ ap (λ keys. after_marks old.queue (dependents keys old.entries)) edited.changed;
+      entries = ap (λ keys. map (after_change keys) old.entries) edited.changed;
+      queue = ap (λ keys. after_marks old.queue (dependents keys old.entries)) edited.changed;
       refused = tt;
       unchanged = tt;
       looks = edited.looks;

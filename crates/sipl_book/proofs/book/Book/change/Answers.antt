@@ -1,8 +1,10 @@
-use Rattle.std.proofs.Common.{◌≡◌, List, [], ◌∷◌, ◌++◌, length, map, refl, sym, ap, subst, ◌∙◌}
+use Rattle.std.proofs.Common.{◌≡◌, Ok, List, [], ◌∷◌, ◌++◌, length, map, refl, sym, ap, subst, ◌∙◌}
 use Rattle.std.proofs.lemmas.Result.{err_from_is_err_and}
 use Rattle.sipl_records.specs.declared.record.Key.{Key}
 use Rattle.sipl_book.specs.Book.{IsConsistent}
+use Rattle.sipl_book.specs.BookFields.{book_of}
 use Rattle.sipl_book.specs.Cache.{CacheState}
+use Rattle.sipl_book.specs.Calls.{IsChanged}
 use Rattle.sipl_book.specs.Entries.{after_change}
 use Rattle.sipl_book.specs.Repairs.{after_marks, dependents}
 use Rattle.sipl_book.specs.declared.event.Event.TheVariants.{Change}
@@ -41,13 +43,23 @@ pub returns : goal.returns
 returns c =
     let inside = c.self.inside in
     let keys = c.in_ok-changed.changed.keys in
+    let events = c.record_event-number.new.journal.items in
     let changed = λ (changes : List Key). record inside.cache {
       entries = map (after_change changes) inside.cache.entries;
       queue = after_marks inside.cache.queue (dependents changes inside.cache.entries);
     } in
     let cache : c.outdate.new.self ≡ changed keys = c.outdate.ensures ∙ ap changed c.as_slice.ensures in
-    rw (← c.self.view_is) (made-change c.args.edit _ c.apply.new.store c.in_ok-changed.changed c.record_event-number.result c.record_event-number.new.journal.items
-    c.outdate.new.self.entries c.outdate.new.self.queue c.in_ok-changed.ensures c.in_ok-reserve_event.ensures.few
+    rw (← c.self.view_is)
+    (subst (λ (k : CacheState). IsChanged c.args.edit (book_of inside) (record {
+      client = inside.abilities;
+      store = c.apply.new.store;
+      board = inside.board;
+      journal = events;
+      entries = k.entries;
+      queue = k.queue;
+      max_entries = k.max_entries;
+      max_events = inside.max_events;
+    }) (Ok (record { number = c.record_event-number.result; changed = c.in_ok-changed.changed.sets }))) (sym cache)
+    (made-change c.args.edit (book_of inside) c.apply.new.store c.in_ok-changed.changed c.record_event-number.result events c.in_ok-changed.ensures c.in_ok-reserve_event.ensures.few
     (c.record_event-number.ensures.number ∙ ap length c.reserve_event.ensures.items)
-    (c.record_event-number.ensures.items ∙ ap (λ events. events ++ Change c.args.edit ∷ []) c.reserve_event.ensures.items)
-    (ap (λ (k : CacheState). k.entries) cache) (ap (λ (k : CacheState). k.queue) cache))
+    (c.record_event-number.ensures.items ∙ ap (λ events. events ++ Change c.args.edit ∷ []) c.reserve_event.ensures.items)))
