@@ -8,8 +8,8 @@ use Rattle.sipl_records.specs.Sets.{exists_in, existence_of, is_existence, set_o
 use Rattle.sipl_evidence.specs.Items.{Item, IsItem}
 use Rattle.sipl_plans.specs.Findings.{Found, IsSound}
 use Rattle.sipl_zonestore.specs.Consistent.{IsConsistent}
-use Rattle.sipl_zonestore.specs.Numbers.{SetNumber, number_after, next_after}
-use Rattle.sipl_zonestore.specs.Store.{Store, Zones, number_in}
+use Rattle.sipl_zonestore.specs.Numbers.{number_after, next_after}
+use Rattle.sipl_zonestore.specs.Store.{Store, number_in}
 use Rattle.sipl_zonestore.proofs.Public.{number-cases}
 use Rattle.sipl_book.specs.Honesty.{AreCurrent, IsExistence, WasGiven, WereRead}
 

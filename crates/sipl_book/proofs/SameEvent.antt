@@ -1,8 +1,8 @@
 -- `==` of events is true exactly where they are equal.
-use Rattle.std.proofs.Common.{◌≡◌, Bool, ap, sym, subst, rules, nat_eq}
+use Rattle.std.proofs.Common.{◌≡◌, Bool, ap, sym, subst, rules}
 use Rattle.std.specs.Bool.{Decides}
 use Rattle.std.proofs.lemmas.Bool.Decides.{Decides-eqb, Decides-like, Decides-and}
-use lib.Pointwise.{pointwise, pointwise_decides, bytes_decides}
+use lib.Pointwise.{pointwise_decides, bytes_decides}
 use Rattle.sipl_names.proofs.Public.{same_name_decides}
 use Rattle.sipl_records.specs.declared.record.Record.{Record}
 use Rattle.sipl_records.specs.contracts.record.RecordPartialEq.TheImpl.{eq-value as record_eq}

@@ -1,11 +1,10 @@
 -- The sets of a store, as they are read.
-use Rattle.std.proofs.Common.{◌≡◌, ◌⊎◌, ℕ, ◌≤◌, Bool, true, false, leb, List, [], ◌∷◌, length, Option, Some, None, inl, inr, refl, sym, ap, ◌∙◌, arith}
+use Rattle.std.proofs.Common.{◌≡◌, ◌⊎◌, ◌≤◌, Bool, true, false, leb, List, [], ◌∷◌, length, Option, Some, None, inl, inr, refl, sym, ap, ◌∙◌, arith}
 use Rattle.std.specs.List.{All, list_all, count_by}
 use Rattle.std.proofs.lemmas.Bool.{cases_Bool, and_parts, leb-true}
 use Rattle.std.proofs.lemmas.List.Elements.{All-nil, All-cons}
 use Rattle.sipl_names.specs.Labels.{same_name}
-use Rattle.sipl_records.specs.Sets.{data_of, exists_in, existence_of, has_key, has_kind, has_own_kind, is_existence, key_of, same_kind, set_of, shares_set}
-use Rattle.sipl_records.specs.declared.kind.Kind.{Kind}
+use Rattle.sipl_records.specs.Sets.{data_of, exists_in, existence_of, has_key, has_kind, has_own_kind, is_existence, key_of, set_of, shares_set}
 use Rattle.sipl_records.specs.declared.kind.Kind.TheVariants.{Exists}
 use Rattle.sipl_records.specs.declared.record.Key.{Key}
 use Rattle.sipl_records.specs.declared.record.Record.{Record}
@@ -21,7 +20,7 @@ data_of-kind : (records : List Record) (k : Key) → All (λ datum. has_kind k.k
 data_of-kind [] k = All-nil (λ datum. has_kind k.kind datum ≡ true)
 data_of-kind (r ∷ records) k = elim (cases_Bool (has_key k r)) [
   | inl own ↦ rw own (All-cons (λ datum. has_kind k.kind datum ≡ true) r.value (data_of records k)
-    (has_kind-own k.kind r.value (and_parts (same_name r.owner k.name) (has_own_kind k.kind r.value) own).1) (data_of-kind records k))
+      (has_kind-own k.kind r.value (and_parts (same_name r.owner k.name) (has_own_kind k.kind r.value) own).1) (data_of-kind records k))
   | inr other ↦ rw other (data_of-kind records k)
 ]
 
