@@ -2,7 +2,7 @@
 use Rattle.std.specs.Prelude.{◌≡◌, ◌≢◌, ℕ, Bool, false, ◌||◌, nat_eq, List, [], Option, None, Some, IfSome, if◌then◌else◌}
 use Rattle.std.specs.Coded.{Coded, codes}
 use Rattle.std.specs.Map.{lookup}
-use Rattle.sipl_records.specs.Sets.{key_of, same_key, set_of}
+use Rattle.sipl_records.specs.Sets.{is_existence, key_of, same_key, set_of}
 use Rattle.sipl_records.specs.declared.data.Data.{Data}
 use Rattle.sipl_records.specs.declared.record.Key.{Key}
 use Rattle.sipl_zonestore.specs.Store.{Store, number_in}
@@ -13,16 +13,17 @@ use Rattle.sipl_book.specs.declared.edit.Edit.{Edit}
 use Rattle.sipl_book.specs.declared.edit.Edit.TheVariants.{Load, Unload, Add, Remove}
 use Rattle.sipl_service.specs.declared.marks.Mark.{Mark}
 
--- a mark of a set as it is: it has the set's number, and the set is not empty
-pub record IsMarkOf (n : ℕ) (content : List Data) (mark : Mark) : Type 0 where
+-- a mark of a key's set as it is: it has the set's number, and the set is one of records, and not empty
+pub record IsMarkOf (key : Key) (n : ℕ) (content : List Data) (mark : Mark) : Type 0 where
+  pub of_records : is_existence key ≡ false
   pub number : mark.number ≡ n
   pub taken : n ≢ 0
   pub filled : content ≢ []
 
--- each mark is that of its key's set
+-- each mark is that of its key's set; sets of existence have none, since their numbers tell them
 abbrev pub AreMarksOf : Store → (Key → Option Mark) → Type 0
 AreMarksOf store marks = (key : Key)
-    → IfSome (marks key) (IsMarkOf (number_in store key) (set_of store.zones.records key))
+    → IfSome (marks key) (IsMarkOf key (number_in store key) (set_of store.zones.records key))
 
 -- what is under the lock: a book, the marks of its sets by their keys, and whether the service was
 -- stopped
@@ -38,8 +39,8 @@ shared_code = hlevel (codes, queue_state_code)
 abbrev pub mark_of : List (Key × Mark) → Key → Option Mark
 mark_of marks key = lookup (same_key key) marks
 
--- the key of the set that an edit of one record may change; none for an edit of a zone, and for a
--- record that is in no set
+-- the key of the set of records that an edit of one record may change; none for an edit of a zone, and
+-- for a record that is in no set
 abbrev pub key_edited : Edit → Option Key
 key_edited (Add r) = key_of r
 key_edited (Remove r) = key_of r

@@ -1,6 +1,7 @@
 // A lookup: the answer of the current entry, or else a run over sets that are read one at a time, and
 // a commit; where a set has changed in between, again.
-ghost use Rattle.std.specs.Prelude.{◌≡◌, [], None, IfOk, OnOk};
+ghost use Rattle.std.specs.Prelude.{◌≡◌, [], None, false, true, IfOk, OnOk};
+ghost use Rattle.sipl_records.specs.Sets.{is_existence};
 ghost use Rattle.sipl_plans.specs.Findings.{IsSound};
 ghost use Rattle.sipl_plans.specs.Runs.{IsSet, wanted};
 ghost use Rattle.sipl_service.specs.Passes.{GetsReceipt};
@@ -18,7 +19,7 @@ use crate::told::Told;
 use sipl_book::BookFault;
 use sipl_evidence::Evidence;
 use sipl_plans::{Finding, Run};
-use sipl_records::{Data, Key, Sequence};
+use sipl_records::{Data, Key, Kind, Sequence};
 use sipl_srv::Draws;
 use sipl_uri::Question;
 use std::sync::Wait;
@@ -170,10 +171,13 @@ impl Service {
     }
 
     // A copy of a key's set as it is, with its number. It is that of a version, which is copied with
-    // no lock held, but where there is none of this key and number.
+    // no lock held, but where there is none of this key and number. A set of existence has no version.
     fn read<R: Wait>(&self, rt: &R, key: &Key) -> Result<(u64, Sequence<Data>), ServiceFault>
         ensures { IfOk result (λ read. IsSet key.now read.0 read.1) }
     {
+        if key.kind == Kind::Exists {
+            return self.read_existence(rt, key);
+        }
         let Some(mark) = self.mark(rt, key)? else {
             return Ok((0, Sequence::from_vec(Vec::new(self.alloc))));
         };
@@ -186,8 +190,34 @@ impl Service {
         }
     }
 
-    // Where the version of a key's set as it is now is; `None` where the set is empty.
-    fn mark<R: Wait>(&self, rt: &R, key: &Key) -> Result<Option<Mark>, ServiceFault> {
+    // Whether a name exists (RFC 4592, 2.2.3), as a set with its number, which tells it.
+    fn read_existence<R: Wait>(
+        &self,
+        rt: &R,
+        key: &Key,
+    ) -> Result<(u64, Sequence<Data>), ServiceFault>
+        requires { is_existence key.now ≡ true }
+        ensures { IfOk result (λ read. IsSet key.now read.0 read.1) }
+    {
+        let number = self.number(rt, key)?;
+        let mut content = Vec::new(self.alloc);
+        if number > 0 {
+            content.push(Data::Bare)?;
+        }
+        Ok((number, Sequence::from_vec(content)))
+    }
+
+    // The number of a key's set as it is.
+    fn number<R: Wait>(&self, rt: &R, key: &Key) -> Result<u64, ServiceFault> {
+        let shared = self.lock(rt);
+        shared.check(&self.abilities)?;
+        Ok(shared.book.number(key))
+    }
+
+    // Where the version of a key's set of records as it is now is; `None` where the set is empty.
+    fn mark<R: Wait>(&self, rt: &R, key: &Key) -> Result<Option<Mark>, ServiceFault>
+        requires { is_existence key.now ≡ false }
+    {
         let mut shared = self.lock(rt);
         shared.check(&self.abilities)?;
         Ok(shared.mark(rt, &self.versions, key)?)

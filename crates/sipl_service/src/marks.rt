@@ -1,7 +1,7 @@
 //! Where the versions of record sets are, as the book's sets are now.
 ghost use Rattle.std.specs.Prelude.{◌≡◌, ◌≢◌, ◌↔◌, [], None, Some, false, nat_eq, IfOk, IfSome, OnOk, OnErr};
 ghost use Rattle.indexmap.specs.IndexMap.{get};
-ghost use Rattle.sipl_records.specs.Sets.{same_key};
+ghost use Rattle.sipl_records.specs.Sets.{is_existence, same_key};
 ghost use Rattle.sipl_records.specs.declared.record.Key.{Key};
 ghost use Rattle.sipl_zonestore.specs.Store.{number_in};
 ghost use Rattle.sipl_book.specs.Calls.{after_look};
@@ -22,7 +22,7 @@ pub(crate) struct Mark {
     pub place: usize,
 }
 
-/// The marks of the sets that were read, by their keys.
+/// The marks of the sets of records that were read, by their keys. A set of existence has none.
 #[derive(Drop)]
 pub(crate) struct Marks {
     alloc: Global,
@@ -40,9 +40,9 @@ impl Marks {
         }
     }
 
-    // The mark of a key's set; `None` where it is empty. Where it has none, a copy of the set is pushed
-    // to the versions, with a look at it. A mark that is there is that of the set as it is, so the book
-    // is not asked.
+    // The mark of a key's set of records; `None` where it is empty. Where it has none, a copy of the set
+    // is pushed to the versions, with a look at it. A mark that is there is that of the set as it is, so
+    // the book is not asked.
     pub(crate) fn of_key<R: Wait>(
         &mut self,
         rt: &R,
@@ -50,7 +50,8 @@ impl Marks {
         versions: &Versions,
         key: &Key,
     ) -> Result<Option<Mark>, AllocError>
-        requires { AreMarksOf book.old.store (get same_key self.old.table) }
+        requires of_records { is_existence key.now ≡ false }
+        requires marks { AreMarksOf book.old.store (get same_key self.old.table) }
         ensures marks { OnOk result (AreMarksOf book.old.store (get same_key self.new.table)) }
         ensures empty { IfOk result (λ mark. (mark ≡ None) ↔ (number_in book.old.store key.now ≡ 0)) }
         ensures number { IfOk result (λ mark.
@@ -72,8 +73,8 @@ impl Marks {
         Ok(Some(self.push(rt, book, versions, key)?))
     }
 
-    // Pushes a copy of a key's set to the versions, and keeps its mark. Where the mark finds no space,
-    // the version stays without a mark.
+    // Pushes a copy of a key's set of records to the versions, and keeps its mark. Where the mark finds
+    // no space, the version stays without a mark.
     fn push<R: Wait>(
         &mut self,
         rt: &R,
@@ -81,6 +82,7 @@ impl Marks {
         versions: &Versions,
         key: &Key,
     ) -> Result<Mark, AllocError>
+        requires of_records { is_existence key.now ≡ false }
         requires taken { number_in book.old.store key.now ≢ 0 }
         requires marks { AreMarksOf book.old.store (get same_key self.old.table) }
         ensures marks { OnOk result (AreMarksOf book.old.store (get same_key self.new.table)) }
@@ -102,7 +104,7 @@ impl Marks {
     }
 
     // Takes out each mark whose number is no longer the book's, after an edit: where it may have changed
-    // the set of one key alone, that of this key; else it is linear in the marks.
+    // the set of records of one key alone, that of this key; else it is linear in the marks.
     pub(crate) fn take_out_changed(&mut self, book: &Book, key: Option<&Key>)
         requires { IfSome key (λ key. (other : Key) → same_key key.now other ≡ false
             → marked_at (number_in book.now.store other) (get same_key self.old.table other)

@@ -122,7 +122,7 @@ impl Service {
     /// Edits the zones, and wakes the repair workers for the entries that are outdated then.
     ///
     /// The fault is the first one: the service was stopped (L6), the pass is another service's (L2),
-    /// a fault of the book (B3, S1 to S8). Then nothing changes.
+    /// a fault of the book (B3, S1 to S9). Then nothing changes.
     pub fn edit<R: Wait>(&self, rt: &R, pass: &mut Pass, edit: Edit) -> Result<Done, ServiceFault>
         ensures { GetsReceipt (λ done. done.number) (λ done. Event.Change edit)
             pass.old pass.new result }
@@ -248,8 +248,8 @@ fn new_edit(alloc: Global, edit: Edit) -> Result<Box<NewEdit>, AllocError>
     Ok(Box::new(alloc, NewEdit { edit, receipt })?)
 }
 
-// The key of the set that an edit of one record may change; `None` for an edit of a zone, and for a
-// record that is in no set.
+// The key of the set of records that an edit of one record may change; `None` for an edit of a zone, and
+// for a record that is in no set.
 fn edited_key(alloc: Global, edit: &Edit) -> Result<Option<Key>, AllocError>
     ensures { IfOk result (λ key. key ≡ key_edited edit.now) }
 {

@@ -1,7 +1,7 @@
 //! What is under the lock: a book, and where the versions of its record sets are.
 ghost use Rattle.std.specs.Prelude.{◌≡◌, ◌↔◌, [], None, Some, false, IfOk, IfErr, IfSome, OnOk, OnErr};
 ghost use Rattle.std.specs.Option.{option_copied};
-ghost use Rattle.sipl_records.specs.Sets.{same_key};
+ghost use Rattle.sipl_records.specs.Sets.{is_existence, same_key};
 ghost use Rattle.sipl_records.specs.declared.record.Key.{Key};
 ghost use Rattle.sipl_zonestore.specs.Store.{number_in};
 ghost use Rattle.sipl_book.specs.Calls.{IsChanged};
@@ -22,7 +22,8 @@ use std::alloc::{AllocError, Global};
 use std::marker::Model;
 use std::sync::Wait;
 
-// A book, and where the versions of its record sets are: each mark is that of its key's set as it is.
+// A book, and where the versions of its record sets are: each mark is that of its key's set as it is, and
+// no mark is of existence.
 #[derive(Drop)]
 pub(crate) struct Shared {
     pub book: Book,
@@ -74,14 +75,15 @@ impl Shared {
         steps::check_client(&self.book, abilities)
     }
 
-    // The mark of a key's set; `None` where it is empty. Where no one has read it yet, its version is
-    // pushed.
+    // The mark of a key's set of records; `None` where it is empty. Where no one has read it yet, its
+    // version is pushed.
     pub fn mark<R: Wait>(
         &mut self,
         rt: &R,
         versions: &Versions,
         key: &Key,
     ) -> Result<Option<Mark>, AllocError>
+        requires { is_existence key.now ≡ false }
         ensures empty { IfOk result
             (λ mark. (mark ≡ None) ↔ (number_in self.old.book.store key.now ≡ 0)) }
         ensures number { IfOk result (λ mark.
@@ -98,8 +100,9 @@ impl Shared {
         self.marks.of_key(rt, &mut self.book, versions, key)
     }
 
-    // Edits the zones, and takes out the mark of each set that has changed. The key is that of the set
-    // that the edit may change, where it is an edit of one record.
+    // Edits the zones, and takes out the mark of each set that has changed. The key is that of the set of
+    // records that the edit may change, where it is an edit of one record. Where no such set has changed,
+    // no mark is looked at: those of existence have none.
     pub fn change(
         &mut self,
         pass: &mut Pass,

@@ -9,5 +9,5 @@ pub returns-in-Some-clause-number : goal.returns-in-Some-clause-number
 returns-in-Some-clause-number g c =
     let found : get same_key c.args.self.now.table c.args.key.now ≡ Some c.in-Some.mark = search rules in
     let store = c.args.book.now.store in
-    let is : IsMarkOf (number_in store c.args.key.now) (set_of store.zones.records c.args.key.now) c.in-Some.mark = rw found at (c.requires c.args.key.now) in
+    let is : IsMarkOf c.args.key.now (number_in store c.args.key.now) (set_of store.zones.records c.args.key.now) c.in-Some.mark = rw found at (c.requires.marks c.args.key.now) in
     is.number

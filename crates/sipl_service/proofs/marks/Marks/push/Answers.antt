@@ -22,5 +22,5 @@ returns-clause-marks g c =
     λ empty. c.requires.taken (sym c.in_ok-number.ensures.number ∙ c.in_ok-number.ensures.set.number.1 (c.in_ok-number.ensures.value ∙ empty)) in
     with-mark c.args.book.now.store (get same_key c.args.self.now.table) (get same_key c.insert.new.self) c.args.key.now
     (record { number = c.in_ok-number.number; place = c.in-Ok.place })
-    c.requires.marks (record { number = c.in_ok-number.ensures.number; taken = c.requires.taken; filled = filled })
+    c.requires.marks (record { of_records = c.requires.of_records; number = c.in_ok-number.ensures.number; taken = c.requires.taken; filled = filled })
     (returns-clause-kept g c) (returns-clause-others g c)
