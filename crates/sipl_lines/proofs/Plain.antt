@@ -9,7 +9,7 @@ use Rattle.sipl_evidence.specs.Items.{Item}
 use Rattle.sipl_evidence.specs.Known.{Agrees}
 use Rattle.sipl_evidence.specs.Looks.{Look}
 use Rattle.sipl_outages.specs.Holds.{BoardEvent, after as after_hold}
-use Rattle.sipl_zonestore.specs.Changes.{changed_keys}
+use Rattle.sipl_zonestore.specs.Changes.{changed_count}
 use Rattle.sipl_zonestore.specs.Numbers.{next_after}
 use Rattle.sipl_book.specs.Book.{BookState, answer_now}
 use Rattle.sipl_book.specs.Calls.{IsChanged, MovesBoard, answer_event, board_event, recorded}
@@ -85,11 +85,11 @@ finds question words old outcome new found =
 
 changed_value : (edit : Edit) (old new : BookState) (outcome : Result Done BookFault)
     → IfOk outcome (λ done. done.number ≡ length old.journal)
-    → IfOk outcome (λ done. done.changed ≡ length (changed_keys old.store.zones.records new.store.zones.records))
+    → IfOk outcome (λ done. done.changed ≡ changed_count old.store.zones.records new.store.zones.records)
     → OnOk outcome (new.store.zones ≡ edited edit (plain_of old))
-    → IfOk outcome (λ done. done ≡ record { number = length old.journal; changed = length (changed_keys old.store.zones.records (edited edit (plain_of old)).records) })
+    → IfOk outcome (λ done. done ≡ record { number = length old.journal; changed = changed_count old.store.zones.records (edited edit (plain_of old)).records })
 changed_value edit old new (Ok done) number changed zones =
-    let count = changed ∙ ap (λ z. length (changed_keys old.store.zones.records z.records)) zones in
+    let count = changed ∙ ap (λ z. changed_count old.store.zones.records z.records) zones in
     λ i. record { number = number i; changed = count i }
 changed_value edit old new (Err e) number changed zones = tt
 
@@ -114,7 +114,7 @@ changes : (edit : Edit) (old : BookState) (outcome : Result Done BookFault) (new
     → IsChanged edit old new outcome → EndsSo (change_ending edit (plain_of old)) (plain_of old) outcome (plain_of new)
 changes edit old outcome new is =
     ends_so (change_refusal edit (plain_of old))
-    (record { number = length old.journal; changed = length (changed_keys old.store.zones.records (edited edit (plain_of old)).records) })
+    (record { number = length old.journal; changed = changed_count old.store.zones.records (edited edit (plain_of old)).records })
     (after_change edit (plain_of old)) (plain_of old) outcome (plain_of new)
     is.accepted (changed_value edit old new outcome is.number is.changed is.zones) (changed_after edit old new outcome is)
     is.refused (on_err outcome (ap plain_of) is.unchanged)

@@ -58,7 +58,7 @@ DoesInSpace rules Acts reply_of before text after =
     Does rules Acts reply_of before text after
     ⊎ Does rules Acts (λ value. refusal_line (codes "Memory")) before text after
 
--- the reply to an accepted edit: words, counts, and how many sets changed
+-- the reply to an accepted edit: words, counts, and how many sets of records changed
 abbrev pub changed_text : Octets → List ℕ → Done → Octets
 changed_text words counts done = counts_line words (counts ++ done.changed ∷ [])
 

@@ -13,7 +13,7 @@ use Rattle.sipl_plans.specs.Plan.{plan}
 use Rattle.sipl_plans.specs.Route.{reads}
 use Rattle.sipl_zonestore.specs.Store.{Zones}
 use Rattle.sipl_zonestore.specs.Edits.{refusal_of as zones_refusal, after as zones_after}
-use Rattle.sipl_zonestore.specs.Changes.{changed_keys}
+use Rattle.sipl_zonestore.specs.Changes.{changed_count}
 use Rattle.sipl_zonestore.specs.Numbers.{next_after, number_refusal}
 use Rattle.sipl_book.specs.Book.{BookState}
 use Rattle.sipl_book.specs.BookFault.{code_of as book_code}
@@ -95,7 +95,8 @@ change_refusal edit plain =
     (option_map Store (option_or (zones_refusal plain.max_records (zone_edit edit) plain.zones)
     (number_refusal plain.zones.records (edited edit plain).records plain.next)))
 
--- the state after an edit: each set that it changes, and that is not empty then, took a number
+-- the state after an edit: each set of records that it changes, and that is not empty then, took a
+-- number
 abbrev pub after_change : Edit → PlainState → PlainState
 after_change edit plain =
     with_event (record plain {
@@ -103,13 +104,13 @@ after_change edit plain =
       next = next_after plain.zones.records (edited edit plain).records plain.next;
     })
 
--- an edit of the zones, which is the next event, and how many sets it changes
+-- an edit of the zones, which is the next event, and how many sets of records it changes
 abbrev pub change_ending : Edit → PlainState → Ending Done
 change_ending edit plain =
     ending_of (change_refusal edit plain)
     (record {
       number = plain.events;
-      changed = length (changed_keys plain.zones.records (edited edit plain).records);
+      changed = changed_count plain.zones.records (edited edit plain).records;
     })
     (after_change edit plain) plain
 

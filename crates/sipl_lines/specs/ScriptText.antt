@@ -37,7 +37,7 @@ shown_of (step.Release endpoint) = shown.Release
 shown_of (step.Advance ms) = shown.Clock ms
 shown_of _ = shown.Other
 
--- the reply to an accepted edit, after which so many sets are other than before
+-- the reply to an accepted edit, after which so many sets of records are other than before
 abbrev pub changed_text : Shown → ℕ → Octets
 changed_text (shown.Zone records outside repeated) changed =
     counts_line (codes "ok zone") (records ∷ outside ∷ repeated ∷ changed ∷ [])

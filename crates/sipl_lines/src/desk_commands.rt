@@ -104,7 +104,7 @@ pub(crate) fn edit_record<D: Desk>(
     }
 }
 
-// Makes an edit, and appends the reply: the words, and how many sets changed.
+// Makes an edit, and appends the reply: the words, and how many sets of records changed.
 fn edit<D: Desk>(
     desk: &mut D,
     edit: Edit,

@@ -22,9 +22,9 @@ const MAX_TARGET_LINE_LEN: usize = 94;
 // The maximum length in octets of the line that counts the targets, or the record sets.
 const MAX_COUNT_LINE_LEN: usize = 29;
 
-// The maximum length in octets of what follows the owner in a record set's line: the mnemonic of a
-// kind, of at most five octets, and a number.
-const MAX_KIND_AND_COUNT_LEN: usize = 28;
+// The maximum length in octets of what follows the owner in a record set's line: the word of a kind,
+// of at most six octets, and a number.
+const MAX_KIND_AND_COUNT_LEN: usize = 29;
 
 // Appends words, numbers with a space before each, and the end of the line, to space that is
 // reserved: it does not allocate.

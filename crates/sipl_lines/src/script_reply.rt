@@ -80,7 +80,7 @@ pub(crate) fn write_reply(shown: Shown, reply: &Reply, out: &mut Vec<u8>)
     }
 }
 
-// Appends the reply to an accepted edit, and how many sets changed.
+// Appends the reply to an accepted edit, and how many sets of records changed.
 fn write_changed(shown: Shown, changed: u64, out: &mut Vec<u8>)
     requires { vec_len out.old + MAX_SCRIPT_REPLY_LEN ≤ vec_capacity out.old }
     ensures { out.new.items ≡ out.old.items ++ changed_text shown changed }
