@@ -4,7 +4,7 @@ use Rattle.std.proofs.lemmas.Bool.{cases_Bool}
 use Rattle.sipl_records.specs.Sets.{data_of, has_key, is_existence, same_key, same_record, set_of}
 use Rattle.sipl_records.specs.declared.record.Key.{Key}
 use Rattle.sipl_records.specs.declared.record.Record.{Record}
-use Rattle.sipl_records.proofs.Public.{data_of-append, data_of-filter_kept, has_key-key_of, is_key, same_key-Decides, same_record-Decides, same_set-Decides, set_of-data}
+use Rattle.sipl_records.proofs.Public.{data_of-append, data_of-filter_kept, has_key-key_of, is_key, same_key-Decides, same_record-Decides, same_set-Decides}
 use Rattle.sipl_zonestore.specs.Changes.{is_changed}
 use Rattle.sipl_zonestore.specs.Edits.{after as after_edit, records_without}
 use Rattle.sipl_zonestore.specs.Numbers.{is_empty, number_after}
@@ -59,9 +59,8 @@ module _ (edit : Edit) (old new : BookState) (done : Done) (h : IsChanged edit o
   stays : (key : Key) (mark : Mark) → IsMarkOf key (number_in old.store key) (set_of old.store.zones.records key) mark
       → is_changed old.store.zones.records new.store.zones.records key ≡ false → marked_at (number_in new.store key) (Some mark) ≡ Some mark
   stays key mark is same =
-      let filled : data_of old.store.zones.records key ≢ [] = λ empty. is.filled (set_of-data old.store.zones.records key is.of_records ∙ empty) in
       marked_at-same (number_in new.store key) mark
-      (is.number ∙ sym (h.numbers key ∙ number-kept old.store.zones.records new.store.zones.records old.store.next (number_in old.store) key is.of_records same filled))
+      (is.number ∙ sym (h.numbers key ∙ number-kept old.store.zones.records new.store.zones.records old.store.next (number_in old.store) key is.of_records same is.filled))
 
   stays-at : (key : Key) (found : Option Mark) → IfSome found (IsMarkOf key (number_in old.store key) (set_of old.store.zones.records key))
       → is_changed old.store.zones.records new.store.zones.records key ≡ false → marked_at (number_in new.store key) found ≡ found
@@ -87,7 +86,7 @@ module _ (edit : Edit) (old new : BookState) (done : Done) (h : IsChanged edit o
       let records = old.store.zones.records in
       let number : number_in new.store key ≡ number_after records new.store.zones.records old.store.next (number_in old.store) key = h.numbers key in
       let taken : number_in new.store key ≢ 0 = λ zero. is.taken (sym is.number ∙ same ∙ zero) in
-      let nonempty : is_empty (data_of new.store.zones.records key) ≡ false = elim (number-cases records new.store.zones.records old.store.next (number_in old.store) key is.of_records) [
+      let nonempty : is_empty (set_of new.store.zones.records key) ≡ false = elim (number-cases records new.store.zones.records old.store.next (number_in old.store) key is.of_records) [
         | inl some ↦ some.filled
         | inr (inl gone) ↦ absurd (taken (number ∙ gone.zero_number))
         | inr (inr kept) ↦ kept.filled
@@ -96,7 +95,7 @@ module _ (edit : Edit) (old new : BookState) (done : Done) (h : IsChanged edit o
         of_records = is.of_records;
         number = same;
         taken = taken;
-        filled = λ empty. let never : true ≡ false = sym (ap is_empty (sym (set_of-data new.store.zones.records key is.of_records) ∙ empty)) ∙ nonempty in cc;
+        filled = λ empty. let never : true ≡ false = sym (ap is_empty empty) ∙ nonempty in cc;
       }
 
   marked-at : (key : Key) (found : Option Mark) → IfSome found (IsMarkOf key (number_in old.store key) (set_of old.store.zones.records key))
