@@ -1,7 +1,7 @@
 -- The marks of a book's sets, as a set is read and as the zones are edited.
 use Rattle.std.proofs.Common.{◌≡◌, ◌≢◌, ℕ, Bool, true, false, not, List, [], ◌∷◌, ◌++◌, nat_eq, Option, None, Some, IfSome, Ok, refl, ap, sym, subst, ◌∙◌, inl, inr, append-nil, arith}
 use Rattle.std.proofs.lemmas.Bool.{cases_Bool}
-use Rattle.sipl_records.specs.Sets.{data_of, has_key, is_existence, same_key, same_record, set_of}
+use Rattle.sipl_records.specs.Sets.{data_of, has_key, same_key, same_record, set_of}
 use Rattle.sipl_records.specs.declared.record.Key.{Key}
 use Rattle.sipl_records.specs.declared.record.Record.{Record}
 use Rattle.sipl_records.proofs.Public.{data_of-append, data_of-filter_kept, has_key-key_of, is_key, same_key-Decides, same_record-Decides, same_set-Decides}
