@@ -1,4 +1,6 @@
 // Names: their text, their labels, and which are within which.
+mod labels;
+
 use sipl_names::{InvalidName, MAX_NAME_TEXT_LEN, Name, NameFault, read_escape};
 use std::alloc::{AllocError, Global};
 use std::hash::{DefaultHasher, Hash, Hasher};

@@ -97,6 +97,7 @@ fn other_types_keep_nothing(rt: HostRuntime) {
         "@ IN 5 IN A 192.0.2.1",
         "@ IN CLASS9",
         "@ X-y9",
+        "@ EXISTS 1",
         "@ CLASS",
         "@ CLASS9x",
         "@ C",

@@ -17,6 +17,15 @@ const KINDS: [Option<Kind>; 6] = [
     None,
 ];
 
+const EACH_KIND: [Kind; 6] = [
+    Kind::Address4,
+    Kind::Address6,
+    Kind::Alias,
+    Kind::Service,
+    Kind::Pointer,
+    Kind::Exists,
+];
+
 const FIRST: Row = ([1, 2, 3], ["s", "SIP+D2U", ""], "a.");
 
 const OTHER_NAME: Row = ([1, 2, 3], ["s", "SIP+D2U", ""], "b.");
@@ -70,7 +79,7 @@ fn data(rt: &impl Abort, alloc: Global, kind: Option<Kind>, row: &Row) -> Data {
         Some(Kind::Alias) => Data::Alias(name(rt, alloc, target)),
         Some(Kind::Service) => service(rt, alloc, row),
         Some(Kind::Pointer) => pointer(rt, alloc, row),
-        None => Data::Bare,
+        Some(Kind::Exists) | None => Data::Bare,
     }
 }
 
@@ -150,6 +159,26 @@ fn data_have_the_kind_of_their_type(rt: HostRuntime) {
     }
 }
 
+// Whether data of this type are of a kind.
+fn is_of_kind(rt: &impl Abort, alloc: Global, own: Option<Kind>, kind: Kind) -> bool {
+    data(rt, alloc, own, &FIRST).has_kind(kind)
+}
+
+// Data of this type are of one kind and no other: that of existence where the type is not read.
+fn has_one_kind(rt: &impl Abort, alloc: Global, own: Option<Kind>) {
+    for kind in EACH_KIND {
+        let expected = own.unwrap_or(Kind::Exists) == kind;
+        assert_eq!(rt; is_of_kind(rt, alloc, own, kind), expected);
+    }
+}
+
+#[test]
+fn data_that_are_not_read_are_of_existence(rt: HostRuntime) {
+    for own in KINDS {
+        has_one_kind(&rt, rt.alloc(), own);
+    }
+}
+
 fn is_printed_as(alloc: Global, kind: Kind, text: &str) -> bool {
     match kind.to_string(alloc) {
         Ok(printed) => printed.as_str() == text,
@@ -171,6 +200,7 @@ fn kind_prints_its_mnemonic(rt: HostRuntime) {
         (Kind::Alias, "CNAME"),
         (Kind::Service, "SRV"),
         (Kind::Pointer, "NAPTR"),
+        (Kind::Exists, "EXISTS"),
     ];
     are_printed_as(&rt, rt.alloc(), &rows);
 }
@@ -255,16 +285,24 @@ fn record_has_the_key_of_its_owner_and_kind(rt: HostRuntime) {
         ("EXAMPLE.com.", Kind::Address4, [false, true, false]),
         ("com.", Kind::Address4, [false, false, false]),
         ("www.example.com.", Kind::Address6, [false, false, false]),
+        ("www.example.com.", Kind::Exists, [false, false, false]),
     ];
     have_keys(&rt, rt.alloc(), &rows);
 }
 
-// Whether the record has no key, and whether it is in no set with itself.
-fn is_in_no_set(alloc: Global, record: &Record) -> [bool; 2] {
+// Whether the record has no key, whether it is in no set with itself, and whether that of its owner's
+// existence is no key of its own.
+fn is_in_no_set(alloc: Global, record: &Record, existence: &Key) -> [bool; 3] {
     [
         matches!(record.key(alloc), Ok(None)),
         !record.shares_set(record),
+        !record.has_key(existence),
     ]
+}
+
+fn has_no_key(rt: &impl Abort, alloc: Global, record: &Record) -> [bool; 3] {
+    let existence = key(rt, alloc, "example.com.", Kind::Exists);
+    is_in_no_set(alloc, record, &existence)
 }
 
 #[test]
@@ -273,9 +311,9 @@ fn data_of_other_types_are_in_no_set(rt: HostRuntime) {
         owner: name(&rt, rt.alloc(), "example.com."),
         value: Data::Bare,
     };
-    let found = is_in_no_set(rt.alloc(), &bare);
+    let found = has_no_key(&rt, rt.alloc(), &bare);
     drop(bare);
-    assert!(rt; found == [true, true]);
+    assert!(rt; found == [true, true, true]);
 }
 
 // Whether the record equals a copy of the other.
