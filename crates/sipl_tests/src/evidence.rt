@@ -1,5 +1,8 @@
 // Sessions with the evidence of a lookup and a walk: each step is a call with its result, or what the
 // evidence then has.
+mod walks;
+mod wildcards;
+
 use sipl_evidence::{Evidence, EvidenceFault, Item, Walk};
 use sipl_names::Name;
 use sipl_records::{Data, Key, Kind, Sequence};
@@ -12,6 +15,8 @@ const A: Kind = Kind::Address4;
 #[derive(Clone, Copy)]
 enum Set {
     Empty(&'static str, Kind),
+    // The existence of a name that exists.
+    Exists(&'static str),
     // The owner's address, and the number of its set.
     Address(&'static str, u32, u64),
     // The owner's alias and its target.
@@ -35,11 +40,13 @@ enum Step {
     LacksContent(&'static str),
     // The walk goes from name to name, and each is an alias of the next one.
     WalksOver(&'static [&'static str]),
+    // The walk wants each of these sets in turn, and so does one that starts then; each is empty.
+    Lacks(&'static [(&'static str, Kind)]),
     // What is read of a name that is an alias: nothing of the kind itself, and its alias.
     PushesLink(&'static str, &'static str),
     GoesOn,
     Wants(&'static str, Kind),
-    // A walk that starts now, from the name of the first one, wants this.
+    // A walk that starts now, as the first one did, wants this.
     WantsAnew(&'static str, Kind),
     WantsNothing,
     // The walk's answer has these addresses.
@@ -48,27 +55,34 @@ enum Step {
     HasLen(usize),
 }
 
-// The evidence of a lookup, and the walk that it is read for.
+// The evidence of a lookup, and the walk that it is read for, with the name and the kind that it
+// started with.
 #[derive(Drop)]
 struct Lookup {
     alloc: Global,
     evidence: Evidence,
     walk: Walk,
+    start: (&'static str, Kind),
 }
 
-// Takes the steps with new evidence and a walk from `n0.` for this kind. It alone owns a lookup: at
-// each exit the proof owes what becomes of one.
+// Takes the steps with new evidence and a walk from `n0.` for this kind.
 fn play(rt: &impl Abort, alloc: Global, kind: Kind, steps: &[Step]) {
+    play_from(rt, alloc, ("n0.", kind), steps);
+}
+
+// The same from any name. It alone owns a lookup: at each exit the proof owes what becomes of one.
+fn play_from(rt: &impl Abort, alloc: Global, start: (&'static str, Kind), steps: &[Step]) {
     let mut lookup = Lookup {
         alloc,
         evidence: Evidence::new(alloc),
-        walk: first_walk(rt, alloc, kind),
+        walk: first_walk(rt, alloc, start),
+        start,
     };
     take_each(rt, &mut lookup, steps);
 }
 
-fn first_walk(rt: &impl Abort, alloc: Global, kind: Kind) -> Walk {
-    Walk::start(name(rt, alloc, "n0."), kind)
+fn first_walk(rt: &impl Abort, alloc: Global, start: (&str, Kind)) -> Walk {
+    Walk::start(name(rt, alloc, start.0), start.1)
 }
 
 fn take_each(rt: &impl Abort, lookup: &mut Lookup, steps: &[Step]) {
@@ -107,13 +121,14 @@ fn has_len(rt: &impl Abort, lookup: &Lookup, len: usize) {
 fn take_with_walk(rt: &impl Abort, lookup: &mut Lookup, step: Step) {
     match step {
         Step::WalksOver(names) => walks_over(rt, lookup, names),
+        Step::Lacks(sets) => lacks(rt, lookup, sets),
         Step::PushesLink(owner, target) => pushes_link(rt, lookup, owner, target),
         Step::GoesOn => goes_on(rt, lookup),
         Step::Wants(owner, kind) => wants(rt, lookup, owner, kind),
         Step::WantsAnew(owner, kind) => wants_anew(rt, lookup, owner, kind),
-        Step::WantsNothing => assert!(rt; lookup.walk.wants(&lookup.evidence).is_none()),
-        Step::Answers(addresses) => answers(rt, lookup, addresses),
-        Step::HasNoAnswer => assert!(rt; lookup.walk.result(&lookup.evidence).is_none()),
+        Step::WantsNothing => wants_nothing(rt, lookup),
+        Step::Answers(addresses) => answers(rt, lookup, Some(addresses)),
+        Step::HasNoAnswer => answers(rt, lookup, None),
         _ => {}
     }
 }
@@ -135,6 +150,12 @@ fn item(rt: &impl Abort, alloc: Global, set: Set) -> Item {
             key(rt, alloc, owner, kind),
             0,
             Sequence::from_vec(Vec::new(alloc)),
+        ),
+        Set::Exists(owner) => single(
+            rt,
+            key(rt, alloc, owner, Kind::Exists),
+            1,
+            Sequence::from_vec(only(rt, alloc, Data::Bare)),
         ),
         Set::Address(owner, address, number) => single(
             rt,
@@ -280,30 +301,50 @@ fn goes_on(rt: &impl Abort, lookup: &mut Lookup) {
     assert!(rt; is_made, "out of memory");
 }
 
+fn lacks(rt: &impl Abort, lookup: &mut Lookup, sets: &[(&'static str, Kind)]) {
+    for (owner, kind) in sets {
+        wants(rt, lookup, owner, *kind);
+        wants_anew(rt, lookup, owner, *kind);
+        pushes(rt, lookup, Set::Empty(owner, *kind));
+        goes_on(rt, lookup);
+    }
+}
+
 fn wants(rt: &impl Abort, lookup: &Lookup, owner: &str, kind: Kind) {
     let is_wanted = is_wanted(rt, lookup, &lookup.walk, owner, kind);
     assert!(rt; is_wanted, "the walk does not want {owner}");
 }
 
 fn wants_anew(rt: &impl Abort, lookup: &Lookup, owner: &str, kind: Kind) {
-    let is_wanted = is_wanted(rt, lookup, &first_walk(rt, lookup.alloc, A), owner, kind);
+    let walk = first_walk(rt, lookup.alloc, lookup.start);
+    let is_wanted = is_wanted(rt, lookup, &walk, owner, kind);
     assert!(rt; is_wanted, "a new walk does not want {owner}");
 }
 
 fn is_wanted(rt: &impl Abort, lookup: &Lookup, walk: &Walk, owner: &str, kind: Kind) -> bool {
-    match walk.wants(&lookup.evidence) {
-        Some((found, wanted)) => wanted == kind && is_name(rt, lookup.alloc, found, owner),
-        None => false,
+    match walk.wants(lookup.alloc, &lookup.evidence) {
+        Ok(Some(found)) => found == key(rt, lookup.alloc, owner, kind),
+        _ => false,
     }
 }
 
-fn is_name(rt: &impl Abort, alloc: Global, found: &Name, text: &str) -> bool {
-    *found == name(rt, alloc, text)
+fn wants_nothing(rt: &impl Abort, lookup: &Lookup) {
+    let wanted = lookup.walk.wants(lookup.alloc, &lookup.evidence);
+    let is_nothing = matches!(wanted, Ok(None));
+    assert!(rt; is_nothing, "the walk wants a set");
 }
 
-fn answers(rt: &impl Abort, lookup: &Lookup, addresses: &[u32]) {
-    let data = lookup.walk.result(&lookup.evidence).expect(rt, "an answer");
-    assert!(rt; are_addresses(data, addresses), "another answer");
+// Whether the walk's answer has these addresses, or it has none yet.
+fn is_answered(lookup: &Lookup, addresses: Option<&[u32]>) -> bool {
+    match (lookup.walk.result(lookup.alloc, &lookup.evidence), addresses) {
+        (Ok(Some(data)), Some(addresses)) => are_addresses(data, addresses),
+        (Ok(None), None) => true,
+        _ => false,
+    }
+}
+
+fn answers(rt: &impl Abort, lookup: &Lookup, addresses: Option<&[u32]>) {
+    assert!(rt; is_answered(lookup, addresses), "another answer, or none");
 }
 
 #[test]
@@ -378,109 +419,6 @@ fn a_removed_key_can_be_read_again(rt: HostRuntime) {
             Step::PopsNothing,
             Step::IsEmpty,
             Step::HasPlaces(&[("a.", A, None)]),
-        ],
-    );
-}
-
-#[test]
-fn eight_aliases_are_followed(rt: HostRuntime) {
-    play(
-        &rt,
-        rt.alloc(),
-        A,
-        &[
-            Step::WalksOver(&[
-                "n0.", "n1.", "n2.", "n3.", "n4.", "n5.", "n6.", "n7.", "n8.",
-            ]),
-            Step::Wants("n8.", A),
-            Step::HasNoAnswer,
-            Step::Pushes(Set::Address("n8.", 10, 9)),
-            Step::WantsNothing,
-            Step::Answers(&[10]),
-            Step::HasLen(17),
-        ],
-    );
-}
-
-#[test]
-fn the_ninth_alias_is_not_read(rt: HostRuntime) {
-    play(
-        &rt,
-        rt.alloc(),
-        A,
-        &[
-            Step::WalksOver(&[
-                "n0.", "n1.", "n2.", "n3.", "n4.", "n5.", "n6.", "n7.", "n8.",
-            ]),
-            Step::Pushes(Set::Empty("n8.", A)),
-            Step::WantsNothing,
-            Step::Answers(&[]),
-            Step::HasLen(17),
-        ],
-    );
-}
-
-#[test]
-fn a_walk_without_steps_wants_the_same(rt: HostRuntime) {
-    play(
-        &rt,
-        rt.alloc(),
-        A,
-        &[
-            Step::WalksOver(&["n0.", "n1.", "n2.", "n3."]),
-            Step::Wants("n3.", A),
-            Step::WantsAnew("n3.", A),
-            Step::Pushes(Set::Empty("n3.", A)),
-            Step::Wants("n3.", Kind::Alias),
-            Step::WantsAnew("n3.", Kind::Alias),
-        ],
-    );
-}
-
-#[test]
-fn a_loop_of_aliases_has_no_data(rt: HostRuntime) {
-    play(
-        &rt,
-        rt.alloc(),
-        A,
-        &[
-            Step::PushesLink("n0.", "n1."),
-            Step::PushesLink("n1.", "n0."),
-            Step::WantsNothing,
-            Step::Answers(&[]),
-        ],
-    );
-}
-
-#[test]
-fn the_alias_of_a_name_with_data_is_not_read(rt: HostRuntime) {
-    play(
-        &rt,
-        rt.alloc(),
-        A,
-        &[
-            Step::Pushes(Set::Address("n0.", 10, 9)),
-            Step::WantsNothing,
-            Step::Pushes(Set::Alias("n0.", "n1.")),
-            Step::Answers(&[10]),
-        ],
-    );
-}
-
-#[test]
-fn a_name_without_records_has_no_data(rt: HostRuntime) {
-    play(
-        &rt,
-        rt.alloc(),
-        Kind::Service,
-        &[
-            Step::Wants("n0.", Kind::Service),
-            Step::Pushes(Set::Empty("n0.", Kind::Service)),
-            Step::GoesOn,
-            Step::Wants("n0.", Kind::Alias),
-            Step::Pushes(Set::Empty("n0.", Kind::Alias)),
-            Step::WantsNothing,
-            Step::Answers(&[]),
         ],
     );
 }

@@ -1,5 +1,6 @@
 // Sessions with a store of zones: each step is an edit with its result, or what the store then has.
 mod edits;
+mod existence;
 mod numbers;
 mod seeds;
 
@@ -7,15 +8,23 @@ ghost use Rattle.std.specs.Prelude.{◌^◌, ◌≤◌};
 
 use sipl_masterfile::{ZoneText, read_record, read_zone};
 use sipl_names::Name;
-use sipl_records::{Data, Key, Kind, Record, Sequence};
-use sipl_zonestore::{StoreFault, ZoneStore};
+use sipl_records::{Data, Key, Kind, Record};
+use sipl_zonestore::{Changed, StoreFault, ZoneStore};
 use std::alloc::Global;
 use std::process::Abort;
 
 const A: Kind = Kind::Address4;
 
+// The names that begin to exist with the first record of `example.com.`, at `server1`.
+const FIRST_NAMES: Names = &["server1", "@", "com.", "."];
+
 // The text of a zone without records.
 const EMPTY: &str = "; nothing";
+
+// Record sets, by their owners and kinds.
+type Sets = &'static [(&'static str, Kind)];
+
+type Names = &'static [&'static str];
 
 // An edit. Names are relative to `example.com.`, and records are lines of its master file.
 #[derive(Clone, Copy)]
@@ -35,8 +44,12 @@ enum Edit {
 enum Step {
     // The zone `example.com.` is loaded, and three records of two owners are added.
     Starts,
-    // The edit changes the sets of these owners and kinds.
-    Changes(Edit, &'static [(&'static str, Kind)]),
+    // The edit changes the sets of these owners and kinds, and no name begins or ceases to exist.
+    Changes(Edit, Sets),
+    // The edit changes the sets of these owners and kinds, and then whether these names exist.
+    ChangesNames(Edit, Sets, Names),
+    // The edit changes no set, and whether this name and each above it exist, which are so many.
+    ChangesAll(Edit, &'static str, usize),
     Refuses(Edit, StoreFault),
     // This many addresses of an owner can be added.
     Fills(&'static str, u32),
@@ -74,7 +87,9 @@ fn take_each(rt: &impl Abort, alloc: Global, store: &mut ZoneStore, steps: &[Ste
 fn take(rt: &impl Abort, alloc: Global, store: &mut ZoneStore, step: Step) {
     match step {
         Step::Starts => start(rt, alloc, store),
-        Step::Changes(edit, sets) => changes(rt, alloc, store, edit, sets),
+        Step::Changes(edit, sets) => changes(rt, alloc, store, edit, sets, &[]),
+        Step::ChangesNames(edit, sets, names) => changes(rt, alloc, store, edit, sets, names),
+        Step::ChangesAll(edit, owner, count) => changes_all(rt, alloc, store, edit, owner, count),
         Step::Refuses(edit, fault) => refuses(rt, alloc, store, edit, fault),
         Step::Fills(owner, count) => fills(rt, alloc, store, owner, count),
         Step::HasApexes(apexes) => has_apexes(rt, alloc, store, apexes),
@@ -88,21 +103,22 @@ fn take(rt: &impl Abort, alloc: Global, store: &mut ZoneStore, step: Step) {
 }
 
 fn start(rt: &impl Abort, alloc: Global, store: &mut ZoneStore) {
-    changes(rt, alloc, store, Edit::Load("example.com.", EMPTY), &[]);
-    adds(rt, alloc, store, "server1 A 192.0.2.1", "server1");
-    adds(rt, alloc, store, "server2 A 192.0.2.2", "server2");
-    adds(rt, alloc, store, "SERVER1 A 192.0.2.3", "server1");
+    changes(rt, alloc, store, Edit::Load("example.com.", EMPTY), &[], &[]);
+    adds(rt, alloc, store, "server1 A 192.0.2.1", "server1", FIRST_NAMES);
+    adds(rt, alloc, store, "server2 A 192.0.2.2", "server2", &["server2"]);
+    adds(rt, alloc, store, "SERVER1 A 192.0.2.3", "server1", &[]);
 }
 
-// Adds an address of the owner.
+// Adds an address of the owner, with which these names begin to exist.
 fn adds(
     rt: &impl Abort,
     alloc: Global,
     store: &mut ZoneStore,
     line: &'static str,
     owner: &'static str,
+    names: &[&str],
 ) {
-    changes(rt, alloc, store, Edit::Add(line), &[(owner, A)]);
+    changes(rt, alloc, store, Edit::Add(line), &[(owner, A)], names);
 }
 
 fn changes(
@@ -111,12 +127,33 @@ fn changes(
     store: &mut ZoneStore,
     edit: Edit,
     sets: &[(&str, Kind)],
+    names: &[&str],
 ) {
     let changed = match apply(rt, alloc, store, edit) {
-        Ok(keys) => are_keys(rt, alloc, keys.as_slice(), sets),
+        Ok(changed) => is_changed(rt, alloc, &changed, sets, names),
         Err(_) => false,
     };
     assert!(rt; changed, "other sets changed, or the edit was refused");
+}
+
+fn changes_all(
+    rt: &impl Abort,
+    alloc: Global,
+    store: &mut ZoneStore,
+    edit: Edit,
+    owner: &str,
+    count: usize,
+) {
+    let changed = match apply(rt, alloc, store, edit) {
+        Ok(changed) => {
+            let keys = changed.keys.as_slice();
+            changed.sets == 0
+                && keys.len() == count
+                && are_upwards(keys, &mut name(rt, alloc, owner))
+        }
+        Err(_) => false,
+    };
+    assert!(rt; changed, "other names begin or cease to exist");
 }
 
 fn refuses(rt: &impl Abort, alloc: Global, store: &mut ZoneStore, edit: Edit, fault: StoreFault) {
@@ -136,7 +173,7 @@ fn apply(
     alloc: Global,
     store: &mut ZoneStore,
     edit: Edit,
-) -> Result<Sequence<Key>, StoreFault> {
+) -> Result<Changed, StoreFault> {
     match edit {
         Edit::Load(apex, text) => load(rt, alloc, store, apex, text),
         Edit::Unload(apex) => unload(rt, alloc, store, apex),
@@ -155,7 +192,7 @@ fn load(
     store: &mut ZoneStore,
     apex: &str,
     text: &str,
-) -> Result<Sequence<Key>, StoreFault> {
+) -> Result<Changed, StoreFault> {
     store.load(&zone(rt, alloc, apex, text))
 }
 
@@ -164,7 +201,7 @@ fn unload(
     alloc: Global,
     store: &mut ZoneStore,
     apex: &str,
-) -> Result<Sequence<Key>, StoreFault> {
+) -> Result<Changed, StoreFault> {
     store.unload(&name(rt, alloc, apex))
 }
 
@@ -173,7 +210,7 @@ fn add(
     alloc: Global,
     store: &mut ZoneStore,
     line: &str,
-) -> Result<Sequence<Key>, StoreFault> {
+) -> Result<Changed, StoreFault> {
     store.add(&record(rt, alloc, line))
 }
 
@@ -183,7 +220,7 @@ fn add_data(
     store: &mut ZoneStore,
     owner: &str,
     value: Data,
-) -> Result<Sequence<Key>, StoreFault> {
+) -> Result<Changed, StoreFault> {
     store.add(&Record {
         owner: name(rt, alloc, owner),
         value,
@@ -195,7 +232,7 @@ fn remove(
     alloc: Global,
     store: &mut ZoneStore,
     line: &str,
-) -> Result<Sequence<Key>, StoreFault> {
+) -> Result<Changed, StoreFault> {
     store.remove(&record(rt, alloc, line))
 }
 
@@ -223,7 +260,19 @@ fn key(rt: &impl Abort, alloc: Global, owner: &str, kind: Kind) -> Key {
     }
 }
 
-// Whether the keys are those of these owners and kinds.
+// Whether the changed keys are those of these sets, and then those of the existence of these names.
+fn is_changed(
+    rt: &impl Abort,
+    alloc: Global,
+    changed: &Changed,
+    sets: &[(&str, Kind)],
+    names: &[&str],
+) -> bool {
+    let keys = changed.keys.as_slice();
+    let (of_sets, of_names) = keys.split_at(changed.sets.min(keys.len()));
+    are_keys(rt, alloc, of_sets, sets) && are_existence(rt, alloc, of_names, names)
+}
+
 fn are_keys(rt: &impl Abort, alloc: Global, keys: &[Key], sets: &[(&str, Kind)]) -> bool {
     for (found, set) in keys.iter().zip(sets.iter()) {
         if *found != key(rt, alloc, set.0, set.1) {
@@ -231,6 +280,26 @@ fn are_keys(rt: &impl Abort, alloc: Global, keys: &[Key], sets: &[(&str, Kind)])
         }
     }
     keys.len() == sets.len()
+}
+
+// Whether the keys are those of the existence of a name, of its parent, and so on.
+fn are_upwards(keys: &[Key], name: &mut Name) -> bool {
+    for key in keys {
+        if key.kind != Kind::Exists || key.name != *name {
+            return false;
+        }
+        name.pop_label();
+    }
+    name.is_root()
+}
+
+fn are_existence(rt: &impl Abort, alloc: Global, keys: &[Key], names: &[&str]) -> bool {
+    for (found, name) in keys.iter().zip(names.iter()) {
+        if *found != key(rt, alloc, name, Kind::Exists) {
+            return false;
+        }
+    }
+    keys.len() == names.len()
 }
 
 // Whether the records are those of the lines.

@@ -10,7 +10,7 @@ use sipl_choice::Transport::{Tcp, Tls, Udp};
 use sipl_outages::Board;
 use sipl_plans::Reason::{NoTransport, NotAvailable};
 use sipl_plans::{Answer, Finding, Run, Unfinished, draw};
-use sipl_records::Kind::{Address4, Address6, Alias, Pointer, Service};
+use sipl_records::Kind::{Address4, Address6, Alias, Exists, Pointer, Service};
 use sipl_records::{Data, Key, Kind, MAX_SET_LEN, Record, Sequence};
 use sipl_srv::Draws;
 use sipl_uri::Question;
@@ -103,9 +103,19 @@ fn push_if_wanted(
         return;
     };
     if record.has_key(key) {
-        let datum = dup_value(rt, alloc, record);
-        content.push(datum).expect(rt, "out of memory");
+        push(rt, content, dup_value(rt, alloc, record));
+    } else if content.is_empty() && makes_exist(record, key) {
+        push(rt, content, Data::Bare);
     }
+}
+
+fn push(rt: &impl Abort, content: &mut Vec<Data>, datum: Data) {
+    content.push(datum).expect(rt, "out of memory");
+}
+
+// Whether the key is that of the existence of a name that the record makes exist.
+fn makes_exist(record: &Record, key: &Key) -> bool {
+    key.kind == Exists && record.owner.is_within(&key.name)
 }
 
 fn dup_value(rt: &impl Abort, alloc: Global, record: &Record) -> Data {
@@ -220,6 +230,7 @@ const SERVERS: [Reading; 2] = [
             ("_sip._tcp.a.", Service),
             ("s1.", Address6),
             ("s1.", Alias),
+            ("s1.", Exists),
             ("s1.", Address4),
             ("s2.", Address6),
             ("s2.", Address4),
@@ -237,6 +248,11 @@ const SERVERS: [Reading; 2] = [
         wanted: &[
             ("_sip._tcp.a.", Service),
             ("_sip._tcp.a.", Alias),
+            ("_sip._tcp.a.", Exists),
+            ("_tcp.a.", Exists),
+            ("a.", Exists),
+            ("*.a.", Service),
+            ("*.a.", Alias),
             ("a.", Address6),
             ("a.", Alias),
             ("a.", Address4),
@@ -266,6 +282,7 @@ const SERVICES: [Reading; 3] = [
         wanted: &[
             ("a.", Pointer),
             ("a.", Alias),
+            ("a.", Exists),
             ("_sip._tcp.a.", Service),
             ("_sip._udp.a.", Service),
             ("s.", Address4),
@@ -283,9 +300,14 @@ const SERVICES: [Reading; 3] = [
         wanted: &[
             ("a.", Pointer),
             ("a.", Alias),
+            ("a.", Exists),
             ("_sip._tcp.a.", Service),
             ("_sip._udp.a.", Service),
             ("_sip._udp.a.", Alias),
+            ("_sip._udp.a.", Exists),
+            ("_udp.a.", Exists),
+            ("*.a.", Service),
+            ("*.a.", Alias),
         ],
     },
     Reading {
@@ -300,8 +322,13 @@ const SERVICES: [Reading; 3] = [
         wanted: &[
             ("a.", Pointer),
             ("a.", Alias),
+            ("a.", Exists),
             ("_sips._tcp.a.", Service),
             ("_sips._tcp.a.", Alias),
+            ("_sips._tcp.a.", Exists),
+            ("_tcp.a.", Exists),
+            ("*.a.", Service),
+            ("*.a.", Alias),
             ("a.", Address4),
         ],
     },
@@ -344,6 +371,10 @@ const POINTERS: [Reading; 2] = [
             ("a.", Pointer),
             ("tcp.", Service),
             ("tcp.", Alias),
+            ("tcp.", Exists),
+            (".", Exists),
+            ("*.", Service),
+            ("*.", Alias),
             ("a.", Address4),
         ],
     },

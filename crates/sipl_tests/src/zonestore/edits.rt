@@ -1,5 +1,5 @@
 // What edits do to the apexes and the records, and which are refused.
-use super::{A, EMPTY, Edit, Step, play, play_new};
+use super::{A, EMPTY, Edit, FIRST_NAMES, Step, play, play_new};
 use sipl_records::Kind;
 use sipl_zonestore::{MAX_RECORDS, StoreFault};
 use std::process::Abort;
@@ -14,9 +14,10 @@ fn records_and_apexes_are_in_order_of_addition(rt: HostRuntime) {
         &[
             Step::Starts,
             Step::Changes(Edit::Load("example.org.", EMPTY), &[]),
-            Step::Changes(
+            Step::ChangesNames(
                 Edit::Add("a.example.org. A 192.0.2.4"),
                 &[("a.example.org.", A)],
+                &["a.example.org.", "example.org.", "org."],
             ),
             Step::HasRecords(&[
                 "server1 A 192.0.2.1",
@@ -39,17 +40,23 @@ fn loading_again_empties_the_zone(rt: HostRuntime) {
         &[
             Step::Starts,
             Step::Changes(Edit::Load("example.org.", EMPTY), &[]),
-            Step::Changes(
+            Step::ChangesNames(
                 Edit::Add("example.org. A 192.0.2.4"),
                 &[("example.org.", A)],
+                &["example.org.", "org."],
             ),
-            Step::Changes(
+            Step::ChangesNames(
                 Edit::Load("EXAMPLE.com.", EMPTY),
                 &[("server1", A), ("server2", A)],
+                &["server1", "@", "com.", "server2"],
             ),
             Step::HasRecords(&["example.org. A 192.0.2.4"]),
             Step::HasApexes(&["example.com.", "example.org."]),
-            Step::Changes(Edit::Load("example.org.", EMPTY), &[("example.org.", A)]),
+            Step::ChangesNames(
+                Edit::Load("example.org.", EMPTY),
+                &[("example.org.", A)],
+                &["example.org.", "org.", "."],
+            ),
             Step::HasRecords(&[]),
         ],
     );
@@ -113,7 +120,7 @@ fn sets_have_at_most_32_records(rt: HostRuntime) {
             Step::Fills("a", 32),
             Step::Refuses(Edit::Add("a A 192.0.2.1"), StoreFault::SetFull),
             Step::Refuses(Edit::Add("a A 0.0.0.7"), StoreFault::Duplicate),
-            Step::Changes(Edit::Add("b A 192.0.2.1"), &[("b", A)]),
+            Step::ChangesNames(Edit::Add("b A 192.0.2.1"), &[("b", A)], &["b"]),
             Step::HasNumbers(&[("a", A, 32), ("b", A, 33)]),
         ],
     );
@@ -128,7 +135,11 @@ fn a_full_store_takes_no_record(rt: HostRuntime) {
         1,
         &[
             Step::Changes(Edit::Load("example.com.", EMPTY), &[]),
-            Step::Changes(Edit::Add("server1 A 192.0.2.1"), &[("server1", A)]),
+            Step::ChangesNames(
+                Edit::Add("server1 A 192.0.2.1"),
+                &[("server1", A)],
+                FIRST_NAMES,
+            ),
             Step::Refuses(Edit::Add("server2 A 192.0.2.2"), StoreFault::StoreFull),
         ],
     );
@@ -169,7 +180,11 @@ fn an_alias_has_no_data_beside_it(rt: HostRuntime) {
         MAX_RECORDS as u64,
         &[
             Step::Changes(Edit::Load("example.com.", EMPTY), &[]),
-            Step::Changes(Edit::Add("server1 CNAME a"), &[("server1", Kind::Alias)]),
+            Step::ChangesNames(
+                Edit::Add("server1 CNAME a"),
+                &[("server1", Kind::Alias)],
+                FIRST_NAMES,
+            ),
             Step::Refuses(
                 Edit::Add("server1 A 192.0.2.1"),
                 StoreFault::AliasBesideData,
@@ -190,13 +205,15 @@ fn an_unloaded_zone_is_gone(rt: HostRuntime) {
         &[
             Step::Starts,
             Step::Changes(Edit::Load("example.org.", EMPTY), &[]),
-            Step::Changes(
+            Step::ChangesNames(
                 Edit::Add("example.org. A 192.0.2.4"),
                 &[("example.org.", A)],
+                &["example.org.", "org."],
             ),
-            Step::Changes(
+            Step::ChangesNames(
                 Edit::Unload("EXAMPLE.com."),
                 &[("server1", A), ("server2", A)],
+                &["server1", "@", "com.", "server2"],
             ),
             Step::HasRecords(&["example.org. A 192.0.2.4"]),
             Step::HasApexes(&["example.org."]),
@@ -223,6 +240,7 @@ fn faults_have_codes(rt: HostRuntime) {
         (StoreFault::SetFull, "S6"),
         (StoreFault::StoreFull, "S7"),
         (StoreFault::NumberSpent, "S8"),
+        (StoreFault::WildApex, "S9"),
         (StoreFault::Memory, "Memory"),
     ];
     has_code_each(&rt, &rows);

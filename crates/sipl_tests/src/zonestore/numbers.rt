@@ -1,5 +1,5 @@
 // Which sets an edit changes, the numbers that they take, and the looks at them.
-use super::{A, EMPTY, Edit, Step, play};
+use super::{A, EMPTY, Edit, FIRST_NAMES, Names, Step, play};
 use sipl_records::Kind;
 use sipl_zonestore::{MAX_NUMBER, MAX_RECORDS, StoreFault};
 
@@ -23,8 +23,11 @@ server2 A 192.0.2.9
 server2 A 192.0.2.2
 ";
 
+// The names that exist by the records of the zone alone.
+const NAMES: Names = &["@", "com.", ".", "_sip._tcp", "_tcp", "server1", "server2"];
+
 // The zone is loaded, and changes each of its sets.
-const LOAD_ZONE: Step = Step::Changes(
+const LOAD_ZONE: Step = Step::ChangesNames(
     Edit::Load("example.com.", ZONE),
     &[
         ("@", Kind::Pointer),
@@ -32,6 +35,7 @@ const LOAD_ZONE: Step = Step::Changes(
         ("server1", A),
         ("server2", A),
     ],
+    NAMES,
 );
 
 #[test]
@@ -46,9 +50,17 @@ fn changed_sets_take_the_next_numbers(rt: HostRuntime) {
             Step::HasNumbers(&[("server1", A, 3), ("server2", A, 2), ("server3", A, 0)]),
             Step::Changes(Edit::Remove("server1 A 192.0.2.1"), &[("server1", A)]),
             Step::HasNumbers(&[("server1", A, 4), ("server2", A, 2), ("server3", A, 0)]),
-            Step::Changes(Edit::Remove("server2 A 192.0.2.2"), &[("server2", A)]),
+            Step::ChangesNames(
+                Edit::Remove("server2 A 192.0.2.2"),
+                &[("server2", A)],
+                &["server2"],
+            ),
             Step::HasNumbers(&[("server1", A, 4), ("server2", A, 0), ("server3", A, 0)]),
-            Step::Changes(Edit::Add("server2 A 192.0.2.2"), &[("server2", A)]),
+            Step::ChangesNames(
+                Edit::Add("server2 A 192.0.2.2"),
+                &[("server2", A)],
+                &["server2"],
+            ),
             Step::Changes(Edit::Add("server1 A 192.0.2.1"), &[("server1", A)]),
             Step::HasNumbers(&[("server1", A, 6), ("server2", A, 5), ("server3", A, 0)]),
             Step::HasRecords(&[
@@ -69,15 +81,24 @@ fn a_number_above_2_to_the_52_is_refused(rt: HostRuntime) {
         8,
         &[
             Step::Changes(Edit::Load("example.com.", EMPTY), &[]),
-            Step::Changes(Edit::Add("server1 A 192.0.2.1"), &[("server1", A)]),
+            Step::ChangesNames(
+                Edit::Add("server1 A 192.0.2.1"),
+                &[("server1", A)],
+                FIRST_NAMES,
+            ),
             Step::HasNumbers(&[("server1", A, MAX_NUMBER), ("server2", A, 0)]),
             Step::Refuses(Edit::Add("server2 A 192.0.2.2"), StoreFault::NumberSpent),
-            // An empty set takes no number, and neither do data of which nothing is kept.
-            Step::Changes(Edit::Remove("server1 A 192.0.2.1"), &[("server1", A)]),
-            Step::Changes(Edit::AddBare("server1"), &[]),
+            // An empty set takes no number, and neither does existence, nor data of which nothing is
+            // kept.
+            Step::ChangesNames(
+                Edit::Remove("server1 A 192.0.2.1"),
+                &[("server1", A)],
+                FIRST_NAMES,
+            ),
+            Step::ChangesNames(Edit::AddBare("server1"), &[], FIRST_NAMES),
             Step::Refuses(Edit::AddBare("server1"), StoreFault::Duplicate),
             Step::Refuses(Edit::Add("server1 A 192.0.2.1"), StoreFault::NumberSpent),
-            Step::Changes(Edit::Unload("example.com."), &[]),
+            Step::ChangesNames(Edit::Unload("example.com."), &[], FIRST_NAMES),
         ],
     );
 }
@@ -161,8 +182,16 @@ fn a_record_that_is_removed_and_added_again_takes_a_new_number(rt: HostRuntime) 
         8,
         &[
             LOAD_ZONE,
-            Step::Changes(Edit::Remove("server1 A 192.0.2.1"), &[("server1", A)]),
-            Step::Changes(Edit::Add("server1 A 192.0.2.1"), &[("server1", A)]),
+            Step::ChangesNames(
+                Edit::Remove("server1 A 192.0.2.1"),
+                &[("server1", A)],
+                &["server1"],
+            ),
+            Step::ChangesNames(
+                Edit::Add("server1 A 192.0.2.1"),
+                &[("server1", A)],
+                &["server1"],
+            ),
             Step::HasNumbers(&[("server1", A, 5)]),
         ],
     );
@@ -177,9 +206,10 @@ fn a_load_reports_exactly_the_keys_that_differ(rt: HostRuntime) {
         8,
         &[
             LOAD_ZONE,
-            Step::Changes(
+            Step::ChangesNames(
                 Edit::Load("example.com.", LATER_ZONE),
                 &[("@", Kind::Pointer), ("server2", A), ("server3", A)],
+                &["server3"],
             ),
             Step::HasNumbers(&[
                 ("@", Kind::Pointer, 0),
@@ -201,7 +231,7 @@ fn an_unloaded_zone_reports_its_keys(rt: HostRuntime) {
         8,
         &[
             LOAD_ZONE,
-            Step::Changes(
+            Step::ChangesNames(
                 Edit::Unload("example.com."),
                 &[
                     ("@", Kind::Pointer),
@@ -209,6 +239,7 @@ fn an_unloaded_zone_reports_its_keys(rt: HostRuntime) {
                     ("server1", A),
                     ("server2", A),
                 ],
+                NAMES,
             ),
             Step::HasRecords(&[]),
             Step::Refuses(Edit::Unload("example.com."), StoreFault::NoZone),
@@ -233,12 +264,13 @@ fn a_load_that_needs_too_many_numbers_is_refused(rt: HostRuntime) {
                 Edit::Load("example.com.", LATER_ZONE),
                 StoreFault::NumberSpent,
             ),
-            Step::Changes(
+            Step::ChangesNames(
                 Edit::Load(
                     "example.com.",
                     "a A 192.0.2.1\nb A 192.0.2.1\nc A 192.0.2.1\n",
                 ),
                 &[("a", A), ("b", A), ("c", A)],
+                &["a", "@", "com.", ".", "b", "c"],
             ),
             Step::HasApexes(&["example.com."]),
         ],
