@@ -8,6 +8,7 @@ mod numeric;
 mod pointers;
 mod runs;
 mod services;
+mod wildcards;
 
 use sipl_choice::{Abilities, Endpoint, Families, Transport};
 use sipl_masterfile::read_record;

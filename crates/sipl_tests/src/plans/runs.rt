@@ -18,12 +18,12 @@ use std::alloc::Global;
 use std::process::Abort;
 
 // What is asked and found, and the sets that are read, in this order and no others.
-struct Reading {
-    row: Row,
-    wanted: &'static [(&'static str, Kind)],
+pub(super) struct Reading {
+    pub row: Row,
+    pub wanted: &'static [(&'static str, Kind)],
 }
 
-fn read_each(rt: &impl Abort, alloc: Global, readings: &[Reading]) {
+pub(super) fn read_each(rt: &impl Abort, alloc: Global, readings: &[Reading]) {
     for reading in readings {
         read(rt, alloc, reading);
     }
@@ -36,13 +36,13 @@ fn read(rt: &impl Abort, alloc: Global, reading: &Reading) {
 }
 
 // A run that has read nothing.
-fn start(rt: &impl Abort, alloc: Global, row: &Row) -> Run {
+pub(super) fn start(rt: &impl Abort, alloc: Global, row: &Row) -> Run {
     let abilities = abilities_of(rt, alloc, row.client);
     let question = question_of(rt, alloc, row.uri);
     start_with(rt, alloc, question, &abilities)
 }
 
-fn start_with(rt: &impl Abort, alloc: Global, question: Question, abilities: &Abilities) -> Run {
+pub(super) fn start_with(rt: &impl Abort, alloc: Global, question: Question, abilities: &Abilities) -> Run {
     Run::start(alloc, question, abilities).expect(rt, "out of memory")
 }
 
@@ -54,7 +54,7 @@ fn complete(rt: &impl Abort, alloc: Global, run: Run, reading: &Reading) -> Find
     finish(rt, run)
 }
 
-fn finish(rt: &impl Abort, run: Run) -> Finding {
+pub(super) fn finish(rt: &impl Abort, run: Run) -> Finding {
     run.finish().expect(rt, "a finding")
 }
 
@@ -83,7 +83,7 @@ fn wants(rt: &impl Abort, alloc: Global, run: &Run, owner: &str, kind: Kind) {
 }
 
 // Gives the run the set that it wants.
-fn give_next(rt: &impl Abort, alloc: Global, run: &mut Run, records: &[Record]) {
+pub(super) fn give_next(rt: &impl Abort, alloc: Global, run: &mut Run, records: &[Record]) {
     let mut content = Vec::new(alloc);
     for record in records {
         push_if_wanted(rt, alloc, &mut content, record, run);
@@ -140,7 +140,7 @@ fn give(rt: &impl Abort, alloc: Global, run: &mut Run, content: Sequence<Data>) 
 }
 
 // The targets drawn from the finding are those of the row, while nothing is held.
-fn is_answered(rt: &impl Abort, alloc: Global, finding: &Finding, row: &Row) {
+pub(super) fn is_answered(rt: &impl Abort, alloc: Global, finding: &Finding, row: &Row) {
     let draws = draws_of(rt, row.words);
     let answer = drawn(rt, alloc, finding, &draws);
     is_found(rt, &answer, row);
