@@ -1,6 +1,7 @@
 //! Tests of a book over a zone of three NAPTR records, two SRV records and two addresses.
 ghost use Rattle.std.specs.Prelude.{◌≡◌, ◌≤◌, [], ◌∷◌};
 
+mod existence;
 mod lookups;
 mod repairs;
 
@@ -45,6 +46,8 @@ enum Scenario {
     RefusedSettlement,
     Forgotten,
     Lookups,
+    Existence,
+    Wildcard,
 }
 
 // Plays a scenario with a book of so many entries and events at most, which it alone owns.
@@ -99,6 +102,8 @@ fn run(rt: &impl Abort, alloc: Global, book: &mut Book, scenario: Scenario) {
         Scenario::RefusedSettlement => repairs::refused_settlement(rt, alloc, book),
         Scenario::Forgotten => repairs::forgotten(rt, alloc, book),
         Scenario::Lookups => lookups::lookups(rt, alloc, book),
+        Scenario::Existence => existence::existence(rt, alloc, book),
+        Scenario::Wildcard => existence::wildcard(rt, alloc, book),
     }
 }
 

@@ -7,6 +7,7 @@ mod examples;
 mod numbers;
 mod orders;
 mod script;
+mod wildcards;
 
 use crate::book::abilities;
 use sipl_book::Limits;

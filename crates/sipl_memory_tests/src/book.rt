@@ -2,7 +2,9 @@
 ghost use Rattle.std.specs.Prelude.{◌≡◌, IfErr};
 
 use crate::call::{Call, Outcome, outcome_of, refused};
-use crate::values::{SETS, book, draws, finding, is_bobs, new_book, question, zone};
+use crate::values::{
+    Asked, SETS, book, draws, finding, is_answer, is_bobs, new_book, question, question_of, zone,
+};
 use sipl_book::{Book, BookFault, Edit, Uncommitted};
 use sipl_masterfile::{ZoneText, read_record};
 use sipl_names::Name;
@@ -33,6 +35,7 @@ impl Call for Change {
 #[derive(Drop)]
 struct FindAnswer {
     book: Box<Book>,
+    asked: Asked,
     question: Question,
     draws: Draws,
 }
@@ -40,7 +43,7 @@ struct FindAnswer {
 impl Call for FindAnswer {
     fn make<R: Wait>(&mut self, _rt: &R, alloc: Global) -> Option<bool> {
         match self.book.find(self.question.dup(alloc).ok()?, &self.draws) {
-            Ok(handed) => Some(handed.number == 1 && is_bobs(&handed.answer)),
+            Ok(handed) => Some(handed.number == 1 && is_answer(self.asked, &handed.answer)),
             Err(fault) => {
                 let is_as_before = self.book.journal().len() == 1
                     && self.book.entry(&self.question).is_none();
@@ -131,11 +134,16 @@ pub(crate) fn change_call<R: Wait>(rt: &R, alloc: Global) -> anyhow::Result<Outc
     Ok(outcome_of(rt, alloc, &mut Change { book, zone }))
 }
 
-pub(crate) fn find_call<R: Wait>(rt: &R, alloc: Global) -> anyhow::Result<Outcome> {
-    let (question, draws) = (question(alloc)?, draws()?);
+pub(crate) fn find_call<R: Wait>(
+    rt: &R,
+    alloc: Global,
+    asked: Asked,
+) -> anyhow::Result<Outcome> {
+    let (question, draws) = (question_of(alloc, asked)?, draws()?);
     let book = book(alloc)?;
     let mut call = FindAnswer {
         book,
+        asked,
         question,
         draws,
     };

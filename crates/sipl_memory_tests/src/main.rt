@@ -7,6 +7,7 @@
 
 mod book;
 mod call;
+mod existence;
 mod plans;
 mod service;
 mod texts;
@@ -14,9 +15,11 @@ mod values;
 
 use crate::book::{change_call, commit_call, find_call, lease_call};
 use crate::call::Outcome;
+use crate::existence::{add_names_call, outdate_call};
 use crate::plans::{draw_call, give_call, load_call};
 use crate::service::{claim_call, edit_call, lookup_call};
 use crate::texts::{parse_call, read_zone_call};
+use crate::values::Asked;
 use std::alloc::Global;
 use std::env;
 use std::process::ExitCode;
@@ -28,14 +31,19 @@ fn named_call<R: Wait>(rt: &R, alloc: Global, name: &str) -> anyhow::Result<Outc
         "read_zone" => read_zone_call(rt, alloc),
         "parse" => parse_call(rt, alloc),
         "load" => load_call(rt, alloc),
-        "give" => give_call(rt, alloc),
+        "add_names" => add_names_call(rt, alloc),
+        "give" => give_call(rt, alloc, Asked::Bob),
+        "give_ancestor" => give_call(rt, alloc, Asked::Deep),
         "draw" => draw_call(rt, alloc),
         "change" => change_call(rt, alloc),
-        "find" => find_call(rt, alloc),
+        "outdate" => outdate_call(rt, alloc),
+        "find" => find_call(rt, alloc, Asked::Bob),
+        "find_wildcard" => find_call(rt, alloc, Asked::Deep),
         "commit_checked" => commit_call(alloc),
         "lease" => lease_call(rt, alloc),
         "edit" => edit_call(rt, alloc),
-        "lookup" => lookup_call(rt, alloc),
+        "lookup" => lookup_call(rt, alloc, Asked::Bob),
+        "lookup_wildcard" => lookup_call(rt, alloc, Asked::Deep),
         "claim" => claim_call(rt, alloc),
         _ => anyhow::bail!("no such call"),
     }

@@ -1,6 +1,8 @@
 // Calls of a store, a run and a plan.
 use crate::call::{Call, Outcome, outcome_of, refused};
-use crate::values::{SETS, abilities, book, draws, finding, is_bobs, question, zone};
+use crate::values::{
+    Asked, NAMES, SETS, abilities, book, draws, finding, is_bobs, question_of, read_four, zone,
+};
 use sipl_book::Book;
 use sipl_masterfile::ZoneText;
 use sipl_outages::Board;
@@ -19,7 +21,10 @@ struct Load {
 impl Call for Load {
     fn make<R: Wait>(&mut self, _rt: &R, _alloc: Global) -> Option<bool> {
         match self.store.load(&self.zone) {
-            Ok(keys) => { Some(keys.len() == SETS && self.store.records() == self.zone.records()) }
+            Ok(changed) => {
+                let is_loaded = self.store.records() == self.zone.records();
+                Some(changed.sets == SETS && changed.keys.len() == SETS + NAMES && is_loaded)
+            }
             Err(fault) => {
                 let is_empty = self.store.apexes().is_empty() && self.store.records().is_empty();
                 refused(fault.code(), is_empty)
@@ -28,7 +33,7 @@ impl Call for Load {
     }
 }
 
-// The run is given the first set that it wants.
+// The run is given the next set that it wants.
 #[derive(Drop)]
 struct Give {
     book: Box<Book>,
@@ -68,12 +73,21 @@ pub(crate) fn load_call<R: Wait>(rt: &R, alloc: Global) -> anyhow::Result<Outcom
     Ok(outcome_of(rt, alloc, &mut Load { store, zone }))
 }
 
-pub(crate) fn give_call<R: Wait>(rt: &R, alloc: Global) -> anyhow::Result<Outcome> {
-    let (question, abilities) = (question(alloc)?, abilities(alloc)?);
-    let run = Box::new(alloc, Run::start(alloc, question, &abilities)?)?;
-    let book = book(alloc)?;
+// The set that is given is the first one, or that of a name above one that does not exist.
+pub(crate) fn give_call<R: Wait>(
+    rt: &R,
+    alloc: Global,
+    asked: Asked,
+) -> anyhow::Result<Outcome> {
+    let (question, abilities) = (question_of(alloc, asked)?, abilities(alloc)?);
+    let mut run = Box::new(alloc, Run::start(alloc, question, &abilities)?)?;
+    let mut book = book(alloc)?;
+    if matches!(asked, Asked::Deep) {
+        read_four(alloc, &mut book, &mut run)?;
+    }
     Ok(outcome_of(rt, alloc, &mut Give { book, run }))
 }
+
 
 pub(crate) fn draw_call<R: Wait>(rt: &R, alloc: Global) -> anyhow::Result<Outcome> {
     let draws = draws()?;

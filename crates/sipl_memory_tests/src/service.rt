@@ -1,6 +1,6 @@
 // Calls of a service.
 use crate::call::{Call, Outcome, outcome_of, refused};
-use crate::values::{SETS, abilities, draws, is_bobs, question, zone};
+use crate::values::{Asked, SETS, abilities, draws, is_answer, question_of, zone};
 use sipl_book::{Edit, Limits};
 use sipl_masterfile::ZoneText;
 use sipl_service::{Closing, OpenGate, Pass, Service, claim};
@@ -32,6 +32,7 @@ impl Call for EditZone {
 struct Lookup {
     service: Box<Service>,
     pass: Pass,
+    asked: Asked,
     question: Question,
     draws: Draws,
 }
@@ -42,7 +43,9 @@ impl Call for Lookup {
             .service
             .lookup(rt, &mut self.pass, &self.question, &self.draws, &OpenGate);
         match told {
-            Ok(told) => Some(is_bobs(told.answer()) && self.pass.receipts().len() == 2),
+            Ok(told) => {
+                Some(is_answer(self.asked, told.answer()) && self.pass.receipts().len() == 2)
+            }
             Err(fault) => refused(fault.code(), self.pass.receipts().len() == 1),
         }
     }
@@ -90,8 +93,8 @@ fn load_zone<R: Wait>(
     Ok(())
 }
 
-fn new_lookup<R: Wait>(rt: &R, alloc: Global) -> anyhow::Result<Lookup> {
-    let question = question(alloc)?;
+fn new_lookup<R: Wait>(rt: &R, alloc: Global, asked: Asked) -> anyhow::Result<Lookup> {
+    let question = question_of(alloc, asked)?;
     let draws = draws()?;
     let service = service(alloc)?;
     let mut pass = service.pass();
@@ -99,6 +102,7 @@ fn new_lookup<R: Wait>(rt: &R, alloc: Global) -> anyhow::Result<Lookup> {
     Ok(Lookup {
         service,
         pass,
+        asked,
         question,
         draws,
     })
@@ -130,8 +134,12 @@ pub(crate) fn edit_call<R: Wait>(rt: &R, alloc: Global) -> anyhow::Result<Outcom
     Ok(outcome_of(rt, alloc, &mut call))
 }
 
-pub(crate) fn lookup_call<R: Wait>(rt: &R, alloc: Global) -> anyhow::Result<Outcome> {
-    let mut call = new_lookup(rt, alloc)?;
+pub(crate) fn lookup_call<R: Wait>(
+    rt: &R,
+    alloc: Global,
+    asked: Asked,
+) -> anyhow::Result<Outcome> {
+    let mut call = new_lookup(rt, alloc, asked)?;
     Ok(outcome_of(rt, alloc, &mut call))
 }
 

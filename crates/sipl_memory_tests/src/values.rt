@@ -18,10 +18,23 @@ _sip._tcp SRV 0 1 5060 server1
 _sip._tcp SRV 0 2 5060 server2
 server1 A 192.0.2.1
 server2 A 192.0.2.2
+* A 192.0.2.9
 ";
 
-// How many sets the zone has.
-pub(crate) const SETS: usize = 4;
+// How many sets the zone has, and how many names exist by it.
+pub(crate) const SETS: usize = 5;
+
+pub(crate) const NAMES: usize = 8;
+
+// A question of a name that does not exist, with seven names between it and the domain.
+const DEEP: &[u8] = b"sip:a.b.c.d.e.f.g.h.example.com:5060;transport=tcp";
+
+// What is asked: Bob's question, whose names exist, or the one whose name does not.
+#[derive(Clone, Copy)]
+pub(crate) enum Asked {
+    Bob,
+    Deep,
+}
 
 pub(crate) fn apex(alloc: Global) -> anyhow::Result<Name> {
     Ok(Name::from_text(alloc, b"example.com.", &Name::root(alloc))?)
@@ -36,7 +49,23 @@ pub(crate) fn abilities(alloc: Global) -> anyhow::Result<Abilities> {
 }
 
 pub(crate) fn question(alloc: Global) -> anyhow::Result<Question> {
-    Ok(Uri::parse(alloc, BOB)?)
+    question_of(alloc, Asked::Bob)
+}
+
+pub(crate) fn question_of(alloc: Global, asked: Asked) -> anyhow::Result<Question> {
+    let uri = match asked {
+        Asked::Bob => BOB,
+        Asked::Deep => DEEP,
+    };
+    Ok(Uri::parse(alloc, uri)?)
+}
+
+// Whether the answer is that of the question.
+pub(crate) fn is_answer(asked: Asked, answer: &Answer) -> bool {
+    match asked {
+        Asked::Bob => is_bobs(answer),
+        Asked::Deep => is_wildcards(answer),
+    }
 }
 
 // A book without zones. It is boxed, as all is that has many parts: so a function that may end early lets
@@ -66,8 +95,9 @@ pub(crate) fn read_next(alloc: Global, book: &mut Book, run: &mut Run) -> anyhow
     Ok(())
 }
 
-// Gives a run the four sets that it wants.
-pub(crate) fn read_all(alloc: Global, book: &mut Book, run: &mut Run) -> anyhow::Result<()>
+// Gives a run four sets: all that Bob's question wants, or of a name that does not exist its address, its
+// alias, its existence, and that of its parent.
+pub(crate) fn read_four(alloc: Global, book: &mut Book, run: &mut Run) -> anyhow::Result<()>
     ensures book { book.new.client ≡ book.old.client }
     ensures run { run.new.client ≡ run.old.client }
 {
@@ -84,7 +114,7 @@ pub(crate) fn finding(alloc: Global, book: &mut Book) -> anyhow::Result<Box<Find
 {
     let question = question(alloc)?;
     let mut run = Box::new(alloc, Run::start(alloc, question, book.abilities())?)?;
-    read_all(alloc, book, &mut run)?;
+    read_four(alloc, book, &mut run)?;
     match Box::into_inner(run).finish() {
         Ok(finding) => Ok(Box::new(alloc, finding)?),
         Err(_) => anyhow::bail!("the run wants more sets"),
@@ -93,6 +123,17 @@ pub(crate) fn finding(alloc: Global, book: &mut Book) -> anyhow::Result<Box<Find
 
 pub(crate) fn draws() -> anyhow::Result<Draws> {
     Ok(Draws::from_words(&[2, 0])?)
+}
+
+// Whether the answer is the address of the wildcard.
+fn is_wildcards(answer: &Answer) -> bool {
+    match answer {
+        Answer::Targets(targets) => {
+            let targets = targets.as_slice();
+            targets.len() == 1 && targets[0].address == Address::V4(0xC000_0209)
+        }
+        Answer::None(_) => false,
+    }
 }
 
 // Whether the answer is server2 and then server1.

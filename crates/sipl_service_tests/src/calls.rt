@@ -44,7 +44,7 @@ fn contended_key(rt: &impl Abort, alloc: Global, told: Result<Told, ServiceFault
 }
 
 // An L1 with this key.
-fn is_contended(rt: &impl Abort, alloc: Global, told: Result<Told, ServiceFault>, key: &[u8]) {
+pub(crate) fn is_contended(rt: &impl Abort, alloc: Global, told: Result<Told, ServiceFault>, key: &[u8]) {
     assert!(rt;
         contended_key(rt, alloc, told).as_slice() == key,
         "another key"
@@ -181,15 +181,18 @@ fn repaired<R: Wait + Abort>(rt: &R, alloc: Global, service: &Service) {
     outdate(rt, alloc, service, &mut pass);
     repair(rt, service);
     is_current(rt, alloc, service, &mut pass);
-    has_five_dependencies(rt, alloc, service);
+    has_nine_dependencies(rt, alloc, service);
 }
 
 fn repair<R: Wait + Abort>(rt: &R, service: &Service) {
     assert!(rt; service.repair(rt).is_ok(), "not repaired");
 }
 
-fn has_five_dependencies<R: Wait + Abort>(rt: &R, alloc: Global, service: &Service) {
-    assert_eq!(rt; dependencies(rt, alloc, service), 5);
+// The NAPTR records, the SRV records and the address of server1, six sets of server2, which does not
+// exist: its address, its alias, its existence, that of the domain, and the address and the alias of the
+// domain's wildcard.
+fn has_nine_dependencies<R: Wait + Abort>(rt: &R, alloc: Global, service: &Service) {
+    assert_eq!(rt; dependencies(rt, alloc, service), 9);
 }
 
 #[test]

@@ -7,10 +7,11 @@ use sipl_book::{Edit, Event};
 use sipl_choice::{Abilities, Endpoint};
 use sipl_outages::Board;
 use sipl_plans::{Answer, plan_of};
+use sipl_records::Address;
 use sipl_service::{Closing, OpenGate, Pass, Service};
 use sipl_srv::Draws;
 use sipl_uri::Question;
-use sipl_zonestore::ZoneStore;
+use sipl_zonestore::{Changed, StoreFault, ZoneStore};
 use std::alloc::Global;
 use std::process::Abort;
 use std::sync::Wait;
@@ -22,7 +23,10 @@ const CALLERS: u64 = 6;
 
 const CALLS: u64 = 2_000;
 
-const URIS: [&[u8]; 8] = [
+const URIS: [&[u8]; 11] = [
+    b"sip:foo.example.com:5060",
+    b"sip:y.foo.example.com:5060",
+    b"sip:foo.example.com;transport=tcp",
     b"sip:example.com",
     b"sips:example.com",
     b"sip:example.com;transport=tcp",
@@ -33,7 +37,12 @@ const URIS: [&[u8]; 8] = [
     b"sip:none.example.com",
 ];
 
-const RECORDS: [&[u8]; 8] = [
+const RECORDS: [&[u8]; 13] = [
+    b"*.example.com. A 192.0.2.9",
+    b"*.example.com. SRV 0 1 5070 server1.example.com.",
+    b"x.foo.example.com. TXT y",
+    b"foo.example.com. TXT y",
+    b"*.foo.example.com. A 192.0.2.9",
     b"server1.example.com. A 192.0.2.1",
     b"server1.example.com. A 192.0.2.11",
     b"server2.example.com. A 192.0.2.2",
@@ -46,7 +55,10 @@ const RECORDS: [&[u8]; 8] = [
 
 // One of some texts.
 fn choice(texts: &[&'static [u8]], word: u32) -> &'static [u8] {
-    texts.get(word as usize % 8).copied().unwrap_or(b"")
+    texts
+        .get(word as usize % texts.len().max(1))
+        .copied()
+        .unwrap_or(b"")
 }
 
 // One of two endpoints.
@@ -170,13 +182,45 @@ fn plain_answer(
     plan_of(alloc, store.records(), board, question, abilities, draws).expect(rt, "out of memory")
 }
 
-// Whether an edit is accepted.
-fn is_made(store: &mut ZoneStore, edit: &Edit) -> bool {
+fn changed(store: &mut ZoneStore, edit: &Edit) -> Result<Changed, StoreFault> {
     match edit {
-        Edit::Load(zone) => store.load(zone).is_ok(),
-        Edit::Unload(apex) => store.unload(apex).is_ok(),
-        Edit::Add(record) => store.add(record).is_ok(),
-        Edit::Remove(record) => store.remove(record).is_ok(),
+        Edit::Load(zone) => store.load(zone),
+        Edit::Unload(apex) => store.unload(apex),
+        Edit::Add(record) => store.add(record),
+        Edit::Remove(record) => store.remove(record),
+    }
+}
+
+// Whether an edit is accepted. Those that change existence alone are counted.
+fn is_made(store: &mut ZoneStore, edit: &Edit, seen: &mut Seen) -> bool {
+    match changed(store, edit) {
+        Ok(changed) => {
+            let is_of_existence = changed.sets == 0 && changed.keys.len() > 0;
+            count(is_of_existence, &mut seen.existence);
+            true
+        }
+        Err(_) => false,
+    }
+}
+
+// How many edits changed existence alone, and how many answers have the address of a wildcard.
+#[derive(Clone, Copy, Default)]
+struct Seen {
+    existence: u64,
+    by_wildcard: u64,
+}
+
+fn count(is_seen: bool, counter: &mut u64) {
+    *counter = counter.saturating_add(u64::from(is_seen));
+}
+
+// Whether the answer has an address that wildcards alone have.
+fn is_by_wildcard(answer: &Answer) -> bool {
+    match answer {
+        Answer::Targets(targets) => targets
+            .iter()
+            .any(|target| target.address == Address::V4(0xC000_0209)),
+        Answer::None(_) => false,
     }
 }
 
@@ -188,24 +232,32 @@ fn is_legal(
     board: &mut Board,
     abilities: &Abilities,
     event: &Event,
+    seen: &mut Seen,
 ) -> bool {
     match event {
-        Event::Change(edit) => is_made(store, edit),
+        Event::Change(edit) => is_made(store, edit, seen),
         Event::Hold(endpoint, ms) => board.hold(endpoint, *ms).is_ok(),
         Event::Release(endpoint) => board.release(endpoint).is_ok(),
         Event::Advance(to) => board.advance(*to).is_ok(),
         Event::Answer(question, draws, answer) => {
+            count(is_by_wildcard(answer), &mut seen.by_wildcard);
             plain_answer(rt, alloc, store, board, abilities, question, draws) == *answer
         }
     }
 }
 
 // How many events are legal, up to the first that is not.
-fn legal(rt: &impl Abort, alloc: Global, abilities: &Abilities, journal: &[Event]) -> usize {
+fn legal(
+    rt: &impl Abort,
+    alloc: Global,
+    abilities: &Abilities,
+    journal: &[Event],
+    seen: &mut Seen,
+) -> usize {
     let mut store = ZoneStore::with(alloc, 1, 1_048_576);
     let mut board = Board::with(alloc, 4_096);
     for (number, event) in journal.iter().enumerate() {
-        if !is_legal(rt, alloc, &mut store, &mut board, abilities, event) {
+        if !is_legal(rt, alloc, &mut store, &mut board, abilities, event, seen) {
             return number;
         }
     }
@@ -213,8 +265,15 @@ fn legal(rt: &impl Abort, alloc: Global, abilities: &Abilities, journal: &[Event
 }
 
 fn are_legal(rt: &impl Abort, alloc: Global, abilities: &Abilities, journal: &[Event]) {
+    let mut seen = Seen::default();
     assert!(rt; journal.len() > 8_000, "few calls were accepted");
-    assert_eq!(rt; legal(rt, alloc, abilities, journal), journal.len());
+    assert_eq!(rt; legal(rt, alloc, abilities, journal, &mut seen), journal.len());
+    are_seen(rt, seen);
+}
+
+fn are_seen(rt: &impl Abort, seen: Seen) {
+    assert!(rt; seen.existence > 100, "edits of existence alone");
+    assert!(rt; seen.by_wildcard > 200, "answers by wildcards");
 }
 
 #[test]

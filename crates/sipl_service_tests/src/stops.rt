@@ -123,7 +123,7 @@ fn stops_a_worker<R: Threads + Wait + Clock + Abort + Sync>(rt: &R, alloc: Globa
 
 #[test]
 fn a_worker_that_is_stopped_gives_its_lease_back(rt: HostRuntime) {
-    for at in 1..=5 {
+    for at in 1..=9 {
         stops_a_worker(&rt, rt.alloc(), at);
     }
 }

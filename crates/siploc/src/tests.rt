@@ -10,5 +10,6 @@ mod scripts;
 mod serve;
 mod sessions;
 mod settings;
+mod shares;
 mod streams;
 mod zones;

@@ -3,7 +3,7 @@
 //! them.
 ghost use Rattle.std.specs.Prelude.{◌≤◌};
 
-use super::counts::{Counts, are_mixed, count};
+use super::counts::{Counts, are_mixed, count, count_commit};
 use super::numbers::{Numbers, URIS};
 use super::{copy_of, expects, is_same, plain_answer};
 use crate::book::{apex, question, zone};
@@ -23,7 +23,7 @@ use std::process::Abort;
 // Plays of each test, and steps of each play.
 const PLAYS: u64 = 250;
 
-const STEPS: u64 = 200;
+const STEPS: u64 = 250;
 
 // What the zone has at first.
 const ZONE: &[u8] = b"a NAPTR 1 1 s SIP+D2U \"\" _sip._udp.a
@@ -33,6 +33,7 @@ _sip._tcp.a SRV 1 0 5060 b
 b A 192.0.2.1
 c CNAME d
 d A 192.0.2.2
+* A 192.0.2.3
 ";
 
 // What a worker does that has a run. A run that wants no set is complete.
@@ -67,7 +68,7 @@ fn edit_store(store: &mut ZoneStore, edit: &Edit) -> Outcome {
         Edit::Remove(record) => store.remove(record),
     };
     match edited {
-        Ok(keys) => Ok(keys.len() as u64),
+        Ok(changed) => Ok(changed.sets as u64),
         Err(fault) => Err(fault.code()),
     }
 }
@@ -323,7 +324,7 @@ impl Beside {
         work: Work,
         counts: &mut Counts,
     ) -> Option<Work> {
-        if self.numbers.below(32) == 0 {
+        if self.numbers.below(64) == 0 {
             return self.abandon(rt, world, worker, counts);
         }
         match work {
@@ -377,10 +378,10 @@ impl Beside {
     ) -> Option<Work> {
         self.uri = uri;
         self.draws = self.numbers.words();
-        let outcome = self.make(rt, world, Step::Commit(worker, self.draws));
+        let reply = world.step(Step::Commit(worker, self.draws));
+        count_commit(world.book(), &self.question(rt, uri), &reply, counts);
+        let outcome = self.take(rt, world, reply);
         is_made_or(rt, outcome, "B2");
-        count(outcome.is_ok(), &mut counts.committed);
-        count(outcome.is_err(), &mut counts.outdated);
         None
     }
 

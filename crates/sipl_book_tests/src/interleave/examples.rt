@@ -8,7 +8,7 @@ use sipl_book::{MAX_ENTRIES, MAX_EVENTS};
 use sipl_choice::Transport::{Tcp, Udp};
 use sipl_interleave::World;
 use sipl_plans::Reason;
-use sipl_records::Kind::{Address4, Alias, Pointer, Service};
+use sipl_records::Kind::{Address4, Alias, Exists, Pointer, Service};
 use sipl_uri::Question;
 use std::alloc::Global;
 use std::process::Abort;
@@ -42,6 +42,12 @@ const SECOND_ADDRESS: (Line, Shown) = (
     Line::Read(0),
     Shown::Read("server2.example.com.", Address4, 1),
 );
+
+// Reads of the existence of the domain, and of the alias of its wildcard.
+const DOMAIN_EXISTS: (Line, Shown) = (Line::Read(0), Shown::Read("example.com.", Exists, 1));
+
+const NO_ALIAS_OF_WILDCARD: (Line, Shown) =
+    (Line::Read(0), Shown::Read("*.example.com.", Alias, 0));
 
 // A commit of both servers, the second one first.
 const BOTH: (Line, Shown) = (
@@ -88,7 +94,7 @@ fn make(rt: &impl Abort, alloc: Global, world: &mut World, scenario: Scenario) {
 }
 
 // A script of a world with so many workers, step by step and in one play.
-fn run_script(rt: &impl Abort, alloc: Global, workers: usize, script: Script)
+pub(super) fn run_script(rt: &impl Abort, alloc: Global, workers: usize, script: Script)
     requires some { 1 ≤ workers }
     requires few { workers ≤ 64 }
 {
@@ -134,6 +140,7 @@ const ADDED_POINTER: Script = &[
         Shown::Changed(1),
     ),
     (Line::Read(0), Shown::Read("example.com.", Alias, 0)),
+    DOMAIN_EXISTS,
     (
         Line::Read(0),
         Shown::Read("_sip._tcp.example.com.", Service, 0),
@@ -144,12 +151,24 @@ const ADDED_POINTER: Script = &[
     ),
     (
         Line::Read(0),
+        Shown::Read("_sip._tcp.example.com.", Exists, 0),
+    ),
+    (Line::Read(0), Shown::Read("_tcp.example.com.", Exists, 0)),
+    (Line::Read(0), Shown::Read("*.example.com.", Service, 0)),
+    NO_ALIAS_OF_WILDCARD,
+    (
+        Line::Read(0),
         Shown::Read("_sip._udp.example.com.", Service, 0),
     ),
     (
         Line::Read(0),
         Shown::Read("_sip._udp.example.com.", Alias, 0),
     ),
+    (
+        Line::Read(0),
+        Shown::Read("_sip._udp.example.com.", Exists, 0),
+    ),
+    (Line::Read(0), Shown::Read("_udp.example.com.", Exists, 0)),
     (Line::Read(0), Shown::Read("example.com.", Address4, 0)),
     (
         Line::Commit(0, &[]),
@@ -197,6 +216,14 @@ const ABSENT_AGAIN: Script = &[
         Line::Read(0),
         Shown::Read("_sip._udp.example.com.", Alias, 0),
     ),
+    (
+        Line::Read(0),
+        Shown::Read("_sip._udp.example.com.", Exists, 0),
+    ),
+    (Line::Read(0), Shown::Read("_udp.example.com.", Exists, 0)),
+    DOMAIN_EXISTS,
+    (Line::Read(0), Shown::Read("*.example.com.", Service, 0)),
+    NO_ALIAS_OF_WILDCARD,
     (Line::Read(0), Shown::Read("example.com.", Address4, 0)),
     (Line::Read(0), Shown::Read("example.com.", Alias, 0)),
     (Line::Add("example.com. A 192.0.2.5"), Shown::Changed(1)),
@@ -283,6 +310,13 @@ const SETTLED: Script = &[
         Shown::Read("server2.example.com.", Address4, 0),
     ),
     (Line::Read(0), Shown::Read("server2.example.com.", Alias, 0)),
+    (
+        Line::Read(0),
+        Shown::Read("server2.example.com.", Exists, 0),
+    ),
+    DOMAIN_EXISTS,
+    (Line::Read(0), Shown::Read("*.example.com.", Address4, 0)),
+    NO_ALIAS_OF_WILDCARD,
     (Line::Settle(0), Shown::Settled),
 ];
 

@@ -10,17 +10,23 @@ use std::alloc::Global;
 use std::process::Abort;
 
 // Owners and targets of the zone: few, so that chains and circles of aliases come up.
-const NAMES: [&str; 9] = [
+const NAMES: [&str; 12] = [
     "a",
     "b",
     "c",
     "d",
+    "x.n",
+    "x.y",
     "_sip._udp.a",
     "_sip._tcp.a",
     "_sips._tcp.a",
     "_sip._tcp.b",
     "_sip._udp.b",
+    "_sip._udp.x.y",
 ];
+
+// Owners that are no targets: wildcards, and a name below one.
+const WILDCARDS: [&str; 5] = ["*", "*", "*.y", "*.b", "_sip._udp.*"];
 
 const POINTERS: [&str; 5] = [
     "s SIP+D2U \"\" ",
@@ -32,7 +38,13 @@ const POINTERS: [&str; 5] = [
 
 const DIGITS: [&str; 4] = ["0", "1", "2", "3"];
 
-pub(super) const URIS: [&str; 8] = [
+pub(super) const URIS: [&str; 14] = [
+    "sip:q.example.com:5070",
+    "sip:x.q.example.com:5060",
+    "sip:n.example.com:5070",
+    "sip:m.n.example.com:5060",
+    "sip:z.y.example.com:5070",
+    "sip:n.example.com;transport=udp",
     "sip:a.example.com",
     "sips:a.example.com",
     "sip:b.example.com",
@@ -85,12 +97,20 @@ impl Numbers {
         texts.get(place).copied().unwrap_or("")
     }
 
+    fn owner(&mut self) -> &'static str {
+        if self.below(4) == 0 {
+            self.one_of(&WILDCARDS)
+        } else {
+            self.one_of(&NAMES)
+        }
+    }
+
     // The parts of the text of a record.
     fn parts(&mut self) -> [&'static str; 6] {
-        let owner = self.one_of(&NAMES);
+        let owner = self.owner();
         let target = self.one_of(&NAMES);
         let digit = self.one_of(&DIGITS);
-        match self.below(7) {
+        match self.below(9) {
             0 => [owner, " CNAME ", target, "", "", ""],
             1 => [owner, " SRV ", digit, " 1 5060 ", target, ""],
             2 => [owner, " SRV 0 ", digit, " 5061 ", target, ""],
@@ -99,7 +119,8 @@ impl Numbers {
                 let pointer = self.one_of(&POINTERS);
                 [owner, " NAPTR 1 ", digit, " ", pointer, target]
             }
-            5 => [owner, " A 192.0.2.", digit, "", "", ""],
+            5 | 6 => [owner, " A 192.0.2.", digit, "", "", ""],
+            7 => [owner, " TXT ", digit, "", "", ""],
             _ => [owner, " AAAA 2001:db8::", digit, "", "", ""],
         }
     }

@@ -1,17 +1,16 @@
 //! Every order of the steps of two workers and of three edits: each commit is refused exactly where
 //! a set changed after it was read, and each answer is that of the plain program on the records to
-//! which the edits before it lead.
+//! which the edits before it lead. Here the sets are those of names that exist, in `existence` they are
+//! those of names that begin and cease to exist.
+mod existence;
+mod materials;
+
 use super::counts::count;
-use super::{copy_of, expects, is_same, new_world, plain_answer, play_all};
-use crate::book::{abilities, draws, question, record, zone};
-use sipl_book::{BookFault, Edit, MAX_ENTRIES, MAX_EVENTS};
-use sipl_choice::Abilities;
-use sipl_interleave::{Reply, Step, World, WorldFault};
-use sipl_outages::Board;
-use sipl_plans::Answer;
-use sipl_records::Record;
-use sipl_uri::Question;
-use sipl_zonestore::ZoneStore;
+use super::{expects, new_world, play_all};
+use crate::book::{draws, zone};
+use materials::{Change, Expected, Materials, Table, push};
+use sipl_book::{Edit, MAX_ENTRIES, MAX_EVENTS};
+use sipl_interleave::{Reply, Step, World};
 use std::alloc::Global;
 use std::process::Abort;
 
@@ -21,17 +20,35 @@ s A 192.0.2.1
 t A 192.0.2.2
 ";
 
-// The records of the edits: the first is added and removed, and then the second is added.
+// A record of the first two edits, which add and remove it.
 const ADDRESS: &[u8] = b"s.example.com. A 192.0.2.11";
 
-const SERVICE: &[u8] = b"_sip._tcp.a.example.com. SRV 1 0 5070 t.example.com.";
-
-// The questions.
-const URIS: [&[u8]; 3] = [
-    b"sip:s.example.com:5070",
-    b"sip:a.example.com;transport=udp",
-    b"sip:a.example.com;transport=tcp",
-];
+const TABLE: Table = Table {
+    zone: ZONE,
+    sets: 4,
+    uris: &[
+        b"sip:s.example.com:5070",
+        b"sip:a.example.com;transport=udp",
+        b"sip:a.example.com;transport=tcp",
+    ],
+    edits: &[
+        Change {
+            is_added: true,
+            record: ADDRESS,
+            sets: 1,
+        },
+        Change {
+            is_added: false,
+            record: ADDRESS,
+            sets: 1,
+        },
+        Change {
+            is_added: true,
+            record: b"_sip._tcp.a.example.com. SRV 1 0 5070 t.example.com.",
+            sets: 1,
+        },
+    ],
+};
 
 // The sets that their runs read.
 const SETS: [&[Set]; 3] = [
@@ -107,150 +124,6 @@ fn is_complete(order: &Order) -> bool {
     [0, 1].iter().all(|worker| order.iter().filter(|digit| *digit == worker).count() == 5)
 }
 
-// What is expected of a step.
-#[derive(Clone, Copy)]
-enum Expected {
-    // So many sets changed.
-    Changed(u64),
-    Started,
-    Read,
-    // The answer to this question after so many edits.
-    Answer(usize, usize),
-    // B2, at this place.
-    Stale(usize),
-    NotCurrent,
-}
-
-// What all plays need.
-#[derive(Drop)]
-struct Materials {
-    alloc: Global,
-    questions: Vec<Question>,
-    records: Vec<Record>,
-    // After each number of edits, the answers to the questions.
-    answers: Vec<Answer>,
-}
-
-impl Materials {
-    fn new(rt: &impl Abort, alloc: Global) -> Self {
-        let mut materials = Materials {
-            alloc,
-            questions: Vec::new(alloc),
-            records: Vec::new(alloc),
-            answers: Vec::new(alloc),
-        };
-        materials.fill(rt);
-        materials
-    }
-
-    fn fill(&mut self, rt: &impl Abort) {
-        let alloc = self.alloc;
-        for uri in URIS {
-            push(rt, &mut self.questions, question(rt, alloc, uri));
-        }
-        for text in [ADDRESS, ADDRESS, SERVICE] {
-            push(rt, &mut self.records, record(rt, alloc, text));
-        }
-        let mut store = ZoneStore::new(alloc);
-        self.fill_answers(rt, &mut store);
-    }
-
-    fn fill_answers(&mut self, rt: &impl Abort, store: &mut ZoneStore) {
-        let is_loaded = store.load(&zone(rt, self.alloc, ZONE)).is_ok();
-        expects(rt, is_loaded, "a zone");
-        for edits in 0..4_usize {
-            self.push_answers(rt, store);
-            self.edit_store(rt, store, edits);
-        }
-    }
-
-    fn push_answers(&mut self, rt: &impl Abort, store: &mut ZoneStore) {
-        let abilities = abilities(rt, self.alloc);
-        for question in &self.questions {
-            push_answer(
-                rt,
-                self.alloc,
-                &mut self.answers,
-                store,
-                question,
-                &abilities,
-            );
-        }
-    }
-
-    // Makes the next edit, after so many, if there is one.
-    fn edit_store(&self, rt: &impl Abort, store: &mut ZoneStore, edits: usize) {
-        if let Some(record) = self.records.get(edits) {
-            let made = if edits == 1 {
-                store.remove(record).is_ok()
-            } else {
-                store.add(record).is_ok()
-            };
-            expects(rt, made, "an edit");
-        }
-    }
-
-    // The next edit, after so many.
-    fn edit(&self, rt: &impl Abort, edits: usize) -> Edit {
-        let record = self.records.get(edits).expect(rt, "a record");
-        let record = copy_of(rt, self.alloc, record);
-        if edits == 1 {
-            Edit::Remove(record)
-        } else {
-            Edit::Add(record)
-        }
-    }
-
-    fn question(&self, rt: &impl Abort, index: usize) -> Question {
-        let question = self.questions.get(index).expect(rt, "a question");
-        question.dup(self.alloc).expect(rt, "out of memory")
-    }
-
-    // The answer to a question after so many edits.
-    fn answer(&self, index: usize, edits: usize) -> Option<&Answer> {
-        self.answers
-            .get(edits.saturating_mul(3).saturating_add(index))
-    }
-
-    fn is_expected(&self, reply: &Reply, expected: Expected) -> bool {
-        match (reply, expected) {
-            (Reply::Changed(done), Expected::Changed(sets)) => done.changed == sets,
-            (Reply::Started, Expected::Started) | (Reply::Read(_), Expected::Read) => true,
-            (Reply::Answered(handed), Expected::Answer(index, edits)) => {
-                match self.answer(index, edits) {
-                    Some(answer) => is_same(answer, &handed.answer),
-                    None => false,
-                }
-            }
-            (Reply::Uncommitted(uncommitted), Expected::Stale(place)) => {
-                uncommitted.fault == BookFault::Stale(place)
-            }
-            (Reply::Refused(fault), Expected::NotCurrent) => {
-                *fault == WorldFault::Book(BookFault::NotCurrent)
-            }
-            _ => false,
-        }
-    }
-}
-
-fn push<T: Drop>(rt: &impl Abort, items: &mut Vec<T>, item: T) {
-    expects(rt, items.push(item).is_ok(), "memory");
-}
-
-fn push_answer(
-    rt: &impl Abort,
-    alloc: Global,
-    answers: &mut Vec<Answer>,
-    store: &mut ZoneStore,
-    question: &Question,
-    abilities: &Abilities,
-) {
-    let board = Board::new(alloc);
-    let draws = draws(rt, &[]);
-    let answer = plain_answer(rt, alloc, store, &board, question, abilities, &draws);
-    push(rt, answers, answer);
-}
-
 // What a worker has done.
 #[derive(Clone, Copy)]
 struct Job {
@@ -273,6 +146,12 @@ fn first_changed(question: usize, then: [usize; 2], now: usize) -> Option<usize>
     sets.iter()
         .zip(then)
         .position(|(set, then)| changes(*set, then) != changes(*set, now))
+}
+
+// The loading of the zone.
+fn load(rt: &impl Abort, materials: &Materials) -> Step {
+    let text = materials.table.zone;
+    Step::Change(Edit::Load(zone(rt, materials.alloc, text)))
 }
 
 // The steps of an order, with what is expected of them, and what they have done.
@@ -314,8 +193,8 @@ impl Walk {
     }
 
     fn load(&mut self, rt: &impl Abort, materials: &Materials) {
-        let load = Edit::Load(zone(rt, materials.alloc, ZONE));
-        self.push(rt, Step::Change(load), Expected::Changed(4));
+        let load = load(rt, materials);
+        self.push(rt, load, Expected::Changed(materials.table.sets));
     }
 
     fn next(&mut self, rt: &impl Abort, materials: &Materials, digit: u8) {
@@ -328,7 +207,8 @@ impl Walk {
 
     fn edit(&mut self, rt: &impl Abort, materials: &Materials) {
         let edit = materials.edit(rt, self.edits);
-        self.push(rt, Step::Change(edit), Expected::Changed(1));
+        let sets = materials.sets(self.edits);
+        self.push(rt, Step::Change(edit), Expected::Changed(sets));
         self.edits = self.edits.saturating_add(1);
     }
 
@@ -454,22 +334,25 @@ fn play_walk(
         ..
     } = walk;
     let replies = play_all(rt, world, steps);
-    are_expected(rt, materials, &replies, &expected, counts);
+    let refused = replied(rt, materials, &replies, &expected);
+    counts.refused = counts.refused.saturating_add(refused);
+    count(true, &mut counts.plays);
 }
 
-fn are_expected(
+// The replies are those that are expected. Returns how many commits were refused.
+fn replied(
     rt: &impl Abort,
     materials: &Materials,
     replies: &[Reply],
     expected: &[Expected],
-    counts: &mut Counts,
-) {
+) -> u64 {
     expects(rt, replies.len() == expected.len(), "a reply for each step");
+    let mut refused = 0;
     for (reply, expected) in replies.iter().zip(expected) {
         expects(rt, materials.is_expected(reply, *expected), "a reply");
-        count(matches!(expected, Expected::Stale(_)), &mut counts.refused);
+        count(matches!(expected, Expected::Stale(_)), &mut refused);
     }
-    count(true, &mut counts.plays);
+    refused
 }
 
 fn play_each(rt: &impl Abort, materials: &Materials) {
@@ -492,6 +375,6 @@ fn are_counted(rt: &impl Abort, counts: Counts) {
 
 #[test]
 fn commits_in_each_order_are_refused_where_a_set_changed(rt: HostRuntime) {
-    let materials = Materials::new(&rt, rt.alloc());
+    let materials = Materials::new(&rt, rt.alloc(), TABLE);
     play_each(&rt, &materials);
 }

@@ -1,4 +1,5 @@
 // A book's answers against those of the plain program over its records, for zones made from seeds.
+use super::shares::{Shares, are_mixed, count, count_entries};
 use super::streams::new_book;
 use itoa::Buffer;
 use sipl_book::{Book, Edit};
@@ -14,11 +15,13 @@ use std::alloc::{AllocError, Global};
 use std::test::Fail;
 
 // Owners and targets of the zone `e.`: few, so that chains and circles of aliases come up.
-const NAMES: [&str; 10] = [
+const NAMES: [&str; 12] = [
     "a.e.",
     "b.e.",
     "c.e.",
     "d.e.",
+    "x.n.e.",
+    "x.y.e.",
     "_sip._udp.a.e.",
     "_sip._tcp.a.e.",
     "_sips._tcp.a.e.",
@@ -26,6 +29,9 @@ const NAMES: [&str; 10] = [
     "_sip._tcp.b.e.",
     "_sip._udp.b.e.",
 ];
+
+// Owners that are no targets: wildcards, and a name below one.
+const WILDCARDS: [&str; 5] = ["*.e.", "*.e.", "*.y.e.", "*.b.e.", "_sip._udp.*.e."];
 
 const POINTERS: [&str; 6] = [
     "\"s\" \"SIP+D2U\" \"\" ",
@@ -36,7 +42,12 @@ const POINTERS: [&str; 6] = [
     "\"s\" \"SIP+D2T\" \"x\" ",
 ];
 
-pub const URIS: [&str; 8] = [
+pub const URIS: [&str; 13] = [
+    "sip:q.e:5070",
+    "sip:n.e:5070",
+    "sip:m.n.e:5060",
+    "sip:z.y.e:5070",
+    "sip:n.e;transport=udp",
     "sip:a.e",
     "sips:a.e",
     "sip:b.e",
@@ -84,7 +95,7 @@ impl Numbers {
         }
     }
 
-    // A number below the length of a list, of at most 10 elements.
+    // A number below the length of a list.
     pub fn below(&mut self, len: usize) -> usize {
         if self.next >= 32 {
             self.seed = self.seed.wrapping_add(1);
@@ -115,11 +126,19 @@ impl Numbers {
         Ok(text)
     }
 
+    fn owner(&mut self) -> &'static str {
+        if self.below(4) == 0 {
+            self.one_of(&WILDCARDS)
+        } else {
+            self.one_of(&NAMES)
+        }
+    }
+
     // The parts of the text of a record.
     fn parts(&mut self) -> [&'static str; 6] {
-        let owner = self.one_of(&NAMES);
+        let owner = self.owner();
         let target = self.one_of(&NAMES);
-        match self.below(7) {
+        match self.below(9) {
             0 => [owner, " CNAME ", target, "", "", ""],
             1 => [owner, " SRV ", self.digit(), " 1 5060 ", target, ""],
             2 => [owner, " SRV 0 ", self.digit(), " 5061 ", target, ""],
@@ -129,7 +148,8 @@ impl Numbers {
                 let pointer = self.one_of(&POINTERS);
                 [owner, " NAPTR 1 ", preference, " ", pointer, target]
             }
-            5 => [owner, " A 192.0.2.", self.digit(), self.digit(), "", ""],
+            5 | 6 => [owner, " A 192.0.2.", self.digit(), self.digit(), "", ""],
+            7 => [owner, " TXT ", self.digit(), "", "", ""],
             _ => [owner, " AAAA 2001:db8::", self.digit(), "", "", ""],
         }
     }
@@ -210,50 +230,45 @@ fn agreed(
     }))
 }
 
-// How many of the questions have targets and how many have none, over the zone of a seed, where the
-// book and the plain program agree on all.
-fn counted(
+// Counts the answers over the zone of a seed. Whether the book and the plain program agree on all.
+fn are_agreed(
     alloc: Global,
     seed: u64,
     numbers: &mut Numbers,
     book: &mut Book,
     store: &mut ZoneStore,
-) -> Result<Option<(u64, u64)>, Fail> {
+    shares: &mut Shares,
+) -> Result<bool, Fail> {
     numbers.fill(alloc, book, store)?;
     let draws = Draws::from_seed(seed);
-    let (mut found, mut none) = (0_u64, 0_u64);
     for uri in URIS {
         match agreed(alloc, book, store, uri.as_bytes(), &draws)? {
-            Some(0) => none = none.saturating_add(1),
-            Some(_) => found = found.saturating_add(1),
-            None => return Ok(None),
+            Some(0) => count(true, &mut shares.none),
+            Some(_) => count(true, &mut shares.found),
+            None => return Ok(false),
         }
     }
-    Ok(Some((found, none)))
+    count_entries(alloc, book, shares)?;
+    Ok(true)
 }
 
 // The same for a new book and a new store.
-fn counted_over(alloc: Global, seed: u64) -> Result<Option<(u64, u64)>, Fail> {
+fn are_agreed_anew(alloc: Global, seed: u64, shares: &mut Shares) -> Result<bool, Fail> {
     let mut numbers = Numbers::new(seed);
     let abilities = numbers.abilities(alloc)?;
     let mut store = ZoneStore::new(alloc);
     let mut book = new_book(alloc, abilities)?;
-    counted(alloc, seed, &mut numbers, &mut book, &mut store)
+    are_agreed(alloc, seed, &mut numbers, &mut book, &mut store, shares)
 }
 
 #[test]
 fn answers_are_those_of_the_plain_program(rt: HostRuntime) -> Result<(), Fail> {
-    let (mut all_found, mut all_none) = (0_u64, 0_u64);
+    let mut shares = Shares::default();
     for seed in 0..300_u64 {
-        let Some((found, none)) = counted_over(rt.alloc(), seed)? else {
-            assert!(rt; false);
-            continue;
-        };
-        all_found = all_found.saturating_add(found);
-        all_none = all_none.saturating_add(none);
+        let are_agreed = are_agreed_anew(rt.alloc(), seed, &mut shares)?;
+        assert!(rt; are_agreed, "the zone of seed {seed}");
     }
-    // Both kinds of results occur.
-    assert!(rt; all_found > 100 && all_none > 100);
+    are_mixed(&rt, shares, 390);
     Ok(())
 }
 

@@ -2,6 +2,7 @@
 // each line is what these give, and that to a `find` is the plain program's on the records and the
 // holds as they are.
 use super::comparison::{Numbers, URIS, plain_answer, zone};
+use super::shares::{Shares, are_mixed, count, count_entries};
 use super::streams::{new_book, replies_at};
 use itoa::Buffer;
 use sipl_book::Book;
@@ -87,6 +88,7 @@ fn add(
 ) -> Result<Result<&'static str, &'static str>, Fail> {
     let record = read_record(alloc, text, &Name::root(alloc))?;
     Ok(match store.add(&record) {
+        Ok(changed) if changed.sets == 0 => Ok("ok add 0"),
         Ok(_) => Ok("ok add 1"),
         Err(fault) => Err(fault.code()),
     })
@@ -100,6 +102,7 @@ fn remove(
 ) -> Result<Result<&'static str, &'static str>, Fail> {
     let record = read_record(alloc, text, &Name::root(alloc))?;
     Ok(match store.remove(&record) {
+        Ok(changed) if changed.sets == 0 => Ok("ok del 0"),
         Ok(_) => Ok("ok del 1"),
         Err(fault) => Err(fault.code()),
     })
@@ -122,7 +125,7 @@ fn push_plain_answer(
 }
 
 // The records and the holds that lines lead to, the lines of the next session and their replies, the
-// record that was added last, and how many of the questions had targets.
+// record that was added last, and how many of the questions had targets, or had not.
 #[derive(Drop)]
 struct Live {
     alloc: Global,
@@ -131,11 +134,11 @@ struct Live {
     input: Vec<u8>,
     want: Vec<u8>,
     added: Vec<u8>,
-    found: u64,
+    shares: Shares,
 }
 
 impl Live {
-    fn new(alloc: Global) -> Self {
+    fn new(alloc: Global, shares: Shares) -> Self {
         Live {
             alloc,
             store: ZoneStore::new(alloc),
@@ -143,7 +146,7 @@ impl Live {
             input: Vec::new(alloc),
             want: Vec::new(alloc),
             added: Vec::new(alloc),
-            found: 0,
+            shares,
         }
     }
 
@@ -227,7 +230,7 @@ impl Live {
             &[b"find ", uri.as_bytes(), b" seed ", seed_text],
         )?;
         let (store, board) = (&mut self.store, &self.board);
-        if push_plain_answer(
+        let is_found = push_plain_answer(
             self.alloc,
             &mut self.want,
             store,
@@ -235,9 +238,9 @@ impl Live {
             abilities,
             uri,
             seed,
-        )? {
-            self.found = self.found.saturating_add(1);
-        }
+        )?;
+        count(is_found, &mut self.shares.found);
+        count(!is_found, &mut self.shares.none);
         Ok(())
     }
 
@@ -296,13 +299,9 @@ impl Live {
         Ok(is_wanted)
     }
 
-    // How many questions had targets, and how many results were repaired, in 60 sessions of ten lines
-    // and a repair, where all replies are as wanted and each repair leaves no result queued.
-    fn counted(
-        &mut self,
-        numbers: &mut Numbers,
-        book: &mut Book,
-    ) -> Result<Option<(u64, u64)>, Fail> {
+    // How many results were repaired in 60 sessions of ten lines and a repair, where all replies are as
+    // wanted and each repair leaves no result queued.
+    fn repaired(&mut self, numbers: &mut Numbers, book: &mut Book) -> Result<Option<u64>, Fail> {
         self.load()?;
         let mut repaired = 0_u64;
         for _ in 0..60 {
@@ -316,29 +315,32 @@ impl Live {
                 return Ok(None);
             }
         }
-        Ok(Some((self.found, repaired)))
+        count_entries(self.alloc, book, &mut self.shares)?;
+        Ok(Some(repaired))
     }
 }
 
-// The same for the sessions from a seed.
-fn counted(alloc: Global, seed: u64) -> Result<Option<(u64, u64)>, Fail> {
+// The same for the sessions from a seed, with the shares after them.
+fn repaired(alloc: Global, seed: u64, shares: Shares) -> Result<Option<(u64, Shares)>, Fail> {
     let mut numbers = Numbers::new(seed);
     let mut book = new_book(alloc, numbers.abilities(alloc)?)?;
-    let mut live = Live::new(alloc);
-    live.counted(&mut numbers, &mut book)
+    let mut live = Live::new(alloc, shares);
+    let repaired = live.repaired(&mut numbers, &mut book)?;
+    Ok(repaired.map(|repaired| (repaired, live.shares)))
 }
 
 #[test]
 fn replies_are_those_of_the_plain_program(rt: HostRuntime) -> Result<(), Fail> {
-    let (mut all_found, mut all_repaired) = (0_u64, 0_u64);
+    let (mut all_repaired, mut shares) = (0_u64, Shares::default());
     for seed in 0..8_u64 {
-        let Some((found, repaired)) = counted(rt.alloc(), seed)? else {
+        let Some((repaired, after)) = repaired(rt.alloc(), seed, shares)? else {
             assert!(rt; false);
             continue;
         };
-        all_found = all_found.saturating_add(found);
         all_repaired = all_repaired.saturating_add(repaired);
+        shares = after;
     }
-    assert!(rt; all_found > 100 && all_repaired > 100);
+    assert!(rt; all_repaired > 100);
+    are_mixed(&rt, shares, 10);
     Ok(())
 }

@@ -7,7 +7,7 @@ use std::process::Abort;
 use std::test::Fail;
 
 // A worker whose first set changes while it reads.
-const ROWS: [Row; 12] = [
+const ROWS: [Row; 19] = [
     (b"workers 1\n", b""),
     (b"zone example.com. 0\n", b"ok zone 0 0 0 0\n"),
     (b"start 0 sip:example.com\n", b"ok start\n"),
@@ -17,10 +17,17 @@ const ROWS: [Row; 12] = [
         b"ok add 1\n",
     ),
     (b"read 0\n", b"ok read example.com. CNAME 0\n"),
+    (b"read 0\n", b"ok read example.com. EXISTS 1\n"),
     (b"read 0\n", b"ok read _sip._tcp.example.com. SRV 0\n"),
     (b"read 0\n", b"ok read _sip._tcp.example.com. CNAME 0\n"),
+    (b"read 0\n", b"ok read _sip._tcp.example.com. EXISTS 0\n"),
+    (b"read 0\n", b"ok read _tcp.example.com. EXISTS 0\n"),
+    (b"read 0\n", b"ok read *.example.com. SRV 0\n"),
+    (b"read 0\n", b"ok read *.example.com. CNAME 0\n"),
     (b"read 0\n", b"ok read _sip._udp.example.com. SRV 0\n"),
     (b"read 0\n", b"ok read _sip._udp.example.com. CNAME 0\n"),
+    (b"read 0\n", b"ok read _sip._udp.example.com. EXISTS 0\n"),
+    (b"read 0\n", b"ok read _udp.example.com. EXISTS 0\n"),
     (b"read 0\n", b"ok read example.com. A 0\n"),
     (b"commit 0\n", b"err B2 example.com. NAPTR\n"),
 ];

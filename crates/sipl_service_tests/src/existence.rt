@@ -1,0 +1,216 @@
+// Calls over a wildcard, and edits of which no record set changes (RFC 4592).
+use crate::calls::is_contended;
+use crate::gates::{Editing, Turns, comes};
+use crate::values::{draws, find, load_zone, new_service, question, record};
+use sipl_book::Edit;
+use sipl_choice::Transport;
+use sipl_evidence::Item;
+use sipl_plans::{Answer, Reason};
+use sipl_records::{Address, Kind};
+use sipl_service::{Pass, Service, ServiceFault, Told};
+use std::alloc::Global;
+use std::process::Abort;
+use std::sync::{Mutex, Wait};
+use std::test::*;
+use std::thread;
+use std::thread::Threads;
+use std::time::Clock;
+
+const FOO: &[u8] = b"sip:foo.example.com:5060";
+
+const BAR: &[u8] = b"sip:x.bar.example.com:5060";
+
+const WILDCARD: &[u8] = b"*.example.com. A 192.0.2.9";
+
+const BELOW_FOO: &[u8] = b"x.foo.example.com. TXT y";
+
+// Adds a record, which changes so many record sets.
+fn adds<R: Wait + Abort>(
+    rt: &R,
+    alloc: Global,
+    service: &Service,
+    pass: &mut Pass,
+    text: &[u8],
+    sets: u64,
+) {
+    let edit = Edit::Add(record(rt, alloc, text));
+    let done = service.edit(rt, pass, edit).expect(rt, "the edit is refused");
+    assert_eq!(rt; done.changed, sets);
+}
+
+fn load<R: Wait + Abort>(rt: &R, alloc: Global, service: &Service, pass: &mut Pass) {
+    load_zone(rt, alloc, service, pass);
+    adds(rt, alloc, service, pass, WILDCARD, 1);
+}
+
+// Whether an answer is the wildcard's address; `None` where there is no address.
+fn is_wildcard(answer: &Answer) -> Option<bool> {
+    match answer {
+        Answer::Targets(targets) => {
+            let is_one = targets.len() == 1;
+            Some(is_one && targets.iter().all(|target| {
+                target.transport == Transport::Udp
+                    && target.address == Address::V4(0xC000_0209)
+                    && target.port == 5060
+            }))
+        }
+        Answer::None(reason) => (*reason != Reason::NoAddress).then_some(false),
+    }
+}
+
+fn found(told: &Result<Told, ServiceFault>) -> Option<bool> {
+    match told {
+        Ok(told) => is_wildcard(told.answer()),
+        Err(_) => Some(false),
+    }
+}
+
+fn gives_wildcard(rt: &impl Abort, told: Result<Told, ServiceFault>) {
+    assert_eq!(rt; found(&told), Some(true));
+}
+
+fn gives_nothing(rt: &impl Abort, told: Result<Told, ServiceFault>) {
+    assert_eq!(rt; found(&told), None);
+}
+
+// Finds the address of the wildcard for a name, in a thread of its own.
+fn finds<R: Wait + Abort>(rt: &R, alloc: Global, service: &Service, uri: &[u8]) {
+    let mut pass = service.pass();
+    gives_wildcard(rt, find(rt, alloc, service, &mut pass, uri, &[]));
+}
+
+// Two callers read what is above their names, of which the wildcard's set alone has a version.
+fn two_callers<R: Threads + Wait + Abort + Sync>(rt: &R, alloc: Global, service: &Service) {
+    let mut pass = service.pass();
+    load(rt, alloc, service, &mut pass);
+    thread::join(
+        rt,
+        || finds(rt, alloc, service, FOO),
+        || finds(rt, alloc, service, BAR),
+    );
+    has_versions(rt, service, 1);
+}
+
+fn has_versions(rt: &impl Abort, service: &Service, count: usize) {
+    assert_eq!(rt; service.version_count(), count);
+}
+
+#[test]
+fn existence_has_no_versions(rt: HostRuntime) {
+    let service = new_service(&rt, rt.alloc(), 4);
+    two_callers(&rt, rt.alloc(), &service);
+}
+
+// The sets that the answer of `foo` depends on: of each its kind, whether it is a wildcard's, and how many
+// data it has.
+const DEPENDENCIES: [(Kind, bool, usize); 5] = [
+    (Kind::Address4, false, 0),
+    (Kind::Alias, false, 0),
+    (Kind::Exists, false, 0),
+    (Kind::Exists, false, 1),
+    (Kind::Address4, true, 1),
+];
+
+fn are_dependencies(items: &[Item]) -> bool {
+    let are_equal = items.iter().zip(&DEPENDENCIES).all(|(item, expected)| {
+        let key = item.key();
+        (key.kind, key.name.is_wildcard(), item.content().len()) == *expected
+    });
+    are_equal && items.len() == DEPENDENCIES.len()
+}
+
+fn has_dependencies<R: Wait + Abort>(rt: &R, alloc: Global, service: &Service) -> bool {
+    match service.deps(rt, &question(rt, alloc, FOO)) {
+        Ok(deps) => are_dependencies(deps.items()),
+        Err(_) => false,
+    }
+}
+
+fn depends<R: Wait + Abort>(rt: &R, alloc: Global, service: &Service) {
+    let mut pass = service.pass();
+    load(rt, alloc, service, &mut pass);
+    assert!(rt; has_dependencies(rt, alloc, service), "other dependencies");
+}
+
+#[test]
+fn an_answer_by_a_wildcard_depends_on_existence(rt: HostRuntime) {
+    let service = new_service(&rt, rt.alloc(), 4);
+    depends(&rt, rt.alloc(), &service);
+}
+
+// A lookup of `foo` whose gate adds a record below it at its fourth read, with so many tries.
+fn contended<R: Wait + Abort>(
+    rt: &R,
+    alloc: Global,
+    service: &Service,
+) -> Result<Told, ServiceFault> {
+    let mut pass = service.pass();
+    load(rt, alloc, service, &mut pass);
+    let gate = Editing {
+        service,
+        pass: Mutex::new(service.pass()),
+        record: Mutex::new(Some(record(rt, alloc, BELOW_FOO))),
+        at: 4,
+    };
+    let question = question(rt, alloc, FOO);
+    service.lookup(rt, &mut pass, &question, &draws(rt, &[]), &gate)
+}
+
+#[test]
+fn a_lookup_is_refused_where_existence_changes_in_each_try(rt: HostRuntime) {
+    let service = new_service(&rt, rt.alloc(), 1);
+    let told = contended(&rt, rt.alloc(), &service);
+    is_contended(&rt, rt.alloc(), told, b"foo.example.com. EXISTS");
+}
+
+#[test]
+fn a_lookup_is_tried_again_where_existence_changes(rt: HostRuntime) {
+    let service = new_service(&rt, rt.alloc(), 2);
+    let told = contended(&rt, rt.alloc(), &service);
+    gives_nothing(&rt, told);
+}
+
+// Keeps the answer of `foo`, and makes `foo` exist.
+fn outdate<R: Wait + Abort>(rt: &R, alloc: Global, service: &Service, pass: &mut Pass) {
+    load(rt, alloc, service, pass);
+    gives_wildcard(rt, find(rt, alloc, service, pass, FOO, &[]));
+    adds(rt, alloc, service, pass, BELOW_FOO, 0);
+}
+
+// A worker is woken by the edit, though no record set changes, and looks the answer up again.
+fn waits<R: Wait + Abort + Clock>(rt: &R, alloc: Global, service: &Service, turns: &Turns) {
+    let mut pass = service.pass();
+    outdate(rt, alloc, service, &mut pass);
+    let is_repaired = comes(rt, &turns.first_worker);
+    service.stop(rt);
+    assert!(rt; is_repaired, "no worker has repaired the entry");
+}
+
+fn repaired<R: Threads + Wait + Abort + Clock + Sync>(rt: &R, alloc: Global, service: &Service) {
+    let turns = Turns::new();
+    thread::join(
+        rt,
+        || service.run_workers(rt, 1, &turns),
+        || waits(rt, alloc, service, &turns),
+    );
+}
+
+#[test]
+fn workers_are_woken_where_existence_alone_changes(rt: HostRuntime) {
+    let service = new_service(&rt, rt.alloc(), 4);
+    repaired(&rt, rt.alloc(), &service);
+}
+
+fn is_asked_again<R: Wait + Abort>(rt: &R, alloc: Global, service: &Service) {
+    let mut pass = service.pass();
+    outdate(rt, alloc, service, &mut pass);
+    gives_nothing(rt, find(rt, alloc, service, &mut pass, FOO, &[]));
+    // The other name is still answered by the wildcard.
+    gives_wildcard(rt, find(rt, alloc, service, &mut pass, BAR, &[]));
+}
+
+#[test]
+fn an_answer_is_outdated_where_existence_alone_changes(rt: HostRuntime) {
+    let service = new_service(&rt, rt.alloc(), 4);
+    is_asked_again(&rt, rt.alloc(), &service);
+}

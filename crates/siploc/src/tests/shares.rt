@@ -1,0 +1,72 @@
+// How many questions met names that do not exist, and wildcards that stand for them (RFC 4592).
+use super::comparison::URIS;
+use sipl_book::Book;
+use sipl_evidence::Item;
+use sipl_records::Kind;
+use sipl_uri::{Question, Uri};
+use std::alloc::Global;
+use std::process::Abort;
+use std::test::Fail;
+
+#[derive(Clone, Copy, Default)]
+pub struct Shares {
+    // Answers with targets, and without.
+    pub found: u64,
+    pub none: u64,
+    // Answers over a name that does not exist, with the set of a wildcard for one, and over a name that
+    // exists without the set that is asked for.
+    pub absent: u64,
+    pub by_wildcard: u64,
+    pub stopped: u64,
+}
+
+pub fn count(is_seen: bool, counter: &mut u64) {
+    *counter = counter.saturating_add(u64::from(is_seen));
+}
+
+// Whether the item is the existence of a name, with this number.
+fn is_existence(item: &Item, number: u64) -> bool {
+    item.key().kind == Kind::Exists && item.number() == number
+}
+
+// Whether the item is a wildcard's set, with data. No alias leads to a wildcard, so it stands for a name.
+fn is_of_wildcard(item: &Item) -> bool {
+    let key = item.key();
+    key.kind != Kind::Exists && key.name.is_wildcard() && item.number() > 0
+}
+
+// Whether the second item is the existence of the name whose alias, or whose set, is the first.
+fn stops(before: &Item, item: &Item) -> bool {
+    is_existence(item, 1) && before.key().name == item.key().name
+}
+
+fn count_items(items: &[Item], shares: &mut Shares) {
+    let mut pairs = items.iter().zip(items.iter().skip(1));
+    count(pairs.any(|(one, next)| stops(one, next)), &mut shares.stopped);
+    count(items.iter().any(|item| is_existence(item, 0)), &mut shares.absent);
+    count(items.iter().any(is_of_wildcard), &mut shares.by_wildcard);
+}
+
+// Counts what the book has read for the answer to a question, if it keeps one.
+fn count_entry(book: &Book, question: &Question, shares: &mut Shares) {
+    if let Some(entry) = book.entry(question) {
+        count_items(entry.evidence().items(), shares);
+    }
+}
+
+// The same for each question.
+pub fn count_entries(alloc: Global, book: &Book, shares: &mut Shares) -> Result<(), Fail> {
+    for uri in URIS {
+        count_entry(book, &Uri::parse(alloc, uri.as_bytes())?, shares);
+    }
+    Ok(())
+}
+
+// Answers of all sorts are there: so many at least.
+pub fn are_mixed(rt: &impl Abort, shares: Shares, least: u64) {
+    assert!(rt; shares.found > least, "answers with targets");
+    assert!(rt; shares.none > least, "answers without targets");
+    assert!(rt; shares.absent > least, "names that do not exist");
+    assert!(rt; shares.by_wildcard > least, "answers by wildcards");
+    assert!(rt; shares.stopped > least, "names that exist without the set");
+}
