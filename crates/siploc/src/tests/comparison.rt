@@ -42,8 +42,9 @@ const POINTERS: [&str; 6] = [
     "\"s\" \"SIP+D2T\" \"x\" ",
 ];
 
-pub const URIS: [&str; 13] = [
+pub const URIS: [&str; 14] = [
     "sip:q.e:5070",
+    "sip:q.e;transport=tcp",
     "sip:n.e:5070",
     "sip:m.n.e:5060",
     "sip:z.y.e:5070",
@@ -154,10 +155,10 @@ impl Numbers {
         }
     }
 
-    // Loads the empty zone into a book and a store, and adds up to 24 records to both; those that the
-    // store refuses are left out.
+    // Loads a zone of a wildcard into a book and a store, and adds up to 24 records to both; those that
+    // the store refuses are left out.
     fn fill(&mut self, alloc: Global, book: &mut Book, store: &mut ZoneStore) -> Result<(), Fail> {
-        load(alloc, b"", book, store)?;
+        load(alloc, b"* A 192.0.2.9\n", book, store)?;
         let root = Name::root(alloc);
         for _ in 0..24 {
             let record = read_record(alloc, &self.record(alloc)?, &root)?;
