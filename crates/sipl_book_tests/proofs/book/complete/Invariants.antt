@@ -8,4 +8,4 @@ invariant-loop-key g l = record {
 }
 
 abbrev pub decreases-loop-key : goal.decreases-loop-key
-decreases-loop-key g l = 1156 - length l.run.items
+decreases-loop-key g l = 80648 - length l.run.items
