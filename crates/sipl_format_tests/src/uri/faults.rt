@@ -58,6 +58,7 @@ fn parse_reports_texts_that_are_not_hosts(rt: HostRuntime) {
         b"sip:1.2.3.256",
         b"sip:1.2.3.4.5",
         b"sip:a..b",
+        b"sip:*.example.com",
         b"sip:.",
         b"sip:.a",
         b"sip:a%b",
