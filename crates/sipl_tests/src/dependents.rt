@@ -125,74 +125,62 @@ fn has_count(rt: &impl Abort, alloc: Global, dependents: &Dependents, owner: &st
 
 #[test]
 fn each_set_has_the_entries_that_depend_on_it(rt: HostRuntime) {
-    play(
-        &rt,
-        rt.alloc(),
-        &[
-            Step::HasIds("a.", &[]),
-            Step::Settles(1, &["a.", "b."]),
-            Step::Settles(2, &["A."]),
-            Step::Settles(3, &["b.", "c."]),
-            Step::HasIds("a.", &[1, 2]),
-            Step::HasIds("B.", &[1, 3]),
-            Step::HasIds("c.", &[3]),
-            Step::HasIds("d.", &[]),
-        ],
-    );
+    const STEPS: &[Step] = &[
+        Step::HasIds("a.", &[]),
+        Step::Settles(1, &["a.", "b."]),
+        Step::Settles(2, &["A."]),
+        Step::Settles(3, &["b.", "c."]),
+        Step::HasIds("a.", &[1, 2]),
+        Step::HasIds("B.", &[1, 3]),
+        Step::HasIds("c.", &[3]),
+        Step::HasIds("d.", &[]),
+    ];
+    play(&rt, rt.alloc(), STEPS);
 }
 
 #[test]
 fn an_entry_leaves_the_sets_that_its_new_evidence_lacks(rt: HostRuntime) {
-    play(
-        &rt,
-        rt.alloc(),
-        &[
-            Step::Settles(1, &["a.", "b."]),
-            Step::Settles(2, &["b.", "a."]),
-            Step::Settles(3, &["a."]),
-            Step::Settles(1, &["b.", "c."]),
-            Step::HasIds("a.", &[2, 3]),
-            Step::HasIds("b.", &[1, 2]),
-            Step::HasIds("c.", &[1]),
-            Step::Settles(3, &[]),
-            Step::HasIds("a.", &[2]),
-        ],
-    );
+    const STEPS: &[Step] = &[
+        Step::Settles(1, &["a.", "b."]),
+        Step::Settles(2, &["b.", "a."]),
+        Step::Settles(3, &["a."]),
+        Step::Settles(1, &["b.", "c."]),
+        Step::HasIds("a.", &[2, 3]),
+        Step::HasIds("b.", &[1, 2]),
+        Step::HasIds("c.", &[1]),
+        Step::Settles(3, &[]),
+        Step::HasIds("a.", &[2]),
+    ];
+    play(&rt, rt.alloc(), STEPS);
 }
 
 #[test]
 fn a_removed_entry_is_in_no_list(rt: HostRuntime) {
-    play(
-        &rt,
-        rt.alloc(),
-        &[
-            Step::Settles(7, &["a.", "b."]),
-            Step::Settles(8, &["a."]),
-            Step::Removes(7),
-            Step::Removes(7),
-            Step::HasIds("a.", &[8]),
-            Step::HasIds("b.", &[]),
-            Step::Removes(8),
-            Step::HasIds("a.", &[]),
-        ],
-    );
+    const STEPS: &[Step] = &[
+        Step::Settles(7, &["a.", "b."]),
+        Step::Settles(8, &["a."]),
+        Step::Removes(7),
+        Step::Removes(7),
+        Step::HasIds("a.", &[8]),
+        Step::HasIds("b.", &[]),
+        Step::Removes(8),
+        Step::HasIds("a.", &[]),
+    ];
+    play(&rt, rt.alloc(), STEPS);
 }
 
 #[test]
 fn entries_of_a_long_list_are_removed_and_added_again(rt: HostRuntime) {
-    play(
-        &rt,
-        rt.alloc(),
-        &[
-            Step::SettlesMany(300),
-            Step::HasCount("n0.", 300),
-            Step::HasCount("n1.", 150),
-            Step::RemovesEven(300),
-            Step::HasCount("n0.", 150),
-            Step::HasCount("n1.", 150),
-            Step::SettlesMany(300),
-            Step::HasCount("n0.", 300),
-            Step::HasCount("n1.", 150),
-        ],
-    );
+    const STEPS: &[Step] = &[
+        Step::SettlesMany(300),
+        Step::HasCount("n0.", 300),
+        Step::HasCount("n1.", 150),
+        Step::RemovesEven(300),
+        Step::HasCount("n0.", 150),
+        Step::HasCount("n1.", 150),
+        Step::SettlesMany(300),
+        Step::HasCount("n0.", 300),
+        Step::HasCount("n1.", 150),
+    ];
+    play(&rt, rt.alloc(), STEPS);
 }

@@ -336,7 +336,10 @@ fn wants_nothing(rt: &impl Abort, lookup: &Lookup) {
 
 // Whether the walk's answer has these addresses, or it has none yet.
 fn is_answered(lookup: &Lookup, addresses: Option<&[u32]>) -> bool {
-    match (lookup.walk.result(lookup.alloc, &lookup.evidence), addresses) {
+    match (
+        lookup.walk.result(lookup.alloc, &lookup.evidence),
+        addresses,
+    ) {
         (Ok(Some(data)), Some(addresses)) => are_addresses(data, addresses),
         (Ok(None), None) => true,
         _ => false,
@@ -349,78 +352,62 @@ fn answers(rt: &impl Abort, lookup: &Lookup, addresses: Option<&[u32]>) {
 
 #[test]
 fn items_keep_their_order_and_places(rt: HostRuntime) {
-    play(
-        &rt,
-        rt.alloc(),
-        A,
-        &[
-            Step::IsEmpty,
-            Step::Pushes(Set::Address("a.", 10, 3)),
-            Step::Pushes(Set::Empty("A.", Kind::Alias)),
-            Step::Pushes(Set::Address("b.", 11, 7)),
-            Step::HasLen(3),
-            Step::HasPlaces(&[
-                ("A.", A, Some(0)),
-                ("a.", Kind::Alias, Some(1)),
-                ("b.", A, Some(2)),
-                ("b.", Kind::Address6, None),
-                ("c.", A, None),
-            ]),
-        ],
-    );
+    const STEPS: &[Step] = &[
+        Step::IsEmpty,
+        Step::Pushes(Set::Address("a.", 10, 3)),
+        Step::Pushes(Set::Empty("A.", Kind::Alias)),
+        Step::Pushes(Set::Address("b.", 11, 7)),
+        Step::HasLen(3),
+        Step::HasPlaces(&[
+            ("A.", A, Some(0)),
+            ("a.", Kind::Alias, Some(1)),
+            ("b.", A, Some(2)),
+            ("b.", Kind::Address6, None),
+            ("c.", A, None),
+        ]),
+    ];
+    play(&rt, rt.alloc(), A, STEPS);
 }
 
 #[test]
 fn items_have_what_was_read(rt: HostRuntime) {
-    play(
-        &rt,
-        rt.alloc(),
-        A,
-        &[
-            Step::Pushes(Set::Address("a.", 10, 3)),
-            Step::Pushes(Set::Empty("b.", A)),
-            Step::HasItems(&[Set::Address("a.", 10, 3), Set::Empty("b.", A)]),
-            Step::HasContent("a.", &[10]),
-            Step::HasContent("b.", &[]),
-            Step::LacksContent("c."),
-        ],
-    );
+    const STEPS: &[Step] = &[
+        Step::Pushes(Set::Address("a.", 10, 3)),
+        Step::Pushes(Set::Empty("b.", A)),
+        Step::HasItems(&[Set::Address("a.", 10, 3), Set::Empty("b.", A)]),
+        Step::HasContent("a.", &[10]),
+        Step::HasContent("b.", &[]),
+        Step::LacksContent("c."),
+    ];
+    play(&rt, rt.alloc(), A, STEPS);
 }
 
 #[test]
 fn a_key_is_read_once(rt: HostRuntime) {
-    play(
-        &rt,
-        rt.alloc(),
-        A,
-        &[
-            Step::Pushes(Set::Address("a.", 10, 3)),
-            Step::RefusesToPush(Set::Address("A.", 11, 4)),
-            Step::HasItems(&[Set::Address("a.", 10, 3)]),
-        ],
-    );
+    const STEPS: &[Step] = &[
+        Step::Pushes(Set::Address("a.", 10, 3)),
+        Step::RefusesToPush(Set::Address("A.", 11, 4)),
+        Step::HasItems(&[Set::Address("a.", 10, 3)]),
+    ];
+    play(&rt, rt.alloc(), A, STEPS);
 }
 
 #[test]
 fn a_removed_key_can_be_read_again(rt: HostRuntime) {
-    play(
-        &rt,
-        rt.alloc(),
-        A,
-        &[
-            Step::Pushes(Set::Address("a.", 10, 3)),
-            Step::Pushes(Set::Address("b.", 11, 4)),
-            Step::Pops(Set::Address("b.", 11, 4)),
-            Step::HasPlaces(&[("a.", A, Some(0)), ("b.", A, None)]),
-            Step::Pushes(Set::Address("b.", 12, 5)),
-            Step::HasPlaces(&[("b.", A, Some(1))]),
-            Step::Pops(Set::Address("b.", 12, 5)),
-            Step::Pops(Set::Address("a.", 10, 3)),
-            Step::PopsNothing,
-            Step::IsEmpty,
-            Step::HasPlaces(&[("a.", A, None)]),
-        ],
-    );
+    const STEPS: &[Step] = &[
+        Step::Pushes(Set::Address("a.", 10, 3)),
+        Step::Pushes(Set::Address("b.", 11, 4)),
+        Step::Pops(Set::Address("b.", 11, 4)),
+        Step::HasPlaces(&[("a.", A, Some(0)), ("b.", A, None)]),
+        Step::Pushes(Set::Address("b.", 12, 5)),
+        Step::HasPlaces(&[("b.", A, Some(1))]),
+        Step::Pops(Set::Address("b.", 12, 5)),
+        Step::Pops(Set::Address("a.", 10, 3)),
+        Step::PopsNothing,
+        Step::IsEmpty,
+        Step::HasPlaces(&[("a.", A, None)]),
+    ];
+    play(&rt, rt.alloc(), A, STEPS);
 }
 
 fn has_code_each(rt: &impl Abort, rows: &[(EvidenceFault, &str)]) {

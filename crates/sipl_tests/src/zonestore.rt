@@ -103,9 +103,30 @@ fn take(rt: &impl Abort, alloc: Global, store: &mut ZoneStore, step: Step) {
 }
 
 fn start(rt: &impl Abort, alloc: Global, store: &mut ZoneStore) {
-    changes(rt, alloc, store, Edit::Load("example.com.", EMPTY), &[], &[]);
-    adds(rt, alloc, store, "server1 A 192.0.2.1", "server1", FIRST_NAMES);
-    adds(rt, alloc, store, "server2 A 192.0.2.2", "server2", &["server2"]);
+    changes(
+        rt,
+        alloc,
+        store,
+        Edit::Load("example.com.", EMPTY),
+        &[],
+        &[],
+    );
+    adds(
+        rt,
+        alloc,
+        store,
+        "server1 A 192.0.2.1",
+        "server1",
+        FIRST_NAMES,
+    );
+    adds(
+        rt,
+        alloc,
+        store,
+        "server2 A 192.0.2.2",
+        "server2",
+        &["server2"],
+    );
     adds(rt, alloc, store, "SERVER1 A 192.0.2.3", "server1", &[]);
 }
 

@@ -42,7 +42,12 @@ pub(super) fn start(rt: &impl Abort, alloc: Global, row: &Row) -> Run {
     start_with(rt, alloc, question, &abilities)
 }
 
-pub(super) fn start_with(rt: &impl Abort, alloc: Global, question: Question, abilities: &Abilities) -> Run {
+pub(super) fn start_with(
+    rt: &impl Abort,
+    alloc: Global,
+    question: Question,
+    abilities: &Abilities,
+) -> Run {
     Run::start(alloc, question, abilities).expect(rt, "out of memory")
 }
 

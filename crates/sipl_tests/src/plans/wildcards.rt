@@ -166,15 +166,9 @@ const POINTER: Zone = &[
 #[test]
 fn wildcards_have_pointers_and_services(rt: HostRuntime) {
     let cases = [
-        (
-            "sip:x.example.com",
-            Targets(&[(Tcp, "192.0.2.9", 5080)]),
-        ),
+        ("sip:x.example.com", Targets(&[(Tcp, "192.0.2.9", 5080)])),
         // t has no pointer, and its services are those of the wildcard below it.
-        (
-            "sip:t.example.com",
-            Targets(&[(Udp, "192.0.2.9", 5080)]),
-        ),
+        ("sip:t.example.com", Targets(&[(Udp, "192.0.2.9", 5080)])),
         ("sip:u.example.com", NOTHING),
     ];
     find_each_in(&rt, rt.alloc(), POINTER, &cases);

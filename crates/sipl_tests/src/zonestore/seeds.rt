@@ -201,7 +201,13 @@ fn is_set(
 }
 
 // Whether a name exists in the store, or not.
-fn has_name(rt: &impl Abort, alloc: Global, store: &mut ZoneStore, name: u32, exists: bool) -> bool {
+fn has_name(
+    rt: &impl Abort,
+    alloc: Global,
+    store: &mut ZoneStore,
+    name: u32,
+    exists: bool,
+) -> bool {
     let (number, data) = store.set(&existence_key(rt, alloc, name));
     let has_data = match data {
         [Data::Bare] => exists,

@@ -70,8 +70,18 @@ const NINE_ALIASES: Zone = &[
 // The first name has two sets, each of the seven after it six, and the last one four.
 #[test]
 fn aliases_at_wildcards_count_as_others(rt: HostRuntime) {
-    reads_of_row(&rt, rt.alloc(), &row(EIGHT_ALIASES, "sip:a.:5060", WILDCARD), 48);
-    reads_of_row(&rt, rt.alloc(), &row(NINE_ALIASES, "sip:a.:5060", NOTHING), 48);
+    reads_of_row(
+        &rt,
+        rt.alloc(),
+        &row(EIGHT_ALIASES, "sip:a.:5060", WILDCARD),
+        48,
+    );
+    reads_of_row(
+        &rt,
+        rt.alloc(),
+        &row(NINE_ALIASES, "sip:a.:5060", NOTHING),
+        48,
+    );
 }
 
 // Appends the name of a host of a zone: 125 labels and that of the zone.
@@ -140,5 +150,12 @@ fn deep_run(rt: &impl Abort, alloc: Global) -> Run {
 fn nine_deep_names_have_1168_sets(rt: HostRuntime) {
     let records = wildcards(&rt, rt.alloc());
     let run = deep_run(&rt, rt.alloc());
-    reads(&rt, rt.alloc(), run, &records, &row(&[], "", WILDCARD), 1168);
+    reads(
+        &rt,
+        rt.alloc(),
+        run,
+        &records,
+        &row(&[], "", WILDCARD),
+        1168,
+    );
 }
