@@ -15,7 +15,7 @@ use crate::MAX_NAME_LEN;
 use crate::fault::{InvalidName, NameFault};
 use crate::print::{reserve_text, write_text};
 use crate::text::read_labels;
-use crate::wire::{checked_wire_len, push_labels, split_label};
+use crate::wire::{checked_wire_len, drop_front, push_labels, split_label};
 use std::alloc::{AllocError, Global};
 use std::hash::{Hash, Hasher};
 use std::marker::Model;
@@ -190,7 +190,7 @@ impl Name {
             return false;
         };
         let prefixed_len = label.len() + 1;
-        self.wire.drain(..prefixed_len);
+        drop_front(&mut self.wire, prefixed_len);
         true
     }
 
@@ -204,7 +204,7 @@ impl Name {
             return;
         };
         let surplus = label.len() - 1;
-        self.wire.drain(..surplus);
+        drop_front(&mut self.wire, surplus);
         self.wire[0] = 1;
         self.wire[1] = b'*';
     }

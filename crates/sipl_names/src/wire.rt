@@ -1,5 +1,5 @@
 // Wire forms of labels, without the octet of the root (RFC 1035, 3.1).
-ghost use Rattle.std.specs.Prelude.{◌≡◌, ◌+◌, ◌-◌, ◌^◌, ◌≤◌, [], ◌∷◌, ◌++◌, length, map, min, None, Some, IfNone, IfSome, IfOk, IfErr, MatchResult, vec_len, vec_capacity};
+ghost use Rattle.std.specs.Prelude.{◌≡◌, ◌+◌, ◌-◌, ◌^◌, ◌≤◌, [], ◌∷◌, ◌++◌, length, drop, map, min, None, Some, IfNone, IfSome, IfOk, IfErr, MatchResult, vec_len, vec_capacity};
 ghost use Rattle.std.specs.List.{AllByRecursion};
 ghost use Rattle.std.specs.Str.{str_to_ascii_lowercase};
 ghost use Rattle.sipl_names.specs.Labels.{length_prefixed, wire_of, IsLabel, label_fault, first_label_fault};
@@ -20,6 +20,18 @@ pub(crate) fn split_label(wire: &[u8]) -> Option<(&[u8], &[u8])>
 {
     let (len, rest) = wire.split_first()?;
     Some(rest.split_at(*len as usize))
+}
+
+// Drops the first octets, in place: the others move one by one, which takes no room beside them.
+pub(crate) fn drop_front(wire: &mut Vec<u8>, count: usize)
+    requires { count ≤ vec_len wire.old }
+    ensures { wire.new.items ≡ drop count wire.old.items }
+{
+    let left = wire.len() - count;
+    for place in 0..left {
+        wire[place] = wire[place + count];
+    }
+    wire.truncate(left);
 }
 
 // Whether the octets can be a label.
