@@ -1,4 +1,4 @@
-use Rattle.std.proofs.Common.{◌≡◌, ◌≤◌, true, false, List, [], ◌∷◌, length, inl, inr, take, arith}
+use Rattle.std.proofs.Common.{◌≤◌, List, [], ◌∷◌, length, inl, inr, take, arith}
 use Rattle.std.proofs.lemmas.Bool.{cases_Bool}
 use Rattle.std.proofs.lemmas.List.{length-take}
 use Rattle.sipl_records.specs.Sets.{data_of, has_key, is_existence, set_of}

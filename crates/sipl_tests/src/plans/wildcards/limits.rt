@@ -12,6 +12,8 @@ use sipl_uri::Uri;
 use std::alloc::Global;
 use std::process::Abort;
 
+const DIGITS: &[u8] = b"012345678";
+
 // How many sets a run reads, of at most 2,000.
 fn count_reads(rt: &impl Abort, alloc: Global, run: &mut Run, records: &[Record]) -> usize {
     for count in 0..2000 {
@@ -92,9 +94,14 @@ fn push_host(rt: &impl Abort, text: &mut Vec<u8>, zone: usize) {
     push_zone(rt, text, zone);
 }
 
+fn digit_of(zone: usize) -> &'static [u8] {
+    let place = zone.min(8);
+    DIGITS.get(place..place + 1).unwrap_or(&[])
+}
+
 fn push_zone(rt: &impl Abort, text: &mut Vec<u8>, zone: usize) {
     append(rt, text, b"z");
-    append(rt, text, &b"012345678"[zone % 9..=zone % 9]);
+    append(rt, text, digit_of(zone));
     append(rt, text, b".");
 }
 
