@@ -101,8 +101,8 @@ impl Walk {
     }
 
     /// Goes on to the first set that the evidence lacks, so that the sets before it are looked up
-    /// no more. Allocates only where the walk gets to another name. An `Err` leaves the walk as it
-    /// was.
+    /// no more. Allocates only where the walk gets to another name, or goes by a name that does not
+    /// exist. An `Err` leaves the walk as it was.
     pub fn step(&mut self, alloc: Global, evidence: &Evidence) -> Result<(), AllocError>
         ensures same { OnOk result (advance evidence.now (walk_asking self.new)
             ≡ advance evidence.now (walk_asking self.old)) }

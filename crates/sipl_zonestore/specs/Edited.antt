@@ -34,9 +34,9 @@ IsKept old new key =
     × (number_in new key ≡ number_in old key)
 
 -- An accepted edit changes the zones, returns the keys whose sets differ and how many of them are
--- record sets, gives those of these that are not empty the next numbers, and keeps all other sets with
--- their numbers. A refused one changes nothing, and an edit fails for memory only where no early refusal comes before. What always
--- holds of a store holds after either.
+-- record sets, gives those of these that are not empty the next numbers, and keeps all other sets
+-- with their numbers. A refused one changes nothing, and an edit fails for memory only where no early
+-- refusal comes before. What always holds of a store holds after either.
 pub record IsEdited (edit : Edit) (old new : Store) (result : Result Changed StoreFault) : Type 0 where
   pub accepted : OnOk result (store_refusal edit old ≡ None)
   pub after : OnOk result (new.zones ≡ after edit old.zones)

@@ -31,7 +31,7 @@ pub enum StoreFault {
     /// S8: fewer set numbers up to 2^52 are left than the edit needs.
     #[error("no numbers are left")]
     NumberSpent,
-    /// S9: the apex is a wildcard domain name, whose first label is `*` (RFC 4592, 2.1.1 and 4.2).
+    /// S9: the apex is a wildcard domain name, whose first label is `*` (RFC 4592, 2.1.1 and 4.1).
     #[error("a zone's apex is no wildcard")]
     WildApex,
     /// An allocation failed.

@@ -116,7 +116,8 @@ impl ZoneStore {
     }
 
     /// Unloads the zone of this apex: the apex and all records within it are gone. Returns the keys
-    /// of the sets that changed and of the names that no longer exist, as `load` does. The cost is that of `load`.
+    /// of the sets that changed and of the names that no longer exist, as `load` does. The cost is
+    /// that of `load`.
     ///
     /// The fault is that the apex is not loaded (S2). No set takes a number, so none is spent. Memory is
     /// reported only where the apex is loaded.
@@ -161,7 +162,8 @@ impl ZoneStore {
     }
 
     /// The number of the key's set and its data, in the order of addition; 0 and no data where it
-    /// is empty. Of existence it is 1 and one `Data::Bare`, or 0 and no data. Counts one look. Constant time but for hashing. Does not allocate.
+    /// is empty. Of existence it is 1 and one `Data::Bare`, or 0 and no data. Counts one look.
+    /// Constant time but for hashing. Does not allocate.
     pub fn set(&mut self, key: &Key) -> (u64, &[Data])
         ensures number { result.0 ≡ number_in self.old key.now }
         ensures value { result.1.now ≡ set_of self.old.zones.records key.now }
