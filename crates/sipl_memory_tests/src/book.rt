@@ -134,11 +134,7 @@ pub(crate) fn change_call<R: Wait>(rt: &R, alloc: Global) -> anyhow::Result<Outc
     Ok(outcome_of(rt, alloc, &mut Change { book, zone }))
 }
 
-pub(crate) fn find_call<R: Wait>(
-    rt: &R,
-    alloc: Global,
-    asked: Asked,
-) -> anyhow::Result<Outcome> {
+pub(crate) fn find_call<R: Wait>(rt: &R, alloc: Global, asked: Asked) -> anyhow::Result<Outcome> {
     let (question, draws) = (question_of(alloc, asked)?, draws()?);
     let book = book(alloc)?;
     let mut call = FindAnswer {

@@ -74,11 +74,7 @@ pub(crate) fn load_call<R: Wait>(rt: &R, alloc: Global) -> anyhow::Result<Outcom
 }
 
 // The set that is given is the first one, or that of a name above one that does not exist.
-pub(crate) fn give_call<R: Wait>(
-    rt: &R,
-    alloc: Global,
-    asked: Asked,
-) -> anyhow::Result<Outcome> {
+pub(crate) fn give_call<R: Wait>(rt: &R, alloc: Global, asked: Asked) -> anyhow::Result<Outcome> {
     let (question, abilities) = (question_of(alloc, asked)?, abilities(alloc)?);
     let mut run = Box::new(alloc, Run::start(alloc, question, &abilities)?)?;
     let mut book = book(alloc)?;
@@ -87,7 +83,6 @@ pub(crate) fn give_call<R: Wait>(
     }
     Ok(outcome_of(rt, alloc, &mut Give { book, run }))
 }
-
 
 pub(crate) fn draw_call<R: Wait>(rt: &R, alloc: Global) -> anyhow::Result<Outcome> {
     let draws = draws()?;

@@ -134,11 +134,7 @@ pub(crate) fn edit_call<R: Wait>(rt: &R, alloc: Global) -> anyhow::Result<Outcom
     Ok(outcome_of(rt, alloc, &mut call))
 }
 
-pub(crate) fn lookup_call<R: Wait>(
-    rt: &R,
-    alloc: Global,
-    asked: Asked,
-) -> anyhow::Result<Outcome> {
+pub(crate) fn lookup_call<R: Wait>(rt: &R, alloc: Global, asked: Asked) -> anyhow::Result<Outcome> {
     let mut call = new_lookup(rt, alloc, asked)?;
     Ok(outcome_of(rt, alloc, &mut call))
 }

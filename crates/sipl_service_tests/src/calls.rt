@@ -44,7 +44,12 @@ fn contended_key(rt: &impl Abort, alloc: Global, told: Result<Told, ServiceFault
 }
 
 // An L1 with this key.
-pub(crate) fn is_contended(rt: &impl Abort, alloc: Global, told: Result<Told, ServiceFault>, key: &[u8]) {
+pub(crate) fn is_contended(
+    rt: &impl Abort,
+    alloc: Global,
+    told: Result<Told, ServiceFault>,
+    key: &[u8],
+) {
     assert!(rt;
         contended_key(rt, alloc, told).as_slice() == key,
         "another key"

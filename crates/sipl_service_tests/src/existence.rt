@@ -34,7 +34,9 @@ fn adds<R: Wait + Abort>(
     sets: u64,
 ) {
     let edit = Edit::Add(record(rt, alloc, text));
-    let done = service.edit(rt, pass, edit).expect(rt, "the edit is refused");
+    let done = service
+        .edit(rt, pass, edit)
+        .expect(rt, "the edit is refused");
     assert_eq!(rt; done.changed, sets);
 }
 
@@ -48,11 +50,14 @@ fn is_wildcard(answer: &Answer) -> Option<bool> {
     match answer {
         Answer::Targets(targets) => {
             let is_one = targets.len() == 1;
-            Some(is_one && targets.iter().all(|target| {
-                target.transport == Transport::Udp
-                    && target.address == Address::V4(0xC000_0209)
-                    && target.port == 5060
-            }))
+            Some(
+                is_one
+                    && targets.iter().all(|target| {
+                        target.transport == Transport::Udp
+                            && target.address == Address::V4(0xC000_0209)
+                            && target.port == 5060
+                    }),
+            )
         }
         Answer::None(reason) => (*reason != Reason::NoAddress).then_some(false),
     }

@@ -267,7 +267,10 @@ fn legal(
 fn are_legal(rt: &impl Abort, alloc: Global, abilities: &Abilities, journal: &[Event]) {
     let mut seen = Seen::default();
     assert!(rt; journal.len() > 8_000, "few calls were accepted");
-    assert_eq!(rt; legal(rt, alloc, abilities, journal, &mut seen), journal.len());
+    assert_eq!(rt;
+        legal(rt, alloc, abilities, journal, &mut seen),
+        journal.len()
+    );
     are_seen(rt, seen);
 }
 

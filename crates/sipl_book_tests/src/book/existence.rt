@@ -1,7 +1,7 @@
 //! Tests of names that exist or not, and of answers by a wildcard (RFC 4592).
 use super::{
-    ADDRESS_2, Scenario, add, changes, draws, entry, has_events, has_looks, is_entry, play, question,
-    remove,
+    ADDRESS_2, Scenario, add, changes, draws, entry, has_events, has_looks, is_entry, play,
+    question, remove,
 };
 use sipl_book::{Book, MAX_ENTRIES, MAX_EVENTS};
 use sipl_choice::Transport;
@@ -62,7 +62,13 @@ pub(super) fn existence(rt: &impl Abort, alloc: Global, book: &mut Book) {
 
 #[test]
 fn a_set_of_existence_has_one_element_or_none(rt: HostRuntime) {
-    play(&rt, rt.alloc(), MAX_ENTRIES, MAX_EVENTS, Scenario::Existence);
+    play(
+        &rt,
+        rt.alloc(),
+        MAX_ENTRIES,
+        MAX_EVENTS,
+        Scenario::Existence,
+    );
 }
 
 // Whether an answer is the wildcard's address over UDP.
@@ -139,9 +145,19 @@ pub(super) fn wildcard(rt: &impl Abort, alloc: Global, book: &mut Book) {
     is_kept(rt, alloc, book);
     is_repaired(rt, alloc, book);
     // The wildcard is no longer among what the answer depends on.
-    changes(rt, add(rt, alloc, book, b"*.example.com. A 192.0.2.10"), 7, 1);
+    changes(
+        rt,
+        add(rt, alloc, book, b"*.example.com. A 192.0.2.10"),
+        7,
+        1,
+    );
     is_entry(rt, entry(rt, alloc, book, FOO), Some((2, true)));
-    changes(rt, remove(rt, alloc, book, b"*.example.com. A 192.0.2.10"), 8, 1);
+    changes(
+        rt,
+        remove(rt, alloc, book, b"*.example.com. A 192.0.2.10"),
+        8,
+        1,
+    );
     changes(rt, remove(rt, alloc, book, BELOW_FOO), 9, 0);
     is_entry(rt, entry(rt, alloc, book, FOO), Some((2, false)));
     finds_wildcard(rt, alloc, book);

@@ -47,8 +47,14 @@ fn stops(before: &Item, item: &Item) -> bool {
 }
 
 fn count_items(items: &[Item], counts: &mut Counts) {
-    let is_stopped = items.iter().zip(items.iter().skip(1)).any(|(one, next)| stops(one, next));
-    count(items.iter().any(|item| is_existence(item, 0)), &mut counts.absent);
+    let is_stopped = items
+        .iter()
+        .zip(items.iter().skip(1))
+        .any(|(one, next)| stops(one, next));
+    count(
+        items.iter().any(|item| is_existence(item, 0)),
+        &mut counts.absent,
+    );
     count(items.iter().any(is_of_wildcard), &mut counts.by_wildcard);
     count(is_stopped, &mut counts.stopped);
 }
@@ -70,7 +76,10 @@ pub(super) fn count_commit(book: &Book, question: &Question, reply: &Reply, coun
         Reply::Uncommitted(uncommitted) => {
             let items = uncommitted.finding.evidence().items();
             count(true, &mut counts.outdated);
-            count(is_of_existence(items, &uncommitted.fault), &mut counts.existence);
+            count(
+                is_of_existence(items, &uncommitted.fault),
+                &mut counts.existence,
+            );
         }
         _ => {
             count(true, &mut counts.committed);
@@ -100,6 +109,14 @@ fn are_of_all_names(rt: &impl Abort, counts: Counts) {
     let tenth = counts.committed / 10;
     expects(rt, counts.absent > tenth, "names that do not exist");
     expects(rt, counts.by_wildcard > tenth, "answers by wildcards");
-    expects(rt, counts.stopped > tenth, "names that exist without the set");
-    expects(rt, counts.existence > 50, "names that begin or cease to exist");
+    expects(
+        rt,
+        counts.stopped > tenth,
+        "names that exist without the set",
+    );
+    expects(
+        rt,
+        counts.existence > 50,
+        "names that begin or cease to exist",
+    );
 }

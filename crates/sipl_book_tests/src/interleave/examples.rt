@@ -46,8 +46,10 @@ const SECOND_ADDRESS: (Line, Shown) = (
 // Reads of the existence of the domain, and of the alias of its wildcard.
 const DOMAIN_EXISTS: (Line, Shown) = (Line::Read(0), Shown::Read("example.com.", Exists, 1));
 
-const NO_ALIAS_OF_WILDCARD: (Line, Shown) =
-    (Line::Read(0), Shown::Read("*.example.com.", Alias, 0));
+const NO_ALIAS_OF_WILDCARD: (Line, Shown) = (
+    Line::Read(0),
+    Shown::Read("*.example.com.", Alias, 0),
+);
 
 // A commit of both servers, the second one first.
 const BOTH: (Line, Shown) = (

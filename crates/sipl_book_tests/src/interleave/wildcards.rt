@@ -235,10 +235,7 @@ const UNLOADED: Script = &[
         Shown::Changed(2),
     ),
     (Line::Lease(0), Shown::Leased(FOO)),
-    (
-        Line::Read(0),
-        Shown::Read("foo.example.com.", Address4, 1),
-    ),
+    (Line::Read(0), Shown::Read("foo.example.com.", Address4, 1)),
     (Line::Settle(0), Shown::Settled),
     (Line::Hand(FOO, &[]), Shown::Targets(&[HOST])),
 ];

@@ -42,8 +42,14 @@ fn stops(before: &Item, item: &Item) -> bool {
 
 fn count_items(items: &[Item], shares: &mut Shares) {
     let mut pairs = items.iter().zip(items.iter().skip(1));
-    count(pairs.any(|(one, next)| stops(one, next)), &mut shares.stopped);
-    count(items.iter().any(|item| is_existence(item, 0)), &mut shares.absent);
+    count(
+        pairs.any(|(one, next)| stops(one, next)),
+        &mut shares.stopped,
+    );
+    count(
+        items.iter().any(|item| is_existence(item, 0)),
+        &mut shares.absent,
+    );
     count(items.iter().any(is_of_wildcard), &mut shares.by_wildcard);
 }
 

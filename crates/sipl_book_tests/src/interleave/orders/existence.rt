@@ -364,7 +364,10 @@ fn play_in(
     walk.walk(rt, materials, order);
     count(true, &mut counts.plays);
     count(walk.has_returned, &mut counts.returned);
-    count(play_walk(rt, materials, world, walk) > 0, &mut counts.refused);
+    count(
+        play_walk(rt, materials, world, walk) > 0,
+        &mut counts.refused,
+    );
 }
 
 // Returns how many commits were refused.
@@ -394,7 +397,11 @@ fn are_counted(rt: &impl Abort, counts: Counts) {
     expects(rt, counts.plays == 27_720, "27,720 plays");
     expects(rt, counts.refused > 6_930, "refused commits");
     expects(rt, counts.refused < 20_790, "accepted commits");
-    expects(rt, counts.returned > 300, "existence that had gone and come");
+    expects(
+        rt,
+        counts.returned > 300,
+        "existence that had gone and come",
+    );
 }
 
 #[test]

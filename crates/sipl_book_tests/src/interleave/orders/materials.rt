@@ -116,7 +116,10 @@ impl Materials {
     }
 
     fn is_added(&self, edits: usize) -> bool {
-        self.table.edits.get(edits).is_some_and(|edit| edit.is_added)
+        self.table
+            .edits
+            .get(edits)
+            .is_some_and(|edit| edit.is_added)
     }
 
     // How many record sets the next edit changes, after so many.
