@@ -1,5 +1,5 @@
--- Holds and the clock: endpoints that are left out for a time after they failed (RFC 3263, 4.3).
--- Times are milliseconds.
+-- Holds and the clock: endpoints that are left out, or tried last, for a time after they failed
+-- (RFC 3263, 4.3). Times are milliseconds.
 use Rattle.std.specs.Prelude.{ℕ, ◌+◌, ◌^◌, max, Bool, not, ◌&&◌, ◌==◌, nat_lt, nat_le, if◌then◌else◌, List, [], ◌∷◌, ◌++◌, length, map, filter, Option, None, Some, unwrap_or}
 use Rattle.std.specs.Map.{lookup}
 use Rattle.sipl_choice.specs.declared.endpoint.Endpoint.{Endpoint}

@@ -18,7 +18,7 @@ pub const MAX_HOLDS: usize = 4096;
 pub const MAX_TIME: u64 = 1 << 52;
 
 /// Endpoints that are held, each until a time, and the present time. A held endpoint is left out
-/// of the targets of a request (RFC 3263, 4.3).
+/// of the targets of a request, or tried last (RFC 3263, 4.3, and `Held`).
 ///
 /// An endpoint is held while the present time is before the end of its hold. Holds that ran out
 /// are not kept.

@@ -1,5 +1,5 @@
-//! Holds and the clock: endpoints that are left out for a time after they failed (RFC 3263, 4.3),
-//! and the present time.
+//! Holds and the clock: endpoints that are left out, or tried last, for a time after they failed
+//! (RFC 3263, 4.3), and the present time.
 //!
 //! Times are milliseconds that the caller passes in, from 0 to 2^52. Only a hold of an endpoint
 //! that is not held allocates.
@@ -7,7 +7,9 @@
 
 mod board;
 mod fault;
+mod held;
 pub mod laws;
 
 pub use board::{Board, MAX_HOLDS, MAX_TIME};
 pub use fault::BoardFault;
+pub use held::Held;

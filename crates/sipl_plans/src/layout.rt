@@ -3,13 +3,13 @@ ghost use Rattle.std.specs.List.{All, filter_map, flat_map};
 ghost use Rattle.sipl_records.specs.Unique.{unique};
 ghost use Rattle.sipl_choice.specs.Endpoints.{same_endpoint};
 ghost use Rattle.sipl_outages.specs.Holds.{is_held};
-ghost use Rattle.sipl_plans.specs.Plan.{arranged, draw, endpoints_of};
+ghost use Rattle.sipl_plans.specs.Plan.{arranged, draw, endpoints_of, targets_among, with_held_last, without_held};
 ghost use Rattle.sipl_plans.specs.Servers.{HasFewServers, target_count};
 
 use crate::answer::{Answer, Reason};
 use crate::unique::unique_of;
 use sipl_choice::{Endpoint, Transport};
-use sipl_outages::Board;
+use sipl_outages::{Board, Held};
 use sipl_records::{Address, Sequence};
 use sipl_srv::{Draws, Ranked, arrange};
 use std::alloc::{AllocError, Global};
@@ -83,20 +83,23 @@ impl Ranked for Source {
 
 /// The targets of a layout: the endpoints of its servers, these in the order that the draws give
 /// (RFC 2782, "Usage rules"), each endpoint once, at its first place (RFC 3263, 4.2), without those
-/// that the board holds (RFC 3263, 4.3). A server takes a word as well where it has no addresses or
-/// all of its endpoints are held. There are at most 2,048 targets: 32 servers of 64 addresses.
+/// that the board holds, or with these last (RFC 3263, 4.3). A server takes a word as well where it
+/// has no addresses or all of its endpoints are held. There are at most 2,048 targets: 32 servers of
+/// 64 addresses.
 ///
 /// The reason for no targets is the layout's own where it is refused, `NoAddress` where no server
-/// has an address, and else `AllHeld`. Only a layout with servers allocates.
+/// has an address, and else `AllHeld`, which `Held::Last` never has. Only a layout with servers
+/// allocates.
 pub fn draw(
     alloc: Global,
     layout: &Layout,
     draws: &Draws,
     board: &Board,
+    held: Held,
 ) -> Result<Answer, AllocError>
     requires few { HasFewServers layout.now }
     ensures answer { IfOk result
-        (λ answer. answer ≡ draw layout.now board.now.holds draws.now) }
+        (λ answer. answer ≡ draw layout.now board.now.holds draws.now held) }
     ensures few { IfOk result (λ answer. target_count answer ≤ 2048) }
     ensures memory { OnErr result ((reason : Reason) → layout.now ≢ Layout.Refused reason) }
 {
@@ -104,30 +107,73 @@ pub fn draw(
         Layout::Refused(reason) => return Ok(Answer::None(*reason)),
         Layout::Servers(transport, servers) => (*transport, servers.as_slice()),
     };
-    let mut targets = ordered_endpoints(alloc, transport, servers, draws)?;
-    if targets.is_empty() {
+    let endpoints = ordered_endpoints(alloc, transport, servers, draws)?;
+    targets_among(alloc, endpoints, board, held)
+}
+
+// The targets among the endpoints in their order, or the reason that there are none.
+fn targets_among(
+    alloc: Global,
+    endpoints: Vec<Endpoint>,
+    board: &Board,
+    held: Held,
+) -> Result<Answer, AllocError>
+    ensures answer { IfOk result
+        (λ answer. answer ≡ targets_among board.now.holds endpoints.items held) }
+    ensures few { IfOk result (λ answer. target_count answer ≤ length endpoints.items) }
+{
+    if endpoints.is_empty() {
         return Ok(Answer::None(Reason::NoAddress));
     }
-    leave_held_out(&mut targets, board);
+    let targets = match held {
+        Held::Out => without_held(endpoints, board),
+        Held::Last => with_held_last(alloc, endpoints, board)?,
+    };
     if targets.is_empty() {
         return Ok(Answer::None(Reason::AllHeld));
     }
     Ok(Answer::Targets(Sequence::from_vec(targets)))
 }
 
-// Takes the held endpoints out. Mostly none is held, and then none is looked up.
-fn leave_held_out(targets: &mut Vec<Endpoint>, board: &Board)
-    ensures { targets.new.items
-        ≡ filter (λ target. not (is_held board.now.holds target)) targets.old.items }
+// The endpoints that are not held. Mostly none is held, and then none is looked up.
+fn without_held(mut endpoints: Vec<Endpoint>, board: &Board) -> Vec<Endpoint>
+    ensures { result.items ≡ without_held board.now.holds endpoints.items }
 {
     if board.is_empty() {
-        return;
+        return endpoints;
     }
-    targets.retain(
-        |target: &Endpoint| -> bool
-            ensures { result ≡ not (is_held board.entry.now.holds target.now) }
-        { !board.is_held(target) },
+    endpoints.retain(
+        |endpoint: &Endpoint| -> bool
+            ensures { result ≡ not (is_held board.entry.now.holds endpoint.now) }
+        { !board.is_held(endpoint) },
     );
+    endpoints
+}
+
+// The endpoints that are not held, and then those that are. Mostly none is held, and then none is
+// looked up, and nothing allocated.
+fn with_held_last(
+    alloc: Global,
+    endpoints: Vec<Endpoint>,
+    board: &Board,
+) -> Result<Vec<Endpoint>, AllocError>
+    ensures { IfOk result
+        (λ targets. targets.items ≡ with_held_last board.now.holds endpoints.items) }
+{
+    if board.is_empty() {
+        return Ok(endpoints);
+    }
+    let mut targets = Vec::with_capacity(alloc, endpoints.len())?;
+    let mut held = Vec::new(alloc);
+    for endpoint in endpoints.as_slice() {
+        if board.is_held(endpoint) {
+            held.push(*endpoint)?;
+        } else {
+            targets.push(*endpoint)?;
+        }
+    }
+    targets.extend_from_slice(held.as_slice())?;
+    Ok(targets)
 }
 
 // The endpoints of the servers in the order that the draws give, each once, at its first place. A
