@@ -8,6 +8,7 @@ pub mod FewReads
 pub mod FewServers
 pub mod FewTargets
 pub mod FreeTargets
+pub mod Policies
 pub mod Routing
 pub mod KnownLook
 pub mod Reaching
