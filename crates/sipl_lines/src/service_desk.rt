@@ -28,9 +28,9 @@ impl<'a, R: Wait> Model for ServiceDesk<'a, R> {
     ghost Value = { CallerState };
 
     ghost view = { λ desk. record {
-        client = desk.service.now.client;
-        held = desk.service.now.held;
-        pass = desk.pass;
+      client = desk.service.now.client;
+      held = desk.service.now.held;
+      pass = desk.pass;
     } };
 }
 
@@ -38,9 +38,9 @@ impl<'a, R: Wait> ServiceDesk<'a, R> {
     /// The desk of the caller who has this pass.
     pub fn new(rt: &'a R, service: &'a Service, pass: Pass) -> Self
         ensures { result ≡ record {
-            client = service.now.client;
-            held = service.now.held;
-            pass = pass;
+          client = service.now.client;
+          held = service.now.held;
+          pass = pass;
         } }
     {
         ServiceDesk { rt, service, pass }
