@@ -22,11 +22,11 @@ use std::thread;
 use std::thread::Threads;
 
 // The seeds of the plays, of which each has a policy.
-const SEEDS: u64 = 4;
+const SEEDS: u64 = 2;
 
 const CALLERS: u64 = 6;
 
-const CALLS: u64 = 1_000;
+const CALLS: u64 = 2_000;
 
 const URIS: [&[u8]; 11] = [
     b"sip:foo.example.com:5060",
@@ -87,7 +87,10 @@ fn look_up<R: Wait + Abort>(rt: &R, alloc: Global, service: &Service, pass: &mut
     let question = question(rt, alloc, choice(&URIS, word));
     let draws = Draws::from_seed(u64::from(word));
     if let Ok(told) = service.lookup(rt, pass, &question, &draws, &OpenGate) {
-        is_drawn_anew(rt, alloc, &told);
+        // One in four, for the sake of time.
+        if word % 4 == 0 {
+            is_drawn_anew(rt, alloc, &told);
+        }
     }
 }
 
@@ -348,7 +351,7 @@ fn legal(
 }
 
 fn are_legal(rt: &impl Abort, alloc: Global, asker: Asker, journal: &[Event], seen: &mut Seen) {
-    assert!(rt; journal.len() > 4_000, "few calls were accepted");
+    assert!(rt; journal.len() > 8_000, "few calls were accepted");
     assert_eq!(rt; legal(rt, alloc, asker, journal, seen), journal.len());
 }
 
