@@ -13,12 +13,12 @@ use Rattle.sipl_choice.specs.declared.transport.Transport.{Transport}
 use Rattle.sipl_srv.specs.Order.{Rank, ordered}
 use Rattle.sipl_srv.proofs.Public.{ordered-IsPermutation}
 use Rattle.sipl_outages.specs.Holds.{Holds, is_held}
-use Rattle.sipl_plans.specs.Plan.{arranged, endpoints_of, source_rank}
+use Rattle.sipl_plans.specs.Plan.{arranged, endpoints_of, source_rank, without_held, with_held_last}
 use Rattle.sipl_plans.specs.Servers.{AreFew, HasFewServers}
 use Rattle.sipl_plans.specs.declared.layout.Layout.{Layout}
 use Rattle.sipl_plans.specs.declared.layout.Layout.TheVariants.{Servers}
 use Rattle.sipl_plans.specs.declared.layout.Source.{Source}
-use Rattle.sipl_plans.proofs.FreeTargets.{free}
+use Rattle.sipl_plans.proofs.FreeTargets.{length-last}
 
 length-unique : {A : Type 0} (same : A → A → Bool) (xs : List A) → length (unique same xs) ≤ length xs
 length-unique same [] = omega arith
@@ -48,14 +48,24 @@ module _ (transport : Transport) (servers : List Source) (few : All (λ server. 
           let more = flat_map (endpoints_of transport) (filter_map (slice_get servers) places) in
           omega (arith, own server refl, length-append (endpoints_of transport server) more, length-map server.addresses (λ address. let endpoint : Endpoint = record { transport = transport; address = address; port = server.port } in endpoint))
 
--- of few servers the endpoints, each once, that are left are few
-pub draw-few : (layout : Layout) (transport : Transport) (servers slice : List Source) (holds : Holds) (words : List ℕ) (endpoints left targets : List Endpoint) → HasFewServers layout → layout ≡ Servers transport servers → slice ≡ servers
-    → endpoints ≡ unique same_endpoint (flat_map (endpoints_of transport) (arranged slice words)) → left ≡ free holds endpoints → targets ≡ left → length targets ≤ 2048
-draw-few layout transport servers slice holds words endpoints left targets few at own is kept same =
+-- of few servers the endpoints, each once, are few
+pub endpoints-few : (layout : Layout) (transport : Transport) (servers slice : List Source) (words : List ℕ) (endpoints : List Endpoint) → HasFewServers layout → layout ≡ Servers transport servers → slice ≡ servers
+    → endpoints ≡ unique same_endpoint (flat_map (endpoints_of transport) (arranged slice words)) → length endpoints ≤ 2048
+endpoints-few layout transport servers slice words endpoints few at own is =
     let some : AreFew slice = subst AreFew (sym own) (subst HasFewServers at few) in
     let places : List ℕ = ordered (map source_rank slice) words in
     let each : List Endpoint = flat_map (endpoints_of transport) (filter_map (slice_get slice) places) in
-    omega (arith, some.servers, ap length same, ap length kept, length-filter (λ e. not (is_held holds e)) endpoints, count_by-le-length (λ e. not (is_held holds e)) endpoints, ap length is, length-unique same_endpoint each, length-endpoints transport slice some.addresses places, length-ordered (map source_rank slice) words, length-map slice source_rank)
+    omega (arith, some.servers, ap length is, length-unique same_endpoint each, length-endpoints transport slice some.addresses places, length-ordered (map source_rank slice) words, length-map slice source_rank)
+
+-- the endpoints that are not held are at most as many
+pub without-few : (holds : Holds) (endpoints left targets : List Endpoint) → left ≡ without_held holds endpoints → targets ≡ left → length targets ≤ length endpoints
+without-few holds endpoints left targets kept same =
+    omega (arith, ap length same, ap length kept, length-filter (λ e. not (is_held holds e)) endpoints, count_by-le-length (λ e. not (is_held holds e)) endpoints)
+
+-- and with those that are last as many
+pub last-few : (holds : Holds) (endpoints left targets : List Endpoint) → left ≡ with_held_last holds endpoints → targets ≡ left → length targets ≤ length endpoints
+last-few holds endpoints left targets kept same =
+    omega (arith, ap length same, ap length kept, length-last holds endpoints)
 
 -- the only place
 only-place : (places : List ℕ) → length places ≡ 1 → sum_by (λ place. place) places ≡ 0 → places ≡ 0 ∷ []

@@ -8,7 +8,9 @@ pub mod FewReads
 pub mod FewServers
 pub mod FewTargets
 pub mod FreeTargets
+pub mod Policies
 pub mod Routing
+pub mod HeldLast
 pub mod KnownLook
 pub mod Reaching
 pub mod Rows

@@ -21,6 +21,7 @@ use Rattle.sipl_plans.specs.declared.layout.Layout.TheVariants.{Servers}
 use Rattle.sipl_plans.specs.declared.answer.Reason.TheVariants.{NoAddress, AllHeld}
 use Rattle.sipl_choice.specs.declared.endpoint.Endpoint.{Endpoint}
 use Rattle.sipl_outages.specs.Holds.{Holds, no_holds}
+use Rattle.sipl_outages.specs.declared.held.Held.TheVariants.{Out, Last}
 
 abbrev domain : Labels
 domain = codes "a" ∷ []
@@ -60,11 +61,11 @@ unfolding max_aliases max_ancestors
 row_reads = refl
 
 -- words 2,0 and 1,0
-row_plan2 : plan (set_of zone) no_holds question client (2 ∷ 0 ∷ []) ≡ Targets (record { transport = Tcp; address = v4 2; port = 5060 } ∷ record { transport = Tcp; address = v4 1; port = 5060 } ∷ [])
+row_plan2 : plan (set_of zone) no_holds question client (2 ∷ 0 ∷ []) Out ≡ Targets (record { transport = Tcp; address = v4 2; port = 5060 } ∷ record { transport = Tcp; address = v4 1; port = 5060 } ∷ [])
 unfolding max_aliases max_ancestors
 row_plan2 = refl
 
-row_plan1 : plan (set_of zone) no_holds question client (1 ∷ 0 ∷ []) ≡ Targets (record { transport = Tcp; address = v4 1; port = 5060 } ∷ record { transport = Tcp; address = v4 2; port = 5060 } ∷ [])
+row_plan1 : plan (set_of zone) no_holds question client (1 ∷ 0 ∷ []) Out ≡ Targets (record { transport = Tcp; address = v4 1; port = 5060 } ∷ record { transport = Tcp; address = v4 2; port = 5060 } ∷ [])
 unfolding max_aliases max_ancestors
 row_plan1 = refl
 
@@ -75,29 +76,46 @@ at number = record { transport = Tcp; address = v4 number; port = 5060 }
 abbrev one_held : ℕ → Holds
 one_held now = record { now = now; ends = (at 2, 5000) ∷ [] }
 
-row_one_held : plan (set_of zone) (one_held 4999) question client (2 ∷ 0 ∷ []) ≡ Targets (at 1 ∷ [])
+row_one_held : plan (set_of zone) (one_held 4999) question client (2 ∷ 0 ∷ []) Out ≡ Targets (at 1 ∷ [])
 unfolding max_aliases max_ancestors
 row_one_held = refl
 
-row_ended : plan (set_of zone) (one_held 5000) question client (2 ∷ 0 ∷ []) ≡ Targets (at 2 ∷ at 1 ∷ [])
+row_ended : plan (set_of zone) (one_held 5000) question client (2 ∷ 0 ∷ []) Out ≡ Targets (at 2 ∷ at 1 ∷ [])
 unfolding max_aliases max_ancestors
 row_ended = refl
 
-row_all_held : plan (set_of zone) (record { now = 0; ends = (at 2, 5000) ∷ (at 1, 1) ∷ [] }) question client (2 ∷ 0 ∷ []) ≡ none_of AllHeld
+row_all_held : plan (set_of zone) (record { now = 0; ends = (at 2, 5000) ∷ (at 1, 1) ∷ [] }) question client (2 ∷ 0 ∷ []) Out ≡ none_of AllHeld
 unfolding max_aliases max_ancestors
 row_all_held = refl
+
+-- with the held ones last: one of them, both, and none
+row_one_last : plan (set_of zone) (one_held 4999) question client (2 ∷ 0 ∷ []) Last ≡ Targets (at 1 ∷ at 2 ∷ [])
+unfolding max_aliases max_ancestors
+row_one_last = refl
+
+row_both_last : plan (set_of zone) (record { now = 0; ends = (at 2, 5000) ∷ (at 1, 5000) ∷ [] }) question client (2 ∷ 0 ∷ []) Last ≡ Targets (at 2 ∷ at 1 ∷ [])
+unfolding max_aliases max_ancestors
+row_both_last = refl
+
+row_ended_last : plan (set_of zone) (one_held 5000) question client (2 ∷ 0 ∷ []) Last ≡ Targets (at 2 ∷ at 1 ∷ [])
+unfolding max_aliases max_ancestors
+row_ended_last = refl
 
 -- transport=udp: nine keys and no address
 abbrev udp_question : Question
 udp_question = record { secure = false; target = Domain domain; port = None; transport = Some Udp }
 
-row_udp : plan (set_of zone) no_holds udp_question client [] ≡ none_of NoAddress
+row_udp : plan (set_of zone) no_holds udp_question client [] Out ≡ none_of NoAddress
 unfolding max_aliases max_ancestors
 row_udp = refl
 
-row_udp_held : plan (set_of zone) (one_held 0) udp_question client [] ≡ none_of NoAddress
+row_udp_held : plan (set_of zone) (one_held 0) udp_question client [] Out ≡ none_of NoAddress
 unfolding max_aliases max_ancestors
 row_udp_held = refl
+
+row_udp_last : plan (set_of zone) (one_held 0) udp_question client [] Last ≡ none_of NoAddress
+unfolding max_aliases max_ancestors
+row_udp_last = refl
 
 abbrev udp_service : Labels
 udp_service = codes "_sip" ∷ codes "_udp" ∷ domain
@@ -119,11 +137,11 @@ chain = link 0 ∷ link 1 ∷ link 2 ∷ link 3 ∷ link 4 ∷ link 5 ∷ link 6
 abbrev n0_question : Question
 n0_question = record { secure = false; target = Domain (n 0); port = Some 5060; transport = None }
 
-row_chain8 : plan (set_of (chain ++ record { owner = n 8; value = a4 7 } ∷ [])) no_holds n0_question client [] ≡ Targets (record { transport = Udp; address = v4 7; port = 5060 } ∷ [])
+row_chain8 : plan (set_of (chain ++ record { owner = n 8; value = a4 7 } ∷ [])) no_holds n0_question client [] Out ≡ Targets (record { transport = Udp; address = v4 7; port = 5060 } ∷ [])
 unfolding max_aliases max_ancestors
 row_chain8 = refl
 
-row_chain9 : plan (set_of (chain ++ link 8 ∷ record { owner = n 9; value = a4 7 } ∷ [])) no_holds n0_question client [] ≡ none_of NoAddress
+row_chain9 : plan (set_of (chain ++ link 8 ∷ record { owner = n 9; value = a4 7 } ∷ [])) no_holds n0_question client [] Out ≡ none_of NoAddress
 unfolding max_aliases max_ancestors
 row_chain9 = refl
 
@@ -137,7 +155,7 @@ absent_question = record { secure = false; target = Domain absent; port = Some 5
 abbrev wildcards : List Record
 wildcards = record { owner = wildcard_at domain; value = a4 7 } ∷ []
 
-row_wildcard : plan (set_of wildcards) no_holds absent_question client [] ≡ Targets (record { transport = Udp; address = v4 7; port = 5060 } ∷ [])
+row_wildcard : plan (set_of wildcards) no_holds absent_question client [] Out ≡ Targets (record { transport = Udp; address = v4 7; port = 5060 } ∷ [])
 unfolding max_aliases max_ancestors
 row_wildcard = refl
 
@@ -145,6 +163,6 @@ row_wildcard_reads : reads (set_of wildcards) absent_question client ≡ key abs
 unfolding max_aliases max_ancestors
 row_wildcard_reads = refl
 
-row_non_terminal : plan (set_of (record { owner = codes "y" ∷ absent; value = bare } ∷ wildcards)) no_holds absent_question client [] ≡ none_of NoAddress
+row_non_terminal : plan (set_of (record { owner = codes "y" ∷ absent; value = bare } ∷ wildcards)) no_holds absent_question client [] Out ≡ none_of NoAddress
 unfolding max_aliases max_ancestors
 row_non_terminal = refl

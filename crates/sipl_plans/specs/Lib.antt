@@ -3,6 +3,7 @@ pub mod Route
 pub mod Synthesis
 pub mod Servers
 pub mod Plan
+pub mod Policies
 pub mod Runs
 pub mod Findings
 pub mod Stages

@@ -13,7 +13,7 @@ mod wildcards;
 use sipl_choice::{Abilities, Endpoint, Families, Transport};
 use sipl_masterfile::read_record;
 use sipl_names::Name;
-use sipl_outages::Board;
+use sipl_outages::{Board, Held};
 use sipl_plans::{Answer, Reason, plan_of};
 use sipl_records::{Address, Record};
 use sipl_srv::Draws;
@@ -50,20 +50,23 @@ enum Found {
 fn find_each(rt: &impl Abort, alloc: Global, rows: &[Row]) {
     let board = Board::new(alloc);
     for row in rows {
-        finds(rt, alloc, &board, row);
+        finds(rt, alloc, &board, Held::Out, row);
     }
 }
 
-// The row finds what it is to find, while the board holds what it holds.
-fn finds(rt: &impl Abort, alloc: Global, board: &Board, row: &Row) {
+// The row finds what it is to find, while the board holds what it holds, under this policy.
+fn finds(rt: &impl Abort, alloc: Global, board: &Board, held: Held, row: &Row) {
     let records = records_of(rt, alloc, row.zone);
     let question = question_of(rt, alloc, row.uri);
     let abilities = abilities_of(rt, alloc, row.client);
-    let answer = plan(rt, alloc, &records, board, &question, &abilities, row.words);
+    let draws = draws_of(rt, row.words);
+    let answer = plan(
+        rt, alloc, &records, board, &question, &abilities, &draws, held,
+    );
     is_found(rt, &answer, row);
 }
 
-// The answer from the first 32 records, for these words.
+// The answer from the first 32 records.
 fn plan(
     rt: &impl Abort,
     alloc: Global,
@@ -71,11 +74,11 @@ fn plan(
     board: &Board,
     question: &Question,
     abilities: &Abilities,
-    words: &[u32],
+    draws: &Draws,
+    held: Held,
 ) -> Answer {
-    let draws = draws_of(rt, words);
     let records = &records[..records.len().min(32)];
-    plan_of(alloc, records, board, question, abilities, &draws).expect(rt, "out of memory")
+    plan_of(alloc, records, board, question, abilities, draws, held).expect(rt, "out of memory")
 }
 
 fn draws_of(rt: &impl Abort, words: &[u32]) -> Draws {

@@ -1,9 +1,9 @@
-// Endpoints that are held, and so are not among the targets (RFC 3263, 4.3).
+// Endpoints that are held, and so are not among the targets, or the last of them (RFC 3263, 4.3).
 use super::Found::{self, None, Targets};
 use super::{Row, Target, endpoint_of, finds};
 use sipl_choice::Families::V4;
 use sipl_choice::Transport::{Tcp, Udp};
-use sipl_outages::Board;
+use sipl_outages::{Board, Held};
 use sipl_plans::Reason::{AllHeld, NoAddress};
 use std::alloc::Global;
 use std::process::Abort;
@@ -11,14 +11,14 @@ use std::process::Abort;
 // What is held for 5,000 ms from time 0, the time then, and what is found.
 type Case = (&'static [Target], u64, Found);
 
-fn find_each_while_held(rt: &impl Abort, alloc: Global, row: &Row, cases: &[Case]) {
+fn find_each_while_held(rt: &impl Abort, alloc: Global, row: &Row, policy: Held, cases: &[Case]) {
     for (held, now, found) in cases {
         let board = board_of(rt, alloc, held, *now);
         let row = Row {
             found: *found,
             ..*row
         };
-        finds(rt, alloc, &board, &row);
+        finds(rt, alloc, &board, policy, &row);
     }
 }
 
@@ -70,7 +70,7 @@ const HELD_OF_THREE: [Case; 5] = [
 
 #[test]
 fn held_server_is_missing_and_others_keep_their_order(rt: HostRuntime) {
-    find_each_while_held(&rt, rt.alloc(), &THREE_SERVERS, &HELD_OF_THREE);
+    find_each_while_held(&rt, rt.alloc(), &THREE_SERVERS, Held::Out, &HELD_OF_THREE);
 }
 
 const END_OF_A_HOLD: [Case; 2] = [
@@ -80,7 +80,22 @@ const END_OF_A_HOLD: [Case; 2] = [
 
 #[test]
 fn hold_that_ended_leaves_nothing_out(rt: HostRuntime) {
-    find_each_while_held(&rt, rt.alloc(), &THREE_SERVERS, &END_OF_A_HOLD);
+    find_each_while_held(&rt, rt.alloc(), &THREE_SERVERS, Held::Out, &END_OF_A_HOLD);
+}
+
+const LAST_OF_THREE: [Case; 7] = [
+    (&[], 0, Targets(&[FIRST, SECOND, THIRD])),
+    (&[FIRST], 0, Targets(&[SECOND, THIRD, FIRST])),
+    (&[SECOND], 0, Targets(&[FIRST, THIRD, SECOND])),
+    (&[SECOND, FIRST], 0, Targets(&[THIRD, FIRST, SECOND])),
+    (&[SECOND, FIRST, THIRD], 0, Targets(&[FIRST, SECOND, THIRD])),
+    (&[FIRST], 4999, Targets(&[SECOND, THIRD, FIRST])),
+    (&[FIRST], 5000, Targets(&[FIRST, SECOND, THIRD])),
+];
+
+#[test]
+fn held_servers_come_last_and_all_keep_their_order(rt: HostRuntime) {
+    find_each_while_held(&rt, rt.alloc(), &THREE_SERVERS, Held::Last, &LAST_OF_THREE);
 }
 
 // A server at one port, and one without addresses at another.
@@ -109,7 +124,13 @@ const HELD_OF_ONE: [Case; 2] = [(OTHERS, 0, Targets(&[THIRD])), (&[THIRD], 0, No
 
 #[test]
 fn other_ports_transports_and_addresses_are_not_held(rt: HostRuntime) {
-    find_each_while_held(&rt, rt.alloc(), &ONE_SERVER, &HELD_OF_ONE);
+    find_each_while_held(&rt, rt.alloc(), &ONE_SERVER, Held::Out, &HELD_OF_ONE);
+}
+
+#[test]
+fn only_server_is_tried_though_it_is_held(rt: HostRuntime) {
+    let cases: [Case; 1] = [(&[THIRD], 0, Targets(&[THIRD]))];
+    find_each_while_held(&rt, rt.alloc(), &ONE_SERVER, Held::Last, &cases);
 }
 
 const NO_SERVER: Row = Row {
@@ -121,5 +142,11 @@ const NO_SERVER: Row = Row {
 #[test]
 fn servers_without_addresses_have_none_while_others_are_held(rt: HostRuntime) {
     let cases: [Case; 1] = [(&[THIRD], 0, None(NoAddress))];
-    find_each_while_held(&rt, rt.alloc(), &NO_SERVER, &cases);
+    find_each_while_held(&rt, rt.alloc(), &NO_SERVER, Held::Out, &cases);
+}
+
+#[test]
+fn servers_without_addresses_have_none_where_held_ones_come_last(rt: HostRuntime) {
+    let cases: [Case; 2] = [(&[], 0, None(NoAddress)), (&[THIRD], 0, None(NoAddress))];
+    find_each_while_held(&rt, rt.alloc(), &NO_SERVER, Held::Last, &cases);
 }

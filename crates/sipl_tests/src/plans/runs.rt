@@ -7,7 +7,7 @@ use super::{Row, abilities_of, draws_of, is_found, is_len, name, question_of, re
 use sipl_choice::Abilities;
 use sipl_choice::Families::{V4, V4ThenV6, V6ThenV4};
 use sipl_choice::Transport::{Tcp, Tls, Udp};
-use sipl_outages::Board;
+use sipl_outages::{Board, Held};
 use sipl_plans::Reason::{NoTransport, NotAvailable};
 use sipl_plans::{Answer, Finding, Run, Unfinished, draw};
 use sipl_records::Kind::{Address4, Address6, Alias, Exists, Pointer, Service};
@@ -163,7 +163,7 @@ fn draw_with(
     draws: &Draws,
     board: &Board,
 ) -> Answer {
-    draw(alloc, finding.layout(), draws, board).expect(rt, "out of memory")
+    draw(alloc, finding.layout(), draws, board, Held::Out).expect(rt, "out of memory")
 }
 
 const NUMERIC_AND_PORTS: [Reading; 3] = [

@@ -6,7 +6,7 @@ use super::Found::{None, Targets};
 use super::{Found, Row, finds};
 use sipl_choice::Families::V4;
 use sipl_choice::Transport::{Tcp, Udp};
-use sipl_outages::Board;
+use sipl_outages::{Board, Held};
 use sipl_plans::Reason::NoAddress;
 use std::alloc::Global;
 use std::process::Abort;
@@ -20,7 +20,7 @@ type Case = (&'static str, Found);
 fn find_each_in(rt: &impl Abort, alloc: Global, zone: Zone, cases: &[Case]) {
     let board = Board::new(alloc);
     for (uri, found) in cases {
-        finds(rt, alloc, &board, &row(zone, uri, *found));
+        finds(rt, alloc, &board, Held::Out, &row(zone, uri, *found));
     }
 }
 
