@@ -63,7 +63,8 @@ impl Drop for World {
 }
 
 impl World {
-    /// A world of a new book, by a policy on held endpoints, and idle workers. The only error is an allocation failure.
+    /// A world of a new book, by a policy on held endpoints, and idle workers. The only error is an
+    /// allocation failure.
     pub fn new(
         alloc: Global,
         abilities: Abilities,

@@ -14,8 +14,7 @@ use Rattle.sipl_srv.specs.Order.{Rank, ordered}
 use Rattle.sipl_srv.proofs.Public.{ordered-IsPermutation}
 use Rattle.sipl_outages.specs.Holds.{Holds, is_held}
 use Rattle.sipl_plans.specs.Plan.{arranged, endpoints_of, source_rank, without_held, with_held_last}
-use Rattle.sipl_plans.specs.Servers.{AreFew, HasFewServers, target_count}
-use Rattle.sipl_plans.specs.declared.answer.Answer.{Answer}
+use Rattle.sipl_plans.specs.Servers.{AreFew, HasFewServers}
 use Rattle.sipl_plans.specs.declared.layout.Layout.{Layout}
 use Rattle.sipl_plans.specs.declared.layout.Layout.TheVariants.{Servers}
 use Rattle.sipl_plans.specs.declared.layout.Source.{Source}
@@ -57,10 +56,6 @@ endpoints-few layout transport servers slice words endpoints few at own is =
     let places : List ℕ = ordered (map source_rank slice) words in
     let each : List Endpoint = flat_map (endpoints_of transport) (filter_map (slice_get slice) places) in
     omega (arith, some.servers, ap length is, length-unique same_endpoint each, length-endpoints transport slice some.addresses places, length-ordered (map source_rank slice) words, length-map slice source_rank)
-
--- an answer among few endpoints has few targets
-pub answer-few : (endpoints : List Endpoint) (answer : Answer) → length endpoints ≤ 2048 → target_count answer ≤ length endpoints → target_count answer ≤ 2048
-answer-few endpoints answer few within = omega (arith, few, within)
 
 -- the endpoints that are not held are at most as many
 pub without-few : (holds : Holds) (endpoints left targets : List Endpoint) → left ≡ without_held holds endpoints → targets ≡ left → length targets ≤ length endpoints

@@ -1,5 +1,5 @@
 -- The targets of servers: their endpoints, without the held ones or with these last.
-use Rattle.std.proofs.Common.{◌≡◌, ℕ, ◌+◌, ◌<◌, ◌≤◌, Bool, false, not, List, [], ◌∷◌, ◌++◌, length, length-append, append-nil, append_assoc, filter, take, get_or, true, nat_lt, unwrap_or, refl, sym, ap, ◌∙◌, arith}
+use Rattle.std.proofs.Common.{◌≡◌, ℕ, ◌+◌, ◌<◌, Bool, false, not, List, [], ◌∷◌, ◌++◌, length, length-append, append-nil, filter, true, nat_lt, unwrap_or, refl, sym, ap, ◌∙◌, arith}
 use Rattle.std.specs.List.{flat_map}
 use Rattle.std.specs.Map.{lookup}
 use Rattle.std.proofs.lemmas.Bool.{le-ltb}
@@ -52,11 +52,12 @@ module _ (holds : Holds) where
   -- the held endpoints and the others are as many as there are
   both-lengths : (endpoints : List Endpoint) → length (without_held holds endpoints) + length (filter (λ e. is_held holds e) endpoints) ≡ length endpoints
   both-lengths [] = refl
-  both-lengths (endpoint ∷ others) = by (is_held holds endpoint) refl
+  both-lengths (endpoint ∷ others) = by (is_held holds endpoint) refl (both-lengths others)
     where
-      by : (b : Bool) → is_held holds endpoint ≡ b → length (without_held holds (endpoint ∷ others)) + length (filter (λ e. is_held holds e) (endpoint ∷ others)) ≡ length (endpoint ∷ others)
-      by true is = rw is (omega (arith, both-lengths others))
-      by false is = rw is (omega (arith, both-lengths others))
+      by : (b : Bool) → is_held holds endpoint ≡ b → length (without_held holds others) + length (filter (λ e. is_held holds e) others) ≡ length others
+          → length (without_held holds (endpoint ∷ others)) + length (filter (λ e. is_held holds e) (endpoint ∷ others)) ≡ length (endpoint ∷ others)
+      by true is rest = rw is (omega (arith, rest))
+      by false is rest = rw is (omega (arith, rest))
 
   pub length-last : (endpoints : List Endpoint) → length (with_held_last holds endpoints) ≡ length endpoints
   length-last endpoints =

@@ -10,6 +10,7 @@ pub mod FewTargets
 pub mod FreeTargets
 pub mod Policies
 pub mod Routing
+pub mod HeldLast
 pub mod KnownLook
 pub mod Reaching
 pub mod Rows

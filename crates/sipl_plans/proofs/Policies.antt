@@ -1,7 +1,6 @@
 -- The answers under the policies on held endpoints, beside one another.
 use Rattle.std.proofs.Common.{◌≡◌, ℕ, Bool, true, false, not, List, [], ◌∷◌, ◌++◌, filter, refl, sym, ap, subst, ◌∙◌}
 use Rattle.std.specs.List.{flat_map}
-use Rattle.std.specs.Prelude.{IsPermutation}
 use Rattle.std.proofs.lemmas.List.Sorted.{IsPermutation-filter_both}
 use Rattle.sipl_records.specs.Unique.{unique}
 use Rattle.sipl_choice.specs.Endpoints.{same_endpoint}
@@ -10,10 +9,8 @@ use Rattle.sipl_outages.specs.Holds.{Holds, is_held}
 use Rattle.sipl_outages.specs.declared.held.Held.TheVariants.{Out, Last}
 use Rattle.sipl_plans.specs.Plan.{arranged, draw, endpoints_of, targets_among, targets_or_all_held, with_held_last, without_held}
 use Rattle.sipl_plans.specs.Policies.{BeginsWith, HasTargetsOf, HoldsNone}
-use Rattle.sipl_plans.specs.declared.answer.Answer.{Answer}
 use Rattle.sipl_plans.specs.declared.answer.Answer.TheVariants.{Targets, None}
-use Rattle.sipl_plans.specs.declared.answer.Reason.{Reason}
-use Rattle.sipl_plans.specs.declared.answer.Reason.TheVariants.{NoAddress, AllHeld}
+use Rattle.sipl_plans.specs.declared.answer.Reason.TheVariants.{AllHeld}
 use Rattle.sipl_plans.specs.declared.layout.Layout.{Layout}
 use Rattle.sipl_plans.specs.declared.layout.Layout.TheVariants.{Refused, Servers}
 use Rattle.sipl_plans.proofs.FreeTargets.{free-without, free-last}
@@ -35,14 +32,15 @@ double-not false = refl
 -- where all are held, all are among the held ones
 all-held : (holds : Holds) (endpoints : List Endpoint) → without_held holds endpoints ≡ [] → filter (λ e. is_held holds e) endpoints ≡ endpoints
 all-held holds [] none = refl
-all-held holds (endpoint ∷ others) none = by (is_held holds endpoint) refl
+all-held holds (endpoint ∷ others) none = by (is_held holds endpoint) refl (λ rest. all-held holds others rest)
   where
-    by : (b : Bool) → is_held holds endpoint ≡ b → filter (λ e. is_held holds e) (endpoint ∷ others) ≡ endpoint ∷ others
-    by true is =
-        let rest : without_held holds others ≡ [] = sym (rw is refl) ∙ none in
-        rw is (ap (λ (es : List Endpoint). endpoint ∷ es) (all-held holds others rest))
-    by false is =
-        let some : endpoint ∷ without_held holds others ≡ [] = sym (rw is refl) ∙ none in
+    by : (b : Bool) → is_held holds endpoint ≡ b → (without_held holds others ≡ [] → filter (λ e. is_held holds e) others ≡ others) → filter (λ e. is_held holds e) (endpoint ∷ others) ≡ endpoint ∷ others
+    by true is all =
+        let same : without_held holds (endpoint ∷ others) ≡ without_held holds others = rw is refl in
+        rw is (ap (λ (es : List Endpoint). endpoint ∷ es) (all (sym same ∙ none)))
+    by false is all =
+        let same : without_held holds (endpoint ∷ others) ≡ endpoint ∷ without_held holds others = rw is refl in
+        let some : endpoint ∷ without_held holds others ≡ [] = sym same ∙ none in
         absurd (let never = some in cc)
 
 -- among the endpoints in their order

@@ -4,3 +4,4 @@ pub mod Ours
 pub mod Entries
 pub mod Keys
 pub mod Marking
+pub mod Policies

@@ -356,7 +356,14 @@ pub(crate) fn commit(
         answers,
     } = prepared;
     let holds = book.board().dup(alloc)?;
-    let answers = drawn_again(alloc, &finding, &asked.draws, book.board(), asked.held, answers)?;
+    let answers = drawn_again(
+        alloc,
+        &finding,
+        &asked.draws,
+        book.board(),
+        asked.held,
+        answers,
+    )?;
     let draws = asked.draws;
     let told = Told::drawn(number, asked, answers.told, evidence, holds);
     match book.commit_answer(finding, copies.event, &draws, answers.event) {

@@ -1,5 +1,18 @@
-use Rattle.std.proofs.Common.{◌≡◌, vec_len, sym, ◌∙◌, arith}
-use Rattle.std.proofs.lemmas.Bool.{eqb-true, eqb-false}
-use Rattle.std.proofs.lemmas.List.{nil_from_length}
-use Rattle.sipl_plans.proofs.FreeTargets.{among-none, among-held, among-left, among-last, length-last}
+use Rattle.std.proofs.Common.{◌∙◌}
+use Rattle.sipl_plans.proofs.FewTargets.{last-few, without-few}
+use Rattle.sipl_plans.proofs.layout.targets_among.Goals.{in-Out, in-Last+in_ok-targets-in-Last}
 use Rattle.sipl_plans.proofs.layout.targets_among.Goals as goal
+
+pub returns-clause-few : goal.returns-clause-few
+returns-clause-few c =
+    let holds = c.args.board.now.holds in
+    let endpoints = c.args.endpoints.items in
+    let left = c.match-held.targets.items in
+    elim c.match-held.branch [
+      | in-Out w ↦
+          without-few holds endpoints left c.from_vec.result
+          ((λ k. (w.targets-is k).items) ∙ w.without_held-targets.ensures) c.from_vec.ensures
+      | in-Last+in_ok-targets-in-Last w ↦
+          last-few holds endpoints left c.from_vec.result
+          ((λ k. (w.targets-is k).items) ∙ w.in_ok-targets-in-Last.ensures) c.from_vec.ensures
+    ]
