@@ -17,14 +17,14 @@ use Rattle.sipl_book.proofs.Journal.{consistent-recorded}
 -- what a current entry's route draws is the answer on the records and the holds as they are
 pub current_answer : (book : BookState) (question : Question) (words : List ℕ) (entry : EntryState) → IsConsistent book
     → entry_of book.entries question ≡ Some entry → entry.is_current ≡ true
-    → draw entry.found.layout book.board.holds words ≡ answer_now book question words
+    → draw entry.found.layout book.board.holds words book.held ≡ answer_now book question words
 current_answer book question words entry good found current =
     let is = All-entry_of (IsGoodEntry book) question book.entries entry good.entries found in
     let own = question-entry_of question book.entries entry found in
     let look : Look = set_of book.store.zones.records in
     let routed : route look question book.client ≡ entry.found.layout =
     (λ i. route look (sym own i) (sym is.client i)) ∙ is.sound.route look (is.up_to_date current).agrees in
-    ap (λ layout. draw layout book.board.holds words) (sym routed)
+    ap (λ layout. draw layout book.board.holds words book.held) (sym routed)
 
 -- a book stays consistent with the event of the answer now
 pub consistent-answered : (book : BookState) (question : Question) (words : List ℕ) (journal : List Event) → IsConsistent book

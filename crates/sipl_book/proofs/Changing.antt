@@ -132,7 +132,7 @@ consistent-changed edit old store changed journal entries queue good edited spac
     let new : BookState = record old { store = store; journal = events; entries = map (after_change keys) old.entries; queue = queue } in
     subst (λ (p : List Event × List EntryState). IsConsistent (record old { store = store; journal = p.0; entries = p.1; queue = queue })) (λ i. (sym journal_is i, sym entries_is i))
     (record {
-      legal = legal-push old.client old.journal (Change edit) empty_state good.legal (subst (IsAccepted old.client (Change edit)) (sym good.replayed) accepted);
+      legal = legal-push old.client old.held old.journal (Change edit) empty_state good.legal (subst (IsAccepted old.client old.held (Change edit)) (sym good.replayed) accepted);
       replayed = replay-push old.journal (Change edit) empty_state ∙ ap (after (Change edit)) good.replayed ∙ (λ i. record { zones = sym edited.after i; holds = old.board.holds });
       store = edited.consistent;
       board = good.board;
@@ -172,6 +172,7 @@ made-change edit old store changed number journal edited space number_is journal
       max_records = edited.limit;
       board = refl;
       client = refl;
+      held = refl;
       max_entries = refl;
       max_events = refl;
     }
@@ -213,6 +214,7 @@ refused-change edit old store journal fault edited space journal_is =
       max_records = edited.limit;
       board = refl;
       client = refl;
+      held = refl;
       max_entries = refl;
       max_events = refl;
     }

@@ -73,8 +73,8 @@ module _ (book : BookState) (found : Found) (words : List ℕ) (so : IsConsisten
   pub consistent_committed : IsConsistent new
   consistent_committed =
       record {
-        legal = legal-push book.client book.journal event empty_state so.legal
-            (ap (λ (state : State). answer_in state found.question book.client words) (sym so.replayed));
+        legal = legal-push book.client book.held book.journal event empty_state so.legal
+            (ap (λ (state : State). answer_in state found.question book.client book.held words) (sym so.replayed));
         replayed = replay-push book.journal event empty_state ∙ so.replayed;
         store = so.store;
         board = so.board;

@@ -5,6 +5,7 @@ use Rattle.std.proofs.lemmas.Bool.{cases_Bool, cond-false, lt-leb, leb-false}
 use Rattle.std.proofs.lemmas.List.Elements.{All-weaker}
 use Rattle.sipl_choice.specs.Abilities.{Client}
 use Rattle.sipl_outages.specs.Board.{BoardState, IsConsistent as IsConsistentBoard}
+use Rattle.sipl_outages.specs.declared.held.Held.{Held}
 use Rattle.sipl_outages.specs.declared.fault.BoardFault.TheVariants.{TooFar, BoardFull}
 use Rattle.sipl_outages.specs.Holds.{Holds, BoardEvent, is_new_hold, refusal_of}
 use Rattle.sipl_outages.specs.Holds.BoardEvent.{Hold, Release, Advance}
@@ -16,11 +17,11 @@ use Rattle.sipl_book.specs.declared.event.Event.{Event}
 use Rattle.sipl_book.proofs.Honest.{current-as, read-as}
 
 -- a legal journal stays legal with an event that is accepted in the state that it leads to
-pub legal-push : (client : Client) (events : List Event) (event : Event) (state : State) → IsLegal client events state
-    → IsAccepted client event (replay events state) → IsLegal client (events ++ event ∷ []) state
-legal-push client [] event state legal accepted = (accepted, tt)
-legal-push client (first ∷ events) event state legal accepted =
-    (legal.0, legal-push client events event (after first state) legal.1 accepted)
+pub legal-push : (client : Client) (held : Held) (events : List Event) (event : Event) (state : State) → IsLegal client held events state
+    → IsAccepted client held event (replay events state) → IsLegal client held (events ++ event ∷ []) state
+legal-push client held [] event state legal accepted = (accepted, tt)
+legal-push client held (first ∷ events) event state legal accepted =
+    (legal.0, legal-push client held events event (after first state) legal.1 accepted)
 
 -- the last event comes after the others
 pub replay-push : (events : List Event) (event : Event) (state : State) → replay (events ++ event ∷ []) state ≡ after event (replay events state)
@@ -66,13 +67,13 @@ module _ (old new : BookState) (client : new.client ≡ old.client) (zones : new
 -- ---- a book with one event more, where the zones and the entries are as before
 
 pub consistent-recorded : (book : BookState) (event : Event) (board : BoardState) → IsConsistent book → IsConsistentBoard board
-    → length book.journal < book.max_events → IsAccepted book.client event (state_of book)
+    → length book.journal < book.max_events → IsAccepted book.client book.held event (state_of book)
     → after event (state_of book) ≡ record { zones = book.store.zones; holds = board.holds }
     → IsConsistent (recorded event (record book { board = board }))
 consistent-recorded book event board good good_board space accepted leads =
     let longer : length (book.journal ++ event ∷ []) ≡ length book.journal + 1 = length-append book.journal (event ∷ []) in
     record {
-      legal = legal-push book.client book.journal event empty_state good.legal (subst (IsAccepted book.client event) (sym good.replayed) accepted);
+      legal = legal-push book.client book.held book.journal event empty_state good.legal (subst (IsAccepted book.client book.held event) (sym good.replayed) accepted);
       replayed = replay-push book.journal event empty_state ∙ ap (after event) good.replayed ∙ leads;
       store = good.store;
       board = good_board;

@@ -8,6 +8,7 @@ use Rattle.sipl_zonestore.specs.Store.{Store, no_zones}
 use Rattle.sipl_zonestore.specs.Consistent.{IsConsistent as IsConsistentStore}
 use Rattle.sipl_outages.specs.Board.{BoardState, IsConsistent as IsConsistentBoard}
 use Rattle.sipl_outages.specs.Holds.{no_holds}
+use Rattle.sipl_outages.specs.declared.held.Held.{Held}
 use Rattle.sipl_plans.specs.Findings.{IsSound}
 use Rattle.sipl_plans.specs.Route.{route}
 use Rattle.sipl_plans.specs.declared.answer.Answer.{Answer as Targets}
@@ -19,11 +20,12 @@ use Rattle.sipl_book.specs.Machine.{State, empty_state, answer_in, IsLegal, repl
 use Rattle.sipl_book.specs.declared.event.Event.{Event}
 use Rattle.sipl_book.specs.declared.limits.Limits.{Limits}
 
--- what callers see of a book: the client's abilities, the zones with the numbers of their sets, the
--- holds and the clock, the events, the entries with the queue of the outdated ones, and the maxima
--- of entries and events
+-- what callers see of a book: the client's abilities, the policy on held endpoints, the zones with
+-- the numbers of their sets, the holds and the clock, the events, the entries with the queue of the
+-- outdated ones, and the maxima of entries and events
 pub record BookState : Type 0 where
   pub client : Client
+  pub held : Held
   pub store : Store
   pub board : BoardState
   pub journal : List Event
@@ -36,15 +38,17 @@ pub record BookState : Type 0 where
 abbrev pub state_of : BookState → State
 state_of book = record { zones = book.store.zones; holds = book.board.holds }
 
--- the answer to a question, from scratch on the records and the holds as they are
+-- the answer to a question, from scratch on the records and the holds as they are, by the policy
 abbrev pub answer_now : BookState → Question → List ℕ → Targets
-answer_now book question words = answer_in (state_of book) question book.client words
+answer_now book question words =
+    answer_in (state_of book) question book.client book.held words
 
 -- a book without zones, holds, events or entries, at time 0
-abbrev pub new_book : Client → Limits → BookState
-new_book client limits =
+abbrev pub new_book : Client → Held → Limits → BookState
+new_book client held limits =
     record {
       client = client;
+      held = held;
       store = record {
         zones = no_zones;
         max_records = limits.records;
@@ -82,7 +86,7 @@ HasRoute book entry =
 -- the journal is legal from the empty state and leads to the state as it is; the entries are good,
 -- of distinct questions, and in the order in which they were made; the maxima are within the limits
 pub record IsConsistent (book : BookState) : Type 0 where
-  pub legal : IsLegal book.client book.journal empty_state
+  pub legal : IsLegal book.client book.held book.journal empty_state
   pub replayed : replay book.journal empty_state ≡ state_of book
   pub store : IsConsistentStore book.store
   pub board : IsConsistentBoard book.board

@@ -7,6 +7,7 @@ abbrev pub book_of : Inside → BookState
 book_of b =
     record {
       client = b.abilities;
+      held = b.held;
       store = b.store;
       board = b.board;
       journal = b.journal.items;

@@ -70,6 +70,7 @@ pub record IsChanged (edit : Edit) (old new : BookState) (result : Result Done B
   pub max_records : new.store.max_records ≡ old.store.max_records
   pub board : new.board ≡ old.board
   pub client : new.client ≡ old.client
+  pub held : new.held ≡ old.held
   pub max_entries : new.max_entries ≡ old.max_entries
   pub max_events : new.max_events ≡ old.max_events
 

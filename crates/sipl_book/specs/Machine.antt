@@ -6,6 +6,7 @@ use Rattle.sipl_choice.specs.Abilities.{Client}
 use Rattle.sipl_uri.specs.declared.question.Question.{Question}
 use Rattle.sipl_outages.specs.Holds.{Holds, no_holds, refusal_of as hold_refusal, after as after_hold}
 use Rattle.sipl_outages.specs.Holds.BoardEvent.{Hold as HoldFor, Release as ReleaseOf, Advance as AdvanceTo}
+use Rattle.sipl_outages.specs.declared.held.Held.{Held}
 use Rattle.sipl_zonestore.specs.Store.{Zones, no_zones}
 use Rattle.sipl_zonestore.specs.Edits.{Edit as ZoneEdit, load, unload, add, remove, refusal_of as edit_refusal, after as after_edit}
 use Rattle.sipl_plans.specs.Plan.{plan}
@@ -31,10 +32,11 @@ zone_edit (Unload apex) = unload apex
 zone_edit (Add r) = add r
 zone_edit (Remove r) = remove r
 
--- the answer to a question, from scratch on the records and the holds as they are (RFC 3263, 4)
-abbrev pub answer_in : State → Question → Client → List ℕ → Targets
-answer_in state question client words =
-    plan (set_of state.zones.records) state.holds question client words
+-- the answer to a question, from scratch on the records and the holds as they are, by a policy on
+-- held endpoints (RFC 3263, 4)
+abbrev pub answer_in : State → Question → Client → Held → List ℕ → Targets
+answer_in state question client held words =
+    plan (set_of state.zones.records) state.holds question client words held
 
 -- the state after an event; an answer changes nothing
 abbrev pub after : Event → State → State
@@ -49,22 +51,24 @@ after (Advance to) state =
 after (Answer question words answer) state = state
 
 -- whether an event is what happens in the state: no fault applies to a change, with the greatest
--- limits of 1,048,576 records and 4,096 holds, and an answer is that of the records and the holds
-abbrev pub IsAccepted : Client → Event → State → Type 0
-IsAccepted client (Change edit) state = edit_refusal 1048576 (zone_edit edit) state.zones ≡ None
-IsAccepted client (Hold endpoint ms) state =
+-- limits of 1,048,576 records and 4,096 holds, and an answer is that of the records and the holds by
+-- the policy
+abbrev pub IsAccepted : Client → Held → Event → State → Type 0
+IsAccepted client held (Change edit) state =
+    edit_refusal 1048576 (zone_edit edit) state.zones ≡ None
+IsAccepted client held (Hold endpoint ms) state =
     hold_refusal 4096 (HoldFor endpoint ms) state.holds ≡ None
-IsAccepted client (Release endpoint) state =
+IsAccepted client held (Release endpoint) state =
     hold_refusal 4096 (ReleaseOf endpoint) state.holds ≡ None
-IsAccepted client (Advance to) state = hold_refusal 4096 (AdvanceTo to) state.holds ≡ None
-IsAccepted client (Answer question words answer) state =
-    answer ≡ answer_in state question client words
+IsAccepted client held (Advance to) state = hold_refusal 4096 (AdvanceTo to) state.holds ≡ None
+IsAccepted client held (Answer question words answer) state =
+    answer ≡ answer_in state question client held words
 
 -- a journal is legal from a state: each of its events is what happens in the state at its place
-abbrev pub IsLegal : Client → List Event → State → Type 0
-IsLegal client [] state = Unit {0}
-IsLegal client (event ∷ events) state =
-    IsAccepted client event state × IsLegal client events (after event state)
+abbrev pub IsLegal : Client → Held → List Event → State → Type 0
+IsLegal client held [] state = Unit {0}
+IsLegal client held (event ∷ events) state =
+    IsAccepted client held event state × IsLegal client held events (after event state)
 
 -- the state after the events of a journal
 abbrev pub replay : List Event → State → State

@@ -26,7 +26,7 @@ use crate::limits::Limits;
 use crate::outcome::{Done, Handed};
 use sipl_choice::{Abilities, Endpoint};
 use sipl_evidence::dup_data;
-use sipl_outages::Board;
+use sipl_outages::{Board, Held};
 use sipl_plans::{Answer, Layout, draw};
 use sipl_records::{Data, Key, Sequence};
 use sipl_srv::Draws;
@@ -35,8 +35,8 @@ use sipl_zonestore::ZoneStore;
 use std::alloc::{AllocError, Global};
 use std::marker::Model;
 
-/// The zones, the holds and the clock of a locator for one client, the journal of all events, and
-/// an entry for each question whose answer was committed.
+/// The zones, the holds and the clock of a locator for one client and one policy on held endpoints,
+/// the journal of all events, and an entry for each question whose answer was committed.
 ///
 /// Contracts see the state that the events lead to (the apexes, the records, the holds and the
 /// time), the numbers of the record sets, the journal and the entries. The journal is always legal
@@ -47,6 +47,7 @@ use std::marker::Model;
 pub struct Book {
     alloc: Global,
     abilities: Abilities,
+    pub(crate) held: Held,
     pub(crate) store: ZoneStore,
     pub(crate) board: Board,
     pub(crate) journal: Vec<Event>,
@@ -71,19 +72,21 @@ impl Model for Book {
 }
 
 impl Book {
-    /// A book for a client, without zones, holds, events or entries, at time 0. Does not allocate.
-    pub fn new(alloc: Global, abilities: Abilities, limits: &Limits) -> Self
+    /// A book for a client and a policy on held endpoints, without zones, holds, events or entries,
+    /// at time 0. Does not allocate.
+    pub fn new(alloc: Global, abilities: Abilities, limits: &Limits, held: Held) -> Self
         requires records { limits.now.records ≤ 1048576 }
         requires entries { limits.now.entries ≤ 65536 }
         requires journal { limits.now.journal ≤ 1048576 }
         requires holds { limits.now.holds ≤ 4096 }
         requires first { 1 ≤ limits.now.next }
         requires last { limits.now.next ≤ 2 ^ 52 }
-        ensures { result ≡ new_book abilities limits.now }
+        ensures { result ≡ new_book abilities held limits.now }
     {
         Book {
             alloc,
             abilities,
+            held,
             store: ZoneStore::with(alloc, limits.next, limits.records as u64),
             board: Board::with(alloc, limits.holds),
             journal: Vec::new(alloc),
@@ -193,7 +196,7 @@ impl Book {
             _ => return Err(BookFault::NotCurrent),
         };
         let question = question.dup(self.alloc)?;
-        let (event, answer) = prepare(self.alloc, question, layout, draws, &self.board)?;
+        let (event, answer) = prepare(self.alloc, question, layout, draws, &self.board, self.held)?;
         let number = record_event(&mut self.journal, event);
         Ok(Handed { number, answer })
     }
@@ -234,7 +237,7 @@ impl Book {
             Some(entry) if entry.is_current() => entry.layout(),
             _ => return self.find_anew(question, draws),
         };
-        let (event, answer) = prepare(self.alloc, question, layout, draws, &self.board)?;
+        let (event, answer) = prepare(self.alloc, question, layout, draws, &self.board, self.held)?;
         let number = record_event(&mut self.journal, event);
         Ok(Handed { number, answer })
     }
@@ -283,7 +286,7 @@ impl Book {
     /// The events, in their order. They are legal from the empty state and lead to the state as it is.
     pub fn journal(&self) -> &[Event]
         ensures journal { result.now ≡ self.now.journal }
-        ensures legal { IsLegal self.now.client self.now.journal empty_state }
+        ensures legal { IsLegal self.now.client self.now.held self.now.journal empty_state }
         ensures replayed { replay self.now.journal empty_state ≡ state_of self.now }
         ensures few { length self.now.journal ≤ self.now.max_events }
     {
@@ -300,7 +303,7 @@ impl Book {
     /// The events, in their order, as the only thing that is left of the book. Does not allocate.
     pub fn into_journal(self) -> Sequence<Event>
         ensures journal { result ≡ self.journal }
-        ensures legal { IsLegal self.client self.journal empty_state }
+        ensures legal { IsLegal self.client self.held self.journal empty_state }
         ensures few { length self.journal ≤ self.max_events }
     {
         Sequence::from_vec(self.journal)
@@ -327,6 +330,13 @@ impl Book {
         &self.abilities
     }
 
+    /// The policy on held endpoints.
+    pub fn held(&self) -> Held
+        ensures { result ≡ self.now.held }
+    {
+        self.held
+    }
+
     /// The held endpoints and the time.
     pub fn board(&self) -> &Board
         ensures { result.now ≡ self.now.board }
@@ -346,21 +356,23 @@ pub(crate) fn record_event(journal: &mut Vec<Event>, event: Event) -> u64
     number
 }
 
-// The event of an answer, and the answer: that of a layout for these random words.
+// The event of an answer, and the answer: that of a layout for these random words, these holds and
+// this policy on them.
 fn prepare(
     alloc: Global,
     question: Question,
     layout: &Layout,
     draws: &Draws,
     board: &Board,
+    held: Held,
 ) -> Result<(Event, Answer), AllocError>
     requires { HasFewServers layout.now }
     ensures event { IfOk result (λ prepared. prepared.0
-        ≡ Event.Answer question draws.now (draw layout.now board.now.holds draws.now)) }
+        ≡ Event.Answer question draws.now (draw layout.now board.now.holds draws.now held)) }
     ensures answer { IfOk result
-        (λ prepared. prepared.1 ≡ draw layout.now board.now.holds draws.now) }
+        (λ prepared. prepared.1 ≡ draw layout.now board.now.holds draws.now held) }
 {
-    let answer = draw(alloc, layout, draws, board)?;
+    let answer = draw(alloc, layout, draws, board, held)?;
     let event = Event::Answer(question, *draws, answer.dup(alloc)?);
     Ok((event, answer))
 }

@@ -11,7 +11,7 @@ use crate::checks::{first_renumbered, first_stale};
 use crate::event::Event;
 use crate::fault::BookFault;
 use crate::outcome::{Handed, Recorded, Uncommitted};
-use sipl_outages::Board;
+use sipl_outages::{Board, Held};
 use sipl_plans::{Answer, Finding, draw};
 use sipl_srv::Draws;
 use sipl_uri::Question;
@@ -65,7 +65,7 @@ impl Book {
     /// entry has then: so a caller with a lock round the book allocates before the lock, and drops after
     /// it.
     ///
-    /// The answer must be that of the finding's layout for the book's holds.
+    /// The answer must be that of the finding's layout for the book's holds and policy.
     ///
     /// The fault is the first one: B3, B2, as of `commit_checked`. The finding is returned with it.
     pub fn commit_answer(
@@ -77,7 +77,8 @@ impl Book {
     ) -> Result<Recorded, Uncommitted>
         requires client { finding.client ≡ self.old.client }
         requires question { question ≡ finding.question }
-        requires answer { answer ≡ draw finding.layout self.old.board.holds draws.now }
+        requires answer { answer
+            ≡ draw finding.layout self.old.board.holds draws.now self.old.held }
         ensures { CommitsAnswer finding draws.now self.old self.new result }
     {
         match self.commit_fault(&finding) {
@@ -118,7 +119,7 @@ impl Book {
         ensures unchanged { OnErr result (self.new ≡ self.old) }
     {
         let fault = BookFault::Memory;
-        let Ok(drawn) = Drawn::of(self.alloc(), &finding, draws, &self.board) else {
+        let Ok(drawn) = Drawn::of(self.alloc(), &finding, draws, &self.board, self.held) else {
             return Err(Uncommitted { fault, finding });
         };
         let Drawn {
@@ -149,7 +150,8 @@ impl Book {
         requires current { AreCurrent self.old.store finding.items }
         requires space { next_event self.old < self.old.max_events }
         requires question { question ≡ finding.question }
-        requires answer { answer ≡ draw finding.layout self.old.board.holds draws.now }
+        requires answer { answer
+            ≡ draw finding.layout self.old.board.holds draws.now self.old.held }
         ensures number { IfOk result (λ committed. committed.number ≡ next_event self.old) }
         ensures after { OnOk result (self.new ≡ after_commit finding draws.now self.old) }
         ensures memory { IfErr result (λ uncommitted. uncommitted.fault ≡ BookFault.Memory) }
@@ -181,20 +183,22 @@ struct Drawn {
 }
 
 impl Drawn {
-    // The answer for these random words and holds.
+    // The answer for these random words and holds, by a policy on held endpoints.
     fn of(
         alloc: Global,
         finding: &Finding,
         draws: &Draws,
         board: &Board,
+        held: Held,
     ) -> Result<Self, AllocError>
         ensures question { IfOk result (λ drawn. drawn.question ≡ finding.now.question) }
         ensures answer { IfOk result
-            (λ drawn. drawn.answer ≡ draw finding.now.layout board.now.holds draws.now) }
+            (λ drawn. drawn.answer
+            ≡ draw finding.now.layout board.now.holds draws.now held) }
         ensures copy { IfOk result (λ drawn. drawn.copy ≡ drawn.answer) }
     {
         let question = finding.question().dup(alloc)?;
-        let answer = draw(alloc, finding.layout(), draws, board)?;
+        let answer = draw(alloc, finding.layout(), draws, board, held)?;
         let copy = answer.dup(alloc)?;
         Ok(Drawn {
             question,

@@ -5,6 +5,7 @@ ghost use Rattle.sipl_choice.specs.Abilities.{Client};
 ghost use Rattle.sipl_uri.specs.declared.question.Question.{Question};
 ghost use Rattle.sipl_evidence.specs.Items.{Item};
 ghost use Rattle.sipl_outages.specs.Holds.{BoardEvent};
+ghost use Rattle.sipl_outages.specs.declared.held.Held.{Held};
 ghost use Rattle.sipl_plans.specs.declared.answer.Answer.{Answer as Targets};
 ghost use Rattle.sipl_plans.specs.Findings.{Found};
 ghost use Rattle.sipl_zonestore.specs.Store.{Store};
@@ -19,12 +20,12 @@ ghost use Rattle.sipl_book.specs.declared.outcome.Done.{Done};
 ghost use Rattle.sipl_book.specs.declared.outcome.Handed.{Handed};
 
 /// Each answer in a legal journal is what RFC 3263 gives from scratch on the records and the holds
-/// that the events before it lead to.
+/// that the events before it lead to, by the policy on held endpoints.
 pub fn journalled_answers_are_plans()
-    ensures { (client : Client) (before after : List Event) (state : State) (question : Question)
-        (words : List ℕ) (answer : Targets)
-        → IsLegal client (before ++ Answer question words answer ∷ after) state
-        → answer ≡ answer_in (replay before state) question client words }
+    ensures { (client : Client) (held : Held) (before after : List Event) (state : State)
+        (question : Question) (words : List ℕ) (answer : Targets)
+        → IsLegal client held (before ++ Answer question words answer ∷ after) state
+        → answer ≡ answer_in (replay before state) question client held words }
 {}
 
 /// Sets that were read stay honest over an accepted edit: where one has the number that it had, it

@@ -9,8 +9,8 @@ use sipl_book::{Book, BookFault, Done, Edit, Limits, MAX_ENTRIES, MAX_EVENTS};
 use sipl_choice::{Abilities, Endpoint, Families, Transport};
 use sipl_masterfile::{ZoneText, read_record, read_zone};
 use sipl_names::Name;
-use sipl_outages::BoardFault;
-use sipl_plans::{Answer, Finding, Run};
+use sipl_outages::{BoardFault, Held};
+use sipl_plans::{Answer, Finding, Reason, Run};
 use sipl_records::{Address, Record};
 use sipl_srv::Draws;
 use sipl_uri::{Question, Uri};
@@ -30,6 +30,8 @@ const SERVER_1: u32 = 0xC000_0201;
 
 const SERVER_2: u32 = 0xC000_0202;
 
+const ADDRESS_1: &[u8] = b"server1.example.com. A 192.0.2.1";
+
 const ADDRESS_2: &[u8] = b"server2.example.com. A 192.0.2.2";
 
 const BOB: &[u8] = b"sip:bob@example.com";
@@ -38,6 +40,7 @@ const BOB: &[u8] = b"sip:bob@example.com";
 enum Scenario {
     Edits,
     Holds,
+    HeldLast,
     FullJournal,
     NoEntries,
     ChangedSets,
@@ -55,12 +58,16 @@ fn play(rt: &impl Abort, alloc: Global, entries: usize, journal: usize, scenario
     requires entries { entries ≤ 65536 }
     requires journal { journal ≤ 1048576 }
 {
-    let mut book = new_book(rt, alloc, entries, journal);
+    let held = match &scenario {
+        Scenario::HeldLast => Held::Last,
+        _ => Held::Out,
+    };
+    let mut book = new_book(rt, alloc, entries, journal, held);
     run(rt, alloc, &mut book, scenario);
 }
 
 // A book for a client of TCP and UDP over IPv4.
-fn new_book(rt: &impl Abort, alloc: Global, entries: usize, journal: usize) -> Book
+fn new_book(rt: &impl Abort, alloc: Global, entries: usize, journal: usize, held: Held) -> Book
     requires entries { entries ≤ 65536 }
     requires journal { journal ≤ 1048576 }
     ensures { result.client ≡ record {
@@ -73,7 +80,7 @@ fn new_book(rt: &impl Abort, alloc: Global, entries: usize, journal: usize) -> B
         journal,
         ..Limits::greatest()
     };
-    Book::new(alloc, abilities(rt, alloc), &limits)
+    Book::new(alloc, abilities(rt, alloc), &limits, held)
 }
 
 pub(crate) fn abilities(rt: &impl Abort, alloc: Global) -> Abilities
@@ -94,6 +101,7 @@ fn run(rt: &impl Abort, alloc: Global, book: &mut Book, scenario: Scenario) {
     match scenario {
         Scenario::Edits => edits(rt, alloc, book),
         Scenario::Holds => holds(rt, alloc, book),
+        Scenario::HeldLast => held_last(rt, alloc, book),
         Scenario::FullJournal => full_journal(rt, alloc, book),
         Scenario::NoEntries => no_entries(rt, alloc, book),
         Scenario::ChangedSets => changed_sets(rt, alloc, book),
@@ -271,6 +279,15 @@ fn targets(rt: &impl Abort, answer: Result<Answer, BookFault>, numbers: &[u32]) 
     assert!(rt; expected, "other targets, or a fault");
 }
 
+// The answer is that there is no address.
+fn has_no_address(rt: &impl Abort, answer: Result<Answer, BookFault>) {
+    let expected = match answer {
+        Ok(answer) => matches!(&answer, Answer::None(Reason::NoAddress)),
+        Err(_) => false,
+    };
+    assert!(rt; expected, "an address, or a fault");
+}
+
 fn fails(rt: &impl Abort, answer: Result<Answer, BookFault>, fault: BookFault) {
     assert_eq!(rt; answer.err(), Some(fault));
 }
@@ -355,6 +372,42 @@ fn holds(rt: &impl Abort, alloc: Global, book: &mut Book) {
 #[test]
 fn held_endpoints_are_left_out_until_their_end(rt: HostRuntime) {
     play(&rt, rt.alloc(), MAX_ENTRIES, MAX_EVENTS, Scenario::Holds);
+}
+
+fn held_last(rt: &impl Abort, alloc: Global, book: &mut Book) {
+    targets(
+        rt,
+        commit(rt, alloc, book, BOB, &[2, 0]),
+        &[SERVER_2, SERVER_1],
+    );
+    is_event(rt, book.hold(&tcp(SERVER_2), 5000), Ok(2));
+    targets(rt, hand(rt, alloc, book, &[2, 0]), &[SERVER_1, SERVER_2]);
+    is_event(rt, book.advance(4999), Ok(4));
+    targets(
+        rt,
+        commit(rt, alloc, book, BOB, &[2, 0]),
+        &[SERVER_1, SERVER_2],
+    );
+    is_event(rt, book.hold(&tcp(SERVER_1), 5000), Ok(6));
+    targets(rt, hand(rt, alloc, book, &[2, 0]), &[SERVER_2, SERVER_1]);
+    targets(rt, hand(rt, alloc, book, &[0, 0]), &[SERVER_1, SERVER_2]);
+    is_event(rt, book.advance(5000), Ok(9));
+    targets(rt, hand(rt, alloc, book, &[0, 0]), &[SERVER_2, SERVER_1]);
+    without_addresses(rt, alloc, book);
+}
+
+// No server has an address, first while an endpoint is held, and then when none is.
+fn without_addresses(rt: &impl Abort, alloc: Global, book: &mut Book) {
+    changes(rt, remove(rt, alloc, book, ADDRESS_1), 11, 1);
+    changes(rt, remove(rt, alloc, book, ADDRESS_2), 12, 1);
+    has_no_address(rt, commit(rt, alloc, book, BOB, &[2, 0]));
+    is_event(rt, book.advance(9999), Ok(14));
+    has_no_address(rt, hand(rt, alloc, book, &[2, 0]));
+}
+
+#[test]
+fn held_endpoints_are_last_until_their_end(rt: HostRuntime) {
+    play(&rt, rt.alloc(), MAX_ENTRIES, MAX_EVENTS, Scenario::HeldLast);
 }
 
 // The journal has two events at most: the load and a hold.

@@ -13,7 +13,7 @@ use crate::book::abilities;
 use sipl_book::Limits;
 use sipl_choice::Abilities;
 use sipl_interleave::{Reply, Step, World, play};
-use sipl_outages::Board;
+use sipl_outages::{Board, Held};
 use sipl_plans::{Answer, plan_of};
 use sipl_records::Record;
 use sipl_srv::Draws;
@@ -23,7 +23,7 @@ use std::alloc::Global;
 use std::process::Abort;
 
 // A world of 1 to 64 workers for a client of TCP and UDP over IPv4, whose book keeps so many
-// entries and events at most.
+// entries and events at most, and leaves held endpoints out.
 fn new_world(
     rt: &impl Abort,
     alloc: Global,
@@ -41,10 +41,10 @@ fn new_world(
         journal,
         ..Limits::greatest()
     };
-    World::new(alloc, abilities(rt, alloc), &limits, workers).expect(rt, "out of memory")
+    World::new(alloc, abilities(rt, alloc), &limits, workers, Held::Out).expect(rt, "out of memory")
 }
 
-// The answer of the plain program on the records of a store and the holds of a board.
+// The answer of the plain program on the records of a store and the holds of a board, by a policy.
 fn plain_answer(
     rt: &impl Abort,
     alloc: Global,
@@ -53,8 +53,18 @@ fn plain_answer(
     question: &Question,
     abilities: &Abilities,
     draws: &Draws,
+    held: Held,
 ) -> Answer {
-    plan_of(alloc, store.records(), board, question, abilities, draws).expect(rt, "out of memory")
+    plan_of(
+        alloc,
+        store.records(),
+        board,
+        question,
+        abilities,
+        draws,
+        held,
+    )
+    .expect(rt, "out of memory")
 }
 
 // Whether two answers are the same.

@@ -3,6 +3,7 @@ use sipl_book::{Book, Edit, Limits};
 use sipl_choice::{Abilities, Families, Transport};
 use sipl_masterfile::{read_record, read_zone};
 use sipl_names::Name;
+use sipl_outages::Held;
 use sipl_plans::Answer;
 use sipl_srv::Draws;
 use sipl_uri::Uri;
@@ -20,7 +21,7 @@ fn find(alloc: Global, book: &mut Book, uri: &[u8]) -> anyhow::Result<Answer> {
 
 fn targets(alloc: Global, uri: &[u8]) -> anyhow::Result<Answer> {
     let abilities = Abilities::new(vec![in alloc; Transport::Udp]?, Families::V4)?;
-    let mut book = Book::new(alloc, abilities, &Limits::greatest());
+    let mut book = Book::new(alloc, abilities, &Limits::greatest(), Held::Out);
     find(alloc, &mut book, uri)
 }
 

@@ -6,6 +6,7 @@ use Rattle.std.specs.Ordering.{nat_cmp}
 use Rattle.std.proofs.lemmas.List.{length-replicate, length-set}
 use Rattle.std.proofs.lemmas.Option.{none-some}
 use Rattle.sipl_choice.specs.Abilities.{Client}
+use Rattle.sipl_outages.specs.declared.held.Held.{Held}
 use Rattle.sipl_evidence.specs.Items.{Item}
 use Rattle.sipl_repair.specs.QueueState.{is_leased}
 use Rattle.sipl_book.specs.Book.{BookState, new_book, next_event}
@@ -97,9 +98,9 @@ none_at zero w = refl
 none_at (suc count) zero = refl
 none_at (suc count) (suc w) = none_at count w
 
-pub new-world : (client : Client) (limits : Limits) (count : ℕ) → 1 ≤ count → count ≤ 64
-    → IsWorld (record { book = new_book client limits; workers = replicate count None })
-new-world client limits count some few =
+pub new-world : (client : Client) (held : Held) (limits : Limits) (count : ℕ) → 1 ≤ count → count ≤ 64
+    → IsWorld (record { book = new_book client held limits; workers = replicate count None })
+new-world client held limits count some few =
     record {
       jobs = λ w job is. absurd (none-some job (sym (none_at count w) ∙ is));
       leases = λ w id has. absurd (none-some id (sym (ap lease_of (none_at count w)) ∙ has));

@@ -5,6 +5,7 @@ use Rattle.std.proofs.lemmas.Option.{none-some, same_Some}
 use Rattle.sipl_choice.specs.Abilities.{Client}
 use Rattle.sipl_choice.specs.declared.endpoint.Endpoint.{Endpoint}
 use Rattle.sipl_uri.specs.declared.question.Question.{Question}
+use Rattle.sipl_outages.specs.declared.held.Held.{Held}
 use Rattle.sipl_evidence.specs.Items.{Item}
 use Rattle.sipl_outages.specs.Holds.BoardEvent.{Hold as HoldFor, Release as ReleaseOf, Advance as AdvanceTo}
 use Rattle.sipl_plans.specs.Findings.{Found, IsFound}
@@ -41,9 +42,10 @@ Knows asked workers = (w : ℕ) (job : Job) → job_at workers w ≡ Some job �
 -- what a step shows of the plain machine
 pub record IsRight (asked : Asked) (step : Step) (old new : WorldState) (reply : Reply) : Type 0 where
   pub client : new.book.client ≡ old.book.client
+  pub held : new.book.held ≡ old.book.held
   pub state : state_of new.book ≡ after_event (event_of asked step reply) (state_of old.book)
   pub journal : new.book.journal ≡ old.book.journal ++ with_event (event_of asked step reply) []
-  pub answer : IsRightAnswer old.book.client (state_of old.book) asked step reply
+  pub answer : IsRightAnswer old.book.client old.book.held (state_of old.book) asked step reply
   pub knows : Knows (asked_after step reply asked) new.workers
 
 -- ---- a step that changes nothing of the plain machine
@@ -51,14 +53,15 @@ pub record IsRight (asked : Asked) (step : Step) (old new : WorldState) (reply :
 -- a reply that shows no event
 pub record IsQuiet (asked : Asked) (step : Step) (old : WorldState) (reply : Reply) : Type 0 where
   pub event : event_of asked step reply ≡ None
-  pub answer : IsRightAnswer old.book.client (state_of old.book) asked step reply
+  pub answer : IsRightAnswer old.book.client old.book.held (state_of old.book) asked step reply
   pub asking : asked_after step reply asked ≡ asked
 
-quiet : (asked : Asked) (step : Step) (old new : WorldState) (reply : Reply) → IsQuiet asked step old reply → new.book.client ≡ old.book.client
+quiet : (asked : Asked) (step : Step) (old new : WorldState) (reply : Reply) → IsQuiet asked step old reply → new.book.client ≡ old.book.client → new.book.held ≡ old.book.held
     → state_of new.book ≡ state_of old.book → new.book.journal ≡ old.book.journal → Knows asked new.workers → IsRight asked step old new reply
-quiet asked step old new reply none client state journal knows =
+quiet asked step old new reply none client held state journal knows =
     record {
       client = client;
+      held = held;
       state = state ∙ ap (λ (e : Option Event). after_event e (state_of old.book)) (sym none.event);
       journal = journal ∙ sym (append-nil old.book.journal) ∙ ap (λ (e : Option Event). old.book.journal ++ with_event e []) (sym none.event);
       answer = none.answer;
@@ -69,7 +72,7 @@ quiet asked step old new reply none client state journal knows =
 same : (asked : Asked) (step : Step) (old new : WorldState) (reply : Reply) → IsQuiet asked step old reply → Knows asked old.workers → new ≡ old
     → IsRight asked step old new reply
 same asked step old new reply none knows is =
-    quiet asked step old new reply none (ap (λ (x : WorldState). x.book.client) is) (ap (λ (x : WorldState). state_of x.book) is)
+    quiet asked step old new reply none (ap (λ (x : WorldState). x.book.client) is) (ap (λ (x : WorldState). x.book.held) is) (ap (λ (x : WorldState). state_of x.book) is)
     (ap (λ (x : WorldState). x.book.journal) is) (subst (λ (ws : List (Option Job)). Knows asked ws) (ap (λ (x : WorldState). x.workers) (sym is)) knows)
 
 refused : (asked : Asked) (step : Step) (old : WorldState) (fault : WorldFault) → IsQuiet asked step old (Refused fault)
@@ -123,18 +126,19 @@ module _ (asked : Asked) (old new : WorldState) (knows : Knows asked old.workers
       let change = made.call in
       record {
         client = change.client;
+        held = change.held;
         state = λ i. record { zones = change.zones i; holds = (change.board i).holds };
         journal = change.journal;
         answer = tt;
         knows = with-workers made.workers;
       }
   changed edit (Err fault) made =
-      quiet asked (Change edit) old new (Refused (OfBook fault)) (refused asked (Change edit) old (OfBook fault)) (ap (λ (b : BookState). b.client) made.call.unchanged)
+      quiet asked (Change edit) old new (Refused (OfBook fault)) (refused asked (Change edit) old (OfBook fault)) (ap (λ (b : BookState). b.client) made.call.unchanged) (ap (λ (b : BookState). b.held) made.call.unchanged)
       (ap state_of made.call.unchanged) (ap (λ (b : BookState). b.journal) made.call.unchanged) (with-workers made.workers)
 
   unmoved : (step : Step) (fault : BookFault) → new.book ≡ old.book → new.workers ≡ old.workers → IsRight asked step old new (Refused (OfBook fault))
   unmoved step fault book workers =
-      quiet asked step old new (Refused (OfBook fault)) (refused asked step old (OfBook fault)) (ap (λ (b : BookState). b.client) book)
+      quiet asked step old new (Refused (OfBook fault)) (refused asked step old (OfBook fault)) (ap (λ (b : BookState). b.client) book) (ap (λ (b : BookState). b.held) book)
       (ap state_of book) (ap (λ (b : BookState). b.journal) book) (with-workers workers)
 
   held : (endpoint : Endpoint) (ms : ℕ) (result : Result ℕ BookFault) → CallsBook (MovesBoard (HoldFor endpoint ms)) old new result
@@ -142,6 +146,7 @@ module _ (asked : Asked) (old new : WorldState) (knows : Knows asked old.workers
   held endpoint ms (Ok number) made =
       record {
         client = ap (λ (b : BookState). b.client) made.call.after;
+        held = ap (λ (b : BookState). b.held) made.call.after;
         state = ap state_of made.call.after;
         journal = ap (λ (b : BookState). b.journal) made.call.after;
         answer = tt;
@@ -154,6 +159,7 @@ module _ (asked : Asked) (old new : WorldState) (knows : Knows asked old.workers
   released endpoint (Ok number) made =
       record {
         client = ap (λ (b : BookState). b.client) made.call.after;
+        held = ap (λ (b : BookState). b.held) made.call.after;
         state = ap state_of made.call.after;
         journal = ap (λ (b : BookState). b.journal) made.call.after;
         answer = tt;
@@ -166,6 +172,7 @@ module _ (asked : Asked) (old new : WorldState) (knows : Knows asked old.workers
   advanced to (Ok number) made =
       record {
         client = ap (λ (b : BookState). b.client) made.call.after;
+        held = ap (λ (b : BookState). b.held) made.call.after;
         state = ap state_of made.call.after;
         journal = ap (λ (b : BookState). b.journal) made.call.after;
         answer = tt;
@@ -178,6 +185,7 @@ module _ (asked : Asked) (old new : WorldState) (knows : Knows asked old.workers
   handed question words (Ok given) made =
       record {
         client = ap (λ (b : BookState). b.client) made.call.after;
+        held = ap (λ (b : BookState). b.held) made.call.after;
         state = ap state_of made.call.after;
         journal = ap (λ (b : BookState). b.journal) made.call.after ∙ ap (λ answer. old.book.journal ++ Answers question words answer ∷ []) (sym made.call.answer);
         answer = ap (λ answer. Some answer) (sym made.call.answer);
@@ -188,7 +196,7 @@ module _ (asked : Asked) (old new : WorldState) (knows : Knows asked old.workers
   forgotten : (question : Question) (result : Result (Unit {0}) BookFault) → CallsBook (IsForgotten question) old new result
       → IsRight asked (Forget question) old new (reply_of (λ _. Forgotten) result)
   forgotten question (Ok done) made =
-      quiet asked (Forget question) old new Forgotten (record { event = refl; answer = tt; asking = refl }) (ap (λ (b : BookState). b.client) made.call.after)
+      quiet asked (Forget question) old new Forgotten (record { event = refl; answer = tt; asking = refl }) (ap (λ (b : BookState). b.client) made.call.after) (ap (λ (b : BookState). b.held) made.call.after)
       (ap state_of made.call.after) (ap (λ (b : BookState). b.journal) made.call.after) (with-workers made.workers)
   forgotten question (Err fault) made = unmoved (Forget question) fault made.call.unchanged made.workers
 
@@ -199,6 +207,7 @@ module _ (asked : Asked) (old new : WorldState) (knows : Knows asked old.workers
   started w question (Ok done) within made =
       record {
         client = ap (λ (b : BookState). b.client) made.book;
+        held = ap (λ (b : BookState). b.held) made.book;
         state = ap state_of made.book;
         journal = ap (λ (b : BookState). b.journal) made.book ∙ sym (append-nil old.book.journal);
         answer = tt;
@@ -209,17 +218,17 @@ module _ (asked : Asked) (old new : WorldState) (knows : Knows asked old.workers
 
   read : (w : ℕ) (result : Result Item BookFault) → w < length old.workers → IsRead w old new result → IsRight asked (Read w) old new (reply_of ReadSet result)
   read w (Ok item) within made =
-      quiet asked (Read w) old new (ReadSet item) (record { event = refl; answer = tt; asking = refl }) (ap (λ (b : BookState). b.client) made.book)
+      quiet asked (Read w) old new (ReadSet item) (record { event = refl; answer = tt; asking = refl }) (ap (λ (b : BookState). b.client) made.book) (ap (λ (b : BookState). b.held) made.book)
       (ap state_of made.book) (ap (λ (b : BookState). b.journal) made.book)
       (subst (λ (ws : List (Option Job)). Knows asked ws) (sym made.workers) (keeps-read asked old.workers w item knows within))
   read w (Err fault) within made =
-      quiet asked (Read w) old new (Refused (OfBook fault)) (refused asked (Read w) old (OfBook fault)) (ap (λ (b : BookState). b.client) made.book)
+      quiet asked (Read w) old new (Refused (OfBook fault)) (refused asked (Read w) old (OfBook fault)) (ap (λ (b : BookState). b.client) made.book) (ap (λ (b : BookState). b.held) made.book)
       (ap state_of made.book) (ap (λ (b : BookState). b.journal) made.book) (with-workers made.unchanged)
 
   lent : (w : ℕ) (result : Result (ℕ × Question) BookFault) → w < length old.workers → IsLeasedBy w old new result
       → IsRight asked (Lease w) old new (reply_of (λ leased. Leased leased.1) result)
   lent w (Ok leased) within made =
-      quiet asked (Lease w) old new (Leased leased.1) (record { event = refl; answer = tt; asking = refl }) (ap (λ (b : BookState). b.client) made.lease.after)
+      quiet asked (Lease w) old new (Leased leased.1) (record { event = refl; answer = tt; asking = refl }) (ap (λ (b : BookState). b.client) made.lease.after) (ap (λ (b : BookState). b.held) made.lease.after)
       (ap state_of made.lease.after) (ap (λ (b : BookState). b.journal) made.lease.after)
       (subst (λ (ws : List (Option Job)). Knows asked ws) (sym made.workers)
       (keeps-lent asked old.workers w (record { run = new_run leased.1 old.book.client; lease = Some leased.0 }) leased.0 knows within refl))
@@ -235,10 +244,11 @@ module _ (asked : Asked) (old new : WorldState) (knows : Knows asked old.workers
       ap (λ (o : Option Question). option_map (λ (question : Question × List ℕ). Answers question.0 question.1 given.answer) (option_map (λ (q : Question). (q, words)) o)) question in
       record {
         client = ap (λ (b : BookState). b.client) commit.after;
+        held = ap (λ (b : BookState). b.held) commit.after;
         state = ap state_of commit.after ∙ ap (λ (e : Option Event). after_event e (state_of old.book)) (sym event);
         journal = ap (λ (b : BookState). b.journal) commit.after ∙ ap (λ answer. old.book.journal ++ Answers found.question words answer ∷ []) (sym commit.answer)
             ∙ ap (λ (e : Option Event). old.book.journal ++ with_event e []) (sym event);
-        answer = ap (λ (o : Option Question). option_map (λ (question : Question × List ℕ). answer_in (state_of old.book) question.0 old.book.client question.1) (option_map (λ (q : Question). (q, words)) o)) question
+        answer = ap (λ (o : Option Question). option_map (λ (question : Question × List ℕ). answer_in (state_of old.book) question.0 old.book.client old.book.held question.1) (option_map (λ (q : Question). (q, words)) o)) question
             ∙ ap (λ answer. Some answer) (sym commit.answer);
         knows = subst (λ (ws : List (Option Job)). Knows asked ws) (sym workers) (keeps-idle asked old.workers w knows within);
       }
@@ -249,7 +259,7 @@ module _ (asked : Asked) (old new : WorldState) (knows : Knows asked old.workers
         (unmoved (Commit w words) Memory commit.unchanged (workers ∙ cond-true _ _ _ is))
     by false is =
         subst (IsRight asked (Commit w words) old new) (sym (cond-false _ _ _ is))
-        (quiet asked (Commit w words) old new (NotCommitted refusal) (record { event = refl; answer = tt; asking = refl }) (ap (λ (b : BookState). b.client) commit.unchanged)
+        (quiet asked (Commit w words) old new (NotCommitted refusal) (record { event = refl; answer = tt; asking = refl }) (ap (λ (b : BookState). b.client) commit.unchanged) (ap (λ (b : BookState). b.held) commit.unchanged)
         (ap state_of commit.unchanged) (ap (λ (b : BookState). b.journal) commit.unchanged)
         (subst (λ (ws : List (Option Job)). Knows asked ws) (sym (workers ∙ cond-false _ _ _ is)) (keeps-idle asked old.workers w knows within)))
 
@@ -257,12 +267,12 @@ module _ (asked : Asked) (old new : WorldState) (knows : Knows asked old.workers
       → IsSettled is_renumbered id found old.book old.book new.book result → new.workers ≡ set old.workers w None
       → IsRight asked (Settle w) old new (settle_reply result)
   settled w id found (Ok done) within settle workers =
-      quiet asked (Settle w) old new Settled (record { event = refl; answer = tt; asking = refl }) (ap (λ (b : BookState). b.client) settle.after)
+      quiet asked (Settle w) old new Settled (record { event = refl; answer = tt; asking = refl }) (ap (λ (b : BookState). b.client) settle.after) (ap (λ (b : BookState). b.held) settle.after)
       (ap state_of settle.after) (ap (λ (b : BookState). b.journal) settle.after)
       (subst (λ (ws : List (Option Job)). Knows asked ws) (sym workers) (keeps-idle asked old.workers w knows within))
   settled w id found (Err refusal) within settle workers =
       let after = spent-by_settling id found old.book new.book (Err refusal) settle in
-      quiet asked (Settle w) old new (NotCommitted refusal) (record { event = refl; answer = tt; asking = refl }) after.client
+      quiet asked (Settle w) old new (NotCommitted refusal) (record { event = refl; answer = tt; asking = refl }) after.client after.held
       (after_state after) after.journal
       (subst (λ (ws : List (Option Job)). Knows asked ws) (sym workers) (keeps-idle asked old.workers w knows within))
     where
@@ -284,6 +294,7 @@ module _ (asked : Asked) (old new : WorldState) (knows : Knows asked old.workers
       let worker = job_at old.workers w in
       quiet asked (Abandon w) old new Abandoned (record { event = refl; answer = tt; asking = refl })
       (ap (λ (b : BookState). b.client) book ∙ returned-book worker old.book (λ b. b.client ≡ old.book.client) refl (λ id. refl))
+      (ap (λ (b : BookState). b.held) book ∙ returned-book worker old.book (λ b. b.held ≡ old.book.held) refl (λ id. refl))
       (ap state_of book ∙ returned-book worker old.book (λ b. state_of b ≡ state_of old.book) refl (λ id. refl))
       (ap (λ (b : BookState). b.journal) book ∙ returned-book worker old.book (λ b. b.journal ≡ old.book.journal) refl (λ id. refl))
       (subst (λ (ws : List (Option Job)). Knows asked ws) (sym workers) (keeps-idle asked old.workers w knows within))
@@ -334,13 +345,13 @@ plays-push (s ∷ steps) old mid new (r ∷ replies) step reply before last =
     (before.0, before.1, plays-push steps before.0 mid new replies step reply before.2 last)
 
 pub all-right : (asked : Asked) (steps : List Step) (old new : WorldState) (replies : List Reply) → Knows asked old.workers → Plays steps old replies new
-    → AnswersAreRight old.book.client (state_of old.book) asked steps replies
+    → AnswersAreRight old.book.client old.book.held (state_of old.book) asked steps replies
 all-right asked [] old new replies knows plays = tt
 all-right asked (step ∷ steps) old new [] knows plays = absurd plays
 all-right asked (step ∷ steps) old new (reply ∷ replies) knows plays =
     let right = step-right asked step old plays.0 reply knows plays.1 in (
       right.answer,
-      subst (λ (p : Client × State). AnswersAreRight p.0 p.1 (asked_after step reply asked) steps replies) (λ i. (right.client i, right.state i))
+      subst (λ (p : Client × Held × State). AnswersAreRight p.0 p.1 p.2 (asked_after step reply asked) steps replies) (λ i. (right.client i, right.held i, right.state i))
           (all-right (asked_after step reply asked) steps plays.0 new replies right.knows plays.2),
     )
 

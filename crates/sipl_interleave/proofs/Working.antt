@@ -166,6 +166,7 @@ world-refused old book w good within none is =
 -- a book in which a lease was spent
 pub record IsSpent (id : ℕ) (old new : BookState) : Type 0 where
   pub client : new.client ≡ old.client
+  pub held : new.held ≡ old.held
   pub store : new.store ≡ old.store
   pub journal : new.journal ≡ old.journal
   pub absent : (k : ℕ) → entry_with old.entries k ≡ None → entry_with new.entries k ≡ None
@@ -206,6 +207,7 @@ pub spent-return : (id : ℕ) (old : BookState) → IsSpent id old (after_give_b
 spent-return id old =
     record {
       client = refl;
+      held = refl;
       store = refl;
       journal = refl;
       absent = λ k none. none;
@@ -218,6 +220,7 @@ pub spent-stale : (id : ℕ) (old : BookState) → IsSpent id old (after_stale i
 spent-stale id old =
     record {
       client = refl;
+      held = refl;
       store = refl;
       journal = refl;
       absent = λ k none. none;
@@ -230,6 +233,7 @@ pub spent-settled : (id : ℕ) (found : Found) (old : BookState) → IsSpent id 
 spent-settled id found old =
     record {
       client = refl;
+      held = refl;
       store = refl;
       journal = refl;
       absent = λ k none. absent-map (renewed found) (id-renewed found) old.entries k none;

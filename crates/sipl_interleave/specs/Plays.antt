@@ -2,6 +2,7 @@
 use Rattle.std.specs.Prelude.{◌≡◌, ℕ, ◌==◌, List, [], ◌∷◌, if◌then◌else◌, Option, None, Some, option_map}
 use Rattle.sipl_choice.specs.Abilities.{Client}
 use Rattle.sipl_uri.specs.declared.question.Question.{Question}
+use Rattle.sipl_outages.specs.declared.held.Held.{Held}
 use Rattle.sipl_interleave.specs.Jobs.{Job, job_at}
 use Rattle.sipl_book.specs.Machine.{State, after, answer_in}
 use Rattle.sipl_interleave.specs.Steps.{IsStep}
@@ -74,21 +75,21 @@ with_event (Some event) events = event ∷ events
 with_event None events = events
 
 -- an answer that is handed out is that of the plain machine in this state, for the step's question
--- and random words
-abbrev pub IsRightAnswer : Client → State → Asked → Step → Reply → Type 0
-IsRightAnswer client state asked step (Answered handed) =
-    option_map (λ question. answer_in state question.0 client question.1) (asks asked step)
+-- and random words, by the policy on held endpoints
+abbrev pub IsRightAnswer : Client → Held → State → Asked → Step → Reply → Type 0
+IsRightAnswer client held state asked step (Answered handed) =
+    option_map (λ question. answer_in state question.0 client held question.1) (asks asked step)
     ≡ Some handed.answer
-IsRightAnswer client state asked step reply = Unit {0}
+IsRightAnswer client held state asked step reply = Unit {0}
 
 -- each answer that is handed out is that of the plain machine in the state to which the edits, holds,
 -- releases and moves of the clock that were accepted before it lead (RFC 3263, 4)
-abbrev pub AnswersAreRight : Client → State → Asked → List Step → List Reply → Type 0
-AnswersAreRight client state asked (step ∷ steps) (reply ∷ replies) =
-    IsRightAnswer client state asked step reply
-    × AnswersAreRight client (after_event (event_of asked step reply) state)
+abbrev pub AnswersAreRight : Client → Held → State → Asked → List Step → List Reply → Type 0
+AnswersAreRight client held state asked (step ∷ steps) (reply ∷ replies) =
+    IsRightAnswer client held state asked step reply
+    × AnswersAreRight client held (after_event (event_of asked step reply) state)
     (asked_after step reply asked) steps replies
-AnswersAreRight client state asked steps replies = Unit {0}
+AnswersAreRight client held state asked steps replies = Unit {0}
 
 -- the events of the steps with their replies, in their order
 abbrev pub events_of : Asked → List Step → List Reply → List Event

@@ -14,6 +14,7 @@ use crate::workers::Workers;
 use sipl_book::{Book, BookFault, Edit, Limits, Uncommitted};
 use sipl_choice::{Abilities, Endpoint};
 use sipl_evidence::{Item, dup_data};
+use sipl_outages::Held;
 use sipl_plans::Run;
 use sipl_records::Sequence;
 use sipl_srv::Draws;
@@ -62,12 +63,14 @@ impl Drop for World {
 }
 
 impl World {
-    /// A world of a new book and idle workers. The only error is an allocation failure.
+    /// A world of a new book, by a policy on held endpoints, and idle workers. The only error is an
+    /// allocation failure.
     pub fn new(
         alloc: Global,
         abilities: Abilities,
         limits: &Limits,
         workers: usize,
+        held: Held,
     ) -> Result<Self, AllocError>
         requires records { limits.now.records ≤ 1048576 }
         requires entries { limits.now.entries ≤ 65536 }
@@ -78,14 +81,14 @@ impl World {
         requires some { 1 ≤ workers }
         requires few { workers ≤ 64 }
         ensures { IfOk result (λ world. world ≡ record {
-          book = new_book abilities limits.now;
+          book = new_book abilities held limits.now;
           workers = replicate workers None;
         }) }
     {
         let workers = Workers::new(alloc, workers)?;
         Ok(World {
             alloc,
-            book: Book::new(alloc, abilities, limits),
+            book: Book::new(alloc, abilities, limits, held),
             workers,
         })
     }
@@ -330,9 +333,11 @@ fn start_run(
 /// failure, before the first step.
 ///
 /// Each answer in the replies is what RFC 3263, 4, gives from scratch on the records and the holds to
-/// which the edits, holds, releases and moves of the clock lead that were accepted before it.
+/// which the edits, holds, releases and moves of the clock lead that were accepted before it, by the
+/// book's policy on held endpoints.
 pub fn play(world: &mut World, steps: Vec<Step>) -> Result<Vec<Reply>, AllocError>
-    ensures answers { IfOk result (λ replies. AnswersAreRight world.old.book.client
+    ensures answers { IfOk result
+        (λ replies. AnswersAreRight world.old.book.client world.old.book.held
         (state_of world.old.book) (asked_by world.old.workers) steps.items replies.items) }
     ensures steps { IfOk result
         (λ replies. Plays steps.items world.old replies.items world.new) }

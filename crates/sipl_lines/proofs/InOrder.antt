@@ -19,7 +19,7 @@ use Rattle.sipl_lines.specs.declared.settings.fault.Refusal.{Refusal}
 use Rattle.sipl_lines.specs.declared.settings.fault.Refusal.TheVariants.{UnknownKey, BadValue, Memory}
 use Rattle.sipl_lines.specs.SettingsFault.{Fault, key_fault}
 use Rattle.sipl_lines.specs.Settings.{earlier, first_fault, member_fault, settings_of, settings_over, value_at}
-use Rattle.sipl_lines.specs.Values.{number_in, transports_in, families_in, listen_in}
+use Rattle.sipl_lines.specs.Values.{number_in, transports_in, families_in, held_in, listen_in}
 
 -- what the members that are left give, over the settings so far
 abbrev pub settings_from : Members → Settings → Result Settings Fault
@@ -86,6 +86,7 @@ module _ (key : Octets) (d : Data) (es : List Entry) (after : AreAfter key es) w
       preference = value_at-step (codes "transports") transports_in base.abilities.preference i;
       families = value_at-step (codes "families") families_in base.abilities.families i;
     };
+    held = value_at-step (codes "held") held_in base.held i;
     records = value_at-step (codes "records") number_in base.records i;
     entries = value_at-step (codes "entries") number_in base.entries i;
     journal = value_at-step (codes "journal") number_in base.journal i;

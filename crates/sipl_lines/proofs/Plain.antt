@@ -100,6 +100,7 @@ changed_after edit old new (Ok done) is =
     let events = ap length is.journal ∙ length-append old.journal (Change edit ∷ []) in
     λ i. record {
       client = is.client i;
+      held = is.held i;
       zones = is.zones i;
       holds = (is.board i).holds;
       max_records = is.max_records i;

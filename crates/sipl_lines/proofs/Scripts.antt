@@ -60,7 +60,7 @@ step_made step shown reply before after old new is made shows =
 -- the first line has made the world
 pub begun : (settings : Settings) (workers : ℕ) (limits : Limits) (world : WorldState) (play : Play)
     → limits ≡ limits_of settings
-    → world ≡ record { book = new_book settings.abilities limits; workers = replicate workers None }
+    → world ≡ record { book = new_book settings.abilities settings.held limits; workers = replicate workers None }
     → play ≡ record { world = world; gathering = None }
     → Begins settings (Some workers) [] (Playing play)
 begun settings workers limits world play is_limits is_world is_play = inl (refl, cc)

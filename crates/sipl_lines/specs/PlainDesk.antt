@@ -8,6 +8,7 @@ use Rattle.sipl_records.specs.declared.record.Key.{Key}
 use Rattle.sipl_choice.specs.Abilities.{Client}
 use Rattle.sipl_uri.specs.declared.question.Question.{Question}
 use Rattle.sipl_evidence.specs.Items.{Item}
+use Rattle.sipl_outages.specs.declared.held.Held.{Held}
 use Rattle.sipl_outages.specs.Holds.{Holds, BoardEvent, refusal_of as hold_refusal, after as after_hold}
 use Rattle.sipl_plans.specs.Plan.{plan}
 use Rattle.sipl_plans.specs.Route.{reads}
@@ -25,10 +26,12 @@ use Rattle.sipl_book.specs.declared.outcome.Done.{Done}
 use Rattle.sipl_book.specs.declared.outcome.Handed.{Handed}
 use Rattle.sipl_lines.specs.Desk.{DeskRules}
 
--- the client's abilities, the zones with their records, the holds with the time, the maxima of
--- records, holds and events, how many events there were, and the next number of a set
+-- the client's abilities, what becomes of held endpoints, the zones with their records, the holds with
+-- the time, the maxima of records, holds and events, how many events there were, and the next number
+-- of a set
 pub record PlainState : Type 0 where
   pub client : Client
+  pub held : Held
   pub zones : Zones
   pub holds : Holds
   pub max_records : ℕ
@@ -37,11 +40,12 @@ pub record PlainState : Type 0 where
   pub events : ℕ
   pub next : ℕ
 
--- the zones, the holds, the limits and the counts of a book
+-- the client, the policy, the zones, the holds, the limits and the counts of a book
 abbrev pub plain_of : BookState → PlainState
 plain_of book =
     record {
       client = book.client;
+      held = book.held;
       zones = book.store.zones;
       holds = book.board.holds;
       max_records = book.store.max_records;
@@ -74,13 +78,13 @@ abbrev pub sets_in : PlainState → Key → List Data
 sets_in plain key = set_of plain.zones.records key
 
 -- the targets of a question for random words, on the records and the holds as they are (RFC 3263,
--- 4); they are the next event
+-- 4), with held endpoints left out or last; they are the next event
 abbrev pub find_ending : Question → List ℕ → PlainState → Ending Handed
 find_ending question words plain =
     ending_of (unless_full plain None)
     (record {
       number = plain.events;
-      answer = plan (sets_in plain) plain.holds question plain.client words;
+      answer = plan (sets_in plain) plain.holds question plain.client words plain.held;
     })
     (with_event plain) plain
 

@@ -115,7 +115,7 @@ abbrev pub new_play : Settings → ℕ → Play
 new_play settings workers =
     record {
       world = record {
-        book = new_book settings.abilities (limits_of settings);
+        book = new_book settings.abilities settings.held (limits_of settings);
         workers = replicate workers None;
       };
       gathering = None;

@@ -6,6 +6,7 @@ use Rattle.sipl_names.specs.Labels.{Octets}
 use Rattle.sipl_names.specs.NamePrint.{text_of}
 use Rattle.sipl_records.specs.Kinds.{text_of_kind}
 use Rattle.sipl_choice.specs.Abilities.{Client}
+use Rattle.sipl_outages.specs.declared.held.Held.{Held}
 use Rattle.sipl_uri.specs.declared.question.Question.{Question}
 use Rattle.sipl_book.specs.Calls.{board_event}
 use Rattle.sipl_book.specs.declared.event.Event.TheVariants.{Change}
@@ -18,9 +19,11 @@ use Rattle.sipl_service.specs.declared.fault.ServiceFault.TheVariants.{Contended
 use Rattle.sipl_lines.specs.Desk.{DeskRules}
 use Rattle.sipl_lines.specs.ReplyText.{word_field}
 
--- what is seen of a service's caller: the client's abilities, and the caller's pass
+-- what is seen of a service's caller: the client's abilities, what becomes of held endpoints, and the
+-- caller's pass
 pub record CallerState : Type 0 where
   pub client : Client
+  pub held : Held
   pub pass : PassState
 
 -- an answer as a desk returns it
@@ -32,9 +35,10 @@ handed_of told = record { number = told.number; answer = told.answer }
 pub record IsTold (question : Question) (words : List ℕ) (old new : CallerState)
     (told : Result ToldState ServiceFault) : Type 0 where
   pub receipt : GetsReceipt (λ told. told.number) event_of old.pass new.pass told
-  pub asked : IfOk told (IsToldFor question old.client words)
+  pub asked : IfOk told (IsToldFor question old.client old.held words)
   pub decided : IfOk told IsDecided
   pub client : new.client ≡ old.client
+  pub held : new.held ≡ old.held
 
 -- what a refusal says of a fault: its code, and for a set that changed in each try its key
 abbrev pub service_text : ServiceFault → Octets
@@ -51,10 +55,10 @@ caller_rules =
           × IsTold question words old new told × (outcome ≡ result_map_both handed_of (λ fault. fault) told);
       Changes = λ edit old outcome new.
           GetsReceipt (λ done. done.number) (λ done. Change edit) old.pass new.pass outcome
-          × (new.client ≡ old.client);
+          × (new.client ≡ old.client) × (new.held ≡ old.held);
       Moves = λ event old outcome new.
           GetsReceipt (λ number. number) (λ number. board_event event) old.pass new.pass outcome
-          × (new.client ≡ old.client);
+          × (new.client ≡ old.client) × (new.held ≡ old.held);
       Depends = λ question old outcome new.
           IfOk outcome (AreDependencies question old.client) × (new ≡ old);
       Repairs = λ old outcome new. new ≡ old;

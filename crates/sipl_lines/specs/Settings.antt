@@ -10,17 +10,19 @@ use Rattle.toml.specs.Parse.{parse_document}
 use Rattle.sipl_names.specs.Labels.{Octets}
 use Rattle.sipl_choice.specs.declared.transport.Transport.TheVariants.{Udp, Tcp}
 use Rattle.sipl_choice.specs.declared.families.Families.TheVariants.{V4}
+use Rattle.sipl_outages.specs.declared.held.Held.TheVariants.{Out}
 use Rattle.sipl_book.specs.declared.limits.Limits.{Limits}
 use Rattle.sipl_lines.specs.declared.settings.Settings.{Settings}
 use Rattle.sipl_lines.specs.SettingsFault.{Fault, not_toml, unknown_key, bad_value, key_fault}
 use Rattle.sipl_lines.specs.declared.settings.fault.Refusal.{Refusal}
-use Rattle.sipl_lines.specs.Values.{number_in, number_from, transports_in, families_in, listen_in, socket}
+use Rattle.sipl_lines.specs.Values.{number_in, number_from, transports_in, families_in, held_in, listen_in, socket}
 
--- what the value of a key may be: a list of transports, families, a number from low to high, or
--- an address in 127.0.0.0/8 with a port
+-- what the value of a key may be: a list of transports, families, what becomes of held endpoints, a
+-- number from low to high, or an address in 127.0.0.0/8 with a port
 pub data Allowed : Type 0 where
   transports : Allowed
   families : Allowed
+  held : Allowed
   numbers : (low high : ℕ) → Allowed
   loopback : Allowed
 
@@ -29,6 +31,7 @@ abbrev pub keys : List (Octets × Allowed)
 keys =
     (codes "transports", transports)
     ∷ (codes "families", families)
+    ∷ (codes "held", held)
     ∷ (codes "records", numbers 0 1048576)
     ∷ (codes "entries", numbers 0 65536)
     ∷ (codes "journal", numbers 1 1048576)
@@ -43,6 +46,7 @@ keys =
 abbrev pub defaults : Settings
 defaults = record {
   abilities = record { preference = Udp ∷ Tcp ∷ []; families = V4 };
+  held = Out;
   records = 1048576;
   entries = 65536;
   journal = 1048576;
@@ -76,6 +80,7 @@ limits_of settings = record {
 abbrev pub allows : Allowed → Data → Bool
 allows transports d = is_some (transports_in d)
 allows families d = is_some (families_in d)
+allows held d = is_some (held_in d)
 allows (numbers low high) d = is_some (number_from low high d)
 allows loopback d = is_some (listen_in d)
 
@@ -108,6 +113,7 @@ settings_over ms base = record {
     preference = value_at (codes "transports") transports_in ms base.abilities.preference;
     families = value_at (codes "families") families_in ms base.abilities.families;
   };
+  held = value_at (codes "held") held_in ms base.held;
   records = value_at (codes "records") number_in ms base.records;
   entries = value_at (codes "entries") number_in ms base.entries;
   journal = value_at (codes "journal") number_in ms base.journal;

@@ -1,4 +1,5 @@
--- The values of settings: transports, families, numbers, and where to listen.
+-- The values of settings: transports, families, what becomes of held endpoints, numbers, and where to
+-- listen.
 use Rattle.std.specs.Prelude.{ℕ, pos, ◌/◌, ◌&&◌, List, [], ◌∷◌, Option, None, Some, codes, nat_eq, nat_le, is_none, option_and_then, if◌then◌else◌, ◌==◌}
 use Rattle.std.specs.Int.{w32, to_be_bytes}
 use Rattle.std.specs.declared.net.socket_addr.SocketAddrV4.{SocketAddrV4}
@@ -13,6 +14,8 @@ use Rattle.sipl_choice.specs.declared.families.Families.{Families}
 use Rattle.sipl_choice.specs.declared.families.Families.TheVariants.{V4, V6, V4ThenV6, V6ThenV4}
 use Rattle.sipl_choice.specs.Transports.{transport_named}
 use Rattle.sipl_choice.specs.Abilities.{abilities_fault}
+use Rattle.sipl_outages.specs.declared.held.Held.{Held}
+use Rattle.sipl_outages.specs.declared.held.Held.TheVariants.{Out, Last}
 
 -- a number that is not negative
 abbrev pub number_in : Data → Option ℕ
@@ -57,6 +60,15 @@ families_named word =
 
 abbrev pub families_in : Data → Option Families
 families_in d = option_and_then families_named (as_str d)
+
+-- what becomes of held endpoints, by its word
+abbrev pub held_named : Octets → Option Held
+held_named word =
+    if pointwise nat_eq word (codes "out") then Some Out
+    else (if pointwise nat_eq word (codes "last") then Some Last else None)
+
+abbrev pub held_in : Data → Option Held
+held_in d = option_and_then held_named (as_str d)
 
 -- the socket address of four octets and a port
 abbrev pub socket : List ℕ → ℕ → SocketAddrV4

@@ -12,10 +12,10 @@ use std::io::{Read, Write};
 /// Serves a session at a book, as [`serve`] does.
 ///
 /// The octets that are written are the replies that the plain machine gives. It has the client's
-/// abilities, the zones, the holds with the time, the maxima of records, holds and events, a count of
-/// the events, and the next number of a set; and no kept answer, queue or lease. So each `find` has
-/// the targets that RFC 3263 gives from scratch on the records and the holds of that time, and each
-/// other command its effect on them, or its first fault.
+/// abilities, what becomes of held endpoints, the zones, the holds with the time, the maxima of
+/// records, holds and events, a count of the events, and the next number of a set; and no kept answer,
+/// queue or lease. So each `find` has the targets that RFC 3263 gives from scratch on the records and
+/// the holds of that time, and each other command its effect on them, or its first fault.
 ///
 /// Where an allocation fails the reply to a command may be `err Memory`, and then the machine's state
 /// is as it was; but the answer to a `find` whose text can't be written has been an event.

@@ -27,13 +27,21 @@ impl<'a, R: Wait> Model for ServiceDesk<'a, R> {
 
     ghost Value = { CallerState };
 
-    ghost view = { λ desk. record { client = desk.service.now.client; pass = desk.pass } };
+    ghost view = { λ desk. record {
+      client = desk.service.now.client;
+      held = desk.service.now.held;
+      pass = desk.pass;
+    } };
 }
 
 impl<'a, R: Wait> ServiceDesk<'a, R> {
     /// The desk of the caller who has this pass.
     pub fn new(rt: &'a R, service: &'a Service, pass: Pass) -> Self
-        ensures { result ≡ record { client = service.now.client; pass = pass } }
+        ensures { result ≡ record {
+          client = service.now.client;
+          held = service.now.held;
+          pass = pass;
+        } }
     {
         ServiceDesk { rt, service, pass }
     }

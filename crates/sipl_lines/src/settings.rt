@@ -12,7 +12,7 @@ use fault::Refusal;
 pub use fault::SettingsFault;
 use sipl_book::{Limits, MAX_ENTRIES, MAX_EVENTS};
 use sipl_choice::{Abilities, Families, Transport};
-use sipl_outages::MAX_HOLDS;
+use sipl_outages::{Held, MAX_HOLDS};
 use sipl_zonestore::MAX_RECORDS;
 use std::alloc::{AllocError, Global};
 use std::net::{Ipv4Addr, SocketAddrV4};
@@ -24,6 +24,8 @@ pub struct Settings {
     /// What the client can do: `transports`, by default UDP and then TCP, and `families`, by
     /// default IPv4 only.
     pub abilities: Abilities,
+    /// What becomes of held endpoints in the targets of a question, by default [`Held::Out`].
+    pub held: Held,
     /// The maximum number of records in all zones: 0 to 1,048,576, which is the default.
     pub records: usize,
     /// The maximum number of kept results: 0 to 65,536, which is the default.
@@ -48,8 +50,9 @@ impl Settings {
     /// `transports` and `families` in place of `abilities`. A missing key has its default.
     ///
     /// `transports` is a list of `"udp"`, `"tcp"`, `"tls"` and `"sctp"`, not empty and none twice.
-    /// `families` is `"v4"`, `"v6"`, `"v4v6"` or `"v6v4"`, in the order of look-ups. `listen` is an
-    /// IPv4 address, a colon and a port. The others are integers. Their limits are at the fields.
+    /// `families` is `"v4"`, `"v6"`, `"v4v6"` or `"v6v4"`, in the order of look-ups. `held` is `"out"`
+    /// or `"last"`. `listen` is an IPv4 address, a colon and a port. The others are integers. Their
+    /// limits are at the fields.
     ///
     /// The fault is G1 where the text is not a TOML document. Otherwise it is that of the first key, in
     /// the order of the keys' octets, that is unknown (G2) or does not allow its value (G3).
@@ -89,6 +92,7 @@ impl Settings {
         let preference = Vec::from_slice(alloc, &[Transport::Udp, Transport::Tcp])?;
         Ok(Settings {
             abilities: Abilities::new(preference, Families::V4).unwrap(),
+            held: Held::Out,
             records: MAX_RECORDS,
             entries: MAX_ENTRIES,
             journal: MAX_EVENTS,
@@ -114,6 +118,7 @@ impl Settings {
                 let transports = Vec::from_slice(alloc, self.abilities.preference())?;
                 self.abilities = Abilities::new(transports, values::families(value)?)?;
             }
+            "held" => self.held = values::held(value)?,
             "records" => self.records = values::number(value, 0, MAX_RECORDS)?,
             "entries" => self.entries = values::number(value, 0, MAX_ENTRIES)?,
             "journal" => self.journal = values::number(value, 1, MAX_EVENTS)?,

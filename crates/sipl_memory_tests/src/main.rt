@@ -16,7 +16,7 @@ mod values;
 use crate::book::{change_call, commit_call, find_call, lease_call};
 use crate::call::Outcome;
 use crate::existence::{add_names_call, outdate_call};
-use crate::plans::{draw_call, give_call, load_call};
+use crate::plans::{draw_call, draw_held_last_call, give_call, load_call};
 use crate::service::{claim_call, edit_call, lookup_call};
 use crate::texts::{parse_call, read_zone_call};
 use crate::values::Asked;
@@ -35,6 +35,7 @@ fn named_call<R: Wait>(rt: &R, alloc: Global, name: &str) -> anyhow::Result<Outc
         "give" => give_call(rt, alloc, Asked::Bob),
         "give_ancestor" => give_call(rt, alloc, Asked::Deep),
         "draw" => draw_call(rt, alloc),
+        "draw_held_last" => draw_held_last_call(rt, alloc),
         "change" => change_call(rt, alloc),
         "outdate" => outdate_call(rt, alloc),
         "find" => find_call(rt, alloc, Asked::Bob),

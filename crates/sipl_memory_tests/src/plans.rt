@@ -1,11 +1,13 @@
 // Calls of a store, a run and a plan.
 use crate::call::{Call, Outcome, outcome_of, refused};
 use crate::values::{
-    Asked, NAMES, SETS, abilities, book, draws, finding, is_bobs, question_of, read_four, zone,
+    Asked, NAMES, SERVER_2, SETS, abilities, book, draws, finding, is_bobs, is_bobs_reversed,
+    question_of, read_four, zone,
 };
 use sipl_book::Book;
+use sipl_choice::{Endpoint, Transport};
 use sipl_masterfile::ZoneText;
-use sipl_outages::Board;
+use sipl_outages::{Board, Held};
 use sipl_plans::{Finding, Run, draw};
 use sipl_srv::Draws;
 use sipl_zonestore::ZoneStore;
@@ -60,8 +62,27 @@ struct DrawTargets {
 
 impl Call for DrawTargets {
     fn make<R: Wait>(&mut self, _rt: &R, alloc: Global) -> Option<bool> {
-        match draw(alloc, self.finding.layout(), &self.draws, &self.board) {
+        let layout = self.finding.layout();
+        match draw(alloc, layout, &self.draws, &self.board, Held::Out) {
             Ok(answer) => Some(is_bobs(&answer)),
+            Err(_) => None,
+        }
+    }
+}
+
+// The board holds the first target, which is drawn last.
+#[derive(Drop)]
+struct DrawHeldLast {
+    finding: Box<Finding>,
+    board: Board,
+    draws: Draws,
+}
+
+impl Call for DrawHeldLast {
+    fn make<R: Wait>(&mut self, _rt: &R, alloc: Global) -> Option<bool> {
+        let layout = self.finding.layout();
+        match draw(alloc, layout, &self.draws, &self.board, Held::Last) {
+            Ok(answer) => Some(is_bobs_reversed(&answer)),
             Err(_) => None,
         }
     }
@@ -93,6 +114,34 @@ pub(crate) fn draw_call<R: Wait>(rt: &R, alloc: Global) -> anyhow::Result<Outcom
         rt,
         alloc,
         &mut DrawTargets {
+            finding,
+            board,
+            draws,
+        },
+    ))
+}
+
+// A board that holds server2's endpoint.
+fn held_board(alloc: Global) -> anyhow::Result<Board> {
+    let mut board = Board::new(alloc);
+    let endpoint = Endpoint {
+        transport: Transport::Tcp,
+        address: SERVER_2,
+        port: 5060,
+    };
+    board.hold(&endpoint, 5000)?;
+    Ok(board)
+}
+
+pub(crate) fn draw_held_last_call<R: Wait>(rt: &R, alloc: Global) -> anyhow::Result<Outcome> {
+    let draws = draws()?;
+    let board = held_board(alloc)?;
+    let mut book = book(alloc)?;
+    let finding = finding(alloc, &mut book)?;
+    Ok(outcome_of(
+        rt,
+        alloc,
+        &mut DrawHeldLast {
             finding,
             board,
             draws,

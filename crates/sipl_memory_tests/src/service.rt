@@ -3,6 +3,7 @@ use crate::call::{Call, Outcome, outcome_of, refused};
 use crate::values::{Asked, SETS, abilities, draws, is_answer, question_of, zone};
 use sipl_book::{Edit, Limits};
 use sipl_masterfile::ZoneText;
+use sipl_outages::Held;
 use sipl_service::{Closing, OpenGate, Pass, Service, claim};
 use sipl_srv::Draws;
 use sipl_uri::Question;
@@ -67,7 +68,7 @@ impl Call for Claim {
 }
 
 fn service(alloc: Global) -> anyhow::Result<Box<Service>> {
-    let service = Service::new(alloc, abilities(alloc)?, &Limits::greatest(), 4)?;
+    let service = Service::new(alloc, abilities(alloc)?, &Limits::greatest(), 4, Held::Out)?;
     Ok(Box::new(alloc, service)?)
 }
 

@@ -5,6 +5,7 @@ use sipl_book::{Book, Edit, Limits};
 use sipl_choice::{Abilities, Families, Transport};
 use sipl_masterfile::{ZoneText, read_zone};
 use sipl_names::Name;
+use sipl_outages::Held;
 use sipl_plans::{Answer, Finding, Run};
 use sipl_records::Address;
 use sipl_srv::Draws;
@@ -20,6 +21,10 @@ server1 A 192.0.2.1
 server2 A 192.0.2.2
 * A 192.0.2.9
 ";
+
+pub(crate) const SERVER_1: Address = Address::V4(0xC000_0201);
+
+pub(crate) const SERVER_2: Address = Address::V4(0xC000_0202);
 
 // How many sets the zone has, and how many names exist by it.
 pub(crate) const SETS: usize = 5;
@@ -72,7 +77,8 @@ pub(crate) fn is_answer(asked: Asked, answer: &Answer) -> bool {
 // go of one value.
 pub(crate) fn new_book(alloc: Global) -> anyhow::Result<Box<Book>> {
     let abilities = abilities(alloc)?;
-    Ok(Box::new(alloc, Book::new(alloc, abilities, &Limits::greatest()))?)
+    let book = Book::new(alloc, abilities, &Limits::greatest(), Held::Out);
+    Ok(Box::new(alloc, book)?)
 }
 
 // A book with the zone.
@@ -138,12 +144,19 @@ fn is_wildcards(answer: &Answer) -> bool {
 
 // Whether the answer is server2 and then server1.
 pub(crate) fn is_bobs(answer: &Answer) -> bool {
+    are_addresses(answer, SERVER_2, SERVER_1)
+}
+
+// Whether the answer is server1 and then server2.
+pub(crate) fn is_bobs_reversed(answer: &Answer) -> bool {
+    are_addresses(answer, SERVER_1, SERVER_2)
+}
+
+fn are_addresses(answer: &Answer, first: Address, second: Address) -> bool {
     match answer {
         Answer::Targets(targets) => {
             let targets = targets.as_slice();
-            targets.len() == 2
-                && targets[0].address == Address::V4(0xC000_0202)
-                && targets[1].address == Address::V4(0xC000_0201)
+            targets.len() == 2 && targets[0].address == first && targets[1].address == second
         }
         Answer::None(_) => false,
     }

@@ -203,7 +203,7 @@ fn serve_new_book<R: Input + Print + AllocGlobal>(
     requires { IsWithinLimits settings }
 {
     let limits = settings.limits();
-    let mut book = Book::new(rt.alloc(), settings.abilities, &limits);
+    let mut book = Book::new(rt.alloc(), settings.abilities, &limits, settings.held);
     serve_streams(rt, &mut book)
 }
 

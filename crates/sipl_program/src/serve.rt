@@ -51,7 +51,7 @@ where
     let (limits, tries) = (settings.limits(), settings.tries as u64);
     let server = Server {
         alloc,
-        service: Service::new(alloc, settings.abilities, &limits, tries)?,
+        service: Service::new(alloc, settings.abilities, &limits, tries, settings.held)?,
         // Space for the passes of all sessions, so that none is lost.
         passes: Mutex::new(Vec::with_capacity(alloc, sessions)?),
     };

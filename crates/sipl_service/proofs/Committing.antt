@@ -19,17 +19,17 @@ use Rattle.sipl_book.proofs.Public.{current-fresh, full, no_place, space}
 
 -- what a sound finding draws is the answer, where no set is stale
 answer-fresh : (found : Found) (words : List ℕ) (book : BookState) → IsSound found → found.client ≡ book.client
-    → position (is_stale book.store) found.items ≡ None → answer_now book found.question words ≡ draw found.layout book.board.holds words
+    → position (is_stale book.store) found.items ≡ None → answer_now book found.question words ≡ draw found.layout book.board.holds words book.held
 answer-fresh found words book sound client none =
     let look = set_of book.store.zones.records in
     let same : route look found.question book.client ≡ found.layout =
     ap (λ (c : Client). route look found.question c) (sym client) ∙ sound.route look (current-fresh book.store found.items none).agrees in
-    ap (λ (layout : Layout). draw layout book.board.holds words) same
+    ap (λ (layout : Layout). draw layout book.board.holds words book.held) same
 
 -- what a committed finding draws is the event
 pub journal-committed : (found : Found) (words : List ℕ) (old new : BookState) → IsSound found → found.client ≡ old.client
     → commit_refusal is_stale found old ≡ None → new ≡ after_commit found words (after_check found old)
-    → new.journal ≡ old.journal ++ Answer found.question words (draw found.layout old.board.holds words) ∷ []
+    → new.journal ≡ old.journal ++ Answer found.question words (draw found.layout old.board.holds words old.held) ∷ []
 journal-committed found words old new sound client none is =
     let has = space old (option_map Stale (position (is_stale old.store) found.items)) none in
     let checked : after_check found old ≡ after_comparison found old = cond-false (full old) old (after_comparison found old) has.0 in

@@ -25,9 +25,9 @@ entry-sound book question client entry all found own same =
 -- what the route of a current one draws is the answer
 pub entry-answer : (book : BookState) (question : Question) (words : List ℕ) (entry : EntryState) → All (HasRoute book) book.entries
     → entry_of book.entries question ≡ Some entry → entry.found.question ≡ question → entry.is_current ≡ true
-    → draw entry.found.layout book.board.holds words ≡ answer_now book question words
+    → draw entry.found.layout book.board.holds words book.held ≡ answer_now book question words
 entry-answer book question words entry all found own current =
     let routed = All-entry_of (HasRoute book) question book.entries entry all found current in
     let is : route (set_of book.store.zones.records) question book.client ≡ entry.found.layout =
     ap (λ (q : Question). route (set_of book.store.zones.records) q book.client) (sym own) ∙ routed in
-    ap (λ (layout : Layout). draw layout book.board.holds words) (sym is)
+    ap (λ (layout : Layout). draw layout book.board.holds words book.held) (sym is)

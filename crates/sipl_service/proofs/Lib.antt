@@ -4,3 +4,5 @@ pub mod Ours
 pub mod Entries
 pub mod Keys
 pub mod Marking
+pub mod Policies
+pub mod Free

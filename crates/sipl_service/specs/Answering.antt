@@ -2,6 +2,7 @@
 use Rattle.std.specs.Prelude.{◌≡◌, ℕ, ◌+◌, List}
 use Rattle.std.specs.Arc.{arc_value}
 use Rattle.sipl_outages.specs.Holds.{Holds, no_holds}
+use Rattle.sipl_outages.specs.declared.held.Held.{Held}
 use Rattle.sipl_plans.specs.Findings.{Found}
 use Rattle.sipl_plans.specs.Plan.{draw}
 use Rattle.sipl_plans.specs.declared.layout.Layout.{Layout}
@@ -20,20 +21,22 @@ pub record Records (request : Asked) (events : ℕ) (answered : Answered) : Type
   pub receipt : answered.receipt ≡ receipt_of events (event_of answered.told)
   pub front : answered.front ≡ events + 1
 
--- what a layout draws for these holds and random words, three times
-pub record AreDrawn (layout : Layout) (holds : Holds) (words : List ℕ) (answers : Answers)
-    : Type 0 where
-  pub told : answers.told ≡ draw layout holds words
-  pub event : answers.event ≡ draw layout holds words
-  pub receipt : answers.receipt ≡ draw layout holds words
+-- what a layout draws for these holds, random words and this policy on held endpoints, three times
+pub record AreDrawn (layout : Layout) (holds : Holds) (words : List ℕ) (held : Held)
+    (answers : Answers) : Type 0 where
+  pub told : answers.told ≡ draw layout holds words held
+  pub event : answers.event ≡ draw layout holds words held
+  pub receipt : answers.receipt ≡ draw layout holds words held
 
--- what a finding is committed with for these random words: its question, client and evidence, copies of the
--- question, and its answer where nothing is held
-pub record IsPreparedFor (found : Found) (draws : List ℕ) (prepared : Prepared) : Type 0 where
+-- what a finding is committed with for this policy and these random words: its question, client and
+-- evidence, copies of the question, and its answer where nothing is held
+pub record IsPreparedFor (found : Found) (policy : Held) (draws : List ℕ) (prepared : Prepared)
+    : Type 0 where
   pub question : prepared.asked.question ≡ found.question
   pub client : prepared.asked.abilities ≡ found.client
+  pub held : prepared.asked.held ≡ policy
   pub words : prepared.asked.draws ≡ draws
   pub evidence : arc_value prepared.evidence ≡ found.items
   pub event : prepared.copies.event ≡ found.question
   pub receipt : prepared.copies.receipt ≡ found.question
-  pub answers : AreDrawn found.layout no_holds draws prepared.answers
+  pub answers : AreDrawn found.layout no_holds draws policy prepared.answers

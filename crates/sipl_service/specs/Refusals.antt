@@ -1,7 +1,9 @@
 -- Why a call that records an event is refused, by the book and the caller's pass.
-use Rattle.std.specs.Prelude.{Bool, nat_lt, if◌then◌else◌, List, slice_get, Option, None, Some, option_map}
+use Rattle.std.specs.Prelude.{Bool, true, false, ◌&&◌, nat_lt, if◌then◌else◌, List, slice_get, Option, None, Some, option_map}
 use Rattle.sipl_choice.specs.Abilities.{Client, same_client}
 use Rattle.sipl_evidence.specs.Items.{Item}
+use Rattle.sipl_outages.specs.declared.held.Held.{Held}
+use Rattle.sipl_outages.specs.declared.held.Held.TheVariants.{Out, Last}
 use Rattle.sipl_book.specs.Book.{BookState, next_event}
 use Rattle.sipl_book.specs.declared.fault.BookFault.{BookFault}
 use Rattle.sipl_book.specs.declared.fault.BookFault.TheVariants.{Stale}
@@ -15,9 +17,19 @@ unless_ahead pass book fault =
     if nat_lt (next_event book) pass.front
     then Some (PassAhead (next_event book) pass.front) else fault
 
--- the fault where the book is for another client, before those of the book
-abbrev pub unless_other : Client → BookState → Option ServiceFault → Option ServiceFault
-unless_other client book fault = if same_client book.client client then fault else Some OtherBook
+-- whether two policies on held endpoints are the same
+abbrev pub same_held : Held → Held → Bool
+same_held Out Out = true
+same_held Last Last = true
+same_held _ _ = false
+
+-- whether the book is for this client, and for this policy on held endpoints
+abbrev pub is_for : Client → Held → BookState → Bool
+is_for client held book = same_client book.client client && same_held book.held held
+
+-- the fault where the book is for another client or policy, before those of the book
+abbrev pub unless_other : Client → Held → BookState → Option ServiceFault → Option ServiceFault
+unless_other client held book fault = if is_for client held book then fault else Some OtherBook
 
 -- the fault where the service was stopped, before all others
 abbrev pub unless_stopped : Bool → Option ServiceFault → Option ServiceFault

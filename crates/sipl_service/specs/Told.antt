@@ -10,6 +10,7 @@ told_of t =
       number = t.number;
       question = t.question;
       client = t.abilities;
+      held = t.held;
       words = t.draws;
       answer = t.answer;
       items = arc_value t.evidence;

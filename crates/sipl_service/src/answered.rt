@@ -5,7 +5,7 @@ ghost use Rattle.sipl_service.specs.Answering.{AreDrawn};
 
 use crate::receipt::Receipt;
 use crate::told::Told;
-use sipl_outages::Board;
+use sipl_outages::{Board, Held};
 use sipl_plans::{Answer, Finding, Layout, draw};
 use sipl_srv::Draws;
 use std::alloc::{AllocError, Global};
@@ -29,18 +29,19 @@ pub(crate) struct Answers {
 }
 
 impl Answers {
-    // The answer of a layout for these random words and holds.
+    // The answer of a layout for these random words, holds and this policy.
     pub fn draw(
         alloc: Global,
         layout: &Layout,
         draws: &Draws,
         board: &Board,
+        held: Held,
     ) -> Result<Self, AllocError>
         requires { HasFewServers layout.now }
         ensures { IfOk result
-            (λ answers. AreDrawn layout.now board.now.holds draws.now answers) }
+            (λ answers. AreDrawn layout.now board.now.holds draws.now held answers) }
     {
-        let told = draw(alloc, layout, draws, board)?;
+        let told = draw(alloc, layout, draws, board, held)?;
         let event = told.dup(alloc)?;
         let receipt = told.dup(alloc)?;
         Ok(Answers {

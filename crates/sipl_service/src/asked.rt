@@ -1,15 +1,17 @@
 ghost use Rattle.std.specs.Prelude.{◌≡◌, IfOk};
 
 use sipl_choice::Abilities;
+use sipl_outages::Held;
 use sipl_srv::Draws;
 use sipl_uri::Question;
 use std::alloc::{AllocError, Global};
 
-/// A question as it is asked, for a client and with random words.
+/// A question as it is asked, for a client, a policy on held endpoints, and random words.
 #[derive(Drop)]
 pub(crate) struct Asked {
     pub question: Question,
     pub abilities: Abilities,
+    pub held: Held,
     pub draws: Draws,
 }
 
@@ -19,17 +21,20 @@ impl Asked {
         alloc: Global,
         question: &Question,
         abilities: &Abilities,
+        held: Held,
         draws: &Draws,
     ) -> Result<Self, AllocError>
         ensures { IfOk result (λ asked. asked ≡ record {
           question = question.now;
           abilities = abilities.now;
+          held = held;
           draws = draws.now;
         }) }
     {
         Ok(Asked {
             question: question.dup(alloc)?,
             abilities: abilities.dup(alloc)?,
+            held,
             draws: *draws,
         })
     }

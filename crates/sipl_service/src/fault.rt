@@ -20,8 +20,8 @@ pub enum ServiceFault {
     /// L6: the service was stopped, or the gate stopped the lookup.
     #[error("the service is stopped")]
     Stopped,
-    /// L7: the book is for a client of other abilities.
-    #[error("the book is for another client")]
+    /// L7: the book is for a client of other abilities, or for another policy on held endpoints.
+    #[error("the book is for another client or policy")]
     OtherBook,
     /// A fault of the book.
     #[error(transparent)]

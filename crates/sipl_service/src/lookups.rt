@@ -31,8 +31,8 @@ impl Service {
     /// each read.
     ///
     /// The fault is the first one: the service was stopped, or the gate stopped the run (L6), the
-    /// pass is another service's (L2), the book is for another client (L7), a full journal (B3), a
-    /// set changed in each of the tries (L1). Then nothing changes, and no event is recorded.
+    /// pass is another service's (L2), the book is for another client or policy (L7), a full journal
+    /// (B3), a set changed in each of the tries (L1). Then nothing changes, and no event is recorded.
     pub fn lookup<R: Wait, G: Gate>(
         &self,
         rt: &R,
@@ -43,7 +43,7 @@ impl Service {
     ) -> Result<Told, ServiceFault>
         ensures receipt { GetsReceipt (λ told. told.number) event_of pass.old pass.new result }
         ensures told { IfOk result
-            (λ told. IsToldFor question.now self.now.client draws.now told) }
+            (λ told. IsToldFor question.now self.now.client self.now.held draws.now told) }
     {
         match self.hand(rt, pass, question, draws) {
             Err(ServiceFault::Book(BookFault::NotCurrent)) => {}
@@ -68,10 +68,10 @@ impl Service {
     ) -> Result<Told, ServiceFault>
         ensures receipt { GetsReceipt (λ told. told.number) event_of pass.old pass.new result }
         ensures told { IfOk result
-            (λ told. IsToldFor question.now self.now.client draws.now told) }
+            (λ told. IsToldFor question.now self.now.client self.now.held draws.now told) }
     {
         pass.receipts.reserve(1)?;
-        let asked = Asked::of(self.alloc, question, &self.abilities, draws)?;
+        let asked = Asked::of(self.alloc, question, &self.abilities, self.held, draws)?;
         let copies = Copies::of(self.alloc, question)?;
         let mut shared = self.lock(rt);
         if shared.is_stopped {
@@ -95,7 +95,7 @@ impl Service {
     ) -> Result<Told, ServiceFault>
         ensures receipt { GetsReceipt (λ told. told.number) event_of pass.old pass.new result }
         ensures told { IfOk result
-            (λ told. IsToldFor question.now self.now.client draws.now told) }
+            (λ told. IsToldFor question.now self.now.client self.now.held draws.now told) }
     {
         let finding = self.locate(rt, Who::Caller, question, gate)?;
         self.commit(rt, pass, finding, draws)
@@ -112,10 +112,10 @@ impl Service {
         requires client { finding.client ≡ self.now.client }
         ensures receipt { GetsReceipt (λ told. told.number) event_of pass.old pass.new result }
         ensures told { IfOk result
-            (λ told. IsToldFor finding.question self.now.client draws.now told) }
+            (λ told. IsToldFor finding.question self.now.client self.now.held draws.now told) }
     {
         pass.receipts.reserve(1)?;
-        let prepared = Prepared::of(self.alloc, &finding, draws)?;
+        let prepared = Prepared::of(self.alloc, &finding, self.held, draws)?;
         let mut shared = self.lock(rt);
         if shared.is_stopped {
             return Err(ServiceFault::Stopped);
@@ -210,7 +210,7 @@ impl Service {
     // The number of a key's set as it is.
     fn number<R: Wait>(&self, rt: &R, key: &Key) -> Result<u64, ServiceFault> {
         let shared = self.lock(rt);
-        shared.check(&self.abilities)?;
+        shared.check(&self.abilities, self.held)?;
         Ok(shared.book.number(key))
     }
 
@@ -219,7 +219,7 @@ impl Service {
         requires { is_existence key.now ≡ false }
     {
         let mut shared = self.lock(rt);
-        shared.check(&self.abilities)?;
+        shared.check(&self.abilities, self.held)?;
         Ok(shared.mark(rt, &self.versions, key)?)
     }
 
@@ -228,19 +228,20 @@ impl Service {
         ensures { IfOk result (λ read. IsSet key.now read.0 read.1) }
     {
         let mut shared = self.lock(rt);
-        shared.check(&self.abilities)?;
+        shared.check(&self.abilities, self.held)?;
         Ok(shared.book.read(key)?)
     }
 
     /// The record sets that the targets of a question depend on, in the order of reading, as they are
     /// read one after another. Keeps nothing.
     ///
-    /// The fault is the first one: the service was stopped (L6), the book is for another client (L7).
+    /// The fault is the first one: the service was stopped (L6), the book is for another client or
+    /// policy (L7).
     pub fn deps<R: Wait>(&self, rt: &R, question: &Question) -> Result<Evidence, ServiceFault>
         ensures { IfOk result
             (λ items. AreDependencies question.now self.now.client items) }
     {
-        self.lock(rt).check(&self.abilities)?;
+        self.lock(rt).check(&self.abilities, self.held)?;
         let finding = self.locate(rt, Who::Caller, question, &OpenGate)?;
         Ok(finding.evidence().dup(self.alloc)?)
     }

@@ -17,8 +17,8 @@ impl Service {
     /// Looks queued entries up again, at most as many as are queued now. One whose sets change
     /// meanwhile stays queued, and is not looked up a second time.
     ///
-    /// The fault is the first one: the service was stopped (L6), the book is for another client (L7).
-    /// What was repaired until then stays so, and the other entries stay queued.
+    /// The fault is the first one: the service was stopped (L6), the book is for another client or
+    /// policy (L7). What was repaired until then stays so, and the other entries stay queued.
     pub fn repair<R: Wait>(&self, rt: &R) -> Result<(), ServiceFault> {
         let repaired = self.repair_queued(rt);
         self.woken.notify_all();
@@ -116,14 +116,14 @@ impl Service {
     // How many entries are queued.
     fn queued<R: Wait>(&self, rt: &R) -> Result<u64, ServiceFault> {
         let shared = self.lock(rt);
-        shared.check(&self.abilities)?;
+        shared.check(&self.abilities, self.held)?;
         Ok(shared.book.queued())
     }
 
     // Leases the first queued entry; `None` where none is queued.
     fn lease<R: Wait>(&self, rt: &R) -> Result<Option<(Lease, Question)>, ServiceFault> {
         let mut shared = self.lock(rt);
-        shared.check(&self.abilities)?;
+        shared.check(&self.abilities, self.held)?;
         match shared.book.lease() {
             Ok(leased) => Ok(Some(leased)),
             Err(BookFault::Queue(QueueFault::Empty)) => Ok(None),
@@ -136,7 +136,7 @@ impl Service {
         requires { finding.client ≡ self.now.client }
     {
         let mut shared = self.lock(rt);
-        if let Err(fault) = steps::check_client(&shared.book, &self.abilities) {
+        if let Err(fault) = steps::check_client(&shared.book, &self.abilities, self.held) {
             shared.book.give_back(lease);
             return Err(fault);
         }

@@ -14,6 +14,7 @@ use crate::versions::Versions;
 use crossbeam_utils::CachePadded;
 use sipl_book::{Book, Done, Edit, Event, Limits};
 use sipl_choice::{Abilities, Endpoint};
+use sipl_outages::Held;
 use sipl_records::Key;
 use std::alloc::{AllocError, Global};
 use std::hint::spin_loop;
@@ -30,12 +31,13 @@ const LOOKS: u32 = 400;
 
 const PAUSES: u32 = 8;
 
-/// A book that threads share (RFC 3263, 4), for one client. Contracts see the client's abilities and
-/// how often a lookup tries to commit.
+/// A book that threads share (RFC 3263, 4), for one client and one policy on held endpoints. Contracts
+/// see the client's abilities, the policy, and how often a lookup tries to commit.
 #[derive(Drop)]
 pub struct Service {
     pub(crate) alloc: Global,
     pub(crate) abilities: Abilities,
+    pub(crate) held: Held,
     pub(crate) tries: u64,
     // Apart from the other fields, which callers read without the lock: a thread that looks for the lock
     // takes the cache line that the lock is in.
@@ -52,7 +54,11 @@ impl Model for Service {
 
     ghost Value = { ServiceState };
 
-    ghost view = { λ service. record { client = service.abilities; tries = service.tries } };
+    ghost view = { λ service. record {
+      client = service.abilities;
+      held = service.held;
+      tries = service.tries;
+    } };
 
     ghost invariant = { λ service. 1 ≤ service.tries };
 }
@@ -65,6 +71,7 @@ impl Service {
         abilities: Abilities,
         limits: &Limits,
         tries: u64,
+        held: Held,
     ) -> Result<Self, AllocError>
         requires records { limits.now.records ≤ 1048576 }
         requires entries { limits.now.entries ≤ 65536 }
@@ -75,12 +82,13 @@ impl Service {
         requires once { 1 ≤ tries }
         requires most { tries ≤ 16 }
         ensures { IfOk result
-            (λ service. service ≡ record { client = abilities; tries = tries }) }
+            (λ service. service ≡ record { client = abilities; held = held; tries = tries }) }
     {
-        let book = Book::new(alloc, abilities.dup(alloc)?, limits);
+        let book = Book::new(alloc, abilities.dup(alloc)?, limits, held);
         Ok(Service {
             alloc,
             abilities,
+            held,
             tries,
             shared: CachePadded::new(Mutex::new(Shared::new(alloc, book))),
             versions: Versions::new(alloc)?,
@@ -104,6 +112,13 @@ impl Service {
         ensures { result.now ≡ self.now.client }
     {
         &self.abilities
+    }
+
+    /// The policy on held endpoints.
+    pub fn held(&self) -> Held
+        ensures { result ≡ self.now.held }
+    {
+        self.held
     }
 
     /// How many versions of record sets callers have read, which are kept until `close`. It is only a
@@ -213,17 +228,18 @@ impl Service {
 
     /// Takes the journal out, which is legal from the empty state. Does not allocate.
     ///
-    /// The fault is a book for another client (L7); the service is returned with it.
+    /// The fault is a book for another client or policy (L7); the service is returned with it.
     pub fn close(self) -> Result<Closing, (ServiceFault, Service)>
         ensures legal { IfOk result
-            (λ closing. IsLegal self.client closing.journal empty_state) }
+            (λ closing. IsLegal self.client self.held closing.journal empty_state) }
         ensures refused { IfErr result (λ refused. refused.1 ≡ self) }
     {
         let shared = self.shared.into_inner().into_inner();
-        if shared.book.abilities() != &self.abilities {
+        if !steps::is_for(&shared.book, &self.abilities, self.held) {
             let service = Service {
                 alloc: self.alloc,
                 abilities: self.abilities,
+                held: self.held,
                 tries: self.tries,
                 shared: CachePadded::new(Mutex::new(shared)),
                 versions: self.versions,

@@ -17,6 +17,7 @@ use crate::steps::NewEdit;
 use crate::versions::Versions;
 use sipl_book::{Book, Done, Event};
 use sipl_choice::Abilities;
+use sipl_outages::Held;
 use sipl_records::Key;
 use std::alloc::{AllocError, Global};
 use std::marker::Model;
@@ -63,16 +64,18 @@ impl Shared {
         }
     }
 
-    // L6 where the service was stopped, L7 where the book is for a client of other abilities.
-    pub fn check(&self, abilities: &Abilities) -> Result<(), ServiceFault>
+    // L6 where the service was stopped, L7 where the book is for a client of other abilities, or for
+    // another policy.
+    pub fn check(&self, abilities: &Abilities, held: Held) -> Result<(), ServiceFault>
         ensures same { OnOk result (self.now.book.client ≡ abilities.now) }
+        ensures held { OnOk result (self.now.book.held ≡ held) }
         ensures refused { IfErr result (λ fault. unless_stopped self.now.is_stopped
-            (unless_other abilities.now self.now.book None) ≡ Some fault) }
+            (unless_other abilities.now held self.now.book None) ≡ Some fault) }
     {
         if self.is_stopped {
             return Err(ServiceFault::Stopped);
         }
-        steps::check_client(&self.book, abilities)
+        steps::check_client(&self.book, abilities, held)
     }
 
     // The mark of a key's set of records; `None` where it is empty. Where no one has read it yet, its

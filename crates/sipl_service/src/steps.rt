@@ -9,7 +9,7 @@ ghost use Rattle.sipl_book.specs.Calls.{IsChanged, MovesBoard, board_refusal, ch
 ghost use Rattle.sipl_book.specs.Entries.{has_current_entry};
 ghost use Rattle.sipl_service.specs.Answering.{AreDrawn, IsPreparedFor, Records};
 ghost use Rattle.sipl_service.specs.Passes.{GetsReceipt, receipt_of};
-ghost use Rattle.sipl_service.specs.Refusals.{change_fault, contended, unless_ahead, unless_other};
+ghost use Rattle.sipl_service.specs.Refusals.{change_fault, contended, is_for, unless_ahead, unless_other};
 ghost use Rattle.sipl_service.specs.Telling.{event_of, IsAnswerTo};
 
 use crate::answered::{Answered, Answers};
@@ -21,7 +21,7 @@ use crate::told::Told;
 use sipl_book::{Book, BookFault, Done, Edit, Event, Uncommitted};
 use sipl_choice::{Abilities, Endpoint};
 use sipl_evidence::Evidence;
-use sipl_outages::Board;
+use sipl_outages::{Board, Held};
 use sipl_plans::Finding;
 use sipl_srv::Draws;
 use sipl_uri::Question;
@@ -43,27 +43,45 @@ pub(crate) fn next_number(book: &Book, pass: &Pass) -> Result<u64, ServiceFault>
     Ok(events)
 }
 
-// L7 where the book is for a client of other abilities.
-pub(crate) fn check_client(book: &Book, abilities: &Abilities) -> Result<(), ServiceFault>
-    ensures same { OnOk result (book.now.client ≡ abilities.now) }
-    ensures other { IfErr result
-        (λ fault. unless_other abilities.now book.now None ≡ Some fault) }
+// Whether the book is for a client of these abilities, and for this policy on held endpoints.
+pub(crate) fn is_for(book: &Book, abilities: &Abilities, held: Held) -> bool
+    ensures { result ≡ is_for abilities.now held book.now }
 {
-    if book.abilities() != abilities {
+    book.abilities() == abilities && book.held() == held
+}
+
+// L7 where the book is for a client of other abilities, or for another policy.
+pub(crate) fn check_client(
+    book: &Book,
+    abilities: &Abilities,
+    held: Held,
+) -> Result<(), ServiceFault>
+    ensures same { OnOk result (book.now.client ≡ abilities.now) }
+    ensures held { OnOk result (book.now.held ≡ held) }
+    ensures other { IfErr result
+        (λ fault. unless_other abilities.now held book.now None ≡ Some fault) }
+{
+    if !is_for(book, abilities, held) {
         return Err(ServiceFault::OtherBook);
     }
     Ok(())
 }
 
 // The number of the next event, where it may be an answer. L2 where the pass has seen it, L7 where the
-// book is for a client of other abilities.
-fn next_answer(book: &Book, pass: &Pass, abilities: &Abilities) -> Result<u64, ServiceFault>
+// book is for a client of other abilities, or for another policy.
+fn next_answer(
+    book: &Book,
+    pass: &Pass,
+    abilities: &Abilities,
+    held: Held,
+) -> Result<u64, ServiceFault>
     ensures number { IfOk result (λ number. number ≡ next_event book.now) }
     ensures front { OnOk result (pass.now.front ≤ next_event book.now) }
     ensures same { OnOk result (book.now.client ≡ abilities.now) }
+    ensures held { OnOk result (book.now.held ≡ held) }
 {
     let number = next_number(book, pass)?;
-    check_client(book, abilities)?;
+    check_client(book, abilities, held)?;
     Ok(number)
 }
 
@@ -222,7 +240,7 @@ pub(crate) fn hand(
     ensures store { book.new.store ≡ book.old.store }
     ensures unchanged { OnErr result (book.new ≡ book.old) }
 {
-    let number = next_answer(book, pass, &asked.abilities)?;
+    let number = next_answer(book, pass, &asked.abilities, asked.held)?;
     if book.is_full() {
         return Err(ServiceFault::Book(BookFault::JournalFull));
     }
@@ -262,7 +280,8 @@ fn record(
 
 // The answer of the current entry of a question. B1 where there is none.
 fn tell_entry(alloc: Global, book: &Book, number: u64, asked: Asked) -> Result<Told, ServiceFault>
-    requires { book.now.client ≡ asked.abilities }
+    requires client { book.now.client ≡ asked.abilities }
+    requires held { book.now.held ≡ asked.held }
     ensures number { IfOk result (λ told. told.number ≡ number) }
     ensures asked { IfOk result (λ told. IsAnswerTo asked told) }
     ensures answer { IfOk result
@@ -292,15 +311,20 @@ pub(crate) struct Prepared {
 }
 
 impl Prepared {
-    // What a finding is committed with for these random words.
-    pub fn of(alloc: Global, finding: &Finding, draws: &Draws) -> Result<Self, AllocError>
-        ensures { IfOk result (λ prepared. IsPreparedFor finding.now draws.now prepared) }
+    // What a finding is committed with for this policy and these random words.
+    pub fn of(
+        alloc: Global,
+        finding: &Finding,
+        held: Held,
+        draws: &Draws,
+    ) -> Result<Self, AllocError>
+        ensures { IfOk result (λ prepared. IsPreparedFor finding.now held draws.now prepared) }
     {
         Ok(Prepared {
-            asked: Asked::of(alloc, finding.question(), finding.abilities(), draws)?,
+            asked: Asked::of(alloc, finding.question(), finding.abilities(), held, draws)?,
             evidence: finding.share_evidence()?,
             copies: Copies::of(alloc, finding.question())?,
-            answers: Answers::draw(alloc, finding.layout(), draws, &Board::with(alloc, 0))?,
+            answers: Answers::draw(alloc, finding.layout(), draws, &Board::with(alloc, 0), held)?,
         })
     }
 }
@@ -314,7 +338,7 @@ pub(crate) fn commit(
     prepared: Prepared,
     finding: Finding,
 ) -> Result<Answered, ServiceFault>
-    requires prepared { IsPreparedFor finding prepared.asked.draws prepared }
+    requires prepared { IsPreparedFor finding prepared.asked.held prepared.asked.draws prepared }
     requires sound { IsSound finding }
     ensures front { OnOk result (pass.now.front ≤ next_event book.old) }
     ensures answered { IfOk result
@@ -324,7 +348,7 @@ pub(crate) fn commit(
     ensures store { book.new.store ≡ store_with_looks book.new.store.looks book.old.store }
     ensures unchanged { OnErr result (book.new.journal ≡ book.old.journal) }
 {
-    let number = next_answer(book, pass, &prepared.asked.abilities)?;
+    let number = next_answer(book, pass, &prepared.asked.abilities, prepared.asked.held)?;
     let Prepared {
         asked,
         evidence,
@@ -332,7 +356,14 @@ pub(crate) fn commit(
         answers,
     } = prepared;
     let holds = book.board().dup(alloc)?;
-    let answers = drawn_again(alloc, &finding, &asked.draws, book.board(), answers)?;
+    let answers = drawn_again(
+        alloc,
+        &finding,
+        &asked.draws,
+        book.board(),
+        asked.held,
+        answers,
+    )?;
     let draws = asked.draws;
     let told = Told::drawn(number, asked, answers.told, evidence, holds);
     match book.commit_answer(finding, copies.event, &draws, answers.event) {
@@ -349,22 +380,23 @@ pub(crate) fn commit(
     }
 }
 
-// The answer of a finding for the holds of a board: where nothing is held, these answers.
+// The answer of a finding for the holds of a board and this policy: where nothing is held, these answers.
 fn drawn_again(
     alloc: Global,
     finding: &Finding,
     draws: &Draws,
     board: &Board,
+    held: Held,
     answers: Answers,
 ) -> Result<Answers, AllocError>
-    requires { AreDrawn finding.now.layout no_holds draws.now answers }
+    requires { AreDrawn finding.now.layout no_holds draws.now held answers }
     ensures { IfOk result
-        (λ answers. AreDrawn finding.now.layout board.now.holds draws.now answers) }
+        (λ answers. AreDrawn finding.now.layout board.now.holds draws.now held answers) }
 {
     if board.is_empty() {
         return Ok(answers);
     }
-    Answers::draw(alloc, finding.layout(), draws, board)
+    Answers::draw(alloc, finding.layout(), draws, board, held)
 }
 
 // Why a finding was not committed.

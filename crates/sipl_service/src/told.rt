@@ -8,7 +8,7 @@ ghost use Rattle.sipl_service.specs.Telling.{IsDecided, told_to};
 use crate::asked::Asked;
 use sipl_choice::Abilities;
 use sipl_evidence::Evidence;
-use sipl_outages::Board;
+use sipl_outages::{Board, Held};
 use sipl_plans::{Answer, Layout, draw};
 use sipl_srv::Draws;
 use sipl_uri::Question;
@@ -17,12 +17,14 @@ use std::marker::Model;
 use std::sync::Arc;
 
 /// An answer, with the record sets and the holds that decide it: wherever the records agree with the
-/// evidence, and these endpoints are held, the answer to the question is this one (RFC 3263, 4).
+/// evidence, and these endpoints are held, the answer to the question is this one by its policy on held
+/// endpoints (RFC 3263, 4).
 #[derive(Drop)]
 pub struct Told {
     number: u64,
     question: Question,
     abilities: Abilities,
+    held: Held,
     draws: Draws,
     answer: Answer,
     evidence: Arc<Evidence>,
@@ -62,13 +64,14 @@ impl Told {
         ensures number { IfOk result (λ told. told.number ≡ number) }
         ensures question { IfOk result (λ told. told.question ≡ asked.question) }
         ensures client { IfOk result (λ told. told.client ≡ asked.abilities) }
+        ensures held { IfOk result (λ told. told.held ≡ asked.held) }
         ensures words { IfOk result (λ told. told.words ≡ asked.draws) }
         ensures answer { IfOk result
-            (λ told. told.answer ≡ draw layout.now board.now.holds asked.draws) }
+            (λ told. told.answer ≡ draw layout.now board.now.holds asked.draws asked.held) }
         ensures evidence { IfOk result (λ told. told.items ≡ arc_value evidence) }
         ensures board { IfOk result (λ told. told.board ≡ board.now) }
     {
-        let answer = draw(alloc, layout, &asked.draws, board)?;
+        let answer = draw(alloc, layout, &asked.draws, board, asked.held)?;
         let holds = board.dup(alloc)?;
         Ok(Told::drawn(number, asked, answer, evidence, holds))
     }
@@ -88,12 +91,14 @@ impl Told {
         let Asked {
             question,
             abilities,
+            held,
             draws,
         } = asked;
         Told {
             number,
             question,
             abilities,
+            held,
             draws,
             answer,
             evidence,
@@ -120,6 +125,13 @@ impl Told {
         ensures { result.now ≡ self.now.client }
     {
         &self.abilities
+    }
+
+    /// The policy on held endpoints.
+    pub fn held(&self) -> Held
+        ensures { result ≡ self.now.held }
+    {
+        self.held
     }
 
     /// The random words.

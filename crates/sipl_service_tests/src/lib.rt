@@ -8,6 +8,8 @@ mod existence;
 #[cfg(test)]
 mod gates;
 #[cfg(test)]
+mod policies;
+#[cfg(test)]
 mod readme;
 #[cfg(test)]
 mod replay;
@@ -15,6 +17,8 @@ mod replay;
 mod stops;
 #[cfg(test)]
 mod threads;
+#[cfg(test)]
+mod told;
 #[cfg(test)]
 mod values;
 #[cfg(test)]

@@ -3,6 +3,7 @@ use sipl_book::{Edit, Limits};
 use sipl_choice::{Abilities, Families, Transport};
 use sipl_masterfile::read_zone;
 use sipl_names::Name;
+use sipl_outages::Held;
 use sipl_plans::Answer;
 use sipl_service::{OpenGate, Pass, Service, Told, claim};
 use sipl_srv::Draws;
@@ -29,7 +30,7 @@ fn asks<R: Wait>(
 
 fn answered<R: Wait>(rt: &R, alloc: Global) -> anyhow::Result<Answer> {
     let abilities = Abilities::new(vec![in alloc; Transport::Udp]?, Families::V4)?;
-    let service = Service::new(alloc, abilities, &Limits::greatest(), 4)?;
+    let service = Service::new(alloc, abilities, &Limits::greatest(), 4, Held::Out)?;
     let (mut editor, mut caller) = (service.pass(), service.pass());
     loads(rt, alloc, &service, &mut editor)?;
     caller.meet(&mut editor);

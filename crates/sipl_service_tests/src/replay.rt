@@ -1,11 +1,13 @@
-// Callers and repair workers in threads of their own, whose journal is replayed: each answer in it is that
-// of the plain program on the records and the holds at its place.
-use crate::values::{close, is_claimed, load_zone, new_service, question, record, tcp};
+// Callers and repair workers in threads of their own, by a policy on held endpoints that is drawn. What each
+// caller is told is drawn anew from its parts, and the journal is replayed: each answer in it is that of the
+// plain program on the records and the holds at its place.
+use crate::told::is_drawn_anew;
+use crate::values::{close, is_claimed, load_zone, new_service_by, question, record, tcp};
 use rand_core::utils::NextWord;
 use rand_pcg::Pcg32;
 use sipl_book::{Edit, Event};
 use sipl_choice::{Abilities, Endpoint};
-use sipl_outages::Board;
+use sipl_outages::{Board, Held};
 use sipl_plans::{Answer, plan_of};
 use sipl_records::Address;
 use sipl_service::{Closing, OpenGate, Pass, Service};
@@ -18,6 +20,9 @@ use std::sync::Wait;
 use std::test::*;
 use std::thread;
 use std::thread::Threads;
+
+// The seeds of the plays, of which each has a policy.
+const SEEDS: u64 = 2;
 
 const CALLERS: u64 = 6;
 
@@ -81,7 +86,12 @@ fn edit<R: Wait + Abort>(rt: &R, alloc: Global, service: &Service, pass: &mut Pa
 fn look_up<R: Wait + Abort>(rt: &R, alloc: Global, service: &Service, pass: &mut Pass, word: u32) {
     let question = question(rt, alloc, choice(&URIS, word));
     let draws = Draws::from_seed(u64::from(word));
-    let _ = service.lookup(rt, pass, &question, &draws, &OpenGate);
+    if let Ok(told) = service.lookup(rt, pass, &question, &draws, &OpenGate) {
+        // One in four, for the sake of time.
+        if word % 4 == 0 {
+            is_drawn_anew(rt, alloc, &told);
+        }
+    }
 }
 
 fn call<R: Wait + Abort>(
@@ -108,8 +118,15 @@ fn call<R: Wait + Abort>(
     }
 }
 
-fn calls<R: Wait + Abort>(rt: &R, alloc: Global, service: &Service, pass: &mut Pass, seed: u64) {
-    let mut chance = Pcg32::new(seed, 0);
+fn calls<R: Wait + Abort>(
+    rt: &R,
+    alloc: Global,
+    service: &Service,
+    pass: &mut Pass,
+    seed: u64,
+    caller: u64,
+) {
+    let mut chance = Pcg32::new(seed, caller);
     for number in 0..CALLS {
         let kind = chance.next_word();
         call(
@@ -130,10 +147,11 @@ fn all_calls<R: Threads + Wait + Abort + Sync>(
     alloc: Global,
     service: &Service,
     passes: &mut [Pass],
+    seed: u64,
 ) {
     thread::scope(thread::scope_env(), rt, |scope| {
-        for (seed, pass) in passes.iter_mut().enumerate() {
-            let _ = scope.spawn(move || calls(rt, alloc, service, pass, seed as u64));
+        for (caller, pass) in passes.iter_mut().enumerate() {
+            let _ = scope.spawn(move || calls(rt, alloc, service, pass, seed, caller as u64));
         }
     });
     service.stop(rt);
@@ -153,15 +171,24 @@ fn load<R: Wait + Abort>(rt: &R, alloc: Global, service: &Service, passes: &mut 
     }
 }
 
+// The policy of a seed.
+fn policy(seed: u64) -> Held {
+    let mut chance = Pcg32::new(seed, CALLERS);
+    match chance.next_word() % 2 {
+        0 => Held::Out,
+        _ => Held::Last,
+    }
+}
+
 // Makes the calls, and closes the service. Its journal is claimed with the passes.
-fn closed<R: Threads + Wait + Abort + Sync>(rt: &R, alloc: Global) -> Closing {
-    let service = new_service(rt, alloc, 16);
+fn closed<R: Threads + Wait + Abort + Sync>(rt: &R, alloc: Global, seed: u64) -> Closing {
+    let service = new_service_by(rt, alloc, 16, policy(seed));
     let mut passes = passes(rt, alloc, &service);
     load(rt, alloc, &service, &mut passes);
     thread::join(
         rt,
         || service.run_workers(rt, 2, &OpenGate),
-        || all_calls(rt, alloc, &service, &mut passes),
+        || all_calls(rt, alloc, &service, &mut passes, seed),
     );
     let closing = close(rt, service);
     is_claimed(rt, alloc, &closing, &passes);
@@ -170,16 +197,58 @@ fn closed<R: Threads + Wait + Abort + Sync>(rt: &R, alloc: Global) -> Closing {
 
 // ---- the replay
 
+// The client and the policy of a service.
+#[derive(Clone, Copy)]
+struct Asker<'a> {
+    abilities: &'a Abilities,
+    held: Held,
+}
+
+impl Asker<'_> {
+    // The same client with the other policy.
+    fn by_other_policy(self) -> Self {
+        let held = match self.held {
+            Held::Out => Held::Last,
+            Held::Last => Held::Out,
+        };
+        Asker { held, ..self }
+    }
+}
+
 fn plain_answer(
     rt: &impl Abort,
     alloc: Global,
     store: &mut ZoneStore,
     board: &Board,
-    abilities: &Abilities,
+    asker: Asker,
     question: &Question,
     draws: &Draws,
 ) -> Answer {
-    plan_of(alloc, store.records(), board, question, abilities, draws).expect(rt, "out of memory")
+    let Asker { abilities, held } = asker;
+    plan_of(
+        alloc,
+        store.records(),
+        board,
+        question,
+        abilities,
+        draws,
+        held,
+    )
+    .expect(rt, "out of memory")
+}
+
+// Whether this is the plain program's answer.
+fn is_plain(
+    rt: &impl Abort,
+    alloc: Global,
+    store: &mut ZoneStore,
+    board: &Board,
+    asker: Asker,
+    question: &Question,
+    draws: &Draws,
+    answer: &Answer,
+) -> bool {
+    plain_answer(rt, alloc, store, board, asker, question, draws) == *answer
 }
 
 fn changed(store: &mut ZoneStore, edit: &Edit) -> Result<Changed, StoreFault> {
@@ -203,11 +272,24 @@ fn is_made(store: &mut ZoneStore, edit: &Edit, seen: &mut Seen) -> bool {
     }
 }
 
-// How many edits changed existence alone, and how many answers have the address of a wildcard.
+// How many edits changed existence alone, how many answers have the address of a wildcard, and how many by
+// each policy are not those of the other.
 #[derive(Clone, Copy, Default)]
 struct Seen {
     existence: u64,
     by_wildcard: u64,
+    by_out: u64,
+    by_last: u64,
+}
+
+impl Seen {
+    fn count_answer(&mut self, held: Held, answer: &Answer, is_plain_by_other: bool) {
+        count(is_by_wildcard(answer), &mut self.by_wildcard);
+        match held {
+            Held::Out => count(!is_plain_by_other, &mut self.by_out),
+            Held::Last => count(!is_plain_by_other, &mut self.by_last),
+        }
+    }
 }
 
 fn count(is_seen: bool, counter: &mut u64) {
@@ -230,7 +312,7 @@ fn is_legal(
     alloc: Global,
     store: &mut ZoneStore,
     board: &mut Board,
-    abilities: &Abilities,
+    asker: Asker,
     event: &Event,
     seen: &mut Seen,
 ) -> bool {
@@ -240,8 +322,12 @@ fn is_legal(
         Event::Release(endpoint) => board.release(endpoint).is_ok(),
         Event::Advance(to) => board.advance(*to).is_ok(),
         Event::Answer(question, draws, answer) => {
-            count(is_by_wildcard(answer), &mut seen.by_wildcard);
-            plain_answer(rt, alloc, store, board, abilities, question, draws) == *answer
+            let other = asker.by_other_policy();
+            let is_plain_by_other = is_plain(
+                rt, alloc, store, board, other, question, draws, answer,
+            );
+            seen.count_answer(asker.held, answer, is_plain_by_other);
+            is_plain(rt, alloc, store, board, asker, question, draws, answer)
         }
     }
 }
@@ -250,43 +336,48 @@ fn is_legal(
 fn legal(
     rt: &impl Abort,
     alloc: Global,
-    abilities: &Abilities,
+    asker: Asker,
     journal: &[Event],
     seen: &mut Seen,
 ) -> usize {
     let mut store = ZoneStore::with(alloc, 1, 1_048_576);
     let mut board = Board::with(alloc, 4_096);
     for (number, event) in journal.iter().enumerate() {
-        if !is_legal(rt, alloc, &mut store, &mut board, abilities, event, seen) {
+        if !is_legal(rt, alloc, &mut store, &mut board, asker, event, seen) {
             return number;
         }
     }
     journal.len()
 }
 
-fn are_legal(rt: &impl Abort, alloc: Global, abilities: &Abilities, journal: &[Event]) {
-    let mut seen = Seen::default();
+fn are_legal(rt: &impl Abort, alloc: Global, asker: Asker, journal: &[Event], seen: &mut Seen) {
     assert!(rt; journal.len() > 8_000, "few calls were accepted");
-    assert_eq!(rt;
-        legal(rt, alloc, abilities, journal, &mut seen),
-        journal.len()
-    );
-    are_seen(rt, seen);
+    assert_eq!(rt; legal(rt, alloc, asker, journal, seen), journal.len());
+}
+
+// Makes the calls of a seed, and replays their journal.
+fn replay<R: Threads + Wait + Abort + Sync>(rt: &R, alloc: Global, seed: u64, seen: &mut Seen) {
+    let closing = closed(rt, alloc, seed);
+    let service = new_service_by(rt, alloc, 1, policy(seed));
+    let asker = Asker {
+        abilities: service.abilities(),
+        held: service.held(),
+    };
+    are_legal(rt, alloc, asker, closing.journal.as_slice(), seen);
 }
 
 fn are_seen(rt: &impl Abort, seen: Seen) {
     assert!(rt; seen.existence > 100, "edits of existence alone");
     assert!(rt; seen.by_wildcard > 200, "answers by wildcards");
+    assert!(rt; seen.by_out > 200, "answers without held endpoints");
+    assert!(rt; seen.by_last > 200, "answers with held endpoints last");
 }
 
 #[test]
 fn answers_of_threads_are_those_of_the_plain_program_at_their_places(rt: HostRuntime) {
-    let closing = closed(&rt, rt.alloc());
-    let service = new_service(&rt, rt.alloc(), 1);
-    are_legal(
-        &rt,
-        rt.alloc(),
-        service.abilities(),
-        closing.journal.as_slice(),
-    );
+    let mut seen = Seen::default();
+    for seed in 0..SEEDS {
+        replay(&rt, rt.alloc(), seed, &mut seen);
+    }
+    are_seen(&rt, seen);
 }

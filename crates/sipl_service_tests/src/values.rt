@@ -6,6 +6,7 @@ use sipl_book::{Done, Edit, Limits};
 use sipl_choice::{Abilities, Endpoint, Families, Transport};
 use sipl_masterfile::{ZoneText, read_record, read_zone};
 use sipl_names::Name;
+use sipl_outages::Held;
 use sipl_plans::Answer;
 use sipl_records::{Address, Record};
 use sipl_service::{ClaimFault, Closing, OpenGate, Pass, Service, ServiceFault, Told, claim};
@@ -38,8 +39,16 @@ pub(crate) const BOB: &[u8] = b"sip:bob@example.com";
 
 pub(crate) const OVER_TCP: &[u8] = b"sip:example.com;transport=tcp";
 
-// A service for a client of TCP and UDP over IPv4, with so many tries.
+// A service for a client of TCP and UDP over IPv4, with so many tries, which leaves held endpoints out.
 pub(crate) fn new_service(rt: &impl Abort, alloc: Global, tries: u64) -> Service
+    requires once { 1 ≤ tries }
+    requires most { tries ≤ 16 }
+{
+    new_service_by(rt, alloc, tries, Held::Out)
+}
+
+// The same with this policy on held endpoints.
+pub(crate) fn new_service_by(rt: &impl Abort, alloc: Global, tries: u64, held: Held) -> Service
     requires once { 1 ≤ tries }
     requires most { tries ≤ 16 }
 {
@@ -48,7 +57,7 @@ pub(crate) fn new_service(rt: &impl Abort, alloc: Global, tries: u64) -> Service
         "out of memory",
     );
     let abilities = Abilities::new(preference, Families::V4).expect(rt, "the abilities");
-    Service::new(alloc, abilities, &Limits::greatest(), tries).expect(rt, "out of memory")
+    Service::new(alloc, abilities, &Limits::greatest(), tries, held).expect(rt, "out of memory")
 }
 
 pub(crate) fn question(rt: &impl Abort, alloc: Global, uri: &[u8]) -> Question {

@@ -7,11 +7,11 @@ use super::counts::{Counts, are_mixed, count, count_commit};
 use super::numbers::{Numbers, URIS};
 use super::{copy_of, expects, is_same, plain_answer};
 use crate::book::{apex, question, zone};
-use sipl_book::{Edit, Limits};
+use sipl_book::{Book, Edit, Limits};
 use sipl_choice::Abilities;
 use sipl_evidence::Item;
 use sipl_interleave::{Reply, Step, World};
-use sipl_outages::{Board, BoardFault};
+use sipl_outages::{Board, BoardFault, Held};
 use sipl_plans::Answer;
 use sipl_records::Record;
 use sipl_srv::Draws;
@@ -96,8 +96,16 @@ fn is_made_or(rt: &impl Abort, outcome: Outcome, code: &str) {
     }
 }
 
-// The zones and the holds beside a world, what its workers do, and the question and the random
-// words of the last step that asked for an answer.
+// Whether a target of the answer is held.
+fn has_held(board: &Board, answer: &Answer) -> bool {
+    match answer {
+        Answer::Targets(targets) => targets.iter().any(|target| board.is_held(target)),
+        Answer::None(_) => false,
+    }
+}
+
+// The zones and the holds beside a world, what its workers do, the question and the random words of
+// the last step that asked for an answer, and how many answers had a held target.
 #[derive(Drop)]
 struct Beside {
     alloc: Global,
@@ -107,6 +115,7 @@ struct Beside {
     workers: Vec<Option<Work>>,
     uri: &'static str,
     draws: Draws,
+    held_targets: u64,
 }
 
 impl Beside {
@@ -119,6 +128,7 @@ impl Beside {
             workers: idle(rt, alloc, workers),
             uri: "",
             draws: Draws::from_seed(0),
+            held_targets: 0,
         }
     }
 
@@ -157,13 +167,13 @@ impl Beside {
     // An answer in the reply is that of the plain program, and a set is the store's.
     fn judge(&mut self, rt: &impl Abort, world: &World, reply: &Reply) {
         match reply {
-            Reply::Answered(handed) => self.is_answer(rt, world.book().abilities(), &handed.answer),
+            Reply::Answered(handed) => self.is_answer(rt, world.book(), &handed.answer),
             Reply::Read(item) => self.is_set(rt, item),
             _ => {}
         }
     }
 
-    fn is_answer(&mut self, rt: &impl Abort, abilities: &Abilities, answer: &Answer) {
+    fn is_answer(&mut self, rt: &impl Abort, book: &Book, answer: &Answer) {
         let question = self.question(rt, self.uri);
         let (store, board) = (&mut self.store, &self.board);
         let plain = plain_answer(
@@ -172,14 +182,16 @@ impl Beside {
             store,
             board,
             &question,
-            abilities,
+            book.abilities(),
             &self.draws,
+            book.held(),
         );
         expects(
             rt,
             is_same(&plain, answer),
             "the answer of the plain program",
         );
+        count(has_held(&self.board, answer), &mut self.held_targets);
     }
 
     fn is_set(&mut self, rt: &impl Abort, item: &Item) {
@@ -439,15 +451,22 @@ fn play_by_chance(rt: &impl Abort, alloc: Global, seed: u64, workers: usize, cou
 {
     let mut numbers = Numbers::new(seed);
     let abilities = numbers.abilities(rt, alloc);
-    let mut world = new_world(rt, alloc, abilities, workers);
+    let held = numbers.held();
+    let mut world = new_world(rt, alloc, abilities, workers, held);
     play_beside(rt, alloc, numbers, workers, &mut world, counts);
 }
 
-fn new_world(rt: &impl Abort, alloc: Global, abilities: Abilities, workers: usize) -> World
+fn new_world(
+    rt: &impl Abort,
+    alloc: Global,
+    abilities: Abilities,
+    workers: usize,
+    held: Held,
+) -> World
     requires some { 1 ≤ workers }
     requires few { workers ≤ 64 }
 {
-    World::new(alloc, abilities, &Limits::greatest(), workers).expect(rt, "out of memory")
+    World::new(alloc, abilities, &Limits::greatest(), workers, held).expect(rt, "out of memory")
 }
 
 fn play_beside(
@@ -460,6 +479,7 @@ fn play_beside(
 ) {
     let mut beside = Beside::new(rt, alloc, numbers, workers);
     beside.steps(rt, world, counts);
+    counts.held_targets = counts.held_targets.saturating_add(beside.held_targets);
 }
 
 // Plays with so many workers, or up to three more.

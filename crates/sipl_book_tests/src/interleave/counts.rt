@@ -17,6 +17,8 @@ pub(super) struct Counts {
     pub(super) settled: u64,
     pub(super) unsettled: u64,
     pub(super) abandoned: u64,
+    // Answers with a held target, which only `Held::Last` has.
+    pub(super) held_targets: u64,
     // Accepted commits with a name that does not exist, with the set of a wildcard for one, and with a
     // name that is asked for and exists without the set; and commits that were refused since a name
     // began or ceased to exist.
@@ -102,6 +104,7 @@ pub(super) fn are_mixed(rt: &impl Abort, counts: Counts) {
     expects(rt, counts.settled > 50, "settlements");
     expects(rt, counts.unsettled > 50, "refused settlements");
     expects(rt, counts.abandoned > 50, "ended runs");
+    expects(rt, counts.held_targets > 100, "held targets");
     are_of_all_names(rt, counts);
 }
 

@@ -1,9 +1,10 @@
-//! Records, questions, endpoints and clients by chance, from seeds.
+//! Records, questions, endpoints, clients and policies on held endpoints by chance, from seeds.
 use crate::book::apex;
 use sipl_choice::Transport::{Sctp, Tcp, Tls, Udp};
 use sipl_choice::{Abilities, Endpoint, Families, Transport};
 use sipl_masterfile::read_record;
 use sipl_names::Name;
+use sipl_outages::Held;
 use sipl_records::{Address, Record};
 use sipl_srv::Draws;
 use std::alloc::Global;
@@ -149,6 +150,14 @@ impl Numbers {
             .expect(rt, "there are four clients");
         let preference = Vec::from_slice(alloc, transports).expect(rt, "out of memory");
         Abilities::new(preference, families).expect(rt, "abilities")
+    }
+
+    pub(super) fn held(&mut self) -> Held {
+        if self.below(2) == 0 {
+            Held::Out
+        } else {
+            Held::Last
+        }
     }
 }
 

@@ -2,10 +2,11 @@
 ghost use Rattle.std.specs.Prelude.{◌≡◌, ◌≢◌, ◌≤◌, None, Some, IfOk, IfErr};
 ghost use Rattle.std.specs.Option.{ok_or};
 ghost use Rattle.toml.specs.View.{view};
-ghost use Rattle.sipl_lines.specs.Values.{families_in, listen_at, listen_in, number_from, transport_in, transports_listed};
+ghost use Rattle.sipl_lines.specs.Values.{families_in, held_in, listen_at, listen_in, number_from, transport_in, transports_listed};
 
 use super::fault::Refusal;
 use sipl_choice::{Families, Transport};
+use sipl_outages::Held;
 use sipl_records::{read_ipv4, read_number, split_once};
 use std::alloc::Global;
 use std::net::{Ipv4Addr, SocketAddrV4};
@@ -60,6 +61,17 @@ pub(super) fn families(value: &Value) -> Result<Families, Refusal>
         Some("v6") => Ok(Families::V6),
         Some("v4v6") => Ok(Families::V4ThenV6),
         Some("v6v4") => Ok(Families::V6ThenV4),
+        _ => Err(Refusal::BadValue),
+    }
+}
+
+// What becomes of held endpoints.
+pub(super) fn held(value: &Value) -> Result<Held, Refusal>
+    ensures { result ≡ ok_or (held_in (view value.now)) Refusal.BadValue }
+{
+    match value.as_str() {
+        Some("out") => Ok(Held::Out),
+        Some("last") => Ok(Held::Last),
         _ => Err(Refusal::BadValue),
     }
 }

@@ -6,7 +6,7 @@ use sipl_book::{Book, Edit};
 use sipl_choice::{Abilities, Families, Transport};
 use sipl_masterfile::{ZoneText, read_record, read_zone};
 use sipl_names::Name;
-use sipl_outages::Board;
+use sipl_outages::{Board, Held};
 use sipl_plans::{Answer, plan_of};
 use sipl_srv::Draws;
 use sipl_uri::{Question, Uri};
@@ -174,6 +174,15 @@ impl Numbers {
         let families = FAMILIES.get(self.below(4)).copied().unwrap_or(Families::V4);
         Ok(Abilities::new(Vec::from_slice(alloc, transports)?, families)?)
     }
+
+    // A policy on held endpoints.
+    pub fn held(&mut self) -> Held {
+        if self.below(2) == 0 {
+            Held::Out
+        } else {
+            Held::Last
+        }
+    }
 }
 
 // The zone `e.` of a text.
@@ -206,8 +215,10 @@ pub fn plain_answer(
     question: &Question,
     abilities: &Abilities,
     draws: &Draws,
+    held: Held,
 ) -> Result<Answer, AllocError> {
-    plan_of(alloc, store.records(), board, question, abilities, draws)
+    let records = store.records();
+    plan_of(alloc, records, board, question, abilities, draws, held)
 }
 
 // How many targets a URI has, where the book and the plain program agree on them.
@@ -221,7 +232,8 @@ fn agreed(
     let found = book.find(Uri::parse(alloc, uri)?, draws)?;
     let question = Uri::parse(alloc, uri)?;
     let (board, abilities) = (book.board(), book.abilities());
-    let plain = plain_answer(alloc, store, board, &question, abilities, draws)?;
+    let held = book.held();
+    let plain = plain_answer(alloc, store, board, &question, abilities, draws, held)?;
     if !is_same(&found.answer, &plain) {
         return Ok(None);
     }
@@ -257,8 +269,9 @@ fn are_agreed(
 fn are_agreed_anew(alloc: Global, seed: u64, shares: &mut Shares) -> Result<bool, Fail> {
     let mut numbers = Numbers::new(seed);
     let abilities = numbers.abilities(alloc)?;
+    let held = numbers.held();
     let mut store = ZoneStore::new(alloc);
-    let mut book = new_book(alloc, abilities)?;
+    let mut book = new_book(alloc, abilities, held)?;
     are_agreed(alloc, seed, &mut numbers, &mut book, &mut store, shares)
 }
 
@@ -317,7 +330,7 @@ fn agreed_anew(alloc: Global, text: &[u8]) -> Result<Option<usize>, Fail> {
     let preference = Vec::from_slice(alloc, &[Transport::Udp, Transport::Tcp])?;
     let abilities = Abilities::new(preference, Families::V4)?;
     let mut store = ZoneStore::new(alloc);
-    let mut book = new_book(alloc, abilities)?;
+    let mut book = new_book(alloc, abilities, Held::Out)?;
     agreed_over(alloc, text, &mut book, &mut store)
 }
 

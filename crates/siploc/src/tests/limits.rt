@@ -2,6 +2,7 @@
 use super::streams::{new_book, replies_at};
 use sipl_book::Book;
 use sipl_choice::{Abilities, Families, Transport};
+use sipl_outages::Held;
 use std::alloc::{AllocError, Global};
 use std::test::Fail;
 
@@ -87,7 +88,7 @@ fn all_lines(alloc: Global) -> Result<Vec<u8>, AllocError> {
 fn finds_all(alloc: Global) -> Result<bool, Fail> {
     let preference = Vec::from_slice(alloc, &[Transport::Udp])?;
     let abilities = Abilities::new(preference, Families::V4ThenV6)?;
-    let mut book = new_book(alloc, abilities)?;
+    let mut book = new_book(alloc, abilities, Held::Out)?;
     has_all_replies(alloc, &mut book)
 }
 

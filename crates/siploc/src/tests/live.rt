@@ -1,15 +1,15 @@
 // Books over some hundred lines, made from a seed, beside a plain store and a plain board: the reply to
 // each line is what these give, and that to a `find` is the plain program's on the records and the
-// holds as they are.
+// holds as they are, by the book's policy on held endpoints.
 use super::comparison::{Numbers, URIS, plain_answer, zone};
-use super::shares::{Shares, are_mixed, count, count_entries};
+use super::shares::{Shares, are_held, are_mixed, count_answer, count_entries};
 use super::streams::{new_book, replies_at};
 use itoa::Buffer;
 use sipl_book::Book;
 use sipl_choice::{Abilities, Endpoint, Transport};
 use sipl_masterfile::read_record;
 use sipl_names::Name;
-use sipl_outages::Board;
+use sipl_outages::{Board, Held};
 use sipl_plans::Answer;
 use sipl_records::Address;
 use sipl_srv::Draws;
@@ -60,17 +60,11 @@ fn push_targets(text: &mut Vec<u8>, targets: &[Endpoint]) -> Result<(), AllocErr
     )
 }
 
-// Appends the reply to a question, and returns whether it has targets.
-fn push_answer(text: &mut Vec<u8>, answer: &Answer) -> Result<bool, AllocError> {
+// Appends the reply to a question.
+fn push_answer(text: &mut Vec<u8>, answer: &Answer) -> Result<(), AllocError> {
     match answer {
-        Answer::Targets(targets) => {
-            push_targets(text, targets.as_slice())?;
-            Ok(true)
-        }
-        Answer::None(reason) => {
-            push_line(text, &[b"none ", reason.name().as_bytes()])?;
-            Ok(false)
-        }
+        Answer::Targets(targets) => push_targets(text, targets.as_slice()),
+        Answer::None(reason) => push_line(text, &[b"none ", reason.name().as_bytes()]),
     }
 }
 
@@ -108,44 +102,70 @@ fn remove(
     })
 }
 
-// Appends the reply of the plain program to a question, and returns whether it has targets.
+// Appends the reply of the plain program to a question, counts it, and returns its first target.
 fn push_plain_answer(
     alloc: Global,
     want: &mut Vec<u8>,
     store: &mut ZoneStore,
     board: &Board,
     abilities: &Abilities,
+    held: Held,
     uri: &str,
     seed: u64,
-) -> Result<bool, Fail> {
+    shares: &mut Shares,
+) -> Result<Option<Endpoint>, Fail> {
     let question = Uri::parse(alloc, uri.as_bytes())?;
     let draws = Draws::from_seed(seed);
-    let answer = plain_answer(alloc, store, board, &question, abilities, &draws)?;
-    Ok(push_answer(want, &answer)?)
+    let answer = plain_answer(alloc, store, board, &question, abilities, &draws, held)?;
+    count_answer(&answer, board, shares);
+    push_answer(want, &answer)?;
+    Ok(first_target(&answer))
 }
 
-// The records and the holds that lines lead to, the lines of the next session and their replies, the
-// record that was added last, and how many of the questions had targets, or had not.
+fn first_target(answer: &Answer) -> Option<Endpoint> {
+    match answer {
+        Answer::Targets(targets) => targets.first().copied(),
+        Answer::None(_) => None,
+    }
+}
+
+// An endpoint by chance.
+fn endpoint(numbers: &mut Numbers) -> Endpoint {
+    let number = (numbers.below(10) % 10) as u8;
+    Endpoint {
+        transport: Transport::Udp,
+        address: Address::V4(0xC000_0200 + u32::from(number)),
+        port: if numbers.below(2) == 0 { 5060 } else { 5070 },
+    }
+}
+
+// The policy on held endpoints, the records and the holds that lines lead to, the lines of the next
+// session and their replies, the record that was added last, the first target of the last answer that
+// had any, and what the questions met.
 #[derive(Drop)]
 struct Live {
     alloc: Global,
+    held: Held,
     store: ZoneStore,
     board: Board,
     input: Vec<u8>,
     want: Vec<u8>,
     added: Vec<u8>,
+    target: Option<Endpoint>,
     shares: Shares,
 }
 
 impl Live {
-    fn new(alloc: Global, shares: Shares) -> Self {
+    fn new(alloc: Global, held: Held, shares: Shares) -> Self {
         Live {
             alloc,
+            held,
             store: ZoneStore::new(alloc),
             board: Board::new(alloc),
             input: Vec::new(alloc),
             want: Vec::new(alloc),
             added: Vec::new(alloc),
+            target: None,
             shares,
         }
     }
@@ -230,17 +250,20 @@ impl Live {
             &[b"find ", uri.as_bytes(), b" seed ", seed_text],
         )?;
         let (store, board) = (&mut self.store, &self.board);
-        let is_found = push_plain_answer(
+        let target = push_plain_answer(
             self.alloc,
             &mut self.want,
             store,
             board,
             abilities,
+            self.held,
             uri,
             seed,
+            &mut self.shares,
         )?;
-        count(is_found, &mut self.shares.found);
-        count(!is_found, &mut self.shares.none);
+        if target.is_some() {
+            self.target = target;
+        }
         Ok(())
     }
 
@@ -259,17 +282,15 @@ impl Live {
         }
     }
 
-    // A hold, a release or a move of the clock.
+    // A hold, a release or a move of the clock. Half of the endpoints are those of answers.
     fn turn_outage(&mut self, numbers: &mut Numbers) -> Result<(), AllocError> {
         let ms = numbers.below(4) as u64;
         if numbers.below(3) == 0 {
             return self.advance(ms);
         }
-        let number = (numbers.below(10) % 10) as u8;
-        let endpoint = Endpoint {
-            transport: Transport::Udp,
-            address: Address::V4(0xC000_0200 + u32::from(number)),
-            port: if numbers.below(2) == 0 { 5060 } else { 5070 },
+        let endpoint = match self.target {
+            Some(target) if numbers.below(2) == 0 => target,
+            _ => endpoint(numbers),
         };
         if ms == 0 {
             return self.release(&endpoint);
@@ -323,8 +344,10 @@ impl Live {
 // The same for the sessions from a seed, with the shares after them.
 fn repaired(alloc: Global, seed: u64, shares: Shares) -> Result<Option<(u64, Shares)>, Fail> {
     let mut numbers = Numbers::new(seed);
-    let mut book = new_book(alloc, numbers.abilities(alloc)?)?;
-    let mut live = Live::new(alloc, shares);
+    let abilities = numbers.abilities(alloc)?;
+    let held = numbers.held();
+    let mut book = new_book(alloc, abilities, held)?;
+    let mut live = Live::new(alloc, held, shares);
     let repaired = live.repaired(&mut numbers, &mut book)?;
     Ok(repaired.map(|repaired| (repaired, live.shares)))
 }
@@ -342,5 +365,6 @@ fn replies_are_those_of_the_plain_program(rt: HostRuntime) -> Result<(), Fail> {
     }
     assert!(rt; all_repaired > 100);
     are_mixed(&rt, shares, 10);
+    are_held(&rt, shares, 10);
     Ok(())
 }

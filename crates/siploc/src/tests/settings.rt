@@ -1,5 +1,6 @@
 use sipl_choice::{Families, Transport};
 use sipl_lines::{Settings, SettingsFault};
+use sipl_outages::Held;
 use std::alloc::Global;
 use std::net::{Ipv4Addr, SocketAddrV4};
 use std::process::Abort;
@@ -45,6 +46,10 @@ fn has_client(rt: &impl Abort, settings: &Settings, transports: &[Transport], fa
     assert_eq!(rt; settings.abilities.families(), families);
 }
 
+fn has_held(rt: &impl Abort, settings: &Settings, held: Held) {
+    assert_eq!(rt; settings.held, held);
+}
+
 // The numbers of records, entries, events, holds, tries, workers and sessions.
 fn has_numbers(rt: &impl Abort, settings: &Settings, numbers: [usize; 7]) {
     let found = [
@@ -73,6 +78,7 @@ fn has_defaults(rt: &impl Abort, alloc: Global, text: &str) {
         &[Transport::Udp, Transport::Tcp],
         Families::V4,
     );
+    has_held(rt, &settings, Held::Out);
     has_numbers(rt, &settings, numbers);
     listens_at(rt, &settings, [127, 0, 0, 1], 5099);
 }
@@ -88,10 +94,11 @@ fn an_empty_text_has_the_defaults(rt: HostRuntime) {
 fn each_key_sets_its_field(rt: HostRuntime) {
     let text = "workers = 0\ntries = 16\ntransports = [\"tls\", 'sctp']\nsessions = 2\n\
         records = 3\nlisten = \"127.1.2.3:4\"\njournal = 5\nholds = 6\nfamilies = \"v6\"\n\
-        entries = 7\n";
+        entries = 7\nheld = \"last\"\n";
     let settings = read(&rt, rt.alloc(), text);
     let transports = [Transport::Tls, Transport::Sctp];
     has_client(&rt, &settings, &transports, Families::V6);
+    has_held(&rt, &settings, Held::Last);
     has_numbers(&rt, &settings, [3, 7, 5, 6, 16, 0, 2]);
     listens_at(&rt, &settings, [127, 1, 2, 3], 4);
 }
@@ -146,6 +153,9 @@ fn values_of_other_types_are_bad(rt: HostRuntime) {
         ("tries = 1979-05-27", "tries"),
         ("families = 4", "families"),
         ("families = [\"v4\"]", "families"),
+        ("held = 1", "held"),
+        ("held = true", "held"),
+        ("held = [\"last\"]", "held"),
         ("listen = 5099", "listen"),
         ("transports = \"udp\"", "transports"),
         ("transports = {}", "transports"),
@@ -215,6 +225,27 @@ fn families_are_four_words(rt: HostRuntime) {
         "families = \"\"",
     ];
     refuses_texts(&rt, rt.alloc(), "G3", "families", &texts);
+}
+
+fn reads_held(rt: &impl Abort, alloc: Global, rows: &[(&str, Held)]) {
+    for (text, want) in rows {
+        has_held(rt, &read(rt, alloc, text), *want);
+    }
+}
+
+#[test]
+fn held_is_two_words(rt: HostRuntime) {
+    let rows = [("held = \"out\"", Held::Out), ("held = 'last'", Held::Last)];
+    reads_held(&rt, rt.alloc(), &rows);
+    let texts = [
+        "held = \"x\"",
+        "held = \"Last\"",
+        "held = \"OUT\"",
+        "held = \"out \"",
+        "held = \"lastout\"",
+        "held = \"\"",
+    ];
+    refuses_texts(&rt, rt.alloc(), "G3", "held", &texts);
 }
 
 fn reads_listen(rt: &impl Abort, alloc: Global, text: &str, ip: [u8; 4], port: u16) {
@@ -303,6 +334,8 @@ fn the_first_fault_is_that_of_the_first_key_by_octets(rt: HostRuntime) {
         ("triess = 1\ntries = 0", "G3", "tries"),
         ("tries = 0\ntrie = 1", "G2", "trie"),
         ("workers = 65\ntries = 17\nholds = 4097", "G3", "holds"),
+        ("holds = 99999\nheld = 1", "G3", "held"),
+        ("held = 1\nfamilies = 4", "G3", "families"),
         ("\"\" = 1\nentries = -1", "G2", ""),
         ("\"\\u00e9\" = 1\nzzz = 1", "G2", "zzz"),
         ("tries = 0\n[table]\nentries = -1", "G2", "table"),

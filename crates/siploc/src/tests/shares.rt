@@ -1,7 +1,10 @@
-// How many questions met names that do not exist, and wildcards that stand for them (RFC 4592).
+// How many questions met names that do not exist, wildcards that stand for them (RFC 4592), and held
+// endpoints.
 use super::comparison::URIS;
 use sipl_book::Book;
 use sipl_evidence::Item;
+use sipl_outages::Board;
+use sipl_plans::{Answer, Reason};
 use sipl_records::Kind;
 use sipl_uri::{Question, Uri};
 use std::alloc::Global;
@@ -18,10 +21,28 @@ pub struct Shares {
     pub absent: u64,
     pub by_wildcard: u64,
     pub stopped: u64,
+    // Answers of which a target is held, and without targets since all endpoints are.
+    pub held: u64,
+    pub all_held: u64,
 }
 
 pub fn count(is_seen: bool, counter: &mut u64) {
     *counter = counter.saturating_add(u64::from(is_seen));
+}
+
+// Counts an answer, and whether it met held endpoints.
+pub fn count_answer(answer: &Answer, board: &Board, shares: &mut Shares) {
+    match answer {
+        Answer::Targets(targets) => {
+            count(true, &mut shares.found);
+            let is_any_held = targets.iter().any(|target| board.is_held(target));
+            count(is_any_held, &mut shares.held);
+        }
+        Answer::None(reason) => {
+            count(true, &mut shares.none);
+            count(*reason == Reason::AllHeld, &mut shares.all_held);
+        }
+    }
 }
 
 // Whether the item is the existence of a name, with this number.
@@ -75,4 +96,13 @@ pub fn are_mixed(rt: &impl Abort, shares: Shares, least: u64) {
     assert!(rt; shares.absent > least, "names that do not exist");
     assert!(rt; shares.by_wildcard > least, "answers by wildcards");
     assert!(rt; shares.stopped > least, "names that exist without the set");
+}
+
+// Answers with held targets and without any since all are held are there: so many at least.
+pub fn are_held(rt: &impl Abort, shares: Shares, least: u64) {
+    assert!(rt; shares.held > least, "answers with held targets");
+    assert!(rt;
+        shares.all_held > least,
+        "answers whose endpoints are all held"
+    );
 }

@@ -2,6 +2,7 @@
 use sipl_book::{Book, Limits};
 use sipl_choice::{Abilities, Families, Transport};
 use sipl_lines::{Ended, MAX_READS, ServeFault, Tapped, serve, serve_within};
+use sipl_outages::Held;
 use std::alloc::{AllocError, Global};
 use std::io;
 use std::io::{ErrorKind, Read, Write};
@@ -113,13 +114,13 @@ impl Write for Paper {
     }
 }
 
-// A book with the greatest limits. It is boxed, so that whoever owns it lets go of one value at each exit.
-pub fn new_book(alloc: Global, abilities: Abilities) -> Result<Box<Book>, AllocError> {
-    let book = Book::new(alloc, abilities, &Limits::greatest());
+// A book with a policy on held endpoints and the greatest limits. It is boxed, so that whoever owns it lets go of one value at each exit.
+pub fn new_book(alloc: Global, abilities: Abilities, held: Held) -> Result<Box<Book>, AllocError> {
+    let book = Book::new(alloc, abilities, &Limits::greatest(), held);
     Ok(Box::new(alloc, book)?)
 }
 
-// The same for a client of UDP and TCP, in this order, and IPv4.
+// A book for a client of UDP and TCP, in this order, and IPv4, whose answers leave held endpoints out.
 pub fn new_desk(alloc: Global) -> Result<Box<Book>, Fail> {
     client_desk(alloc, &[Transport::Udp, Transport::Tcp])
 }
@@ -128,7 +129,7 @@ pub fn new_desk(alloc: Global) -> Result<Box<Book>, Fail> {
 pub fn client_desk(alloc: Global, transports: &[Transport]) -> Result<Box<Book>, Fail> {
     let preference = Vec::from_slice(alloc, transports)?;
     let abilities = Abilities::new(preference, Families::V4)?;
-    Ok(new_book(alloc, abilities)?)
+    Ok(new_book(alloc, abilities, Held::Out)?)
 }
 
 // What a new session at a new book writes for an input.

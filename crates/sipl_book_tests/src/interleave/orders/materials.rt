@@ -5,7 +5,7 @@ use crate::book::{abilities, draws, question, record, zone};
 use sipl_book::{BookFault, Edit};
 use sipl_choice::Abilities;
 use sipl_interleave::{Reply, WorldFault};
-use sipl_outages::Board;
+use sipl_outages::{Board, Held};
 use sipl_plans::Answer;
 use sipl_records::Record;
 use sipl_uri::Question;
@@ -187,6 +187,15 @@ fn push_answer(
 ) {
     let board = Board::new(alloc);
     let draws = draws(rt, &[]);
-    let answer = plain_answer(rt, alloc, store, &board, question, abilities, &draws);
+    let answer = plain_answer(
+        rt,
+        alloc,
+        store,
+        &board,
+        question,
+        abilities,
+        &draws,
+        Held::Out,
+    );
     push(rt, answers, answer);
 }

@@ -1,16 +1,18 @@
 use Rattle.std.proofs.Common.{None, Some, sym, ◌∙◌}
-use Rattle.std.proofs.lemmas.Bool.{cond-false, not-false, not-true}
-use Rattle.sipl_choice.specs.Abilities.{same_client}
-use Rattle.sipl_choice.specs.SameClient.{same_client_decides}
+use Rattle.std.proofs.lemmas.Bool.{cond-false}
+use Rattle.sipl_service.specs.Refusals.{is_for}
 use Rattle.sipl_service.specs.declared.fault.ServiceFault.TheVariants.{OtherBook}
+use Rattle.sipl_service.proofs.Policies.{is_for-same}
 use Rattle.sipl_service.proofs.steps.check_client.Goals as goal
 
 pub returns-clause-same : goal.returns-clause-same
 returns-clause-same c =
-    sym c.abilities.ensures ∙ (same_client_decides c.abilities.result.now c.args.abilities.now).0 (not-false _ (sym c.ne.ensures ∙ c.if-ne.false))
+    (is_for-same c.args.abilities.now c.args.held c.args.book.now (sym c.is_for.ensures ∙ c.if-not-is_for.false)).0
 
-pub returns-then-ne-clause-other : goal.returns-then-ne-clause-other
-returns-then-ne-clause-other c =
-    let client = c.args.abilities.now in
-    let other = (λ i. same_client (sym c.abilities.ensures i) client) ∙ not-true _ (sym c.ne.ensures ∙ c.if-ne.true) in
-    cond-false (same_client c.args.book.now.client client) None (Some OtherBook) other
+pub returns-clause-held : goal.returns-clause-held
+returns-clause-held c =
+    (is_for-same c.args.abilities.now c.args.held c.args.book.now (sym c.is_for.ensures ∙ c.if-not-is_for.false)).1
+
+pub returns-then-not-is_for-clause-other : goal.returns-then-not-is_for-clause-other
+returns-then-not-is_for-clause-other c =
+    cond-false (is_for c.args.abilities.now c.args.held c.args.book.now) None (Some OtherBook) (sym c.is_for.ensures ∙ c.if-not-is_for.true)

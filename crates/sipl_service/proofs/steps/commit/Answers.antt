@@ -13,9 +13,9 @@ returns-in-Ok-clause-journal c =
     let old : BookState = c.args.book.now in
     let words = c.args.prepared.asked.draws in
     let client = sym c.requires.prepared.client ∙ sym c.in_ok-number.ensures.same in
-    let drawn : draw found.layout old.board.holds words ≡ c.in_ok-answers.answers.told =
-    (λ i. draw found.layout (sym c.board-2.ensures i).holds words) ∙ sym c.in_ok-answers.ensures.told in
-    let event : Answer found.question words (draw found.layout old.board.holds words) ≡ event_of c.drawn-told.result =
+    let drawn : draw found.layout old.board.holds words old.held ≡ c.in_ok-answers.answers.told =
+    (λ i. draw found.layout (sym c.board-2.ensures i).holds words (c.in_ok-number.ensures.held i)) ∙ sym c.in_ok-answers.ensures.told in
+    let event : Answer found.question words (draw found.layout old.board.holds words old.held) ≡ event_of c.drawn-told.result =
     (λ i. Answer (sym c.requires.prepared.question i) words (drawn i)) ∙ ap event_of (sym c.drawn-told.ensures) in
     journal-committed found words old c.commit_answer.new.self c.requires.sound client c.in-Ok.ensures.accepted c.in-Ok.ensures.after
     ∙ ap (λ (e : Event). old.journal ++ e ∷ []) event

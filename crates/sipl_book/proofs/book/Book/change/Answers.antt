@@ -28,6 +28,7 @@ invariant_of-self-2 c =
     let cache : c.outdate.new.self ≡ changed keys = c.outdate.ensures ∙ ap changed c.as_slice.ensures in
     subst (λ (k : CacheState). IsConsistent (record {
       client = inside.abilities;
+      held = inside.held;
       store = c.apply.new.store;
       board = inside.board;
       journal = events;
@@ -52,6 +53,7 @@ returns c =
     rw (← c.self.view_is)
     (subst (λ (k : CacheState). IsChanged c.args.edit (book_of inside) (record {
       client = inside.abilities;
+      held = inside.held;
       store = c.apply.new.store;
       board = inside.board;
       journal = events;

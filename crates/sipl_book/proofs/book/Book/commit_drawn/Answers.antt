@@ -24,9 +24,9 @@ invariant_of-self-in-Ok-commit c =
     let now : AreCurrent inside.store found.items = subst (λ (b : BookState). AreCurrent b.store found.items) (sym c.self.view_is) c.requires.current in
     let space : length old.journal < old.max_events = subst (λ (b : BookState). length b.journal < b.max_events) (sym c.self.view_is) c.requires.space in
     let answer : c.args.answer ≡ answer_now old found.question words =
-    c.requires.answer ∙ sym (ap (λ (b : BookState). draw found.layout b.board.holds words) c.self.view_is)
-    ∙ ap (λ (layout : Layout). draw layout inside.board.holds words) (sym (c.requires.sound.route (set_of inside.store.zones.records) now.agrees))
-    ∙ ap (λ (client : Client). answer_in (record { zones = inside.store.zones; holds = inside.board.holds }) found.question client words) client in
+    c.requires.answer ∙ sym (ap (λ (b : BookState). draw found.layout b.board.holds words b.held) c.self.view_is)
+    ∙ ap (λ (layout : Layout). draw layout inside.board.holds words inside.held) (sym (c.requires.sound.route (set_of inside.store.zones.records) now.agrees))
+    ∙ ap (λ (client : Client). answer_in (record { zones = inside.store.zones; holds = inside.board.holds }) found.question client inside.held words) client in
     let event : Answer c.args.question words c.args.answer ≡ answer_event old found.question words =
     λ i. Answer (c.requires.question i) words (answer i) in
     let id : c.len-id.result ≡ length inside.journal.items = search rules in

@@ -1,0 +1,56 @@
+// What was told, drawn anew from its parts: the route of its question over its record sets, for its client,
+// and the targets of that by its words, its holds and its policy.
+ghost use Rattle.sipl_plans.specs.Runs.{IsSet};
+
+use sipl_evidence::Item;
+use sipl_plans::{Answer, Finding, Run, draw};
+use sipl_service::Told;
+use std::alloc::Global;
+use std::process::Abort;
+
+// Gives a run the set that it wants. Whether the item is of the key that it wants.
+fn give(rt: &impl Abort, alloc: Global, run: &mut Run, item: &Item) -> bool
+    requires { IsSet item.now.key item.now.number item.now.content }
+{
+    if run.wants() != Some(item.key()) {
+        return false;
+    }
+    let copy = item.dup(alloc).expect(rt, "out of memory");
+    run.give(alloc, copy.number(), copy.into_content())
+        .expect(rt, "out of memory");
+    true
+}
+
+// Gives a run all record sets of what was told, in their order.
+fn give_all(rt: &impl Abort, alloc: Global, run: &mut Run, told: &Told) -> bool {
+    for item in told.evidence().items() {
+        if !give(rt, alloc, run, item) {
+            return false;
+        }
+    }
+    true
+}
+
+// The route of the question over the record sets; `None` where they are not those that it reads.
+fn finding(rt: &impl Abort, alloc: Global, told: &Told) -> Option<Finding> {
+    let question = told.question().dup(alloc).expect(rt, "out of memory");
+    let mut run = Run::start(alloc, question, told.abilities()).expect(rt, "out of memory");
+    if !give_all(rt, alloc, &mut run, told) {
+        return None;
+    }
+    run.finish().ok()
+}
+
+fn answer(rt: &impl Abort, alloc: Global, told: &Told) -> Option<Answer> {
+    let finding = finding(rt, alloc, told)?;
+    let layout = finding.layout();
+    Some(draw(alloc, layout, told.draws(), told.holds(), told.held()).expect(rt, "out of memory"))
+}
+
+// The answer is what its parts give.
+pub(crate) fn is_drawn_anew(rt: &impl Abort, alloc: Global, told: &Told) {
+    assert!(rt;
+        answer(rt, alloc, told).as_ref() == Some(told.answer()),
+        "another answer"
+    );
+}
