@@ -1,3 +1,5 @@
+ghost use Rattle.std.specs.Prelude.{◌≡◌};
+
 use std::sync::Wait;
 
 /// Whose run reads.
@@ -29,7 +31,9 @@ pub trait Gate {
 pub struct OpenGate;
 
 impl Gate for OpenGate {
-    fn turn<R: Wait>(&self, _rt: &R, _who: Who, _reads: u64) -> Go {
+    fn turn<R: Wait>(&self, _rt: &R, _who: Who, _reads: u64) -> Go
+        ensures { result ≡ Go.On }
+    {
         Go::On
     }
 }

@@ -1,11 +1,11 @@
 // What a call does to the book that the lock lends it, and to the caller's pass. What was allocated
 // before the lock was taken is passed in.
-ghost use Rattle.std.specs.Prelude.{◌≡◌, ◌≢◌, ℕ, ◌+◌, ◌^◌, ◌<◌, ◌≤◌, ◌++◌, [], ◌∷◌, length, false, vec_len, vec_capacity, Some, None, Ok, IfOk, IfErr, OnOk, OnErr};
+ghost use Rattle.std.specs.Prelude.{◌≡◌, ◌≢◌, ◌⊎◌, ℕ, ◌+◌, ◌^◌, ◌<◌, ◌≤◌, ◌++◌, [], ◌∷◌, length, false, vec_len, vec_capacity, Some, None, Ok, IfOk, IfErr, OnOk, OnErr};
 ghost use Rattle.sipl_outages.specs.Holds.{BoardEvent, no_holds};
 ghost use Rattle.sipl_outages.specs.Holds.BoardEvent.{Hold, Release, Advance};
 ghost use Rattle.sipl_plans.specs.Findings.{IsSound};
 ghost use Rattle.sipl_book.specs.Book.{answer_now, next_event};
-ghost use Rattle.sipl_book.specs.Calls.{IsChanged, MovesBoard, board_refusal, change_refusal, recorded, store_with_looks};
+ghost use Rattle.sipl_book.specs.Calls.{IsChanged, MovesBoard, after_check, after_commit, board_refusal, change_refusal, recorded, store_with_looks};
 ghost use Rattle.sipl_book.specs.Entries.{has_current_entry};
 ghost use Rattle.sipl_service.specs.Answering.{AreDrawn, IsPreparedFor, Records};
 ghost use Rattle.sipl_service.specs.Passes.{GetsReceipt, receipt_of};
@@ -237,6 +237,8 @@ pub(crate) fn hand(
     ensures answered { IfOk result (λ answered. Records asked (next_event book.old) answered) }
     ensures journal { IfOk result
         (λ answered. book.new ≡ recorded (event_of answered.told) book.old) }
+    ensures answer { IfOk result
+        (λ answered. answered.told.answer ≡ answer_now book.old asked.question asked.draws) }
     ensures store { book.new.store ≡ book.old.store }
     ensures unchanged { OnErr result (book.new ≡ book.old) }
 {
@@ -346,7 +348,11 @@ pub(crate) fn commit(
     ensures journal { IfOk result
         (λ answered. book.new.journal ≡ book.old.journal ++ event_of answered.told ∷ []) }
     ensures store { book.new.store ≡ store_with_looks book.new.store.looks book.old.store }
+    ensures committed { OnOk result
+        (book.new ≡ after_commit finding prepared.asked.draws (after_check finding book.old)) }
     ensures unchanged { OnErr result (book.new.journal ≡ book.old.journal) }
+    ensures looked { OnErr result
+        ((book.new ≡ book.old) ⊎ (book.new ≡ after_check finding book.old)) }
 {
     let number = next_answer(book, pass, &prepared.asked.abilities, prepared.asked.held)?;
     let Prepared {
