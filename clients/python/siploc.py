@@ -136,12 +136,13 @@ class Answer:
 class Dependency(NamedTuple):
     """A record set that the targets of a URI depend on, with the number of its records.
 
-    The kind is `A`, `AAAA`, `CNAME`, `SRV` or `NAPTR`; or `EXISTS`, and the count is 1 where the name exists.
+    The kind is `A`, `AAAA`, `CNAME`, `SRV` or `NAPTR`; or it is `EXISTS`, and the number is 1 where the name exists,
+    else 0.
     """
 
     name: str
     kind: str
-    count: int
+    records: int
 
 
 class Loaded(NamedTuple):
@@ -303,7 +304,7 @@ _STEP = re.compile(rf"send {_NUMBER} {_ENDPOINT} (z9hG4bK[0-9a-f]{{16}}\.[0-9]+)
 _NONE = re.compile(r"none (NoAddress|NotAvailable|NoTransport|AllHeld)")
 _REFUSED = re.compile(rf"err {_CODE}")
 _REFUSED_ZONE = re.compile(rf"err (?:zone {_NUMBER} )?{_CODE}")
-_REFUSED_FIND = re.compile(rf"err (?:(L1) {_NAME} {_KIND}|{_CODE})")
+_REFUSED_FIND = re.compile(rf"err (?:(L1) {_NAME} {_KIND}|(?!L1$){_CODE})")
 
 
 class _Form(NamedTuple):
@@ -700,6 +701,7 @@ class _Exchange:
         self.stream, self.poll, self.commands = stream, poll, commands
         self.output = memoryview(b"".join(command.octets for command in commands))
         self.sent = 0
+        self.is_cut = False
         self.events = select.POLLIN
         self.replies: List[Reply] = []
         # The lines of the reply that is coming, and the octets of its line that is.
@@ -730,13 +732,17 @@ class _Exchange:
         while len(self.replies) < len(self.commands):
             if self.write():
                 end = time.monotonic() + timeout
-            self.wait_for(select.POLLIN if self.sent == len(self.output) else select.POLLIN | select.POLLOUT)
+            self.wait_for(select.POLLIN | select.POLLOUT if self.has_output() else select.POLLIN)
             events = self.poll.poll(max(0.0, end - time.monotonic()) * 1000)
             if not events:
                 raise self.broken(TimedOut, f"no progress for {timeout:g} seconds")
             if events[0][1] & ~select.POLLOUT and self.read():
                 end = time.monotonic() + timeout
         self.wait_for(select.POLLIN)
+
+    def has_output(self) -> bool:
+        """Whether there is more to send."""
+        return self.sent < len(self.output) and not self.is_cut
 
     def wait_for(self, events: int) -> None:
         """Sets what the next wait is for."""
@@ -746,11 +752,15 @@ class _Exchange:
 
     def write(self) -> bool:
         """Sends what the connection takes; whether it took anything."""
-        if self.sent == len(self.output):
+        if not self.has_output():
             return False
         try:
             count = self.stream.send(self.output[self.sent:self.sent + _CHUNK])
         except BlockingIOError:
+            return False
+        except OSError:
+            # What was replied before the connection failed is still read.
+            self.is_cut = True
             return False
         self.sent += count
         return count > 0
