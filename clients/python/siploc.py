@@ -297,6 +297,7 @@ _NAME = r"([!-~]{1,1020})"
 _KIND = r"(A|AAAA|CNAME|SRV|NAPTR|EXISTS)"
 _CODE = r"([A-Z][A-Za-z0-9]{0,31})"
 
+_BLANK = re.compile(r"[ \t\r\n]")
 _TARGET = re.compile(rf"target {_NUMBER} {_ENDPOINT}")
 _DEPENDENCY = re.compile(rf"dep {_NAME} {_KIND} {_NUMBER}")
 _STEP = re.compile(rf"send {_NUMBER} {_ENDPOINT} (z9hG4bK[0-9a-f]{{16}}\.[0-9]+)|resend {_NUMBER}|ack {_NUMBER}"
@@ -317,6 +318,13 @@ class _Form(NamedTuple):
     # Whether the last line has the number of lines before it, and whether `err` may come after such lines.
     is_counted: bool = False
     has_steps: bool = False
+    # Whether any line with the command's word is one command, and has a reply.
+    is_plain: bool = True
+
+    def has(self, place: int, text: str) -> bool:
+        """Whether a line may be the one of this number, counted from 1, before the last."""
+        match = self.body.fullmatch(text) if self.body else None
+        return match is not None and (self.body is not _TARGET or match[1] == str(place))
 
     def ends(self, lines: Sequence[str]) -> bool:
         """Whether lines whose last one begins with `ok`, `none` or `err` are a reply of this form."""
@@ -325,8 +333,7 @@ class _Form(NamedTuple):
             match = self.done.fullmatch(last) if self.done else None
             if not match or not self.is_counted:
                 return bool(match)
-            return int(match[1]) == before and (self.body is not _TARGET or before > 0 and all(
-                text.startswith(f"target {place} ") for place, text in enumerate(lines[:-1], 1)))
+            return int(match[1]) == before and (before > 0 or self.body is not _TARGET)
         if last.startswith("none"):
             return self.has_none and not before and bool(_NONE.fullmatch(last))
         return (not before or self.has_steps) and bool(self.refused.fullmatch(last))
@@ -337,7 +344,7 @@ def _done(text: str) -> Pattern[str]:
 
 
 _FORMS: Dict[str, _Form] = {
-    "zone": _Form(_done(rf"zone {_NUMBER} {_NUMBER} {_NUMBER} {_NUMBER}"), _REFUSED_ZONE),
+    "zone": _Form(_done(rf"zone {_NUMBER} {_NUMBER} {_NUMBER} {_NUMBER}"), _REFUSED_ZONE, is_plain=False),
     "drop": _Form(_done(rf"drop {_NUMBER}")),
     "add": _Form(_done(rf"add {_NUMBER}")),
     "del": _Form(_done(rf"del {_NUMBER}")),
@@ -350,7 +357,7 @@ _FORMS: Dict[str, _Form] = {
     "call": _Form(_done("call"), _REFUSED_FIND, _STEP, has_none=True),
     "got": _Form(_done("got"), _REFUSED, _STEP, has_steps=True),
     "broke": _Form(_done("broke"), _REFUSED, _STEP, has_steps=True),
-    "quit": _Form(_done("quit")),
+    "quit": _Form(_done("quit"), is_plain=False),
 }
 _UNKNOWN = _Form(None)
 
@@ -455,7 +462,7 @@ def line(*fields: object) -> str:
     """
     texts = [str(field) for field in fields]
     for text in texts:
-        if not text or re.search(r"[ \t\r\n]", text):
+        if not text or _BLANK.search(text):
             raise InvalidCommand(f"a field is empty, or has a blank or a line end: {text[:200]!r}")
     return " ".join(texts)
 
@@ -499,6 +506,9 @@ def _prepared(command: str) -> _Command:
     """A command that breaks no protocol: it is one line, or a `zone` line and as many as it says, and it has a
     reply."""
     octets = command.encode("utf-8", "surrogateescape")
+    form = _FORMS.get(command.partition(" ")[0])
+    if form is not None and b"\n" not in octets and b"\r" not in octets and form.is_plain:
+        return _Command(command, octets + b"\n", form)
     first, *rest = octets.split(b"\n")
     text = command[:command.index("\n")] if rest else command
     fields = re.findall(rb"[^ \t]+", first)
@@ -792,8 +802,7 @@ class _Exchange:
                 raise self.bad(text)
             self.replies.append(Reply(command.text, self.lines))
             self.lines = []
-        elif (command.form.body is None or not command.form.body.fullmatch(text)
-              or len(self.lines) > _MAX_REPLY_LINES):
+        elif not command.form.has(len(self.lines), text) or len(self.lines) > _MAX_REPLY_LINES:
             raise self.bad(text)
 
     def read_before(self) -> None:
