@@ -406,7 +406,11 @@ class Faults(unittest.TestCase):
 
     def test_what_a_refused_find_names(self):
         """L1 names the set that changed; a code that is not known is a refusal all the same."""
-        with fake(lambda stream: stream.sendall(b"err L1 a.example.com. EXISTS\nerr Q9\n")) as (address, _):
+        def serve(stream):
+            read_lines(stream, 2)
+            stream.sendall(b"err L1 a.example.com. EXISTS\nerr Q9\n")
+
+        with fake(serve) as (address, _):
             session = siploc.connect(address)
             changed, unknown = (reply.refusal for reply in session.batch(["find sip:a"] * 2))
             self.assertEqual((changed.code, changed.changed), ("L1", ("a.example.com.", "EXISTS")))
