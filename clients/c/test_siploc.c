@@ -1,0 +1,923 @@
+/*
+ * Tests of the client against servers that they start: the program that the environment names in SIPLOC, and some that
+ * do what no server should. Replies are those of docs/FORMATS.md, and of the README's session.
+ *
+ *     cc -std=c11 -o test_siploc test_siploc.c siploc.c && SIPLOC=PROGRAM ./test_siploc TOP EXAMPLE
+ *
+ * TOP is the repository's folder, EXAMPLE the built example. The last line is `N passed, M failed`.
+ */
+#define _POSIX_C_SOURCE 200809L
+
+#include <arpa/inet.h>
+#include <errno.h>
+#include <signal.h>
+#include <stdarg.h>
+#include <stdio.h>
+#include <stdlib.h>
+#include <string.h>
+#include <sys/socket.h>
+#include <sys/wait.h>
+#include <time.h>
+#include <unistd.h>
+
+#include "siploc.h"
+
+static const char *top, *program, *example;
+static bool has_failed;
+
+/* A check that fails ends its test, not the others: what a test has started is ended after it. */
+#define CHECK(condition)                                                                                              \
+    do {                                                                                                              \
+        if (!(condition)) {                                                                                           \
+            printf("%s:%d: %s\n", __FILE__, __LINE__, #condition);                                                    \
+            has_failed = true;                                                                                        \
+            return;                                                                                                   \
+        }                                                                                                             \
+    } while (0)
+
+static void pause_for(int milliseconds)
+{
+    struct timespec time = {milliseconds / 1000, (long)(milliseconds % 1000) * 1000000};
+    nanosleep(&time, NULL);
+}
+
+/* ---- Servers ---- */
+
+enum { MAX_CHILDREN = 8 };
+static pid_t children[MAX_CHILDREN];
+static int child_count;
+
+static pid_t start_child(void)
+{
+    fflush(stdout);
+    pid_t child = fork();
+    if (child < 0 || child_count == MAX_CHILDREN)
+        abort();
+    if (child > 0)
+        children[child_count++] = child;
+    else
+        alarm(120);
+    return child;
+}
+
+/* Waits for a process that was started; its status. */
+static int wait_for_child(pid_t child)
+{
+    int status = -1;
+    for (int i = 0; i < child_count; i++) {
+        if (children[i] == child) {
+            children[i] = children[--child_count];
+            waitpid(child, &status, 0);
+        }
+    }
+    return status;
+}
+
+static void end_children(void)
+{
+    while (child_count > 0) {
+        pid_t child = children[child_count - 1];
+        kill(child, SIGKILL);
+        wait_for_child(child);
+    }
+}
+
+/* A listening socket on a free port of 127.0.0.1 or ::1. */
+static int listen_somewhere(bool is_v6, int *port)
+{
+    struct sockaddr_in6 v6 = {.sin6_family = AF_INET6, .sin6_addr = IN6ADDR_LOOPBACK_INIT};
+    struct sockaddr_in v4 = {.sin_family = AF_INET, .sin_addr = {htonl(INADDR_LOOPBACK)}};
+    int listener = socket(is_v6 ? AF_INET6 : AF_INET, SOCK_STREAM, 0);
+    struct sockaddr *address = is_v6 ? (struct sockaddr *)&v6 : (struct sockaddr *)&v4;
+    socklen_t size = is_v6 ? sizeof v6 : sizeof v4;
+    if (bind(listener, address, size) < 0 || listen(listener, 8) < 0 || getsockname(listener, address, &size) < 0)
+        abort();
+    *port = ntohs(is_v6 ? v6.sin6_port : v4.sin_port);
+    return listener;
+}
+
+static int free_port(bool is_v6)
+{
+    int port;
+    close(listen_somewhere(is_v6, &port));
+    return port;
+}
+
+typedef struct server {
+    pid_t process;
+    int port, output;
+    char address[32];
+} server;
+
+/* `siploc serve` on a free port. */
+static server start_server(int sessions, const char *settings)
+{
+    server server = {.port = free_port(false)};
+    int ends[2];
+    char text[1024];
+    snprintf(server.address, sizeof server.address, "127.0.0.1:%d", server.port);
+    snprintf(text, sizeof text, "%s\nlisten = \"%s\"\nsessions = %d\n", settings, server.address, sessions);
+    if (pipe(ends) < 0)
+        abort();
+    server.process = start_child();
+    if (server.process == 0) {
+        dup2(ends[1], 1);
+        close(ends[0]);
+        close(ends[1]);
+        execl(program, program, "serve", text, (char *)NULL);
+        _exit(127);
+    }
+    close(ends[1]);
+    server.output = ends[0];
+    return server;
+}
+
+/* What the program prints at its end, after its last session, is `closed EVENTS`, and its status is 0. */
+static bool closes(server *server, int events)
+{
+    char text[64] = "", want[64];
+    size_t size = 0;
+    for (ssize_t count; (count = read(server->output, text + size, sizeof text - 1 - size)) > 0; size += (size_t)count)
+        ;
+    close(server->output);
+    snprintf(want, sizeof want, "closed %d\n", events);
+    if (strcmp(text, want) != 0)
+        printf("got %s, wanted %s", text, want);
+    return wait_for_child(server->process) == 0 && strcmp(text, want) == 0;
+}
+
+/* A session, as soon as the server listens; NULL where it does not. */
+static siploc *connect_to(const char *address, int timeout)
+{
+    siploc *session;
+    for (int tries = 0; tries < 400; tries++) {
+        siploc_status status = siploc_connect(address, timeout, &session);
+        if (status == SIPLOC_OK)
+            return session;
+        if (status != SIPLOC_NOT_CONNECTED)
+            return NULL;
+        pause_for(25);
+    }
+    return NULL;
+}
+
+/* What a server does with its only connection. */
+typedef void serve(int stream, const void *context);
+
+static siploc *connect_to_fake(serve *serve, const void *context, int timeout)
+{
+    int port, listener = listen_somewhere(false, &port);
+    char address[32];
+    if (start_child() == 0) {
+        int stream = accept(listener, NULL, NULL);
+        close(listener);
+        signal(SIGPIPE, SIG_IGN);
+        serve(stream, context);
+        _exit(0);
+    }
+    close(listener);
+    snprintf(address, sizeof address, "127.0.0.1:%d", port);
+    return connect_to(address, timeout);
+}
+
+static void take_lines(int stream, size_t count)
+{
+    char octet;
+    while (count > 0 && read(stream, &octet, 1) == 1)
+        count -= octet == '\n';
+}
+
+static void take_all(int stream)
+{
+    char octets[4096];
+    while (read(stream, octets, sizeof octets) > 0)
+        ;
+}
+
+static void put(int stream, const char *octets, size_t size)
+{
+    for (ssize_t count; size > 0 && (count = write(stream, octets, size)) > 0; size -= (size_t)count)
+        octets += count;
+}
+
+/* ---- Texts ---- */
+
+static char *read_file(const char *path)
+{
+    char name[1024], *text = calloc(1, 1 << 17);
+    snprintf(name, sizeof name, "%s/%s", top, path);
+    FILE *file = fopen(name, "r");
+    if (file == NULL || text == NULL || fread(text, 1, (1 << 17) - 1, file) == 0)
+        abort();
+    fclose(file);
+    return text;
+}
+
+/* Appends a formatted text. */
+static void print_to(char **end, const char *format, ...)
+{
+    va_list values;
+    va_start(values, format);
+    *end += vsprintf(*end, format, values);
+    va_end(values);
+}
+
+/* Cuts a session's text into its commands, each a line or a `zone` line with its text; how many there are. */
+static size_t cut_commands(char *text, const char **commands)
+{
+    size_t count = 0;
+    while (*text != '\0') {
+        size_t lines = 1;
+        char *end = text;
+        sscanf(text, "zone %*s %zu", &lines);
+        lines += strncmp(text, "zone ", 5) == 0;
+        for (; lines > 0; lines--) {
+            end = strchr(end, '\n');
+            if (lines > 1)
+                end++;
+        }
+        *end = '\0';
+        if (*text != '\0' && *text != '#')
+            commands[count++] = text;
+        text = end + 1;
+    }
+    return count;
+}
+
+/* Appends the lines of each reply to a text. */
+static void keep_lines(void *context, size_t place, const siploc_reply *reply)
+{
+    (void)place;
+    for (size_t i = 0; i < reply->line_count; i++)
+        print_to(context, "%s\n", reply->lines[i]);
+}
+
+/* ---- Against the program ---- */
+
+static const char *const zone = "@ NAPTR 50 50 \"s\" \"SIPS+D2T\" \"\" _sips._tcp\n"
+                                "@ NAPTR 90 50 \"s\" \"SIP+D2T\" \"\" _sip._tcp\n"
+                                "@ NAPTR 100 50 \"s\" \"SIP+D2U\" \"\" _sip._udp\n"
+                                "_sip._tcp SRV 0 1 5060 server1\n_sip._tcp SRV 0 2 5060 server2\n"
+                                "server1 A 192.0.2.1\nserver2 A 192.0.2.2\n";
+static const char *const tcp_first = "transports = [\"tcp\", \"udp\"]";
+
+static void readme_session_in_a_batch(void)
+{
+    static const char *commands[256];
+    static char replies[1 << 16];
+    char *input = read_file("crates/siploc/stdin"), *want = read_file("crates/siploc/stdout"), *end = replies;
+    size_t count = cut_commands(input, commands);
+    CHECK(strcmp(commands[count - 1], "quit") == 0);
+    server server = start_server(1, tcp_first);
+    siploc *session = connect_to(server.address, 30000);
+    CHECK(session != NULL);
+    siploc_status status = siploc_batch(session, commands, count - 1, keep_lines, &end);
+    siploc_close(session);
+    print_to(&end, "ok quit\n");
+    bool is_same = strcmp(replies, want) == 0;
+    free(input);
+    free(want);
+    CHECK(status == SIPLOC_OK && is_same);
+    CHECK(closes(&server, 20));
+}
+
+/* Whether a question has these targets: each by the last digit of its address. */
+static bool finds(siploc *session, const char *uri, const siploc_draws *draws, const char *want)
+{
+    const siploc_reply *reply;
+    char got[33] = "";
+    if (siploc_find(session, uri, draws, &reply) != SIPLOC_OK || reply->target_count > 32)
+        return false;
+    for (size_t i = 0; i < reply->target_count; i++)
+        got[i] = reply->targets[i].address[strlen(reply->targets[i].address) - 1];
+    return strcmp(got, want) == 0 && (*want == '\0') == (reply->reason != NULL);
+}
+
+static bool is_target(const siploc_target *target, const char *transport, const char *address, uint16_t port)
+{
+    return strcmp(target->transport, transport) == 0 && strcmp(target->address, address) == 0 && target->port == port;
+}
+
+static bool is_dependency(const siploc_dependency *it, const char *name, const char *kind, uint64_t records)
+{
+    return strcmp(it->name, name) == 0 && strcmp(it->kind, kind) == 0 && it->records == records;
+}
+
+static void readme_session_by_calls(void)
+{
+    const char *uri = "sip:bob@example.com";
+    const uint32_t words[] = {2, 0}, ten = 10;
+    const siploc_draws draws = {.words = words, .word_count = 2};
+    const siploc_target second = {"tcp", "192.0.2.2", 5060};
+    const siploc_reply *reply;
+    server server = start_server(1, tcp_first);
+    siploc *s = connect_to(server.address, 30000);
+    CHECK(s != NULL);
+    CHECK(siploc_load(s, "example.com.", zone, &reply) == SIPLOC_OK);
+    CHECK(reply->counts[0] == 7 && reply->counts[1] == 0 && reply->counts[2] == 0 && reply->counts[3] == 4);
+    CHECK(finds(s, uri, &draws, "21"));
+    CHECK(siploc_hold(s, &second, 5000, NULL) == SIPLOC_OK);
+    CHECK(finds(s, uri, &draws, "1"));
+    CHECK(siploc_clock(s, 5000, &reply) == SIPLOC_OK && reply->counts[0] == 5000 && reply->step_count == 0);
+    CHECK(finds(s, uri, &draws, "21"));
+    CHECK(siploc_add(s, "_sip._tcp.example.com. SRV 1 0 5060 server3.example.com.", &reply) == SIPLOC_OK);
+    CHECK(reply->counts[0] == 1);
+    CHECK(siploc_add(s, "server3.example.com. A 192.0.2.3", &reply) == SIPLOC_OK && reply->counts[0] == 1);
+    CHECK(finds(s, uri, &draws, "213"));
+    CHECK(siploc_find(s, "sip:server1.example.com:5070", NULL, &reply) == SIPLOC_OK);
+    CHECK(reply->target_count == 1 && is_target(reply->targets, "udp", "192.0.2.1", 5070));
+    CHECK(siploc_remove(s, "server1.example.com. A 192.0.2.1", &reply) == SIPLOC_OK && reply->counts[0] == 1);
+    CHECK(siploc_repair(s, NULL) == SIPLOC_OK);
+    CHECK(siploc_deps(s, "sip:server1.example.com:5070", &reply) == SIPLOC_OK && reply->dependency_count == 6);
+    CHECK(is_dependency(&reply->dependencies[0], "server1.example.com.", "A", 0));
+    CHECK(is_dependency(&reply->dependencies[3], "example.com.", "EXISTS", 1));
+    CHECK(is_dependency(&reply->dependencies[5], "*.example.com.", "CNAME", 0));
+    CHECK(finds(s, uri, &draws, "23"));
+    CHECK(siploc_add(s, "server1.example.com. A 192.0.2.1", NULL) == SIPLOC_OK);
+    CHECK(finds(s, "sip:192.0.2.9", NULL, "9"));
+    CHECK(siploc_find(s, "sip:x.example.com", NULL, &reply) == SIPLOC_OK);
+    CHECK(reply->target_count == 0 && strcmp(reply->reason, "NoAddress") == 0);
+    CHECK(siploc_add(s, "SERVER1.example.com. A 192.0.2.1", &reply) == SIPLOC_REFUSED);
+    CHECK(strcmp(reply->code, "S3") == 0 && strcmp(reply->meaning, "the record is in the zone already") == 0);
+    CHECK(siploc_call(s, "invite", 1, uri, &draws, &reply) == SIPLOC_OK && reply->step_count == 1);
+    CHECK(reply->steps[0].kind == SIPLOC_SEND && reply->steps[0].attempt == 1);
+    CHECK(is_target(&reply->steps[0].target, "tcp", "192.0.2.2", 5060));
+    CHECK(strcmp(reply->steps[0].branch, "z9hG4bK0000000000000001.1") == 0);
+    CHECK(siploc_got(s, 1, 503, &ten, &reply) == SIPLOC_OK && reply->step_count == 3);
+    CHECK(reply->steps[0].kind == SIPLOC_ACK && reply->steps[0].attempt == 1);
+    CHECK(reply->steps[1].kind == SIPLOC_HOLD && reply->steps[1].milliseconds == 10000);
+    CHECK(is_target(&reply->steps[1].target, "tcp", "192.0.2.2", 5060));
+    CHECK(reply->steps[2].kind == SIPLOC_SEND && reply->steps[2].attempt == 2);
+    CHECK(siploc_got(s, 2, 200, NULL, &reply) == SIPLOC_OK && reply->step_count == 1);
+    CHECK(reply->steps[0].kind == SIPLOC_DELIVER && reply->steps[0].code == 200);
+    CHECK(finds(s, uri, &draws, "13"));
+    CHECK(siploc_clock(s, 15000, NULL) == SIPLOC_OK);
+    CHECK(finds(s, uri, &draws, "213"));
+    siploc_close(s);
+    CHECK(closes(&server, 20));
+}
+
+/* What the README's session has not: sessions/holds.txt, calls.txt, edits.txt and draws.txt. */
+static void other_calls(void)
+{
+    const uint32_t words[] = {3795398737, 17903413, 3545275701, 194195274, 2326030198};
+    const siploc_draws given = {.words = words, .word_count = 5}, zero = {.has_seed = true};
+    const siploc_draws last = {.has_seed = true, .seed = UINT64_MAX}, both = {.has_seed = true, .word_count = 1};
+    const siploc_target target = {"udp", "192.0.2.9", 5060}, v6 = {"sctp", "::1", 5060};
+    const siploc_reply *reply;
+    server server = start_server(1, "");
+    siploc *s = connect_to(server.address, 30000);
+    CHECK(s != NULL);
+    CHECK(siploc_load(s, "e.", "a A 192.0.2.1\r\na A 192.0.2.2\nb.f. A 192.0.2.1", &reply) == SIPLOC_OK);
+    CHECK(reply->counts[0] == 2 && reply->counts[1] == 1 && reply->counts[2] == 0 && reply->counts[3] == 1);
+    CHECK(siploc_load(s, "example.com.", "", &reply) == SIPLOC_OK && reply->counts[0] == 0);
+    CHECK(siploc_drop(s, "e.", &reply) == SIPLOC_OK && reply->counts[0] == 1);
+    CHECK(siploc_hold(s, &v6, 0, NULL) == SIPLOC_OK && siploc_hold(s, &target, 1, NULL) == SIPLOC_OK);
+    CHECK(siploc_find(s, "sip:192.0.2.9", &zero, &reply) == SIPLOC_OK && strcmp(reply->reason, "AllHeld") == 0);
+    CHECK(siploc_call(s, "invite", 7, "sip:192.0.2.9", NULL, &reply) == SIPLOC_OK && reply->step_count == 0);
+    CHECK(strcmp(reply->reason, "AllHeld") == 0);
+    CHECK(siploc_release(s, &target, NULL) == SIPLOC_OK);
+    CHECK(siploc_call(s, "other", UINT64_MAX, "sip:192.0.2.9", &zero, &reply) == SIPLOC_OK);
+    CHECK(strcmp(reply->steps[0].branch, "z9hG4bKffffffffffffffff.1") == 0);
+    CHECK(siploc_clock(s, 500, &reply) == SIPLOC_OK && reply->steps[0].kind == SIPLOC_RESEND);
+    CHECK(siploc_broke(s, &reply) == SIPLOC_OK && reply->step_count == 3);
+    CHECK(reply->steps[0].milliseconds == 30000 && reply->steps[1].code == 500);
+    CHECK(reply->steps[2].kind == SIPLOC_EXHAUSTED);
+    CHECK(siploc_load(s, "example.com.",
+                      "_sip._tcp SRV 0 1 5060 a\n_sip._tcp SRV 0 2 5060 b\n_sip._tcp SRV 0 3 5060 c\n"
+                      "_sip._tcp SRV 0 4 5060 d\n_sip._tcp SRV 1 0 5060 e\na A 192.0.2.1\nb A 192.0.2.2\n"
+                      "c A 192.0.2.3\nd A 192.0.2.4\ne A 192.0.2.5\n",
+                      NULL) == SIPLOC_OK);
+    CHECK(finds(s, "sip:example.com;transport=tcp", NULL, "12345"));
+    CHECK(finds(s, "sip:example.com;transport=tcp", &given, "42135"));
+    CHECK(finds(s, "sip:example.com;transport=tcp", &zero, "24315"));
+    CHECK(finds(s, "sip:example.com;transport=tcp", &last, "14325"));
+    CHECK(siploc_find(s, "sip:example.com", &both, NULL) == SIPLOC_INVALID);
+    siploc_close(s);
+}
+
+/* What a batch of refusals has shown. */
+typedef struct refusals {
+    char *end;
+    size_t count;
+    bool is_right;
+} refusals;
+
+static void keep_refusal(void *context, size_t place, const siploc_reply *reply)
+{
+    refusals *refusals = context;
+    keep_lines(&refusals->end, place, reply);
+    if (reply->code != NULL) {
+        uint64_t line = strcmp(reply->code, "Z12") == 0 || strcmp(reply->code, "Z14") == 0 ? 2
+                        : strcmp(reply->code, "Z15") == 0                                  ? 33
+                                                                                           : 0;
+        refusals->count++;
+        refusals->is_right &= reply->fault_line == line && reply->meaning == siploc_meaning(reply->code) &&
+                              strncmp(reply->meaning, "a code that", 11) != 0;
+    }
+}
+
+/* Each code once, by a batch: 47 of the 53 of docs/FORMATS.md; K2, L1, S8, Memory, X1 and F1 are not in the file. */
+static void each_refusal(void)
+{
+    static char input[1 << 16], want[1 << 16], replies[1 << 16], settings[512];
+    static const char *commands[256];
+    char *text = read_file("clients/tests/refusals.txt"), *inputs = input, *wanted = want;
+    char *begin = strstr(text, "$ siploc serve '") + strlen("$ siploc serve '"), *end = strstr(begin, "listen");
+    memcpy(settings, begin, (size_t)(end - begin));
+    for (char *line = strtok(strstr(end, "'\n") + 2, "\n"); line != NULL; line = strtok(NULL, "\n")) {
+        if (strncmp(line, "> ", 2) == 0)
+            print_to(&inputs, "%s\n", line + 2);
+        else if (strncmp(line, "closed", 6) != 0)
+            print_to(&wanted, "%s\n", line);
+    }
+    free(text);
+    server server = start_server(1, settings);
+    siploc *session = connect_to(server.address, 30000);
+    CHECK(session != NULL);
+    refusals refusals = {replies, 0, true};
+    size_t count = cut_commands(input, commands);
+    CHECK(siploc_batch(session, commands, count, keep_refusal, &refusals) == SIPLOC_OK);
+    CHECK(strcmp(replies, want) == 0 && refusals.is_right);
+    CHECK(refusals.count == 47);
+    siploc_close(session);
+    CHECK(closes(&server, 6));
+}
+
+/* A refusal leaves the session open; a line may have 65,536 octets; a hold that is refused has its step all the same. */
+static void refusals_by_calls(void)
+{
+    static char uri[65536];
+    const uint32_t ten = 10;
+    const siploc_target target = {"udp", "192.0.2.1", 5060};
+    const siploc_reply *reply;
+    server server = start_server(1, "holds = 0");
+    siploc *s = connect_to(server.address, 30000);
+    CHECK(s != NULL);
+    CHECK(siploc_load(s, "e.", "; x\na A x", &reply) == SIPLOC_REFUSED && strcmp(reply->code, "Z4") == 0);
+    CHECK(reply->fault_line == 2);
+    CHECK(siploc_drop(s, "e.", &reply) == SIPLOC_REFUSED && strcmp(reply->code, "S2") == 0);
+    CHECK(siploc_remove(s, "a", &reply) == SIPLOC_REFUSED && strcmp(reply->code, "Z2") == 0);
+    CHECK(siploc_deps(s, "sip:-", &reply) == SIPLOC_REFUSED && strcmp(reply->code, "U2") == 0);
+    CHECK(siploc_hold(s, &target, 1, &reply) == SIPLOC_REFUSED && strcmp(reply->code, "O4") == 0);
+    CHECK(siploc_release(s, &target, &reply) == SIPLOC_REFUSED && strcmp(reply->code, "O3") == 0);
+    CHECK(siploc_broke(s, &reply) == SIPLOC_REFUSED && strcmp(reply->code, "K3") == 0);
+    CHECK(siploc_call(s, "x", 1, "sip:a", NULL, &reply) == SIPLOC_REFUSED && strcmp(reply->code, "K1") == 0);
+    CHECK(siploc_clock(s, (UINT64_C(1) << 52) + 1, &reply) == SIPLOC_REFUSED && strcmp(reply->code, "O2") == 0);
+    memset(uri, 'a', sizeof uri - 1);
+    memcpy(uri, "sip:", 4);
+    uri[65532] = '\0'; /* With `find ` the line has 65,537 octets, and then one less. */
+    CHECK(siploc_find(s, uri, NULL, &reply) == SIPLOC_REFUSED && strcmp(reply->code, "K2") == 0);
+    memset(uri + 4, ';', 65527);
+    uri[65531] = '\0';
+    CHECK(siploc_find(s, uri, NULL, &reply) == SIPLOC_REFUSED && *reply->code == 'U');
+    CHECK(siploc_load(s, "example.com.", "a A 192.0.2.1\na A 192.0.2.2", NULL) == SIPLOC_OK);
+    CHECK(siploc_call(s, "invite", 1, "sip:a.example.com:5060", NULL, NULL) == SIPLOC_OK);
+    CHECK(siploc_got(s, 1, 503, &ten, &reply) == SIPLOC_REFUSED && strcmp(reply->code, "O4") == 0);
+    CHECK(reply->step_count == 3 && reply->steps[1].kind == SIPLOC_HOLD && reply->steps[2].kind == SIPLOC_SEND);
+    siploc_close(s);
+}
+
+enum { FINDS = 100000, HOSTS = 1000 };
+
+/* Which find of how many is due, and whether all replies were their own. */
+typedef struct counted {
+    size_t begin, count;
+    bool is_right;
+} counted;
+
+static void check_find(void *context, size_t place, const siploc_reply *reply)
+{
+    counted *counted = context;
+    size_t n = counted->begin + place;
+    char address[32];
+    snprintf(address, sizeof address, "10.0.%zu.%zu", n % HOSTS / 256, n % HOSTS % 256);
+    counted->is_right &= reply->target_count == 1 && strcmp(reply->lines[1], "ok find 1") == 0 &&
+                         is_target(reply->targets, "udp", address, (uint16_t)(n % 65535 + 1));
+    counted->count++;
+}
+
+static void finds_in_batches(void)
+{
+    static char text[1 << 16], lines[10000][64];
+    static const char *commands[10000];
+    char *end = text;
+    for (int n = 0; n < HOSTS; n++)
+        print_to(&end, "s%d A 10.0.%d.%d\n", n, n / 256, n % 256);
+    server server = start_server(1, "");
+    siploc *session = connect_to(server.address, 30000);
+    CHECK(session != NULL && siploc_load(session, "example.com.", text, NULL) == SIPLOC_OK);
+    counted counted = {0, 0, true};
+    for (; counted.begin < FINDS; counted.begin += 10000) {
+        for (size_t i = 0; i < 10000; i++) {
+            size_t n = counted.begin + i;
+            snprintf(lines[i], sizeof lines[i], "find sip:s%zu.example.com:%zu", n % HOSTS, n % 65535 + 1);
+            commands[i] = lines[i];
+        }
+        CHECK(siploc_batch(session, commands, 10000, check_find, &counted) == SIPLOC_OK);
+    }
+    CHECK(counted.count == FINDS && counted.is_right);
+    siploc_close(session);
+    CHECK(closes(&server, FINDS + 1));
+}
+
+static void count_targets(void *context, size_t place, const siploc_reply *reply)
+{
+    (void)place;
+    *(size_t *)context += reply->target_count == 32 && reply->line_count == 33;
+}
+
+/* 20,000 finds of 32 targets each, sent at once: more than both sockets hold. Over each kind of address. */
+static void batch_of_more_than_the_sockets_hold(void)
+{
+    static char zone_text[1024], line[512], address[3][128];
+    static const char *commands[20000];
+    char *end = zone_text, relay[1024], port[16];
+    for (int n = 0; n < 32; n++)
+        print_to(&end, "a A 192.0.2.%d\n", n);
+    snprintf(line, sizeof line, "find sip:%0400d@a.e:5060", 0);
+    for (size_t i = 0; i < 20000; i++)
+        commands[i] = line;
+    server server = start_server(3, "");
+    snprintf(port, sizeof port, "%d", server.port);
+    snprintf(relay, sizeof relay, "%s/clients/tests/relay.py", top);
+    snprintf(address[0], sizeof address[0], "%s", server.address);
+    snprintf(address[1], sizeof address[1], "[::1]:%d", free_port(true));
+    snprintf(address[2], sizeof address[2], "unix:/tmp/siploc-test-%ld", (long)getpid());
+    for (int i = 0; i < 3; i++) {
+        int input[2];
+        pid_t child = -1;
+        if (pipe(input) < 0)
+            abort();
+        if (i > 0 && (child = start_child()) == 0) {
+            dup2(input[0], 0);
+            close(input[0]);
+            close(input[1]);
+            close(1);
+            execlp("python3", "python3", relay, port, address[i], (char *)NULL);
+            _exit(127);
+        }
+        close(input[0]);
+        siploc *session = connect_to(address[i], 30000);
+        CHECK(session != NULL && siploc_load(session, "e.", zone_text, NULL) == SIPLOC_OK);
+        size_t count = 0;
+        siploc_status status = siploc_batch(session, commands, 20000, count_targets, &count);
+        siploc_close(session);
+        close(input[1]);
+        if (i > 0)
+            wait_for_child(child);
+        unlink(address[2] + 5);
+        CHECK(status == SIPLOC_OK && count == 20000);
+    }
+    CHECK(closes(&server, 60003));
+}
+
+static void check_same(void *context, size_t place, const siploc_reply *reply)
+{
+    (void)place;
+    counted *counted = context;
+    counted->count++;
+    counted->is_right &= reply->target_count == 1 && is_target(reply->targets, "udp", "192.0.2.1", 5070);
+}
+
+static void server_that_ends_in_the_midst(void)
+{
+    static const char *commands[1000000];
+    const int pauses[] = {5, 50, 150};
+    for (size_t i = 0; i < 1000000; i++)
+        commands[i] = "find sip:a.e:5070";
+    for (int turn = 0; turn < 3; turn++) {
+        server server = start_server(1, "");
+        siploc *session = connect_to(server.address, 30000);
+        CHECK(session != NULL && siploc_load(session, "e.", "a A 192.0.2.1", NULL) == SIPLOC_OK);
+        if (start_child() == 0) {
+            pause_for(pauses[turn]);
+            kill(server.process, SIGKILL);
+            _exit(0);
+        }
+        counted counted = {0, 0, true};
+        siploc_status status = siploc_batch(session, commands, 1000000, check_same, &counted);
+        siploc_doubt doubt = siploc_broken(session);
+        siploc_status after = siploc_find(session, "sip:a.e", NULL, NULL);
+        siploc_close(session);
+        close(server.output);
+        wait_for_child(server.process);
+        CHECK(status == SIPLOC_LOST || status == SIPLOC_HALF_REPLY);
+        CHECK(counted.is_right && counted.count == doubt.replied && doubt.replied < 1000000);
+        CHECK(doubt.replied <= doubt.sent && doubt.may_be_done == (doubt.sent > doubt.replied));
+        CHECK(after == SIPLOC_NOT_CONNECTED);
+        CHECK(siploc_connect(server.address, 1000, &session) == SIPLOC_NOT_CONNECTED && errno == ECONNREFUSED);
+        CHECK(session == NULL);
+    }
+}
+
+static void example_program(void)
+{
+    char command[1024], output[256] = "";
+    server server = start_server(2, "");
+    siploc_close(connect_to(server.address, 1000));
+    snprintf(command, sizeof command, "%s %s", example, server.address);
+    FILE *pipe = popen(command, "r");
+    CHECK(pipe != NULL);
+    size_t size = fread(output, 1, sizeof output - 1, pipe);
+    CHECK(pclose(pipe) == 0 && size > 0 && strcmp(output, "udp 192.0.2.1 5060\n") == 0);
+    CHECK(closes(&server, 1));
+}
+
+/* ---- Against servers that do what they should not ---- */
+
+/* Replaces the escapes of a field of replies.txt; how many octets it has then. */
+static size_t unescape(char *text)
+{
+    char *begin = text, *to = text;
+    for (; *text != '\0'; text++) {
+        unsigned octet;
+        if (*text != '\\') {
+            *to++ = *text;
+        } else if (*++text == 'x') {
+            sscanf(text + 1, "%2x", &octet);
+            *to++ = (char)octet;
+            text += 2;
+        } else {
+            *to++ = *text == 'n' ? '\n' : *text == 'r' ? '\r' : *text;
+        }
+    }
+    *to = '\0';
+    return (size_t)(to - begin);
+}
+
+/* A row of replies.txt. */
+typedef struct row {
+    size_t lines, size;
+    const char *reply;
+    char kept[4096], code[40], *end;
+} row;
+
+static void serve_row(int stream, const void *context)
+{
+    const row *row = context;
+    take_lines(stream, row->lines);
+    put(stream, row->reply, row->size);
+    shutdown(stream, SHUT_WR);
+    take_all(stream);
+}
+
+static void keep_reply(void *context, size_t place, const siploc_reply *reply)
+{
+    row *row = context;
+    keep_lines(&row->end, place, reply);
+    if (reply->code != NULL)
+        snprintf(row->code, sizeof row->code, "%s", reply->code);
+}
+
+/* What is a reply of the protocol, and what is not. */
+static void replies(void)
+{
+    char *text = read_file("clients/tests/replies.txt"), *rest = text;
+    int rows = 0;
+    for (char *line; (line = strtok_r(rest, "\n", &rest)) != NULL;) {
+        if (*line == '#')
+            continue;
+        char *kind = line, *command = strchr(line, '\t') + 1, *reply = strchr(command, '\t') + 1;
+        command[-1] = reply[-1] = '\0';
+        row row = {.lines = 1, .reply = reply, .code = "good", .end = row.kept};
+        unescape(command);
+        row.size = unescape(reply);
+        for (const char *at = command; (at = strchr(at, '\n')) != NULL; at++)
+            row.lines++;
+        siploc *session = connect_to_fake(serve_row, &row, 10000);
+        CHECK(session != NULL);
+        const char *const commands[] = {command};
+        siploc_status status = siploc_batch(session, commands, 1, keep_reply, &row);
+        const char *seen = status == SIPLOC_OK           ? row.code
+                           : status == SIPLOC_LOST       ? "lost"
+                           : status == SIPLOC_HALF_REPLY ? "half"
+                           : status == SIPLOC_BAD_REPLY  ? "bad"
+                                                         : siploc_status_text(status);
+        siploc_doubt doubt = siploc_broken(session);
+        bool is_right = strcmp(seen, kind) == 0;
+        if (status == SIPLOC_OK)
+            is_right &= strcmp(row.kept, reply) == 0;
+        else
+            is_right &= (doubt.may_be_done || doubt.replied == 1) &&
+                        siploc_repair(session, NULL) == SIPLOC_NOT_CONNECTED;
+        if (!is_right)
+            printf("%s: %s: got %s, wanted %s\n", command, reply, seen, kind);
+        siploc_close(session);
+        CHECK(is_right);
+        wait_for_child(children[0]);
+        rows++;
+    }
+    free(text);
+    CHECK(rows == 118);
+}
+
+static void keep_set(void *context, size_t place, const siploc_reply *reply)
+{
+    if (place == 0)
+        snprintf(context, 64, "%s %s %s", reply->code, reply->name, reply->kind);
+    else
+        strcat(context, strstr(reply->meaning, "does not know") != NULL ? " and unknown" : "");
+}
+
+static void serve_refusals(int stream, const void *context)
+{
+    (void)context;
+    take_lines(stream, 2);
+    put(stream, "err L1 a.example.com. EXISTS\nerr Q9\n", 36);
+    take_all(stream);
+}
+
+/* L1 names the set that changed; a code that is not known is a refusal all the same. */
+static void what_a_refused_find_names(void)
+{
+    const char *const commands[] = {"find sip:a", "find sip:a"};
+    char seen[128] = "";
+    siploc *session = connect_to_fake(serve_refusals, NULL, 10000);
+    CHECK(session != NULL && siploc_batch(session, commands, 2, keep_set, seen) == SIPLOC_OK);
+    siploc_close(session);
+    CHECK(strcmp(seen, "L1 a.example.com. EXISTS and unknown") == 0);
+}
+
+static void serve_garbage(int stream, const void *context)
+{
+    take_lines(stream, 1);
+    for (int i = 0; i < 100000; i++)
+        put(stream, context, strlen(context));
+    take_all(stream);
+}
+
+/* A line, and a reply, that never end. */
+static void garbage_without_end(void)
+{
+    const char *const texts[] = {"xxxxxxxxxx", "dep a. A 1\n", "dep a. A 1"};
+    for (int i = 0; i < 3; i++) {
+        siploc *session = connect_to_fake(serve_garbage, texts[i], 20000);
+        CHECK(session != NULL);
+        siploc_status status = siploc_deps(session, "sip:a", NULL);
+        siploc_close(session);
+        CHECK(status == SIPLOC_BAD_REPLY);
+    }
+}
+
+static void serve_one_line(int stream, const void *context)
+{
+    char octets[64];
+    ssize_t count = read(stream, octets, sizeof octets);
+    (void)context;
+    if (count == 7 && memcmp(octets, "repair\n", 7) == 0)
+        put(stream, "ok repair\n", 10);
+    take_all(stream);
+}
+
+/* What would break the protocol is refused before it is sent, and the session goes on. */
+static void invalid_commands_are_not_sent(void)
+{
+    static char name[65600] = "zone ";
+    memset(name + 5, 'a', 65536);
+    strcpy(name + 5 + 65536, " 1\na");
+    const char *const texts[] = {"", " ", "\t", "#", "# find sip:a", "quit", " quit\t", "find sip:a\n", "find sip:a\nquit",
+                                 "find sip:a\r", "add a.e. A 192.0.2.1\rx", "zone e. 1", "zone e. 0\nfind sip:a",
+                                 "zone e. 2\na A 192.0.2.1", "zone e. 1048577\na", "zone e.\na", "zone e. 1\na\r",
+                                 "zone e. 99999999999999999999\na", name};
+    const siploc_target blank = {"udp", "a b", 1}, empty = {"udp", "", 1};
+    siploc *s = connect_to_fake(serve_one_line, NULL, 10000);
+    CHECK(s != NULL);
+    for (size_t i = 0; i < sizeof texts / sizeof texts[0]; i++) {
+        const char *const commands[] = {"find sip:a", texts[i]};
+        CHECK(siploc_batch(s, commands, 2, NULL, NULL) == SIPLOC_INVALID);
+    }
+    CHECK(siploc_find(s, "sip:a seed 1", NULL, NULL) == SIPLOC_INVALID);
+    CHECK(siploc_find(s, "", NULL, NULL) == SIPLOC_INVALID && siploc_deps(s, "sip:a\n", NULL) == SIPLOC_INVALID);
+    CHECK(siploc_add(s, "a.e. A 192.0.2.1\ndel a.e. A 192.0.2.1", NULL) == SIPLOC_INVALID);
+    CHECK(siploc_remove(s, "a.e. A 192.0.2.1\r", NULL) == SIPLOC_INVALID);
+    CHECK(siploc_drop(s, "e. f.", NULL) == SIPLOC_INVALID && siploc_load(s, "e. 0", "", NULL) == SIPLOC_INVALID);
+    CHECK(siploc_load(s, "e.", "a A\r192.0.2.1", NULL) == SIPLOC_INVALID);
+    CHECK(siploc_hold(s, &blank, 1, NULL) == SIPLOC_INVALID && siploc_release(s, &empty, NULL) == SIPLOC_INVALID);
+    CHECK(siploc_call(s, "invite x", 1, "sip:a", NULL, NULL) == SIPLOC_INVALID);
+    /* The first line that the server receives is this one. */
+    CHECK(siploc_repair(s, NULL) == SIPLOC_OK);
+    siploc_close(s);
+}
+
+static void serve_text(int stream, const void *context)
+{
+    put(stream, context, strlen(context));
+}
+
+static void serve_octet(int stream, const void *context)
+{
+    char octet;
+    if (read(stream, &octet, 1) == 1)
+        put(stream, context, strlen(context));
+}
+
+/* A session that the server has closed or refused: a command that is sent later was not done; one that was read may
+ * be. */
+static void lost_before_and_after(void)
+{
+    const siploc_reply *reply;
+    siploc *s = connect_to_fake(serve_text, "", 10000);
+    pause_for(200);
+    CHECK(s != NULL && siploc_add(s, "a.e. A 192.0.2.1", NULL) == SIPLOC_LOST);
+    CHECK(!siploc_broken(s).may_be_done && siploc_broken(s).sent == 0);
+    siploc_close(s);
+    s = connect_to_fake(serve_octet, "", 10000);
+    CHECK(s != NULL && siploc_add(s, "a.e. A 192.0.2.1", NULL) == SIPLOC_LOST);
+    CHECK(siploc_broken(s).may_be_done && siploc_broken(s).replied == 0);
+    siploc_close(s);
+    s = connect_to_fake(serve_text, "err Busy\n", 10000);
+    pause_for(200);
+    CHECK(s != NULL && siploc_add(s, "a.e. A 192.0.2.1", &reply) == SIPLOC_REFUSED);
+    CHECK(strcmp(reply->code, "Busy") == 0 && siploc_repair(s, NULL) == SIPLOC_NOT_CONNECTED);
+    siploc_close(s);
+}
+
+static void serve_nothing(int stream, const void *context)
+{
+    (void)stream;
+    (void)context;
+    pause_for(20000);
+}
+
+static void serve_slowly(int stream, const void *context)
+{
+    (void)context;
+    char octet;
+    if (read(stream, &octet, 1) == 1)
+        while (write(stream, "t", 1) == 1)
+            pause_for(50);
+}
+
+/* No reply, one that comes too slowly, and a server that takes nothing. */
+static void timeouts(void)
+{
+    static char line[60000] = "find sip:";
+    static const char *commands[1000];
+    memset(line + 9, 'a', sizeof line - 10);
+    for (int i = 0; i < 1000; i++)
+        commands[i] = line;
+    for (int turn = 0; turn < 4; turn++) {
+        struct timespec begin, end;
+        siploc *s = connect_to_fake(turn % 2 == 0 ? serve_nothing : serve_slowly, NULL, 400);
+        CHECK(s != NULL);
+        clock_gettime(CLOCK_MONOTONIC, &begin);
+        siploc_status status = siploc_batch(s, commands, turn < 2 ? 1 : 1000, NULL, NULL);
+        clock_gettime(CLOCK_MONOTONIC, &end);
+        siploc_doubt doubt = siploc_broken(s);
+        siploc_close(s);
+        double seconds = (double)(end.tv_sec - begin.tv_sec) + (double)(end.tv_nsec - begin.tv_nsec) / 1e9;
+        CHECK(status == SIPLOC_TIMED_OUT && seconds > 0.39 && seconds < 5);
+        CHECK(doubt.may_be_done && doubt.replied == 0 && doubt.sent < 1000);
+    }
+}
+
+static void addresses(void)
+{
+    char path[128] = "unix:", address[64];
+    siploc *session;
+    memset(path + 5, 'x', 108);
+    const char *const wrong[] = {"", "127.0.0.1", "localhost:5099", "192.0.2.1:5099", "[2001:db8::1]:5099", "127.0.0.1:0",
+                                 "127.0.0.1:65536", "127.0.0.1:x", "::1:5099", "unix:", path, "[127.0.0.1]:5099",
+                                 "300.0.0.1:1", ":1", "[]:1", "[::1:5099"};
+    for (size_t i = 0; i < sizeof wrong / sizeof wrong[0]; i++)
+        CHECK(siploc_connect(wrong[i], 1000, &session) == SIPLOC_INVALID);
+    snprintf(address, sizeof address, "127.0.0.1:%d", free_port(false));
+    CHECK(siploc_connect(address, 1000, &session) == SIPLOC_NOT_CONNECTED && errno == ECONNREFUSED);
+    snprintf(address, sizeof address, "[::1]:%d", free_port(true));
+    CHECK(siploc_connect(address, 1000, &session) == SIPLOC_NOT_CONNECTED);
+    CHECK(siploc_connect("unix:/nonexistent/socket", 1000, &session) == SIPLOC_NOT_CONNECTED && errno == ENOENT);
+    siploc_close(NULL);
+}
+
+int main(int count, char **words)
+{
+    static const struct {
+        const char *name;
+        void (*run)(void);
+    } tests[] = {
+#define TEST(name) {#name, name}
+        TEST(readme_session_in_a_batch), TEST(readme_session_by_calls), TEST(other_calls), TEST(each_refusal),
+        TEST(refusals_by_calls), TEST(finds_in_batches), TEST(batch_of_more_than_the_sockets_hold),
+        TEST(server_that_ends_in_the_midst), TEST(example_program), TEST(replies), TEST(what_a_refused_find_names),
+        TEST(garbage_without_end), TEST(invalid_commands_are_not_sent), TEST(lost_before_and_after), TEST(timeouts),
+        TEST(addresses)};
+    int passed = 0, failed = 0;
+    program = getenv("SIPLOC");
+    if (count < 3 || program == NULL)
+        return 2;
+    top = words[1];
+    example = words[2];
+    for (size_t i = 0; i < sizeof tests / sizeof tests[0]; i++) {
+        if (count > 3 && strcmp(words[3], tests[i].name) != 0)
+            continue;
+        has_failed = false;
+        tests[i].run();
+        end_children();
+        if (has_failed)
+            printf("FAIL %s\n", tests[i].name);
+        *(has_failed ? &failed : &passed) += 1;
+    }
+    printf("%d passed, %d failed\n", passed, failed);
+    return failed > 0;
+}

@@ -1,0 +1,24 @@
+// Asks for the targets of a URI, and holds the first: example ADDRESS, such as 127.0.0.1:5099.
+package main
+
+import (
+	"fmt"
+	"log"
+	"os"
+	"time"
+
+	"siploc"
+)
+
+func main() {
+	session, err := siploc.Connect(os.Args[1], time.Second)
+	if err != nil {
+		log.Fatal(err)
+	}
+	defer session.Close()
+	answer, err := session.Find("sip:bob@192.0.2.1", siploc.Draws{})
+	if err != nil {
+		log.Fatal(err)
+	}
+	fmt.Println(answer.Targets, answer.Reason)
+}

@@ -1,0 +1,3 @@
+module siploc
+
+go 1.19

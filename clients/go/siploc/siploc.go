@@ -1,0 +1,479 @@
+// Package siploc is a client of siploc, the SIP next-hop locator (RFC 3263, section 4).
+//
+//	session, err := siploc.Connect("127.0.0.1:5099", time.Second)
+//	..
+//	answer, err := session.Find("sip:bob@example.com", siploc.Draws{})
+//
+// A session is one connection. Each method sends one command and returns what its reply says; Batch sends many.
+// Methods may be called by several goroutines: their commands go one after another.
+//
+// An error is one of these. After a BrokenError the session has ended; to connect again is up to the caller.
+//
+//   - ErrInvalidCommand: the command would break the protocol, and was not sent
+//   - *RefusedError: the reply is `err CODE`
+//   - *BrokenError: the connection was lost, the time ran out, or the reply is none that the protocol has
+//   - ErrNotConnected: nobody listens at the address, or the session has ended before
+package siploc
+
+import (
+	"bufio"
+	"errors"
+	"fmt"
+	"io"
+	"net"
+	"net/netip"
+	"os"
+	"strconv"
+	"strings"
+	"sync"
+	"syscall"
+	"time"
+)
+
+const (
+	maxLine       = 65_536
+	maxZoneLines  = 1_048_576
+	maxReplyLine  = 4_096
+	maxReplyLines = 65_536
+	// What is written without a look at the replies: a connection without replies on their way takes it.
+	maxInline = 1 << 14
+	chunk     = 1 << 18
+)
+
+// A Session is a connection to a server.
+type Session struct {
+	mu      sync.Mutex
+	timeout time.Duration
+	stream  net.Conn // nil when the session has ended
+	reader  *bufio.Reader
+}
+
+// Connect opens a session with the server at an address: `127.0.0.1:5099`, `[::1]:5099` or `unix:/run/siplocd.sock`.
+//
+// The timeout is that of the connection, and later how long a call waits without progress: without a complete
+// reply, and without the server taking further octets.
+func Connect(address string, timeout time.Duration) (*Session, error) {
+	network, place := "unix", strings.TrimPrefix(address, "unix:")
+	if place == address {
+		port, err := netip.ParseAddrPort(address)
+		if err != nil || !port.Addr().IsLoopback() || port.Port() == 0 || port.Addr().Is4In6() {
+			return nil, invalid("neither a loopback address with a port nor `unix:` and a path: %.200q", address)
+		}
+		network = "tcp"
+	} else if place == "" || len(place) > 107 {
+		return nil, invalid("the path of a Unix socket has 1 to 107 octets: %.200q", address)
+	}
+	stream, err := net.DialTimeout(network, place, timeout)
+	if err != nil {
+		return nil, fmt.Errorf("%w: %s: %v", ErrNotConnected, address, err)
+	}
+	if connection, isTCP := stream.(*net.TCPConn); isTCP {
+		// A connection that ends before its time is reset, also where this process is killed. Else the server
+		// would see the end of the input, and take half a line as a line, and half a zone as a zone.
+		if err := connection.SetLinger(0); err != nil {
+			stream.Close()
+			return nil, fmt.Errorf("%w: %s: %v", ErrNotConnected, address, err)
+		}
+	}
+	return &Session{timeout: timeout, stream: stream, reader: bufio.NewReaderSize(stream, 1<<16)}, nil
+}
+
+// SetTimeout changes how long a call waits without progress.
+func (s *Session) SetTimeout(timeout time.Duration) {
+	s.mu.Lock()
+	defer s.mu.Unlock()
+	s.timeout = timeout
+}
+
+// Close ends the session by `quit`, and closes the connection.
+func (s *Session) Close() {
+	s.mu.Lock()
+	defer s.mu.Unlock()
+	if s.stream == nil {
+		return
+	}
+	if s.timeout > time.Second {
+		s.timeout = time.Second
+	}
+	_, _ = s.exchange([]command{{"quit", "quit", "quit\n"}})
+	s.end()
+}
+
+// Draws are the random words by which servers of equal priority are ordered. The zero value stands for words of 0.
+type Draws struct{ text string }
+
+// Words are at most 32 words, followed by words of 0.
+func Words(words ...uint32) Draws {
+	if len(words) == 0 {
+		return Draws{}
+	}
+	texts := make([]string, len(words))
+	for place, word := range words {
+		texts[place] = strconv.FormatUint(uint64(word), 10)
+	}
+	return Draws{" words " + strings.Join(texts, ",")}
+}
+
+// Seed stands for the first 32 words of a generator that is started there.
+func Seed(seed uint64) Draws { return Draws{" seed " + strconv.FormatUint(seed, 10)} }
+
+// Find returns the targets of a URI, in the order in which they are tried, or the reason that there are none.
+func (s *Session) Find(uri string, draws Draws) (Answer, error) {
+	reply, err := s.ask("find", draws.text, uri)
+	if err != nil {
+		return Answer{}, err
+	}
+	return reply.Answer()
+}
+
+// Deps returns the record sets that the targets of a URI depend on, in the order in which they are read.
+func (s *Session) Deps(uri string) ([]Dependency, error) {
+	reply, err := s.ask("deps", "", uri)
+	if err != nil {
+		return nil, err
+	}
+	return reply.Dependencies()
+}
+
+// Load loads a zone, a master file, in place of the one that there was.
+func (s *Session) Load(apex, text string) (Loaded, error) {
+	line, err := Zone(apex, text)
+	if err != nil {
+		return Loaded{}, err
+	}
+	reply, err := s.one(line)
+	if err != nil {
+		return Loaded{}, err
+	}
+	counts := reply.Counts()
+	return Loaded{counts[0], counts[1], counts[2], counts[3]}, nil
+}
+
+// Drop takes out a zone. It returns the number of record sets that changed.
+func (s *Session) Drop(apex string) (uint64, error) { return count(s.ask("drop", "", apex)) }
+
+// Add adds a record, such as `a.example.com. A 192.0.2.1`. It returns the number of record sets that changed.
+func (s *Session) Add(record string) (uint64, error) { return count(s.one("add " + record)) }
+
+// Remove deletes a record. It returns the number of record sets that changed.
+func (s *Session) Remove(record string) (uint64, error) { return count(s.one("del " + record)) }
+
+// Repair looks up again all kept answers that edits outdated, before anyone asks.
+func (s *Session) Repair() error { return only(s.ask("repair", "")) }
+
+// Hold leaves an endpoint out of answers for so many milliseconds.
+func (s *Session) Hold(target Target, milliseconds uint64) error {
+	return only(s.ask("hold", "", target.Transport, target.Address, decimal(uint64(target.Port)), decimal(milliseconds)))
+}
+
+// Release ends the hold of an endpoint.
+func (s *Session) Release(target Target) error {
+	return only(s.ask("release", "", target.Transport, target.Address, decimal(uint64(target.Port))))
+}
+
+// Clock sets the time in milliseconds, which begins at 0. It returns the steps of the call that has not ended.
+func (s *Session) Clock(milliseconds uint64) ([]Step, error) {
+	return steps(s.ask("clock", "", decimal(milliseconds)))
+}
+
+// Call opens a call to the targets of a URI, one after another. The kind is `invite` or `other`; base is a number
+// that no other request has.
+func (s *Session) Call(kind string, base uint64, uri string, draws Draws) (Opened, error) {
+	reply, err := s.ask("call", draws.text, kind, decimal(base), uri)
+	if err != nil {
+		return Opened{}, err
+	}
+	return Opened{reply.Steps(), reply.Reason()}, nil
+}
+
+// Got tells the call that a response with this status code has come to an attempt.
+func (s *Session) Got(attempt uint32, code uint16) ([]Step, error) {
+	return steps(s.ask("got", "", decimal(uint64(attempt)), decimal(uint64(code))))
+}
+
+// GotRetry is Got of a response that has the seconds of a Retry-After field.
+func (s *Session) GotRetry(attempt uint32, code uint16, retry uint32) ([]Step, error) {
+	return steps(s.ask("got", " retry "+decimal(uint64(retry)), decimal(uint64(attempt)), decimal(uint64(code))))
+}
+
+// Broke tells the call that the transport of its running attempt has failed.
+func (s *Session) Broke() ([]Step, error) { return steps(s.ask("broke", "")) }
+
+// Batch sends many commands at once, and returns their replies in order; a refusal is a reply as any other.
+//
+// A command is a line of the protocol without its end, as Line makes one, or a zone with all of its lines, as Zone
+// makes one. All are checked before the first is sent. Replies are read while commands are sent.
+func (s *Session) Batch(lines []string) ([]Reply, error) {
+	commands := make([]command, 0, len(lines))
+	for _, line := range lines {
+		command, err := prepare(line)
+		if err != nil {
+			return nil, err
+		}
+		commands = append(commands, command)
+	}
+	s.mu.Lock()
+	defer s.mu.Unlock()
+	return s.exchange(commands)
+}
+
+// Line returns a command of these fields, for Batch. A field that is empty, or has a blank or a line end, is an
+// ErrInvalidCommand.
+func Line(fields ...string) (string, error) {
+	for _, field := range fields {
+		if field == "" || strings.ContainsAny(field, " \t\r\n") {
+			return "", invalid("a field is empty, or has a blank or a line end: %.200q", field)
+		}
+	}
+	return strings.Join(fields, " "), nil
+}
+
+// Zone returns a command that loads a zone, for Batch. The text is a master file, whose lines end with LF or CR LF.
+func Zone(apex, text string) (string, error) {
+	text = strings.TrimSuffix(strings.TrimSuffix(strings.ReplaceAll(text, "\r\n", "\n"), "\n"), "\r")
+	count := 0
+	if text != "" {
+		count = strings.Count(text, "\n") + 1
+	}
+	if count > maxZoneLines {
+		return "", invalid("the zone %.200q has more than %d lines", apex, maxZoneLines)
+	}
+	line, err := Line("zone", apex, strconv.Itoa(count))
+	if err != nil || count == 0 {
+		return line, err
+	}
+	return line + "\n" + text, nil
+}
+
+func decimal(value uint64) string { return strconv.FormatUint(value, 10) }
+
+func only(_ Reply, err error) error { return err }
+
+func steps(reply Reply, err error) ([]Step, error) {
+	if err != nil {
+		return nil, err
+	}
+	return reply.Steps(), nil
+}
+
+func count(reply Reply, err error) (uint64, error) {
+	if err != nil {
+		return 0, err
+	}
+	return reply.Counts()[0], nil
+}
+
+// ask sends a command of a word, fields that have to be one each, and a rest.
+func (s *Session) ask(word, rest string, fields ...string) (Reply, error) {
+	line, err := Line(append([]string{word}, fields...)...)
+	if err != nil {
+		return Reply{}, err
+	}
+	return s.one(line + rest)
+}
+
+// one sends a command, and returns its reply, or its refusal as the error.
+func (s *Session) one(line string) (Reply, error) {
+	replies, err := s.Batch([]string{line})
+	if err != nil {
+		return Reply{}, err
+	}
+	return replies[0], replies[0].Err()
+}
+
+// A command that is ready to be sent: its word, its first line, and its octets.
+type command struct{ word, text, octets string }
+
+// prepare returns a command that breaks no protocol: it is one line, or a `zone` line and as many as it says, and
+// it has a reply.
+func prepare(line string) (command, error) {
+	first, rest, hasRest := strings.Cut(line, "\n")
+	fields := strings.FieldsFunc(first, func(letter rune) bool { return letter == ' ' || letter == '\t' })
+	lines := 0
+	if hasRest {
+		lines = strings.Count(rest, "\n") + 1
+	}
+	switch {
+	case strings.Contains(line, "\r"):
+		return command{}, invalid("a command has a CR: %.200q", first)
+	case lines != zoneLines(fields):
+		return command{}, invalid("a command has other lines than its first one says: %.200q", first)
+	case lines > 0 && len(first) > maxLine:
+		return command{}, invalid("the first line of a zone has more than %d octets", maxLine)
+	case len(fields) == 0 || first[0] == '#':
+		return command{}, invalid("an empty line, or a comment, has no reply: %.200q", first)
+	case len(fields) == 1 && fields[0] == "quit":
+		return command{}, invalid("a session ends by Close")
+	}
+	return command{fields[0], first, line + "\n"}, nil
+}
+
+// zoneLines returns how many lines the server takes after a line with these fields.
+func zoneLines(fields []string) int {
+	if len(fields) != 3 || fields[0] != "zone" || strings.Trim(fields[2], "0123456789") != "" {
+		return 0
+	}
+	count, err := strconv.ParseUint(fields[2], 10, 64)
+	if err != nil || count > maxZoneLines {
+		return 0
+	}
+	return int(count)
+}
+
+func (s *Session) end() {
+	if s.stream != nil {
+		s.stream.Close()
+		s.stream = nil
+	}
+}
+
+// An exchange is commands on their way.
+type exchange struct {
+	stream  net.Conn
+	reader  *bufio.Reader
+	timeout time.Duration
+	output  string
+	sent    int // how many octets of the output were sent; the writer's until it is done
+}
+
+// exchange sends commands and reads their replies. The session ends where it returns an error.
+func (s *Session) exchange(commands []command) ([]Reply, error) {
+	if s.stream == nil {
+		return nil, fmt.Errorf("%w: the session has ended", ErrNotConnected)
+	}
+	if len(commands) == 0 {
+		return []Reply{}, nil
+	}
+	var output strings.Builder
+	for _, command := range commands {
+		output.WriteString(command.octets)
+	}
+	exchange := &exchange{s.stream, s.reader, s.timeout, output.String(), 0}
+	exchange.progress()
+	if err := exchange.readBefore(); err != nil {
+		s.end()
+		return nil, err
+	}
+	var writer sync.WaitGroup
+	if len(exchange.output) <= maxInline {
+		exchange.write()
+	} else {
+		writer.Add(1)
+		go func() {
+			defer writer.Done()
+			exchange.write()
+		}()
+	}
+	replies, broken := exchange.read(commands)
+	if broken == nil {
+		writer.Wait()
+		return replies, nil
+	}
+	s.end() // The writer ends at once when the connection is closed.
+	writer.Wait()
+	broken.Replies = replies
+	for start := 0; broken.Sent < len(commands) && start < exchange.sent; broken.Sent++ {
+		start += len(commands[broken.Sent].octets)
+	}
+	return nil, broken
+}
+
+// progress begins the time anew after which the session ends. Where it fails, so does the next read.
+func (e *exchange) progress() { _ = e.stream.SetDeadline(time.Now().Add(e.timeout)) }
+
+// write sends all octets. When the connection fails it ends, and what was replied before is still read.
+func (e *exchange) write() {
+	for e.sent < len(e.output) {
+		end := e.sent + chunk
+		if end > len(e.output) {
+			end = len(e.output)
+		}
+		count, err := io.WriteString(e.stream, e.output[e.sent:end])
+		e.sent += count
+		if err != nil {
+			return
+		}
+		e.progress()
+	}
+}
+
+// read reads the replies to commands, and returns those that came.
+func (e *exchange) read(commands []command) ([]Reply, *BrokenError) {
+	replies := make([]Reply, 0, len(commands))
+	for _, command := range commands {
+		lines, broken := e.readReply(command.word)
+		if broken != nil {
+			return replies, broken
+		}
+		replies = append(replies, Reply{command.text, lines})
+		e.progress()
+	}
+	if rest := e.reader.Buffered(); rest > 0 {
+		octets, _ := e.reader.Peek(rest)
+		return replies, bad(string(octets))
+	}
+	return replies, nil
+}
+
+func bad(line string) *BrokenError {
+	return &BrokenError{Kind: ErrBadReply, Cause: fmt.Errorf("%.200q", line)}
+}
+
+// readReply reads the reply to a command.
+func (e *exchange) readReply(word string) ([]string, *BrokenError) {
+	lines := make([]string, 0, 2)
+	for {
+		octets, err := e.reader.ReadSlice('\n')
+		switch {
+		case err == bufio.ErrBufferFull || len(octets) > maxReplyLine:
+			return nil, bad(string(octets))
+		case errors.Is(err, os.ErrDeadlineExceeded):
+			return nil, &BrokenError{Kind: ErrTimedOut, Cause: err}
+		case err != nil && (len(lines) > 0 || len(octets) > 0):
+			return nil, &BrokenError{Kind: ErrHalfReply, Cause: err}
+		case err != nil:
+			return nil, &BrokenError{Kind: ErrConnectionLost, Cause: err}
+		}
+		line := string(octets[:len(octets)-1])
+		if isLast(line) {
+			if !isReply(word, len(lines), line) {
+				return nil, bad(line)
+			}
+			return append(lines, line), nil
+		}
+		lines = append(lines, line)
+		if len(lines) > maxReplyLines || !isBody(word, len(lines), line) {
+			return nil, bad(line)
+		}
+	}
+}
+
+// readBefore looks, without waiting, for what came before any command was sent: the end of the connection, or a
+// refusal of the session.
+func (e *exchange) readBefore() error {
+	raw, err := e.stream.(syscall.Conn).SyscallConn()
+	if err != nil {
+		return &BrokenError{Kind: ErrConnectionLost, Cause: err}
+	}
+	octets, count := make([]byte, 64), 0
+	var fault error
+	err = raw.Read(func(descriptor uintptr) bool {
+		count, _, fault = syscall.Recvfrom(int(descriptor), octets, syscall.MSG_PEEK)
+		return true
+	})
+	switch {
+	case err == nil && (fault == syscall.EAGAIN || fault == syscall.EINTR):
+		return nil
+	case err != nil:
+		return &BrokenError{Kind: ErrConnectionLost, Cause: err}
+	case fault != nil:
+		return &BrokenError{Kind: ErrConnectionLost, Cause: fault}
+	case count == 0:
+		return &BrokenError{Kind: ErrConnectionLost, Cause: io.EOF}
+	}
+	line := strings.TrimSuffix(string(octets[:count]), "\n")
+	if code := strings.TrimPrefix(line, "err "); len(line) < count && code != line && isCode(code) {
+		return &RefusedError{Code: code, Command: "(the session)"}
+	}
+	return bad(line)
+}

@@ -1,0 +1,646 @@
+// Tests of the client against servers that they start: the program that the environment names in SIPLOC, and some
+// that do what no server should. Replies are those of docs/FORMATS.md, and of the README's session.
+package siploc
+
+import (
+	"bufio"
+	"bytes"
+	"errors"
+	"fmt"
+	"io"
+	"net"
+	"os"
+	"os/exec"
+	"path/filepath"
+	"reflect"
+	"strings"
+	"sync"
+	"testing"
+	"time"
+)
+
+const top = "../../.."
+
+func read(t *testing.T, path string) string {
+	t.Helper()
+	octets, err := os.ReadFile(filepath.Join(top, path))
+	if err != nil {
+		t.Fatal(err)
+	}
+	return string(octets)
+}
+
+func freePort(t *testing.T, address string) string {
+	t.Helper()
+	probe, err := net.Listen("tcp", address+":0")
+	if err != nil {
+		t.Fatal(err)
+	}
+	defer probe.Close()
+	return probe.Addr().String()
+}
+
+// A server is `siploc serve` on a free port. It is ended with the test.
+type server struct {
+	address string
+	process *exec.Cmd
+	output  bytes.Buffer
+}
+
+func start(t *testing.T, sessions int, settings string) *server {
+	t.Helper()
+	program := os.Getenv("SIPLOC")
+	if program == "" {
+		program = filepath.Join(top, "crates/siploc/out/siploc")
+	}
+	s := &server{address: freePort(t, "127.0.0.1")}
+	text := fmt.Sprintf("%s\nlisten = %q\nsessions = %d\n", settings, s.address, sessions)
+	s.process = exec.Command(program, "serve", text)
+	s.process.Stdout = &s.output
+	if err := s.process.Start(); err != nil {
+		t.Fatal(err)
+	}
+	t.Cleanup(func() {
+		if s.process.ProcessState == nil {
+			_ = s.process.Process.Kill()
+			_ = s.process.Wait()
+		}
+	})
+	return s
+}
+
+// connect opens a session as soon as the program listens.
+func connect(t *testing.T, address string, timeout time.Duration) *Session {
+	t.Helper()
+	for tries := 0; ; tries++ {
+		session, err := Connect(address, timeout)
+		if err == nil {
+			t.Cleanup(session.Close)
+			return session
+		}
+		if !errors.Is(err, ErrNotConnected) || tries == 400 {
+			t.Fatal(err)
+		}
+		time.Sleep(25 * time.Millisecond)
+	}
+}
+
+// closes waits for the program's end, after its last session, and compares what it prints.
+func (s *server) closes(t *testing.T, events int) {
+	t.Helper()
+	if err := s.process.Wait(); err != nil {
+		t.Fatal(err)
+	}
+	equal(t, s.output.String(), fmt.Sprintf("closed %d\n", events))
+}
+
+func equal(t *testing.T, got, want any) {
+	t.Helper()
+	if !reflect.DeepEqual(got, want) {
+		t.Fatalf("got %v, want %v", got, want)
+	}
+}
+
+// must returns a value that came without an error.
+func must[V any](t *testing.T) func(V, error) V {
+	return func(value V, err error) V {
+		t.Helper()
+		if err != nil {
+			t.Fatal(err)
+		}
+		return value
+	}
+}
+
+// fake is a server that calls a function with its only connection, and returns its address.
+func fake(t *testing.T, serve func(net.Conn)) string {
+	t.Helper()
+	listener, err := net.Listen("tcp", "127.0.0.1:0")
+	if err != nil {
+		t.Fatal(err)
+	}
+	var done sync.WaitGroup
+	done.Add(1)
+	go func() {
+		defer done.Done()
+		stream, err := listener.Accept()
+		if err == nil {
+			_ = stream.SetDeadline(time.Now().Add(30 * time.Second))
+			serve(stream)
+			stream.Close()
+		}
+	}()
+	t.Cleanup(func() {
+		listener.Close()
+		done.Wait()
+	})
+	return listener.Addr().String()
+}
+
+// commands returns those of a session's lines: each a line, or a `zone` line with its text.
+func commands(lines []string) []string {
+	var made []string
+	for at := 0; at < len(lines); at++ {
+		fields := strings.Fields(lines[at])
+		if len(fields) == 0 || lines[at][0] == '#' {
+			continue
+		}
+		count := 0
+		if fields[0] == "zone" {
+			fmt.Sscan(fields[2], &count)
+		}
+		made = append(made, strings.Join(lines[at:at+1+count], "\n"))
+		at += count
+	}
+	return made
+}
+
+func textLines(text string) []string { return strings.Split(strings.TrimSuffix(text, "\n"), "\n") }
+
+func allLines(replies []Reply) []string {
+	var lines []string
+	for _, reply := range replies {
+		lines = append(lines, reply.Lines...)
+	}
+	return lines
+}
+
+var (
+	first  = Target{"tcp", "192.0.2.1", 5060}
+	second = Target{"tcp", "192.0.2.2", 5060}
+	third  = Target{"tcp", "192.0.2.3", 5060}
+)
+
+const tcpFirst = `transports = ["tcp", "udp"]`
+
+const zone = `@ NAPTR 50 50 "s" "SIPS+D2T" "" _sips._tcp
+@ NAPTR 90 50 "s" "SIP+D2T" "" _sip._tcp
+@ NAPTR 100 50 "s" "SIP+D2U" "" _sip._udp
+_sip._tcp SRV 0 1 5060 server1
+_sip._tcp SRV 0 2 5060 server2
+server1 A 192.0.2.1
+server2 A 192.0.2.2
+`
+
+func TestReadmeSessionInABatch(t *testing.T) {
+	lines := commands(textLines(read(t, "crates/siploc/stdin")))
+	server := start(t, 1, tcpFirst)
+	session := connect(t, server.address, 30*time.Second)
+	replies := must[[]Reply](t)(session.Batch(lines[:len(lines)-1]))
+	equal(t, append(allLines(replies), "ok quit"), textLines(read(t, "crates/siploc/stdout")))
+	session.Close()
+	server.closes(t, 20)
+}
+
+func TestReadmeSessionByMethods(t *testing.T) {
+	session := connect(t, start(t, 1, tcpFirst).address, 30*time.Second)
+	find := func(want ...Target) {
+		t.Helper()
+		equal(t, must[Answer](t)(session.Find("sip:bob@example.com", Words(2, 0))).Targets, want)
+	}
+	number := must[uint64](t)
+	equal(t, must[Loaded](t)(session.Load("example.com.", zone)), Loaded{7, 0, 0, 4})
+	find(second, first)
+	equal(t, session.Hold(second, 5000), nil)
+	find(first)
+	equal(t, must[[]Step](t)(session.Clock(5000)), []Step{})
+	find(second, first)
+	equal(t, number(session.Add("_sip._tcp.example.com. SRV 1 0 5060 server3.example.com.")), uint64(1))
+	equal(t, number(session.Add("server3.example.com. A 192.0.2.3")), uint64(1))
+	find(second, first, third)
+	numeric := must[Answer](t)(session.Find("sip:server1.example.com:5070", Draws{}))
+	equal(t, numeric, Answer{[]Target{{"udp", "192.0.2.1", 5070}}, ""})
+	equal(t, number(session.Remove("server1.example.com. A 192.0.2.1")), uint64(1))
+	equal(t, session.Repair(), nil)
+	equal(t, must[[]Dependency](t)(session.Deps("sip:server1.example.com:5070")), []Dependency{
+		{"server1.example.com.", "A", 0}, {"server1.example.com.", "CNAME", 0}, {"server1.example.com.", "EXISTS", 0},
+		{"example.com.", "EXISTS", 1}, {"*.example.com.", "A", 0}, {"*.example.com.", "CNAME", 0}})
+	find(second, third)
+	equal(t, number(session.Add("server1.example.com. A 192.0.2.1")), uint64(1))
+	equal(t, must[Answer](t)(session.Find("sip:x.example.com", Draws{})), Answer{[]Target{}, "NoAddress"})
+	_, err := session.Add("SERVER1.example.com. A 192.0.2.1")
+	var refused *RefusedError
+	if !errors.As(err, &refused) || refused.Code != "S3" || refused.Meaning() != "the record is in the zone already" {
+		t.Fatal(err)
+	}
+	equal(t, must[Opened](t)(session.Call("invite", 1, "sip:bob@example.com", Words(2, 0))), Opened{[]Step{
+		{Kind: Send, Attempt: 1, Target: second, Branch: "z9hG4bK0000000000000001.1"}}, ""})
+	equal(t, must[[]Step](t)(session.GotRetry(1, 503, 10)), []Step{{Kind: Ack, Attempt: 1},
+		{Kind: Hold, Target: second, Milliseconds: 10000},
+		{Kind: Send, Attempt: 2, Target: first, Branch: "z9hG4bK0000000000000001.2"}})
+	equal(t, must[[]Step](t)(session.Got(2, 200)), []Step{{Kind: Deliver, Code: 200}})
+	find(first, third)
+	equal(t, must[[]Step](t)(session.Clock(15000)), []Step{})
+	find(second, first, third)
+}
+
+// What the README's session has not: sessions/holds.txt, calls.txt, edits.txt and draws.txt.
+func TestOtherMethods(t *testing.T) {
+	session := connect(t, start(t, 1, "").address, 30*time.Second)
+	target := Target{"udp", "192.0.2.9", 5060}
+	equal(t, must[Loaded](t)(session.Load("e.", "a A 192.0.2.1\r\na A 192.0.2.2\nb.f. A 192.0.2.1")), Loaded{2, 1, 0, 1})
+	equal(t, must[Loaded](t)(session.Load("example.com.", "")), Loaded{})
+	equal(t, must[uint64](t)(session.Drop("e.")), uint64(1))
+	equal(t, session.Hold(Target{"sctp", "::1", 5060}, 0), nil)
+	equal(t, session.Hold(target, 1), nil)
+	equal(t, must[Answer](t)(session.Find("sip:192.0.2.9", Seed(1))).Reason, "AllHeld")
+	equal(t, must[Opened](t)(session.Call("invite", 7, "sip:192.0.2.9", Draws{})), Opened{[]Step{}, "AllHeld"})
+	equal(t, session.Release(target), nil)
+	opened := must[Opened](t)(session.Call("other", 1<<64-1, "sip:192.0.2.9", Seed(1)))
+	equal(t, opened.Steps, []Step{{Kind: Send, Attempt: 1, Target: target, Branch: "z9hG4bKffffffffffffffff.1"}})
+	equal(t, must[[]Step](t)(session.Clock(500)), []Step{{Kind: Resend, Attempt: 1}})
+	equal(t, must[[]Step](t)(session.Broke()), []Step{{Kind: Hold, Target: target, Milliseconds: 30000},
+		{Kind: Deliver, Code: 500}, {Kind: Exhausted}})
+	must[Loaded](t)(session.Load("example.com.", "_sip._tcp SRV 0 1 5060 a\n_sip._tcp SRV 0 2 5060 b\n"+
+		"_sip._tcp SRV 0 3 5060 c\n_sip._tcp SRV 0 4 5060 d\n_sip._tcp SRV 1 0 5060 e\n"+
+		"a A 192.0.2.1\nb A 192.0.2.2\nc A 192.0.2.3\nd A 192.0.2.4\ne A 192.0.2.5\n"))
+	for order, draws := range map[string]Draws{"12345": Words(), "24315": Seed(0), "14325": Seed(1<<64 - 1),
+		"42135": Words(3795398737, 17903413, 3545275701, 194195274, 2326030198)} {
+		got := ""
+		for _, target := range must[Answer](t)(session.Find("sip:example.com;transport=tcp", draws)).Targets {
+			got += target.Address[len(target.Address)-1:]
+		}
+		equal(t, got, order)
+	}
+}
+
+// Each code once, by a batch; and each has its meaning.
+func TestEachRefusal(t *testing.T) {
+	_, rest, _ := strings.Cut(read(t, "clients/tests/refusals.txt"), "$ siploc serve '")
+	settings, rest, _ := strings.Cut(rest, "'\n")
+	var inputs, want []string
+	for _, line := range textLines(rest) {
+		if strings.HasPrefix(line, "> ") {
+			inputs = append(inputs, line[2:])
+		} else if line != "closed 6" {
+			want = append(want, line)
+		}
+	}
+	// The line that names the place is given by start.
+	server := start(t, 1, settings[:strings.Index(settings, "listen")])
+	session := connect(t, server.address, 30*time.Second)
+	replies := must[[]Reply](t)(session.Batch(commands(inputs)))
+	equal(t, allLines(replies), want)
+	codes := map[string]bool{"K2": true, "L1": true, "S8": true, "Memory": true, "X1": true, "F1": true}
+	for _, reply := range replies {
+		var refused *RefusedError
+		if errors.As(reply.Err(), &refused) {
+			equal(t, refused.Meaning(), meanings[refused.Code])
+			equal(t, refused.Line, map[string]uint64{"Z12": 2, "Z14": 2, "Z15": 33}[refused.Code])
+			codes[refused.Code] = true
+		}
+	}
+	for code := range meanings {
+		if !codes[code] {
+			t.Errorf("%s was not seen", code)
+		}
+	}
+	equal(t, len(codes), len(meanings))
+	session.Close()
+	server.closes(t, 6)
+}
+
+// A refusal leaves the session open; a line may have 65,536 octets; a hold that is refused has its step all the same.
+func TestRefusalsByMethods(t *testing.T) {
+	session := connect(t, start(t, 1, "holds = 0").address, 30*time.Second)
+	is := func(err error, code string) *RefusedError {
+		t.Helper()
+		var refused *RefusedError
+		if !errors.As(err, &refused) || refused.Code != code {
+			t.Fatalf("got %v, want %s", err, code)
+		}
+		return refused
+	}
+	_, err := session.Load("e.", "; x\na A x")
+	equal(t, is(err, "Z4").Line, uint64(2))
+	_, err = session.Drop("e.")
+	is(err, "S2")
+	_, err = session.Remove("a")
+	is(err, "Z2")
+	_, err = session.Deps("sip:-")
+	is(err, "U2")
+	is(session.Hold(first, 1), "O4")
+	is(session.Release(first), "O3")
+	_, err = session.Clock(1<<52 + 1)
+	is(err, "O2")
+	_, err = session.Call("x", 1, "sip:a", Draws{})
+	is(err, "K1")
+	_, err = session.Broke()
+	is(err, "K3")
+	_, err = session.Find("sip:"+strings.Repeat("a", 65_528), Draws{})
+	is(err, "K2")
+	_, err = session.Find("sip:a;"+strings.Repeat(";", 65_525), Draws{})
+	is(err, "U7")
+	_, err = session.Load("example.com.", "a A 192.0.2.1\na A 192.0.2.2")
+	equal(t, err, nil)
+	_, err = session.Call("invite", 1, "sip:a.example.com:5060", Draws{})
+	equal(t, err, nil)
+	_, err = session.GotRetry(1, 503, 10)
+	equal(t, is(err, "O4").Steps, []Step{{Kind: Ack, Attempt: 1},
+		{Kind: Hold, Target: Target{"udp", "192.0.2.1", 5060}, Milliseconds: 10000},
+		{Kind: Send, Attempt: 2, Target: Target{"udp", "192.0.2.2", 5060}, Branch: "z9hG4bK0000000000000001.2"}})
+}
+
+func Test100000FindsInBatches(t *testing.T) {
+	server := start(t, 1, "")
+	session := connect(t, server.address, 30*time.Second)
+	var text strings.Builder
+	for n := 0; n < 1000; n++ {
+		fmt.Fprintf(&text, "s%d A 10.0.%d.%d\n", n, n/256, n%256)
+	}
+	must[Loaded](t)(session.Load("example.com.", text.String()))
+	for begin := 0; begin < 100_000; begin += 10_000 {
+		var lines []string
+		for n := begin; n < begin+10_000; n++ {
+			line := must[string](t)(Line("find", fmt.Sprintf("sip:s%d.example.com:%d", n%1000, n%65_535+1)))
+			lines = append(lines, line)
+		}
+		for place, reply := range must[[]Reply](t)(session.Batch(lines)) {
+			n := begin + place
+			want := fmt.Sprintf("target 1 udp 10.0.%d.%d %d", n%1000/256, n%1000%256, n%65_535+1)
+			equal(t, reply.Lines, []string{want, "ok find 1"})
+		}
+	}
+	session.Close()
+	server.closes(t, 100_001)
+}
+
+// 20,000 finds of 32 targets each, sent at once, on each kind of address: more than both sockets hold.
+func TestBatchOfMoreThanTheSocketsHold(t *testing.T) {
+	server := start(t, 3, "")
+	_, port, _ := net.SplitHostPort(server.address)
+	text := ""
+	for n := 0; n < 32; n++ {
+		text += fmt.Sprintf("a A 192.0.2.%d\n", n)
+	}
+	lines := make([]string, 20_000)
+	for place := range lines {
+		lines[place] = "find sip:" + strings.Repeat("x", 400) + "@a.e:5060"
+	}
+	connect(t, server.address, 30*time.Second).Close()
+	for _, address := range []string{"unix:" + t.TempDir() + "/socket", freePort(t, "[::1]")} {
+		relay := exec.Command("python3", filepath.Join(top, "clients/tests/relay.py"), port, address)
+		input := must[io.WriteCloser](t)(relay.StdinPipe())
+		output := must[io.ReadCloser](t)(relay.StdoutPipe())
+		equal(t, relay.Start(), nil)
+		line, _ := bufio.NewReader(output).ReadString('\n')
+		equal(t, line, "ready\n")
+		session := connect(t, address, 30*time.Second)
+		must[Loaded](t)(session.Load("e.", text))
+		for _, reply := range must[[]Reply](t)(session.Batch(lines)) {
+			equal(t, len(reply.Lines), 33)
+		}
+		session.Close()
+		input.Close()
+		equal(t, relay.Wait(), nil)
+	}
+	server.closes(t, 40_002)
+}
+
+func TestServerThatEndsInTheMidst(t *testing.T) {
+	for _, pause := range []time.Duration{5, 50, 150} {
+		server := start(t, 1, "")
+		session := connect(t, server.address, 30*time.Second)
+		must[Loaded](t)(session.Load("e.", "a A 192.0.2.1"))
+		lines := make([]string, 1_000_000)
+		for place := range lines {
+			lines[place] = "find sip:a.e:5070"
+		}
+		time.AfterFunc(pause*time.Millisecond, func() { _ = server.process.Process.Kill() })
+		_, err := session.Batch(lines)
+		var broken *BrokenError
+		if !errors.As(err, &broken) || errors.Is(err, ErrTimedOut) {
+			t.Fatal(err)
+		}
+		equal(t, len(broken.Replies) < len(lines) && len(broken.Replies) <= broken.Sent, true)
+		for _, reply := range broken.Replies {
+			equal(t, reply.Lines, []string{"target 1 udp 192.0.2.1 5070", "ok find 1"})
+		}
+		_, err = session.Find("sip:a.e", Draws{})
+		equal(t, errors.Is(err, ErrNotConnected), true)
+		_ = server.process.Wait()
+		_, err = Connect(server.address, time.Second)
+		equal(t, errors.Is(err, ErrNotConnected), true)
+	}
+}
+
+// unescape returns the octets of a field of replies.txt.
+func unescape(text string) string {
+	var made strings.Builder
+	for at := 0; at < len(text); at++ {
+		if text[at] != '\\' {
+			made.WriteByte(text[at])
+			continue
+		}
+		at++
+		switch text[at] {
+		case 'n':
+			made.WriteByte('\n')
+		case 'r':
+			made.WriteByte('\r')
+		case 'x':
+			var octet byte
+			fmt.Sscanf(text[at+1:at+3], "%x", &octet)
+			made.WriteByte(octet)
+			at += 2
+		default:
+			made.WriteByte(text[at])
+		}
+	}
+	return made.String()
+}
+
+// What is a reply of the protocol, and what is not.
+func TestReplies(t *testing.T) {
+	for _, line := range textLines(read(t, "clients/tests/replies.txt")) {
+		if line[0] == '#' {
+			continue
+		}
+		fields := strings.Split(line, "\t")
+		command, octets := unescape(fields[1]), unescape(fields[2])
+		t.Run(line, func(t *testing.T) {
+			session := connect(t, fake(t, func(stream net.Conn) {
+				reader := bufio.NewReader(stream)
+				for range strings.Split(command, "\n") {
+					_, _ = reader.ReadString('\n')
+				}
+				_, _ = io.WriteString(stream, octets)
+				_ = stream.(*net.TCPConn).CloseWrite()
+				_, _ = io.Copy(io.Discard, reader)
+			}), 10*time.Second)
+			replies, err := session.Batch([]string{command})
+			var broken *BrokenError
+			seen := "good"
+			switch {
+			case err == nil:
+				equal(t, strings.Join(replies[0].Lines, "\n")+"\n", octets)
+				var refused *RefusedError
+				if errors.As(replies[0].Err(), &refused) {
+					seen = refused.Code
+				}
+			case errors.Is(err, ErrHalfReply) && errors.Is(err, ErrBadReply):
+				seen = "half"
+			case errors.Is(err, ErrBadReply):
+				seen = "bad"
+			case errors.Is(err, ErrConnectionLost) && !errors.Is(err, ErrTimedOut):
+				seen = "lost"
+			}
+			equal(t, seen, fields[0])
+			if errors.As(err, &broken) {
+				equal(t, broken.MayBeDone() || len(broken.Replies) == 1, true)
+				_, err = session.Batch([]string{command})
+				equal(t, errors.Is(err, ErrNotConnected), true)
+			}
+		})
+	}
+}
+
+func TestGarbageWithoutEnd(t *testing.T) {
+	for _, octets := range []string{strings.Repeat("x", 1_000_000), strings.Repeat("dep a. A 1\n", 100_000)} {
+		session := connect(t, fake(t, func(stream net.Conn) {
+			_, _ = bufio.NewReader(stream).ReadString('\n')
+			_, _ = io.WriteString(stream, octets)
+			_, _ = io.Copy(io.Discard, stream)
+		}), 20*time.Second)
+		_, err := session.Deps("sip:a")
+		equal(t, errors.Is(err, ErrBadReply), true)
+	}
+}
+
+// What would break the protocol is refused before it is sent, and the session goes on.
+func TestInvalidCommandsAreNotSent(t *testing.T) {
+	received := make(chan string, 1)
+	session := connect(t, fake(t, func(stream net.Conn) {
+		octets, _ := io.ReadAll(stream)
+		received <- string(octets)
+	}), 10*time.Second)
+	is := func(err error) {
+		t.Helper()
+		equal(t, errors.Is(err, ErrInvalidCommand), true)
+	}
+	for _, line := range []string{"", " ", "\t", "#", "# find sip:a", "quit", " quit\t", "find sip:a\n", "find sip:a\nquit",
+		"find sip:a\r", "add a.e. A 192.0.2.1\rx", "zone e. 1", "zone e. 0\nfind sip:a", "zone e. 2\na A 192.0.2.1",
+		"zone e. 1048577\na", "zone e.\na", "zone e. 1\na\r", "zone " + strings.Repeat("a", 65_536) + " 1\na"} {
+		_, err := session.Batch([]string{"find sip:a", line})
+		is(err)
+	}
+	_, err := session.Find("sip:a seed 1", Draws{})
+	is(err)
+	_, err = session.Find("", Draws{})
+	is(err)
+	_, err = session.Deps("sip:a\n")
+	is(err)
+	_, err = session.Add("a.e. A 192.0.2.1\ndel a.e. A 192.0.2.1")
+	is(err)
+	_, err = session.Remove("a.e. A 192.0.2.1\r")
+	is(err)
+	_, err = session.Drop("e. f.")
+	is(err)
+	_, err = session.Load("e. 0", "")
+	is(err)
+	_, err = session.Load("e.", "a A\r192.0.2.1")
+	is(err)
+	is(session.Hold(Target{"udp", "a b", 1}, 1))
+	is(session.Release(Target{"udp", "", 1}))
+	_, err = session.Call("invite x", 1, "sip:a", Draws{})
+	is(err)
+	equal(t, session.stream.(*net.TCPConn).CloseWrite(), nil)
+	equal(t, <-received, "")
+}
+
+// A session that the server has closed or refused: a command that is sent later was not done; one that was read
+// may be.
+func TestLostBeforeAndAfter(t *testing.T) {
+	session := connect(t, fake(t, func(net.Conn) {}), 10*time.Second)
+	time.Sleep(200 * time.Millisecond)
+	_, err := session.Add("a.e. A 192.0.2.1")
+	var broken *BrokenError
+	equal(t, errors.As(err, &broken) && broken.Kind == ErrConnectionLost && !broken.MayBeDone(), true)
+	session = connect(t, fake(t, func(stream net.Conn) { _, _ = stream.Read(make([]byte, 1)) }), 10*time.Second)
+	_, err = session.Add("a.e. A 192.0.2.1")
+	equal(t, errors.As(err, &broken) && broken.Kind == ErrConnectionLost && broken.MayBeDone(), true)
+	session = connect(t, fake(t, func(stream net.Conn) { _, _ = io.WriteString(stream, "err Busy\n") }), 10*time.Second)
+	time.Sleep(200 * time.Millisecond)
+	_, err = session.Add("a.e. A 192.0.2.1")
+	var refused *RefusedError
+	equal(t, errors.As(err, &refused) && refused.Code == "Busy", true)
+	_, err = session.Add("a.e. A 192.0.2.1")
+	equal(t, errors.Is(err, ErrNotConnected), true)
+}
+
+// No reply, one that comes too slowly, and a server that takes nothing; and a session that was idle for longer.
+func TestTimeouts(t *testing.T) {
+	for name, serve := range map[string]func(net.Conn, chan bool){
+		"nothing": func(_ net.Conn, done chan bool) { <-done },
+		"slow": func(stream net.Conn, done chan bool) {
+			_, err := stream.Read(make([]byte, 1))
+			for ; err == nil; _, err = io.WriteString(stream, "t") {
+				time.Sleep(50 * time.Millisecond)
+			}
+		},
+	} {
+		for _, lines := range [][]string{{"find sip:a"}, strings.Split(strings.Repeat("find sip:"+
+			strings.Repeat("a", 60_000)+"\n", 1_000)+"find sip:a", "\n")} {
+			t.Run(fmt.Sprint(name, len(lines)), func(t *testing.T) {
+				done := make(chan bool)
+				session := connect(t, fake(t, func(stream net.Conn) { serve(stream, done) }), 400*time.Millisecond)
+				begin := time.Now()
+				_, err := session.Batch(lines)
+				close(done)
+				var broken *BrokenError
+				equal(t, errors.As(err, &broken) && broken.Kind == ErrTimedOut && broken.MayBeDone(), true)
+				equal(t, errors.Is(err, ErrConnectionLost), true)
+				equal(t, time.Since(begin) > 300*time.Millisecond && time.Since(begin) < 5*time.Second, true)
+				equal(t, broken.Sent < 1_000, true)
+			})
+		}
+	}
+	session := connect(t, start(t, 1, "").address, 200*time.Millisecond)
+	for turn := 0; turn < 2; turn++ {
+		equal(t, session.Repair(), nil)
+		time.Sleep(400 * time.Millisecond)
+	}
+}
+
+// Goroutines share a session: each gets the reply to its own question.
+func TestGoroutines(t *testing.T) {
+	session := connect(t, start(t, 1, "").address, 30*time.Second)
+	var all sync.WaitGroup
+	for place := 1; place <= 8; place++ {
+		all.Add(1)
+		go func(port uint16) {
+			defer all.Done()
+			for turn := 0; turn < 200; turn++ {
+				answer, err := session.Find(fmt.Sprintf("sip:192.0.2.9:%d", port), Draws{})
+				if err != nil || len(answer.Targets) != 1 || answer.Targets[0].Port != port {
+					t.Error(answer, err)
+				}
+			}
+		}(uint16(place))
+	}
+	all.Wait()
+}
+
+func TestAddresses(t *testing.T) {
+	for _, address := range []string{"", "127.0.0.1", "localhost:5099", "192.0.2.1:5099", "[2001:db8::1]:5099",
+		"127.0.0.1:0", "127.0.0.1:65536", "127.0.0.1:x", "::1:5099", "unix:", "unix:" + strings.Repeat("x", 108),
+		"[127.0.0.1]:5099", "300.0.0.1:1"} {
+		_, err := Connect(address, time.Second)
+		if !errors.Is(err, ErrInvalidCommand) {
+			t.Errorf("%s: %v", address, err)
+		}
+	}
+	for _, address := range []string{freePort(t, "127.0.0.1"), freePort(t, "[::1]"), "unix:/nonexistent/socket"} {
+		_, err := Connect(address, time.Second)
+		equal(t, errors.Is(err, ErrNotConnected), true)
+	}
+}
+
+func TestExample(t *testing.T) {
+	server := start(t, 2, "")
+	connect(t, server.address, time.Second).Close()
+	output, err := exec.Command("go", "run", "./example", server.address).CombinedOutput()
+	equal(t, err, nil)
+	equal(t, string(output), "[udp 192.0.2.1 5060] \n")
+	server.closes(t, 1)
+}
