@@ -1,0 +1,797 @@
+"""A client of siploc, the SIP next-hop locator (RFC 3263, section 4).
+
+    import siploc
+
+    with siploc.connect("127.0.0.1:5099") as session:
+        session.load("example.com.", "server1 A 192.0.2.1")
+        for target in session.find("sip:server1.example.com:5070"):
+            print(target.transport, target.address, target.port)
+
+A session is one connection, and is used by one thread at a time. Each method sends one command and returns
+what its reply says; `batch` sends many. These errors are raised, all of them an `Error`:
+
+    InvalidCommand    the command would break the protocol: it was not sent, and the session goes on
+    Refused           the reply is `err CODE`: the session goes on
+    SessionBroken     the session has ended; `may_be_done` says whether a command may have been carried out
+      ConnectionLost    the server has closed the connection, or it failed
+        TimedOut          there was no progress for `timeout` seconds
+      BadReply          the reply is none that the protocol has
+        HalfReply         the connection ended within a reply
+    NotConnected      nobody listens at the address, or the session has ended before
+
+After a `SessionBroken` the connection is closed. To connect again is up to the caller.
+
+It needs Python 3.9 and its standard library, and is this file alone.
+"""
+
+from __future__ import annotations
+
+import ipaddress
+import itertools
+import operator
+import re
+import select
+import socket
+import struct
+import time
+from dataclasses import dataclass
+from typing import Dict, Iterable, Iterator, List, NamedTuple, Optional, Pattern, Sequence, Tuple, Union
+
+__all__ = [
+    "Ack", "Answer", "BadReply", "ConnectionLost", "Deliver", "Dependency", "Error", "Exhausted", "HalfReply", "Hold",
+    "InvalidCommand", "Loaded", "MEANINGS", "NotConnected", "Opened", "Refused", "Reply", "Resend", "Send", "Session",
+    "SessionBroken", "Step", "Target", "TimedOut", "connect", "line", "zone",
+]
+
+#: What each code of a refusal means.
+MEANINGS: Dict[str, str] = {
+    "N1": "a name has an empty label",
+    "N2": "a label has more than 63 octets",
+    "N3": "a name has more than 255 octets",
+    "N4": "a name has an invalid escape",
+    "Z1": "a name of the record is invalid, or a string has an invalid escape",
+    "Z2": "a field of the record is missing, its type is invalid, or a directive is unknown",
+    "Z3": "a number or a TTL is invalid or too large",
+    "Z4": "an address of the record is invalid",
+    "Z5": "a parenthesis closes none, or is not closed",
+    "Z6": "a quoted field is not closed before the end of its line",
+    "Z7": "the class is not IN",
+    "Z8": "$INCLUDE is refused",
+    "Z9": "$GENERATE is refused",
+    "Z10": "the generic form of a type that is read is refused",
+    "Z11": "a string has more than 255 octets",
+    "Z12": "the record has no owner",
+    "Z13": "the record has a field too many",
+    "Z14": "an alias is beside other data",
+    "Z15": "a set has more than 32 records",
+    "U1": "the scheme of the URI is neither sip nor sips",
+    "U2": "a host of the URI is invalid",
+    "U3": "the port of the URI is not a number from 1 to 65,535",
+    "U4": "the transport of the URI is unknown or absent",
+    "U5": "a parameter of the URI is repeated",
+    "U6": "sips excludes the transport of the URI",
+    "U7": "the URI has an octet that is not allowed, or an empty parameter",
+    "A1": "the address is invalid",
+    "V1": "there are more than 32 random words",
+    "K1": "there is no such command, or its fields do not fit",
+    "K2": "a line has more than 65,536 octets",
+    "K3": "there is no call",
+    "K4": "a call has not ended",
+    "X1": "the time is before that of the call's last clock",
+    "X2": "the status code is not within 100 to 699",
+    "F1": "the call would have no target",
+    "F2": "the call has ended",
+    "F3": "the call has sent no such attempt",
+    "S1": "a loaded zone is above or below this one",
+    "S2": "no such zone is loaded, or the owner is in no loaded zone",
+    "S3": "the record is in the zone already",
+    "S4": "there is no such record",
+    "S5": "an alias would be beside other data of its owner",
+    "S6": "the set has 32 records",
+    "S7": "there would be more records than the settings allow",
+    "S8": "the numbers that changed sets take are used up",
+    "S9": "the first label of the apex is a wildcard",
+    "O1": "the time would go back",
+    "O2": "a time would be after 2^52",
+    "O3": "the endpoint is not held",
+    "O4": "as many endpoints are held as the settings allow",
+    "B3": "the journal is full: there were as many events as the settings allow",
+    "L1": "a record set changed in each of the tries: ask again",
+    "Memory": "an allocation failed",
+}
+
+_MAX_LINE = 65_536
+_MAX_ZONE_LINES = 1_048_576
+_MAX_REPLY_LINE = 4_096
+_MAX_REPLY_LINES = 65_536
+_CHUNK = 1 << 18
+
+
+class Target(NamedTuple):
+    """Where to send a request: `udp`, `tcp`, `tls` or `sctp`, an address and a port."""
+
+    transport: str
+    address: str
+    port: int
+
+
+@dataclass(frozen=True)
+class Answer:
+    """The reply to `find`: targets in the order in which they are tried, or the reason that there are none.
+
+    The reason is `NoAddress`, `NotAvailable`, `NoTransport` or `AllHeld`, and None where there are targets.
+    An answer is iterated as its targets, and false where there are none.
+    """
+
+    targets: List[Target]
+    reason: Optional[str] = None
+
+    def __iter__(self) -> Iterator[Target]:
+        return iter(self.targets)
+
+    def __len__(self) -> int:
+        return len(self.targets)
+
+
+class Dependency(NamedTuple):
+    """A record set that the targets of a URI depend on, with the number of its records.
+
+    The kind is `A`, `AAAA`, `CNAME`, `SRV` or `NAPTR`; or `EXISTS`, and the count is 1 where the name exists.
+    """
+
+    name: str
+    kind: str
+    count: int
+
+
+class Loaded(NamedTuple):
+    """The reply to `load`: records taken, left out as outside the zone or repeated, and record sets changed."""
+
+    records: int
+    outside: int
+    repeated: int
+    changed: int
+
+
+class Send(NamedTuple):
+    """A step of a call: send the request to this target, with this branch. Attempts count from 1."""
+
+    attempt: int
+    target: Target
+    branch: str
+
+
+class Resend(NamedTuple):
+    """A step of a call: send the request of this attempt again."""
+
+    attempt: int
+
+
+class Ack(NamedTuple):
+    """A step of a call: send an ACK for the response to this attempt."""
+
+    attempt: int
+
+
+class Hold(NamedTuple):
+    """A step of a call: nothing to do; the endpoint is held from now on for so many milliseconds."""
+
+    target: Target
+    milliseconds: int
+
+
+class Deliver(NamedTuple):
+    """A step of a call: pass a response with this status code to the user."""
+
+    code: int
+
+
+class Exhausted(NamedTuple):
+    """A step of a call: all targets have failed."""
+
+
+Step = Union[Send, Resend, Ack, Hold, Deliver, Exhausted]
+
+
+@dataclass(frozen=True)
+class Opened:
+    """The reply to `call`: its first steps, or the reason that there are no targets and no call was opened.
+
+    It is iterated as its steps, and false where no call was opened.
+    """
+
+    steps: List[Step]
+    reason: Optional[str] = None
+
+    def __iter__(self) -> Iterator[Step]:
+        return iter(self.steps)
+
+    def __len__(self) -> int:
+        return len(self.steps)
+
+
+class Error(Exception):
+    """What all errors of this module are."""
+
+
+class InvalidCommand(Error, ValueError):
+    """The command would break the protocol. It was not sent, and the session goes on."""
+
+
+class NotConnected(Error):
+    """Nobody listens at the address, or the session has ended before. Nothing was sent."""
+
+
+class Refused(Error):
+    """The server has refused a command: the reply is `err CODE`. The session goes on.
+
+    A server that refuses a session sends `err CODE` before any command: then the session has ended.
+    """
+
+    #: The code, and what it means.
+    code: str
+    meaning: str
+    #: The first line of the command.
+    command: str
+    #: Of a zone, the line of its text with the faulty entry, counted from 1.
+    line: Optional[int]
+    #: Of L1, name and kind of the record set that was changed.
+    changed: Optional[Tuple[str, str]]
+    #: Of a call, the steps to take all the same: the call has gone on, and the hold of a step was refused.
+    steps: List[Step]
+
+    def __init__(self, code: str, command: str, line: Optional[int] = None,
+                 changed: Optional[Tuple[str, str]] = None, steps: Sequence[Step] = ()) -> None:
+        self.code, self.command, self.line, self.changed, self.steps = code, command, line, changed, list(steps)
+        self.meaning = MEANINGS.get(code, "a code that this client does not know")
+        place = f" (line {line} of the zone)" if line is not None else ""
+        super().__init__(f"{code}: {self.meaning}{place}: {command[:200]}")
+
+
+class SessionBroken(Error):
+    """The session has ended, and the connection is closed.
+
+    Of the commands of a call, the first `len(replies)` have replies; the others before `sent` may have been
+    carried out, or not; those from `sent` on were not. A method other than `batch` sends one command.
+    """
+
+    #: The replies that came before.
+    replies: List[Reply]
+    #: How many commands were sent, the last one maybe in part.
+    sent: int
+
+    def __init__(self, message: str, replies: Sequence[Reply] = (), sent: int = 0) -> None:
+        self.replies, self.sent = list(replies), sent
+        doubt = "may have been" if self.may_be_done else "was not"
+        super().__init__(f"{message} (after {len(self.replies)} replies; what came next {doubt} carried out)")
+
+    @property
+    def may_be_done(self) -> bool:
+        """Whether a command without a reply may have been carried out."""
+        return self.sent > len(self.replies)
+
+
+class ConnectionLost(SessionBroken):
+    """The server has closed the connection between two replies, or the connection failed."""
+
+
+class TimedOut(ConnectionLost):
+    """There was no complete reply, and no octet was taken by the server, for `timeout` seconds."""
+
+
+class BadReply(SessionBroken):
+    """The reply is none that the protocol has."""
+
+
+class HalfReply(BadReply):
+    """The connection ended within a reply."""
+
+
+_NUMBER = r"(0|[1-9][0-9]{0,19})"
+_OCTET = r"(?:25[0-5]|2[0-4][0-9]|1[0-9][0-9]|[1-9]?[0-9])"
+_ADDRESS = rf"({_OCTET}(?:\.{_OCTET}){{3}}|[0-9a-f]{{1,4}}(?::[0-9a-f]{{1,4}}){{7}})"
+_PORT = r"(6553[0-5]|655[0-2][0-9]|65[0-4][0-9]{2}|6[0-4][0-9]{3}|[1-5][0-9]{4}|[1-9][0-9]{0,3}|0)"
+_ENDPOINT = rf"(udp|tcp|tls|sctp) {_ADDRESS} {_PORT}"
+_NAME = r"([!-~]{1,1020})"
+_KIND = r"(A|AAAA|CNAME|SRV|NAPTR|EXISTS)"
+_CODE = r"([A-Z][A-Za-z0-9]{0,31})"
+
+_TARGET = re.compile(rf"target {_NUMBER} {_ENDPOINT}")
+_DEPENDENCY = re.compile(rf"dep {_NAME} {_KIND} {_NUMBER}")
+_STEP = re.compile(rf"send {_NUMBER} {_ENDPOINT} (z9hG4bK[0-9a-f]{{16}}\.[0-9]+)|resend {_NUMBER}|ack {_NUMBER}"
+                   rf"|hold {_ENDPOINT} {_NUMBER}|deliver ([1-6][0-9][0-9])|exhausted")
+_NONE = re.compile(r"none (NoAddress|NotAvailable|NoTransport|AllHeld)")
+_REFUSED = re.compile(rf"err {_CODE}")
+_REFUSED_ZONE = re.compile(rf"err (?:zone {_NUMBER} )?{_CODE}")
+_REFUSED_FIND = re.compile(rf"err (?:(L1) {_NAME} {_KIND}|{_CODE})")
+
+
+class _Form(NamedTuple):
+    """The forms of the replies to a command: of the last line, and of those before it."""
+
+    done: Optional[Pattern[str]]
+    refused: Pattern[str] = _REFUSED
+    body: Optional[Pattern[str]] = None
+    has_none: bool = False
+    # Whether the last line has the number of lines before it, and whether `err` may come after such lines.
+    is_counted: bool = False
+    has_steps: bool = False
+
+    def ends(self, lines: Sequence[str]) -> bool:
+        """Whether lines whose last one begins with `ok`, `none` or `err` are a reply of this form."""
+        last, before = lines[-1], len(lines) - 1
+        if last.startswith("ok"):
+            match = self.done.fullmatch(last) if self.done else None
+            if not match or not self.is_counted:
+                return bool(match)
+            return int(match[1]) == before and (self.body is not _TARGET or before > 0 and all(
+                text.startswith(f"target {place} ") for place, text in enumerate(lines[:-1], 1)))
+        if last.startswith("none"):
+            return self.has_none and not before and bool(_NONE.fullmatch(last))
+        return (not before or self.has_steps) and bool(self.refused.fullmatch(last))
+
+
+def _done(text: str) -> Pattern[str]:
+    return re.compile(f"ok {text}")
+
+
+_FORMS: Dict[str, _Form] = {
+    "zone": _Form(_done(rf"zone {_NUMBER} {_NUMBER} {_NUMBER} {_NUMBER}"), _REFUSED_ZONE),
+    "drop": _Form(_done(rf"drop {_NUMBER}")),
+    "add": _Form(_done(rf"add {_NUMBER}")),
+    "del": _Form(_done(rf"del {_NUMBER}")),
+    "find": _Form(_done(rf"find {_NUMBER}"), _REFUSED_FIND, _TARGET, has_none=True, is_counted=True),
+    "deps": _Form(_done(rf"deps {_NUMBER}"), _REFUSED, _DEPENDENCY, is_counted=True),
+    "repair": _Form(_done("repair")),
+    "hold": _Form(_done("hold")),
+    "release": _Form(_done("release")),
+    "clock": _Form(_done(rf"clock {_NUMBER}"), _REFUSED, _STEP, has_steps=True),
+    "call": _Form(_done("call"), _REFUSED_FIND, _STEP, has_none=True),
+    "got": _Form(_done("got"), _REFUSED, _STEP, has_steps=True),
+    "broke": _Form(_done("broke"), _REFUSED, _STEP, has_steps=True),
+    "quit": _Form(_done("quit")),
+}
+_UNKNOWN = _Form(None)
+
+
+def _target(fields: Sequence[str]) -> Target:
+    return Target(fields[0], fields[1], int(fields[2]))
+
+
+def _step(text: str) -> Step:
+    """A step, of a line that has its form."""
+    word, *fields = text.split(" ")
+    if word == "send":
+        return Send(int(fields[0]), _target(fields[1:4]), fields[4])
+    if word == "resend":
+        return Resend(int(fields[0]))
+    if word == "ack":
+        return Ack(int(fields[0]))
+    if word == "hold":
+        return Hold(_target(fields[:3]), int(fields[3]))
+    if word == "deliver":
+        return Deliver(int(fields[0]))
+    return Exhausted()
+
+
+class Reply:
+    """A complete reply, as `batch` returns it: one of the forms that the protocol has for its command."""
+
+    __slots__ = ("command", "lines")
+
+    #: The first line of the command.
+    command: str
+    #: The lines of the reply, without their ends.
+    lines: List[str]
+
+    def __init__(self, command: str, lines: List[str]) -> None:
+        self.command, self.lines = command, lines
+
+    def __repr__(self) -> str:
+        return f"Reply({self.command!r}, {self.lines!r})"
+
+    @property
+    def refusal(self) -> Optional[Refused]:
+        """The refusal, where the reply is `err CODE`; it is not raised."""
+        word, *fields = self.lines[-1].split(" ")
+        if word != "err":
+            return None
+        if fields[0] == "zone":
+            return Refused(fields[2], self.command, line=int(fields[1]))
+        if len(fields) == 3:
+            return Refused(fields[0], self.command, changed=(fields[1], fields[2]))
+        return Refused(fields[0], self.command, steps=self.steps)
+
+    def check(self) -> Reply:
+        """The reply itself, and raises `Refused` where it is `err CODE`."""
+        refusal = self.refusal
+        if refusal is not None:
+            raise refusal
+        return self
+
+    @property
+    def counts(self) -> List[int]:
+        """The numbers of the last line, of a reply that begins with `ok`."""
+        return [int(field) for field in self.lines[-1].split(" ")[2:]]
+
+    @property
+    def reason(self) -> Optional[str]:
+        """The reason, where the reply is `none REASON`."""
+        word, *fields = self.lines[-1].split(" ")
+        return fields[0] if word == "none" else None
+
+    @property
+    def answer(self) -> Answer:
+        """The answer to `find`. Raises `Refused` where the reply is `err CODE`."""
+        self.check()
+        return Answer([_target(text.split(" ")[2:]) for text in self.lines[:-1]], self.reason)
+
+    @property
+    def dependencies(self) -> List[Dependency]:
+        """The record sets of `deps`. Raises `Refused` where the reply is `err CODE`."""
+        self.check()
+        fields = (text.split(" ") for text in self.lines[:-1])
+        return [Dependency(name, kind, int(count)) for _, name, kind, count in fields]
+
+    @property
+    def steps(self) -> List[Step]:
+        """The steps of `call`, `got`, `broke` and `clock`, of a refused one too."""
+        return [_step(text) for text in self.lines[:-1]]
+
+
+class _Command(NamedTuple):
+    """A command that is ready to be sent: its first line, its octets, and the forms of its replies."""
+
+    text: str
+    octets: bytes
+    form: _Form
+
+
+def line(*fields: object) -> str:
+    """A command of these fields, for `batch`: `line("hold", *target, 30000)`.
+
+    Raises `InvalidCommand` where a field is empty, or has a blank or a line end.
+    """
+    texts = [str(field) for field in fields]
+    for text in texts:
+        if not text or re.search(r"[ \t\r\n]", text):
+            raise InvalidCommand(f"a field is empty, or has a blank or a line end: {text[:200]!r}")
+    return " ".join(texts)
+
+
+def zone(apex: str, text: Union[str, Iterable[str]]) -> str:
+    """A command that loads a zone, for `batch`: its lines are joined by LF.
+
+    `text` is a master file, or its lines; these may end with LF or CR LF, so that an open file serves.
+    """
+    lines = text.split("\n") if isinstance(text, str) else [it[:-1] if it.endswith("\n") else it for it in text]
+    if isinstance(text, str) and not lines[-1]:
+        lines.pop()
+    lines = [it[:-1] if it.endswith("\r") else it for it in lines]
+    for it in lines:
+        if "\n" in it:
+            raise InvalidCommand(f"a line of the zone has a line end: {it[:200]!r}")
+    if len(lines) > _MAX_ZONE_LINES:
+        raise InvalidCommand(f"the zone {apex[:200]} has more than {_MAX_ZONE_LINES:,} lines")
+    return "\n".join([line("zone", apex, len(lines)), *lines])
+
+
+def _draws(words: Optional[Iterable[int]], seed: Optional[int]) -> List[str]:
+    """The fields that give the random words."""
+    if words is not None and seed is not None:
+        raise InvalidCommand("both words and a seed are given")
+    if seed is not None:
+        return ["seed", str(operator.index(seed))]
+    texts = [str(operator.index(word)) for word in words or ()]
+    return ["words", ",".join(texts)] if texts else []
+
+
+def _zone_lines(fields: Sequence[bytes]) -> int:
+    """How many lines the server takes after a line with these fields."""
+    if len(fields) != 3 or fields[0] != b"zone" or not re.fullmatch(rb"[0-9]+", fields[2]):
+        return 0
+    digits = fields[2].lstrip(b"0") or b"0"
+    return int(digits) if len(digits) <= 7 and int(digits) <= _MAX_ZONE_LINES else 0
+
+
+def _prepared(command: str) -> _Command:
+    """A command that breaks no protocol: it is one line, or a `zone` line and as many as it says, and it has a
+    reply."""
+    octets = command.encode("utf-8", "surrogateescape")
+    first, *rest = octets.split(b"\n")
+    text = command[:command.index("\n")] if rest else command
+    fields = re.findall(rb"[^ \t]+", first)
+    if b"\r" in octets:
+        raise InvalidCommand(f"a command has a CR: {text[:200]!r}")
+    if len(rest) != _zone_lines(fields):
+        raise InvalidCommand(f"a command has other lines than its first one says: {text[:200]!r}")
+    if rest and len(first) > _MAX_LINE:
+        raise InvalidCommand(f"the first line of a zone has more than {_MAX_LINE:,} octets")
+    if not fields or first.startswith(b"#"):
+        raise InvalidCommand(f"an empty line, or a comment, has no reply: {text[:200]!r}")
+    if fields == [b"quit"]:
+        raise InvalidCommand("a session ends by close()")
+    return _Command(text, octets + b"\n", _FORMS.get(fields[0].decode("latin-1"), _UNKNOWN))
+
+
+def _place(address: str) -> Tuple[int, Union[str, Tuple[str, int]]]:
+    """The family and the place of an address."""
+    if address.startswith("unix:"):
+        if not 0 < len(address.encode("utf-8", "surrogateescape")) - len("unix:") <= 107:
+            raise InvalidCommand(f"the path of a Unix socket has 1 to 107 octets: {address[:200]!r}")
+        return socket.AF_UNIX, address[len("unix:"):]
+    match = re.fullmatch(r"(?:\[([0-9A-Fa-f:.]+)\]|([0-9.]+)):([0-9]{1,5})", address)
+    try:
+        host = ipaddress.ip_address(match[1] or match[2]) if match else None
+    except ValueError:
+        host = None
+    if not match or host is None or not host.is_loopback or not 1 <= int(match[3]) <= 65_535:
+        raise InvalidCommand(f"neither a loopback address with a port nor `unix:` and a path: {address[:200]!r}")
+    return (socket.AF_INET if host.version == 4 else socket.AF_INET6), (str(host), int(match[3]))
+
+
+def connect(address: str, timeout: float = 30.0) -> Session:
+    """A session with the server at an address: `127.0.0.1:5099`, `[::1]:5099` or `unix:/run/siplocd.sock`.
+
+    `timeout` is in seconds: of the connection, and later of each wait for a reply (see `Session.timeout`).
+    Raises `NotConnected` where nobody listens there, and `InvalidCommand` where the address is none.
+    """
+    family, place = _place(address)
+    stream = socket.socket(family, socket.SOCK_STREAM)
+    try:
+        stream.settimeout(timeout)
+        stream.connect(place)
+        if family != socket.AF_UNIX:
+            stream.setsockopt(socket.IPPROTO_TCP, socket.TCP_NODELAY, 1)
+            # A connection that ends before its time is reset, also where this process is killed. Else the
+            # server would see the end of the input, and take half a line as a line, and half a zone as a zone.
+            stream.setsockopt(socket.SOL_SOCKET, socket.SO_LINGER, struct.pack("ii", 1, 0))
+    except OSError as fault:
+        stream.close()
+        raise NotConnected(f"{address}: {fault}") from fault
+    return Session(stream, timeout)
+
+
+class Session:
+    """A connection to a server. `with` closes it at the end."""
+
+    #: How many seconds a call waits without progress: without a complete reply, and without the server taking
+    #: further octets. It may be changed between calls.
+    timeout: float
+
+    def __init__(self, stream: socket.socket, timeout: float) -> None:
+        """A session over a connected socket."""
+        stream.setblocking(False)
+        self.timeout = timeout
+        self._stream: Optional[socket.socket] = stream
+        self._poll = select.poll()
+        self._poll.register(stream, select.POLLIN)
+
+    def __enter__(self) -> Session:
+        return self
+
+    def __exit__(self, *_: object) -> None:
+        self.close()
+
+    @property
+    def is_open(self) -> bool:
+        """Whether the session has neither ended nor been closed, as far as is known."""
+        return self._stream is not None
+
+    def close(self) -> None:
+        """Ends the session by `quit`, and closes the connection. Nothing is raised."""
+        if self._stream is not None:
+            self.timeout = min(self.timeout, 1.0)
+            try:
+                self._exchange([_Command("quit", b"quit\n", _FORMS["quit"])])
+            except Error:
+                pass
+            self._end()
+
+    # Questions.
+
+    def find(self, uri: str, *, words: Optional[Iterable[int]] = None, seed: Optional[int] = None) -> Answer:
+        """The targets of a URI, in the order in which they are tried, or the reason that there are none.
+
+        The order of servers of equal priority is given by at most 32 random words, or by a seed for them; all
+        words are 0 where none are given.
+        """
+        return self._ask(line("find", uri, *_draws(words, seed))).answer
+
+    def deps(self, uri: str) -> List[Dependency]:
+        """The record sets that the targets of a URI depend on, in the order in which they are read."""
+        return self._ask(line("deps", uri)).dependencies
+
+    # Zones.
+
+    def load(self, apex: str, text: Union[str, Iterable[str]]) -> Loaded:
+        """Loads a zone, in place of the one that there was: a master file, or its lines (an open file, too)."""
+        return Loaded(*self._ask(zone(apex, text)).counts)
+
+    def drop(self, apex: str) -> int:
+        """Takes out a zone; the number of record sets that changed."""
+        return self._ask(line("drop", apex)).counts[0]
+
+    def add(self, record: str) -> int:
+        """Adds a record, such as `a.example.com. A 192.0.2.1`; the number of record sets that changed."""
+        return self._ask(f"add {record}").counts[0]
+
+    def remove(self, record: str) -> int:
+        """Deletes a record; the number of record sets that changed."""
+        return self._ask(f"del {record}").counts[0]
+
+    def repair(self) -> None:
+        """Looks up again all kept answers that edits outdated, before anyone asks."""
+        self._ask("repair")
+
+    # Holds and the clock.
+
+    def hold(self, target: Union[Target, Tuple[str, str, int]], milliseconds: int) -> None:
+        """Leaves an endpoint out of answers for so many milliseconds."""
+        self._ask(line("hold", *target, operator.index(milliseconds)))
+
+    def release(self, target: Union[Target, Tuple[str, str, int]]) -> None:
+        """Ends the hold of an endpoint."""
+        self._ask(line("release", *target))
+
+    def clock(self, milliseconds: int) -> List[Step]:
+        """Sets the time, which begins at 0, and returns the steps of the call that has not ended."""
+        return self._ask(line("clock", operator.index(milliseconds))).steps
+
+    # Calls.
+
+    def call(self, kind: str, base: int, uri: str, *, words: Optional[Iterable[int]] = None,
+             seed: Optional[int] = None) -> Opened:
+        """Opens a call to the targets of a URI, one after another: the first steps, or a reason.
+
+        `kind` is `invite` or `other`; `base` is a number of 64 bits that no other request has.
+        """
+        reply = self._ask(line("call", kind, operator.index(base), uri, *_draws(words, seed)))
+        return Opened(reply.steps, reply.reason)
+
+    def got(self, attempt: int, code: int, *, retry: Optional[int] = None) -> List[Step]:
+        """A response with this status code has come to an attempt; `retry`: the seconds of its Retry-After."""
+        fields = [] if retry is None else ["retry", operator.index(retry)]
+        return self._ask(line("got", operator.index(attempt), operator.index(code), *fields)).steps
+
+    def broke(self) -> List[Step]:
+        """The transport of the call's running attempt has failed."""
+        return self._ask("broke").steps
+
+    # Many commands.
+
+    def batch(self, commands: Iterable[str]) -> List[Reply]:
+        """Sends many commands at once, and returns their replies in order; a refusal is a reply as any other.
+
+        A command is a line of the protocol without its end, as `line` makes one, or a `zone` with all of its
+        lines, as `zone` makes one. All are checked before the first is sent. Replies are read while commands
+        are sent. On a `SessionBroken` those that came are in its `replies`.
+        """
+        return self._exchange([_prepared(command) for command in commands])
+
+    def _ask(self, command: str) -> Reply:
+        return self._exchange([_prepared(command)])[0].check()
+
+    def _end(self) -> None:
+        if self._stream is not None:
+            self._stream.close()
+            self._stream = None
+
+    def _exchange(self, commands: Sequence[_Command]) -> List[Reply]:
+        """Sends commands and reads their replies. The session ends where this raises."""
+        if self._stream is None:
+            raise NotConnected("the session has ended")
+        exchange = _Exchange(self._stream, self._poll, commands)
+        try:
+            exchange.run(self.timeout)
+        except OSError as fault:
+            self._end()
+            raise exchange.lost(str(fault)) from fault
+        except BaseException:
+            self._end()
+            raise
+        return exchange.replies
+
+
+class _Exchange:
+    """Commands on their way, and the replies that have come."""
+
+    def __init__(self, stream: socket.socket, poll: select.poll, commands: Sequence[_Command]) -> None:
+        self.stream, self.poll, self.commands = stream, poll, commands
+        self.output = memoryview(b"".join(command.octets for command in commands))
+        self.sent = 0
+        self.events = select.POLLIN
+        self.replies: List[Reply] = []
+        # The lines of the reply that is coming, and the octets of its line that is.
+        self.lines: List[str] = []
+        self.rest = ""
+
+    def broken(self, kind: type[SessionBroken], message: str) -> SessionBroken:
+        """The error that ends the session."""
+        starts = itertools.accumulate((len(command.octets) for command in self.commands), initial=0)
+        sent = sum(start < self.sent for start in itertools.islice(starts, len(self.commands)))
+        return kind(message, self.replies, sent)
+
+    def lost(self, message: str) -> SessionBroken:
+        """The error for a connection that has ended."""
+        if self.lines or self.rest:
+            return self.broken(HalfReply, f"{message}, within a reply")
+        return self.broken(ConnectionLost, message)
+
+    def bad(self, text: str) -> SessionBroken:
+        """The error for a line that is not one of the reply that is due."""
+        return self.broken(BadReply, f"not a reply: {text[:200]!r}")
+
+    def run(self, timeout: float) -> None:
+        """Sends all commands, and reads all replies."""
+        if self.commands and self.poll.poll(0):
+            self.read_before()
+        end = time.monotonic() + timeout
+        while len(self.replies) < len(self.commands):
+            if self.write():
+                end = time.monotonic() + timeout
+            self.wait_for(select.POLLIN if self.sent == len(self.output) else select.POLLIN | select.POLLOUT)
+            events = self.poll.poll(max(0.0, end - time.monotonic()) * 1000)
+            if not events:
+                raise self.broken(TimedOut, f"no progress for {timeout:g} seconds")
+            if events[0][1] & ~select.POLLOUT and self.read():
+                end = time.monotonic() + timeout
+        self.wait_for(select.POLLIN)
+
+    def wait_for(self, events: int) -> None:
+        """Sets what the next wait is for."""
+        if events != self.events:
+            self.events = events
+            self.poll.modify(self.stream, events)
+
+    def write(self) -> bool:
+        """Sends what the connection takes; whether it took anything."""
+        if self.sent == len(self.output):
+            return False
+        try:
+            count = self.stream.send(self.output[self.sent:self.sent + _CHUNK])
+        except BlockingIOError:
+            return False
+        self.sent += count
+        return count > 0
+
+    def read(self) -> bool:
+        """Reads what has come; whether a reply is complete."""
+        try:
+            octets = self.stream.recv(_CHUNK)
+        except BlockingIOError:
+            return False
+        if not octets:
+            raise self.lost("the server has closed the connection")
+        count = len(self.replies)
+        *lines, self.rest = (self.rest + octets.decode("latin-1")).split("\n")
+        for text in lines:
+            self.take(text)
+        if len(self.rest) > _MAX_REPLY_LINE or self.rest and len(self.replies) == len(self.commands):
+            raise self.bad(self.rest)
+        return len(self.replies) > count
+
+    def take(self, text: str) -> None:
+        """Takes a line of a reply."""
+        if len(self.replies) == len(self.commands):
+            raise self.bad(text)
+        command = self.commands[len(self.replies)]
+        self.lines.append(text)
+        if text.startswith(("ok", "none", "err")):
+            if not command.form.ends(self.lines):
+                raise self.bad(text)
+            self.replies.append(Reply(command.text, self.lines))
+            self.lines = []
+        elif (command.form.body is None or not command.form.body.fullmatch(text)
+              or len(self.lines) > _MAX_REPLY_LINES):
+            raise self.bad(text)
+
+    def read_before(self) -> None:
+        """What came before any command was sent: the end of the connection, or a refusal of the session."""
+        octets = self.stream.recv(_CHUNK)
+        if not octets:
+            raise self.lost("the server has closed the connection")
+        match = re.fullmatch(f"{_REFUSED.pattern}\n", octets.decode("latin-1"))
+        if match:
+            raise Refused(match[1], "(the session)")
+        raise self.bad(octets.decode("latin-1"))
