@@ -6,13 +6,15 @@ prints what it received before.
 
 from __future__ import annotations
 
+import argparse
 import collections
+import itertools
 import re
 import socket
 import subprocess
 import tempfile
 import threading
-from typing import IO, Iterable, Iterator, NamedTuple, Optional
+from typing import IO, Callable, Iterable, Iterator, NamedTuple, Optional, Sequence, TypeVar
 
 # The types that siploc reads, and those by which no name exists: RRSIG and NSEC are never a name's only records
 # (RFC 4035, 2.3), and the owner of an NSEC3 record does not exist by it (RFC 5155, 7.2.8).
@@ -27,6 +29,9 @@ OPTIONS = ["+noall", "+answer", "+comments", "+additional", "+norecurse", "+noed
            "+retry=0"]
 # What `dig` prints about a message that is in order, beside its status.
 USUAL = re.compile(r";; (Got answer:|(ANSWER|AUTHORITY|ADDITIONAL) SECTION:|(OPT|TSIG) PSEUDOSECTION:)|; (EDNS|COOKIE|EDE):")
+
+
+Answer = TypeVar("Answer")
 
 
 class Fault(Exception):
@@ -206,7 +211,7 @@ def decoded(lines: Optional[IO[bytes]]) -> Iterator[str]:
         yield line.decode()
 
 
-def each_address(server: Server, call):
+def each_address(server: Server, call: Callable[[str], Answer]) -> Answer:
     """What a call returns for the first of a server's addresses at which it succeeds."""
     if server.key:
         try:
@@ -276,11 +281,28 @@ class Zone:
         self.samples: dict[str, str] = {}
         self.left_out: collections.Counter[str] = collections.Counter()
 
-    def copy(self) -> Zone:
-        new = Zone(self.apex, self.apart, self.truncate)
-        new.soa, new.samples, new.others = self.soa, {**self.samples}, {**self.others}
-        new.read = {owner: [*it] for owner, it in self.read.items()}
-        return new
+    @property
+    def serial(self) -> int:
+        assert self.soa
+        return serial_of(self.soa)
+
+    @property
+    def times(self) -> tuple[int, int, int]:
+        """The seconds of refresh, retry and expiry of the SOA record."""
+        assert self.soa
+        refresh, retry, expire = map(int, self.soa.data.split()[3:6])
+        return refresh, retry, expire
+
+    def parts(self, owner: str) -> tuple[Optional[list[str]], Optional[int], Optional[str]]:
+        """What there is of a name, for `put_back`."""
+        texts = self.read.get(owner)
+        return None if texts is None else [*texts], self.others.get(owner), self.samples.get(owner)
+
+    def put_back(self, owner: str, parts: tuple[Optional[list[str]], Optional[int], Optional[str]]) -> None:
+        for store, part in zip((self.read, self.others, self.samples), parts):
+            store.pop(owner, None)
+            if part is not None:
+                store[owner] = part
 
     def leaves_out(self, record: Record) -> Optional[str]:
         """Why a record is not taken in, if it is not."""
@@ -291,6 +313,7 @@ class Zone:
         return next((f"of {it} and below, which is loaded apart" for it in self.apart if is_within(record.owner, it)), None)
 
     def add(self, record: Record) -> None:
+        """Takes a record in; one that is there already is counted."""
         why = self.leaves_out(record)
         if why:
             self.left_out[why] += 1
@@ -372,13 +395,19 @@ class Zone:
         return [f"{count} {'record' if count == 1 else 'records'} {why}" for why, count in counts.items() if count > 0]
 
 
+def name_the_soa(zone: Zone, soa: Record) -> None:
+    """Makes this SOA record that of the zone, in place of an older one."""
+    zone.soa = soa
+    zone.samples[zone.apex] = f"SOA {soa.data}"
+
+
 def take(zone: Zone, soa: Record, records: Iterable[Record]) -> Zone:
     """A zone with the records of a whole transfer."""
-    zone.soa = soa
     zone.add(soa)
     for record in records:
         zone.add(record)
     zone.check()
+    name_the_soa(zone, soa)
     return zone
 
 
@@ -389,3 +418,129 @@ def fetch(server: Server, apex: str, apart: Iterable[str] = (), truncate: bool =
         soa = begin(records, apex)
         return take(Zone(apex, apart, truncate), soa, finish(records, soa, apex))
     return each_address(server, at)
+
+
+# ---- changes
+
+
+class Change(NamedTuple):
+    """A record that is added, or deleted, from one version of a zone to a later one."""
+    is_added: bool
+    record: Record
+
+
+class Changes(NamedTuple):
+    """The differences from one version of a zone to a later one, whose SOA record this is."""
+    soa: Record
+    steps: list[Change]
+
+
+def ask_soa(server: Server, apex: str) -> Record:
+    """The SOA record that a server has of a zone."""
+    def at(address: str) -> Record:
+        found = [*ask(server, address, apex, ["-t", "SOA", "+tcp"])]
+        soa = begin(iter(found), apex)
+        if len(found) > 1:
+            raise Fault("there is more than one SOA record")
+        return soa
+    return each_address(server, at)
+
+
+def read_differences(records: Iterator[Record], apex: str, soa: Record, serial: int) -> list[Change]:
+    """The changes of an incremental transfer after its first two SOA records, the second one of this serial
+    (RFC 1995, 4)."""
+    last, steps, is_added = serial_of(soa), [], False
+    for record in records:
+        if record.kind != "SOA" or record.owner != apex:
+            steps.append(Change(is_added, record))
+            continue
+        here = serial_of(record)
+        if is_added and serial == last:
+            if here != last or next(records, None):
+                raise Fault("the differences do not end with the SOA record that they begin with")
+            return steps
+        if is_added and here != serial:
+            raise Fault(f"the differences go on from serial {here}, and not from {serial}")
+        is_added, serial = not is_added, here
+    raise Fault("the differences were cut short: they do not end with the SOA record that they begin with")
+
+
+def fetch_changes(server: Server, zone: Zone) -> Changes | Zone:
+    """What has changed since a zone was transferred: the differences, or the whole zone where the server sends that."""
+    assert zone.soa
+    serial = serial_of(zone.soa)
+
+    def at(address: str) -> Changes | Zone:
+        records = ask(server, address, zone.apex, ["-t", f"IXFR={serial}"])
+        soa = begin(records, zone.apex)
+        second = next(records, None)
+        if second is None:
+            if serial_of(soa) != serial:
+                raise Fault("the server sends no differences")
+            return Changes(soa, [])
+        if second.kind != "SOA" or second.owner != zone.apex or serial_of(second) == serial_of(soa):
+            return take(Zone(zone.apex, zone.apart, zone.truncate), soa,
+                        finish(itertools.chain([second], records), soa, zone.apex))
+        if serial_of(second) != serial:
+            raise Fault(f"the differences begin at serial {serial_of(second)}, and not at {serial}")
+        return Changes(soa, read_differences(records, zone.apex, soa, serial))
+    return each_address(server, at)
+
+
+def apply(zone: Zone, changes: Changes) -> list[str]:
+    """Makes the changes, and returns the names that they are of. After a Fault the zone is as it was."""
+    owners = [*dict.fromkeys(it.record.owner for it in changes.steps)]
+    before = {owner: zone.parts(owner) for owner in [*owners, zone.apex]}
+    try:
+        for is_added, record in changes.steps:
+            there = zone.left_out["that were there before"]
+            if is_added:
+                zone.add(record)
+            else:
+                zone.remove(record)
+            if zone.left_out["that were there before"] != there:
+                raise KeyError
+        zone.check(owners)
+    except (KeyError, Fault) as fault:
+        for owner, parts in before.items():
+            zone.put_back(owner, parts)
+        if isinstance(fault, Fault):
+            raise
+        raise Fault("the differences do not fit the zone that was transferred before") from None
+    name_the_soa(zone, changes.soa)
+    return owners
+
+
+# ---- the words of commands
+
+
+def add_words(parser: argparse.ArgumentParser) -> None:
+    """The words that say what is transferred, and how."""
+    parser.add_argument("server", metavar="SERVER[@PORT]", help="the name server: an address or a name; port 53 if none is given")
+    parser.add_argument("apex", metavar="APEX", help="the zone's name")
+    parser.add_argument("--tsig", metavar="FILE", help="a file with the key that signs the transfer, as tsig-keygen and "
+                        "keymgr print it; an answer that is not signed by it is refused")
+    parser.add_argument("--apart", metavar="CHILD", action="append", default=[],
+                        help="leave out the names of a child zone, CHILD and below, which is loaded elsewhere")
+    parser.add_argument("--truncate", action="store_true",
+                        help=f"keep the first {MAX_SET} records of a set that has more; without it, they are refused")
+    parser.add_argument("--timeout", metavar="SECONDS", type=int, default=10,
+                        help="for how long the server may be silent (10); a whole transfer may take 60 times as long")
+
+
+def read_words(parser: argparse.ArgumentParser, words: Sequence[str]) -> argparse.Namespace:
+    """The words that were given, with the server and the names read."""
+    given = parser.parse_args(words)
+    if given.timeout < 1:
+        parser.error("--timeout is less than a second")
+    try:
+        given.server = Server.read(given.server, given.tsig, given.timeout)
+        given.apex, *given.apart = map(read_name, [given.apex, *given.apart])
+    except ValueError as fault:
+        parser.error(str(fault))
+    if given.apex.startswith("*."):
+        parser.error(f"the first label of {given.apex} is *, which siploc loads no zone of (S9)")
+    for child in given.apart:
+        if child == given.apex or not is_within(child, given.apex):
+            parser.error(f"{child} is not below {given.apex}")
+    return given
