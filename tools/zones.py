@@ -518,8 +518,8 @@ def add_words(parser: argparse.ArgumentParser) -> None:
     """The words that say what is transferred, and how."""
     parser.add_argument("server", metavar="SERVER[@PORT]", help="the name server: an address or a name; port 53 if none is given")
     parser.add_argument("apex", metavar="APEX", help="the zone's name")
-    parser.add_argument("--tsig", metavar="FILE", help="a file with the key that signs the transfer, as tsig-keygen and "
-                        "keymgr print it; an answer that is not signed by it is refused")
+    parser.add_argument("--tsig", metavar="FILE", help="a file with the key that signs the transfer, as BIND's "
+                        "tsig-keygen prints it; an answer that is not signed by it is refused")
     parser.add_argument("--apart", metavar="CHILD", action="append", default=[],
                         help="leave out the names of a child zone, CHILD and below, which is loaded elsewhere")
     parser.add_argument("--truncate", action="store_true",

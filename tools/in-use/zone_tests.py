@@ -3,9 +3,12 @@ what runs tests."""
 
 from __future__ import annotations
 
+import contextlib
+import io
 import os
 import pathlib
 import re
+import runpy
 import subprocess
 import sys
 import time
@@ -16,6 +19,7 @@ TOP = pathlib.Path(__file__).resolve().parent.parent.parent
 PROGRAM = os.path.abspath(os.environ.get("SIPLOC") or TOP / "crates/siploc/out/siploc")
 FETCH, FOLLOW = str(TOP / "tools/fetch-zone"), str(TOP / "tools/follow")
 APEX = "example.com"
+SCRIPTS: dict[str, Callable[[Sequence[str]], int]] = {}
 
 HEAD = "$ORIGIN example.com.\n$TTL 300\n@ SOA ns1 host {serial} {refresh} 1 86400 60\n"
 # Sixteen records that siploc is given: the SOA record, four others of types that it does not read, and eleven that it
@@ -65,6 +69,22 @@ def run(words: Sequence[str], octets: bytes = b"", seconds: float = 120, **rest:
     done = subprocess.run([*words], input=octets, stdout=subprocess.PIPE, stderr=subprocess.PIPE, timeout=seconds, check=False,
                           **rest)
     return done.returncode, done.stdout.decode(), done.stderr.decode()
+
+
+def call(path: str, words: Sequence[str], octets: bytes = b"") -> tuple[int, str, str]:
+    """What `run` returns of a script in Python, without a process of its own."""
+    if path not in SCRIPTS:
+        SCRIPTS[path] = runpy.run_path(path)["main"]
+    out, errors, before = io.StringIO(), io.StringIO(), sys.stdin
+    sys.stdin = io.TextIOWrapper(io.BytesIO(octets))
+    try:
+        with contextlib.redirect_stdout(out), contextlib.redirect_stderr(errors):
+            status = SCRIPTS[path](words)
+    except SystemExit as end:
+        status = end.code if isinstance(end.code, int) else 1
+    finally:
+        sys.stdin = before
+    return status, out.getvalue(), errors.getvalue()
 
 
 def session(text: str) -> list[str]:
