@@ -40,7 +40,8 @@ class Zone(NamedTuple):
 
     def records(self) -> list[tuple[Name, str, tuple[Any, ...]]]:
         try:
-            return plain.read_zone(self.octets, self.apex)[0]
+            records: list[tuple[Name, str, tuple[Any, ...]]] = plain.read_zone(self.octets, self.apex)[0]
+            return records
         except plain.Refused as fault:
             raise Fault(f"line {fault.line + self.skipped}: {fault.code}: {meaning(fault.code)}") from None
 
@@ -51,7 +52,8 @@ def meaning(code: str) -> str:
 
 def read_apex(text: str) -> Name:
     try:
-        return plain.read_name(text.encode())
+        name: Name = plain.read_name(text.encode())
+        return name
     except plain.Refused as fault:
         raise Fault(f"{text} is not a name: {fault.code}: {meaning(fault.code)}") from None
 
@@ -85,9 +87,9 @@ def state_of(given: Iterable[Zone], transports: Sequence[str], families: str) ->
 def print_data(kind: str, data: tuple[Any, ...]) -> str:
     """The data of a record, as in a master file."""
     if kind in ("A", "AAAA"):
-        return plain.print_address(data)
+        return str(plain.print_address(data))
     if kind == "CNAME":
-        return plain.print_name(data)
+        return str(plain.print_name(data))
     if kind == "SRV":
         return f"{data[0]} {data[1]} {data[2]} {plain.print_name(data[3])}"
     strings = " ".join(f'"{text}"' for text in map(print_string, data[2:5]))
@@ -101,6 +103,11 @@ def print_string(octets: bytes) -> str:
 def is_for_sip(data: tuple[Any, ...]) -> bool:
     """Whether a NAPTR record is for the services of SIP (RFC 3263, 4.1)."""
     return re.match(rb"sips?\+", data[3].lower()) is not None
+
+
+def rank(data: tuple[Any, ...]) -> tuple[int, int]:
+    """Order and preference of a NAPTR record, of which the least is chosen."""
+    return data[0], data[1]
 
 
 def why_not(data: tuple[Any, ...], transports: Sequence[str], is_secure: bool = False) -> Optional[str]:

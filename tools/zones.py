@@ -142,7 +142,8 @@ class Reply:
     """What `dig` prints, read line by line. The faults it tells of are gathered, and raised by `end`."""
 
     def __init__(self, server: Server):
-        self.server, self.faults, self.is_answer, self.is_signed = server, [], False, False
+        self.server, self.is_answer, self.is_signed = server, False, False
+        self.faults: list[str] = []
 
     def read(self, line: str) -> Optional[Record]:
         if line.startswith(";"):
@@ -190,6 +191,7 @@ def ask(server: Server, address: str, apex: str, question: list[str]) -> Iterato
             raise Fault(f"dig can't be started (Debian's bind9-dnsutils has it): {fault.strerror}") from None
         timer = threading.Timer(60 * server.seconds, dig.kill)
         timer.start()
+        assert dig.stdout
         try:
             yield from filter(None, map(reply.read, decoded(dig.stdout)))
             dig.wait()
@@ -204,8 +206,8 @@ def ask(server: Server, address: str, apex: str, question: list[str]) -> Iterato
         reply.end(errors.read().decode(errors="replace"), dig.returncode)
 
 
-def decoded(lines: Optional[IO[bytes]]) -> Iterator[str]:
-    for line in lines or ():
+def decoded(lines: IO[bytes]) -> Iterator[str]:
+    for line in lines:
         if not line.isascii():
             raise Fault(f"dig printed octets that are not of ASCII: {line[:80]!r}")
         yield line.decode()
@@ -299,10 +301,14 @@ class Zone:
         return None if texts is None else [*texts], self.others.get(owner), self.samples.get(owner)
 
     def put_back(self, owner: str, parts: tuple[Optional[list[str]], Optional[int], Optional[str]]) -> None:
-        for store, part in zip((self.read, self.others, self.samples), parts):
-            store.pop(owner, None)
-            if part is not None:
-                store[owner] = part
+        texts, count, sample = parts
+        self.read.pop(owner, None)
+        self.others.pop(owner, None)
+        self.samples.pop(owner, None)
+        if texts is not None:
+            self.read[owner] = texts
+        if count is not None and sample is not None:
+            self.others[owner], self.samples[owner] = count, sample
 
     def leaves_out(self, record: Record) -> Optional[str]:
         """Why a record is not taken in, if it is not."""
@@ -456,7 +462,7 @@ def read_differences(records: Iterator[Record], apex: str, soa: Record, serial: 
             continue
         here = serial_of(record)
         if is_added and serial == last:
-            if here != last or next(records, None):
+            if here != last or next(records, None) is not None:
                 raise Fault("the differences do not end with the SOA record that they begin with")
             return steps
         if is_added and here != serial:

@@ -5,7 +5,6 @@ from __future__ import annotations
 
 import base64
 import contextlib
-import os
 import pathlib
 import signal
 import socket
@@ -26,7 +25,7 @@ def free_port() -> int:
             stream.bind(("127.0.0.1", 0))
             with contextlib.suppress(OSError):
                 datagrams.bind(stream.getsockname())
-                return stream.getsockname()[1]
+                return int(stream.getsockname()[1])
     raise RuntimeError("no port is free")
 
 
@@ -89,10 +88,24 @@ def is_signed_at(port: int, apex: str) -> bool:
 class Served:
     """What Knot and BIND have in common: a folder with zone files, and a process that serves them."""
 
-    def __init__(self, folder: pathlib.Path):
+    def __init__(self, folder: pathlib.Path, zones: dict[str, str], signed: Iterable[str], words: Sequence[str]):
         self.folder, self.port, self.notified = folder, free_port(), free_port()
-        self.signed: set[str] = set()
+        self.signed = {*signed}
         folder.mkdir(parents=True)
+        folder.chmod(0o777)
+        for apex, text in zones.items():
+            self.write(apex, text)
+        (folder / "conf").write_text(self.config(zones))
+        self.process = Process([*words, str(folder / "conf")], folder / "log")
+
+    def config(self, zones: Iterable[str]) -> str:
+        raise NotImplementedError
+
+    def start(self) -> bool:
+        """Starts it, and says whether it serves, and signs, within some seconds."""
+        self.process.start()
+        return wait_until(lambda: serial_at(self.port, "example.com") >= 0) and all(
+            wait_until(lambda: is_signed_at(self.port, apex)) for apex in self.signed)
 
     def write(self, apex: str, text: str) -> None:
         (self.folder / f"{apex}.zone").write_text(text)
@@ -103,10 +116,6 @@ class Served:
         self.write(apex, text)
         self.reload(apex)
         return wait_until(lambda: serial_at(self.port, apex) not in (before, -1))
-
-    def is_ready(self) -> bool:
-        return wait_until(lambda: serial_at(self.port, "example.com") >= 0) and all(
-            wait_until(lambda: is_signed_at(self.port, apex)) for apex in self.signed)
 
     def reload(self, apex: str) -> None:
         raise NotImplementedError
@@ -120,20 +129,17 @@ class Knot(Served):
     """Knot, whose zones are open to all, keyed (`keyed.example`) or closed (`closed.example`), or signed."""
 
     def __init__(self, folder: pathlib.Path, zones: dict[str, str], signed: Iterable[str] = ()):
-        super().__init__(folder)
-        self.signed = {*signed}
-        for apex, text in zones.items():
-            self.write(apex, text)
-        (folder / "knot.conf").write_text(self.config(zones))
-        self.process = Process(["knotd", "-c", str(folder / "knot.conf")], folder / "knot.log")
+        super().__init__(folder, zones, signed, ["knotd", "-c"])
 
     def config(self, zones: Iterable[str]) -> str:
-        listed = "".join(f"""  - domain: {apex}
+        return self.head() + "zone:\n" + "".join(f"""  - domain: {apex}
     file: {apex}.zone
     acl: {"keyed" if apex == "keyed.example" else "nobody" if apex == "closed.example" else "open"}
     notify: follower
     dnssec-signing: {"on" if apex in self.signed else "off"}
 """ for apex in zones)
+
+    def head(self) -> str:
         return f"""server:
     listen: 127.0.0.1@{self.port}
     rundir: {self.folder}
@@ -168,15 +174,10 @@ template:
 policy:
   - id: default
     nsec3: on
-zone:
-{listed}"""
-
-    def start(self) -> bool:
-        self.process.start()
-        return self.is_ready()
+"""
 
     def reload(self, apex: str) -> None:
-        subprocess.run(["knotc", "-c", str(self.folder / "knot.conf"), "zone-reload", apex], stdout=subprocess.DEVNULL,
+        subprocess.run(["knotc", "-c", str(self.folder / "conf"), "zone-reload", apex], stdout=subprocess.DEVNULL,
                        stderr=subprocess.DEVNULL, check=False, timeout=30)
 
 
@@ -184,13 +185,7 @@ class Bind(Served):
     """BIND, which signs its zones, and is reloaded by a signal."""
 
     def __init__(self, folder: pathlib.Path, zones: dict[str, str], signed: Iterable[str] = ()):
-        super().__init__(folder)
-        self.signed = {*signed}
-        for apex, text in zones.items():
-            self.write(apex, text)
-        (folder / "named.conf").write_text(self.config(zones))
-        os.chmod(folder, 0o777)
-        self.process = Process(["named", "-g", "-c", str(folder / "named.conf")], folder / "named.log")
+        super().__init__(folder, zones, signed, ["named", "-g", "-c"])
 
     def config(self, zones: Iterable[str]) -> str:
         listed = "".join(f"""zone "{apex}" {{
@@ -218,10 +213,6 @@ options {{
 controls {{ }};
 {listed}"""
 
-    def start(self) -> bool:
-        self.process.start()
-        return self.is_ready()
-
     def reload(self, apex: str) -> None:
         if self.process.process:
             self.process.process.send_signal(signal.SIGHUP)
@@ -238,12 +229,12 @@ def record(owner: str, kind: int, data: bytes, ttl: int = 300, group: int = 1) -
     return name(owner) + struct.pack(">HHIH", kind, group, ttl, len(data)) + data
 
 
-def soa(apex: str, serial: int = 1, refresh: int = 3_600, retry: int = 2) -> bytes:
-    return record(apex, 6, name(f"ns.{apex}") + name(f"host.{apex}") + struct.pack(">5I", serial, refresh, retry, 86_400, 60))
+def soa(apex: str, serial: int = 1, refresh: int = 3_600, retry: int = 2, expire: int = 86_400) -> bytes:
+    return record(apex, 6, name(f"ns.{apex}") + name(f"host.{apex}") + struct.pack(">5I", serial, refresh, retry, expire, 60))
 
 
-def a(owner: str, text: str, **rest: int) -> bytes:
-    return record(owner, 1, socket.inet_aton(text), **rest)
+def a(owner: str, text: str, ttl: int = 300, group: int = 1) -> bytes:
+    return record(owner, 1, socket.inet_aton(text), ttl, group)
 
 
 class Asked:
@@ -265,7 +256,8 @@ class Scripted:
     """A server over TCP that sends what `reply` returns for a question, and closes the connection; None is silence."""
 
     def __init__(self, reply: Callable[[Asked], Optional[bytes]]):
-        self.reply, self.asked = reply, []
+        self.reply = reply
+        self.asked: list[int] = []
         self.stream = socket.create_server(("127.0.0.1", 0))
         self.port = self.stream.getsockname()[1]
         self.thread = threading.Thread(target=self.serve, daemon=True)
