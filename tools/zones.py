@@ -67,13 +67,6 @@ def print_label(octets: bytes) -> str:
     return "".join(f"\\{it:03}" if not 0x21 <= it <= 0x7E else "\\" * (it in b'.\\";()@$') + chr(it) for it in octets)
 
 
-def parents(name: str) -> Iterator[str]:
-    """The names above a name, the nearest first, without the root."""
-    for dot in re.finditer(r"(?:[^.\\]|\\.)+\.", name):
-        if dot.end() < len(name):
-            yield name[dot.end():]
-
-
 def is_within(name: str, apex: str) -> bool:
     """Whether a name is an apex or below it. Both are as `read_name` prints them."""
     if name == apex or apex == ".":
