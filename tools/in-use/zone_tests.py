@@ -13,7 +13,7 @@ import subprocess
 import sys
 import time
 import traceback
-from typing import Any, Callable, Optional, Sequence
+from typing import Any, Callable, Sequence
 
 TOP = pathlib.Path(__file__).resolve().parent.parent.parent
 PROGRAM = os.path.abspath(os.environ.get("SIPLOC") or TOP / "crates/siploc/out/siploc")
