@@ -1,0 +1,545 @@
+"""What the tools for zones share: names, zone transfers by `dig`, checked, and what siploc keeps of a zone.
+
+Nothing here trusts that a transfer is whole because `dig` ended with 0: it does so after `; Transfer failed.`, and
+prints what it received before.
+"""
+
+from __future__ import annotations
+
+import argparse
+import collections
+import itertools
+import re
+import socket
+import subprocess
+import tempfile
+import threading
+from typing import IO, Callable, Iterable, Iterator, NamedTuple, Optional, Sequence, TypeVar
+
+# The types that siploc reads, and those by which no name exists: RRSIG and NSEC are never a name's only records
+# (RFC 4035, 2.3), and the owner of an NSEC3 record does not exist by it (RFC 5155, 7.2.8).
+READ = ("A", "AAAA", "CNAME", "SRV", "NAPTR")
+PROOFS = ("RRSIG", "NSEC", "NSEC3")
+# The lines that a `zone` line may announce, the octets of a line, and the records of a set.
+MAX_LINES, MAX_LINE, MAX_SET = 1 << 20, 65_536, 32
+# No name has more records that are read: a set fits in a message, and a record takes 16 octets.
+MAX_NAME = 5 * 65_536 // 16
+
+OPTIONS = ["+noall", "+answer", "+comments", "+additional", "+norecurse", "+noedns", "+noidnin", "+noidnout", "+tries=1",
+           "+retry=0"]
+# What `dig` prints about a message that is in order, beside its status.
+USUAL = re.compile(r";; (Got answer:|(ANSWER|AUTHORITY|ADDITIONAL) SECTION:|(OPT|TSIG) PSEUDOSECTION:)|; (EDNS|COOKIE|EDE):")
+
+
+Answer = TypeVar("Answer")
+
+
+class Fault(Exception):
+    """Why a transfer is not taken."""
+
+
+# ---- names
+
+
+def octets_of(label: str) -> bytes:
+    """The octets of a label in a master file, in lower case."""
+    found = re.findall(r"\\(\d{3})|\\?(.)", label, re.S)
+    return b"".join(bytes([int(code)]) if code else char.encode() for code, char in found).lower()
+
+
+def read_name(text: str) -> str:
+    """A name as `dig` and siploc print it, in lower case. A final dot may be left out."""
+    if text == ".":
+        return text
+    labels = re.findall(r"((?:[^.\\]|\\\d{3}|\\\D)+)(?:\.|$)", text)
+    if "".join(f"{it}." for it in labels) not in (text, text + ".") or not labels:
+        raise ValueError(f"{text} is not a name")
+    try:
+        wire = [octets_of(it) for it in labels]
+    except ValueError:
+        raise ValueError(f"{text} has a bad escape") from None
+    if max(map(len, wire)) > 63 or sum(len(it) + 1 for it in wire) > 254:
+        raise ValueError(f"{text} is too long for a name")
+    return "".join(print_label(it) + "." for it in wire)
+
+
+def print_label(octets: bytes) -> str:
+    return "".join(f"\\{it:03}" if not 0x21 <= it <= 0x7E else "\\" * (it in b'.\\";()@$') + chr(it) for it in octets)
+
+
+def is_within(name: str, apex: str) -> bool:
+    """Whether a name is an apex or below it. Both are as `read_name` prints them."""
+    if name == apex or apex == ".":
+        return True
+    if not name.endswith("." + apex):
+        return False
+    head = name[:-len(apex) - 1]
+    return (len(head) - len(head.rstrip("\\"))) % 2 == 0
+
+
+# ---- transfers
+
+
+class Server(NamedTuple):
+    """A name server, with the file of its TSIG key, and the seconds for which it may be silent."""
+    host: str
+    port: int
+    key: Optional[str] = None
+    seconds: int = 10
+
+    @classmethod
+    def read(cls, text: str, key: Optional[str] = None, seconds: int = 10) -> Server:
+        host, at, port = text.partition("@")
+        if not host or at and not (port.isascii() and port.isdigit() and 0 < int(port) < 65_536):
+            raise ValueError(f"{text} is not SERVER or SERVER@PORT")
+        return cls(host, int(port or 53), key, seconds)
+
+    def __str__(self) -> str:
+        return f"{self.host}@{self.port}"
+
+    def addresses(self) -> list[str]:
+        try:
+            found = socket.getaddrinfo(self.host, self.port, type=socket.SOCK_STREAM)
+        except OSError as fault:
+            raise Fault(f"{self.host} has no address: {fault.strerror or fault}") from None
+        return [*dict.fromkeys(str(it[4][0]) for it in found)]
+
+
+class Record(NamedTuple):
+    """A record as it is compared: its owner, type and data, where names are in lower case."""
+    owner: str
+    kind: str
+    data: str
+
+
+def read_record(line: str) -> Record:
+    """The record of a line of `dig`."""
+    fields = line.split(None, 4)
+    if len(fields) < 4 or not fields[1].isdigit():
+        raise Fault(f"dig printed a line that is not a record: {line[:80]!r}")
+    owner, _, group, kind, *rest = fields
+    if group != "IN":
+        raise Fault(f"{owner} has a record of class {group}, and only IN is served")
+    data = rest[0].rstrip() if rest else ""
+    if kind in READ and data.startswith("\\#"):
+        raise Fault(f"{owner} has a record of type {kind} in generic form (RFC 3597), which siploc refuses (Z10)")
+    if kind in ("A", "AAAA", "CNAME", "SRV"):
+        data = data.lower()
+    elif kind == "NAPTR":
+        head, _, replacement = data.rpartition(" ")
+        data = f"{head} {replacement.lower()}"
+    return Record(owner.lower(), kind, data)
+
+
+class Reply:
+    """What `dig` prints, read line by line. The faults it tells of are gathered, and raised by `end`."""
+
+    def __init__(self, server: Server):
+        self.server, self.is_answer, self.is_signed = server, False, False
+        self.faults: list[str] = []
+
+    def read(self, line: str) -> Optional[Record]:
+        if line.startswith(";"):
+            self.comment(line)
+        elif self.is_answer and not line.isspace() and not self.faults:
+            return read_record(line)
+        elif "\tTSIG\t" in line:
+            self.is_signed = True
+        return None
+
+    def comment(self, line: str) -> None:
+        header = re.match(r";; ->>HEADER<<- opcode: (\S+), status: (\S+),", line)
+        flags = re.match(r";; flags:([^;]*);", line)
+        if header:
+            self.is_answer = self.is_signed = False
+            if header[1] != "QUERY" or header[2] != "NOERROR":
+                self.faults.append(f"the server's status is {header[2]}")
+        elif flags:
+            if "tc" in flags[1].split():
+                self.faults.append("the server's message is truncated")
+        elif USUAL.match(line):
+            self.is_answer = line.startswith(";; ANSWER")
+        elif not re.match(r"; <<>> |; \(\d|;; global options", line):
+            self.faults.append(line.strip("; \n\r"))
+
+    def end(self, errors: str, status: int) -> None:
+        self.faults += errors.split("\n")
+        if status and not any(self.faults):
+            self.faults.append(f"dig ended with {status}")
+        if any(self.faults):
+            raise Fault("; ".join(dict.fromkeys(filter(None, self.faults))))
+        if self.server.key and not self.is_signed:
+            raise Fault("the last message has no TSIG (RFC 8945, 5.3.1)")
+
+
+def ask(server: Server, address: str, apex: str, question: list[str]) -> Iterator[Record]:
+    """The records of the answer to a question. They are to be used only when all of them have come."""
+    command = ["dig", "-r", f"@{address}", "-p", str(server.port), "-c", "IN", *(["-k", server.key] if server.key else []),
+               *OPTIONS, f"+time={server.seconds}", "-q", apex, *question]
+    reply = Reply(server)
+    with tempfile.TemporaryFile() as errors:
+        try:
+            dig = subprocess.Popen(command, stdin=subprocess.DEVNULL, stdout=subprocess.PIPE, stderr=errors)
+        except OSError as fault:
+            raise Fault(f"dig can't be started (Debian's bind9-dnsutils has it): {fault.strerror}") from None
+        timer = threading.Timer(60 * server.seconds, dig.kill)
+        timer.start()
+        assert dig.stdout
+        try:
+            yield from filter(None, map(reply.read, decoded(dig.stdout)))
+            dig.wait()
+        finally:
+            timer.cancel()
+            dig.kill()
+            dig.wait()
+            dig.stdout.close()
+        errors.seek(0)
+        if dig.returncode == -9:
+            raise Fault(f"the transfer took more than {60 * server.seconds} seconds")
+        reply.end(errors.read().decode(errors="replace"), dig.returncode)
+
+
+def decoded(lines: IO[bytes]) -> Iterator[str]:
+    for line in lines:
+        if not line.isascii():
+            raise Fault(f"dig printed octets that are not of ASCII: {line[:80]!r}")
+        yield line.decode()
+
+
+def each_address(server: Server, call: Callable[[str], Answer]) -> Answer:
+    """What a call returns for the first of a server's addresses at which it succeeds."""
+    if server.key:
+        try:
+            open(server.key, "rb").close()
+        except OSError as fault:
+            raise Fault(f"the key {server.key} can't be read: {fault.strerror}") from None
+    faults = []
+    for address in server.addresses():
+        try:
+            return call(address)
+        except Fault as fault:
+            faults.append(f"{address}: {fault}" if address != server.host else str(fault))
+    raise Fault("; ".join(faults))
+
+
+def serial_of(soa: Record) -> int:
+    return int(soa.data.split()[2])
+
+
+def is_newer(serial: int, than: int) -> bool:
+    """RFC 1982, 3.2."""
+    return 0 < (serial - than) % (1 << 32) < 1 << 31
+
+
+def begin(records: Iterator[Record], apex: str) -> Record:
+    """The SOA record that a transfer begins with."""
+    first = next(records, None)
+    if first is None:
+        raise Fault("the answer is empty")
+    if first.kind != "SOA":
+        raise Fault(f"the transfer begins with a record of type {first.kind}, and not with the SOA record")
+    if first.owner != apex:
+        raise Fault(f"the transfer is of {first.owner}, and not of {apex}")
+    if not re.fullmatch(r"\S+ \S+( \d{1,10}){5}", first.data):
+        raise Fault("the SOA record is not complete")
+    return first
+
+
+def finish(records: Iterator[Record], soa: Record, apex: str) -> Iterator[Record]:
+    """The records of a whole zone after its first SOA record, up to the second one, which is left out."""
+    is_done = False
+    for record in records:
+        if is_done:
+            raise Fault("there are records after the second SOA record")
+        if record.kind == "SOA" and record.owner == apex:
+            if record.data.lower() != soa.data.lower():
+                raise Fault(f"the zone changed while it was sent: it begins with the SOA record of serial {serial_of(soa)}, "
+                            f"and ends with another one ({record.data})")
+            is_done = True
+        else:
+            yield record
+    if not is_done:
+        raise Fault("the transfer was cut short: it does not end with the SOA record that it begins with")
+
+
+# ---- what siploc keeps
+
+
+class Zone:
+    """The records of a zone, as far as siploc reads them, and how many others each name has."""
+
+    def __init__(self, apex: str, apart: Iterable[str] = (), truncate: bool = False):
+        self.apex, self.apart, self.truncate = apex, [*apart], truncate
+        self.soa: Optional[Record] = None
+        self.read: dict[str, list[str]] = {}
+        self.others: dict[str, int] = {}
+        self.samples: dict[str, str] = {}
+        self.left_out: collections.Counter[str] = collections.Counter()
+
+    @property
+    def serial(self) -> int:
+        assert self.soa
+        return serial_of(self.soa)
+
+    @property
+    def times(self) -> tuple[int, int, int]:
+        """The seconds of refresh, retry and expiry of the SOA record."""
+        assert self.soa
+        refresh, retry, expire = map(int, self.soa.data.split()[3:6])
+        return refresh, retry, expire
+
+    def parts(self, owner: str) -> tuple[Optional[list[str]], Optional[int], Optional[str]]:
+        """What there is of a name, for `put_back`."""
+        texts = self.read.get(owner)
+        return None if texts is None else [*texts], self.others.get(owner), self.samples.get(owner)
+
+    def put_back(self, owner: str, parts: tuple[Optional[list[str]], Optional[int], Optional[str]]) -> None:
+        texts, count, sample = parts
+        self.read.pop(owner, None)
+        self.others.pop(owner, None)
+        self.samples.pop(owner, None)
+        if texts is not None:
+            self.read[owner] = texts
+        if count is not None and sample is not None:
+            self.others[owner], self.samples[owner] = count, sample
+
+    def leaves_out(self, record: Record) -> Optional[str]:
+        """Why a record is not taken in, if it is not."""
+        if record.kind in PROOFS:
+            return f"of the types {', '.join(PROOFS)}, by which no name exists"
+        if not is_within(record.owner, self.apex):
+            return f"outside {self.apex}"
+        return next((f"of {it} and below, which is loaded apart" for it in self.apart if is_within(record.owner, it)), None)
+
+    def add(self, record: Record) -> None:
+        """Takes a record in; one that is there already is counted."""
+        why = self.leaves_out(record)
+        if why:
+            self.left_out[why] += 1
+        elif record.kind in READ:
+            kept = self.read.setdefault(record.owner, [])
+            text = f"{record.kind} {record.data}"
+            if text in kept:
+                self.left_out["that were there before"] += 1
+            elif len(kept) == MAX_NAME:
+                raise Fault(f"{record.owner} has more records than messages can hold")
+            else:
+                kept.append(text)
+        else:
+            self.others[record.owner] = self.others.get(record.owner, 0) + 1
+            text = f"{record.kind} {record.data}"
+            self.samples.setdefault(record.owner, text if len(text) < MAX_LINE // 2 else record.kind)
+
+    def remove(self, record: Record) -> None:
+        """Takes a record away; one that is not there is a KeyError."""
+        if self.leaves_out(record):
+            return
+        if record.kind in READ:
+            kept, text = self.read[record.owner], f"{record.kind} {record.data}"
+            if text not in kept:
+                raise KeyError(text)
+            kept.remove(text)
+            if not kept:
+                del self.read[record.owner]
+        else:
+            self.others[record.owner] -= 1
+            if not self.others[record.owner]:
+                del self.others[record.owner], self.samples[record.owner]
+
+    def kept(self, owner: str) -> dict[str, str]:
+        """What siploc is given of a name: the text of each record by what it is compared by. A name that it reads
+        no record of has one of the others, so that it exists; and the apex has its SOA record, which a reader likes."""
+        counts: collections.Counter[str] = collections.Counter()
+        texts = {}
+        for text in self.read.get(owner, ()):
+            kind = text.partition(" ")[0]
+            counts[kind] += 1
+            if counts[kind] <= MAX_SET:
+                texts[text] = f"{owner} {text}"
+        if owner in self.others and (not texts or owner == self.apex):
+            texts[""] = f"{owner} {self.samples[owner]}"
+        return texts
+
+    def check(self, owners: Optional[Iterable[str]] = None) -> None:
+        """Refuses what siploc refuses: sets that are too large, and aliases beside other data."""
+        for owner in self.read if owners is None else owners:
+            texts = self.read.get(owner, ())
+            if len(texts) < 2:
+                continue
+            counts = collections.Counter(it.partition(" ")[0] for it in texts)
+            if "CNAME" in counts:
+                raise Fault(f"{owner} has an alias beside other data, which siploc refuses (Z14)")
+            for kind, count in counts.items():
+                if count > MAX_SET and not self.truncate:
+                    raise Fault(f"{owner} has {count} records of type {kind}, and a set has at most {MAX_SET} (Z15): "
+                                f"--truncate keeps the first {MAX_SET} of each")
+
+    def lines(self) -> list[str]:
+        """The lines to load, the SOA record first."""
+        owners = dict.fromkeys([self.apex, *self.read, *self.others])
+        made = [line for owner in owners for line in self.kept(owner).values()]
+        if len(made) > MAX_LINES:
+            raise Fault(f"siploc would be given {len(made)} records, and a zone has at most {MAX_LINES} lines (K1)")
+        return sorted(made, key=lambda it: not it.startswith(f"{self.apex} SOA "))
+
+    def omissions(self) -> list[str]:
+        """How many records are left out, and why."""
+        beyond = collections.Counter((owner, text.partition(" ")[0]) for owner, it in self.read.items() if len(it) > MAX_SET
+                                     for text in it)
+        marks = sum(1 for it in self.others if "" in self.kept(it))
+        counts = {**self.left_out,
+                  "of types that are not read, whose names exist by others": sum(self.others.values()) - marks,
+                  **{f"of type {kind} of {owner}, beyond the {MAX_SET} of a set": count - MAX_SET
+                     for (owner, kind), count in beyond.items()}}
+        return [f"{count} {'record' if count == 1 else 'records'} {why}" for why, count in counts.items() if count > 0]
+
+
+def name_the_soa(zone: Zone, soa: Record) -> None:
+    """Makes this SOA record that of the zone, in place of an older one."""
+    zone.soa = soa
+    zone.samples[zone.apex] = f"SOA {soa.data}"
+
+
+def take(zone: Zone, soa: Record, records: Iterable[Record]) -> Zone:
+    """A zone with the records of a whole transfer."""
+    zone.add(soa)
+    for record in records:
+        zone.add(record)
+    zone.check()
+    name_the_soa(zone, soa)
+    return zone
+
+
+def fetch(server: Server, apex: str, apart: Iterable[str] = (), truncate: bool = False) -> Zone:
+    """A zone by a whole transfer (RFC 5936), or a Fault."""
+    def at(address: str) -> Zone:
+        records = ask(server, address, apex, ["-t", "AXFR"])
+        soa = begin(records, apex)
+        return take(Zone(apex, apart, truncate), soa, finish(records, soa, apex))
+    return each_address(server, at)
+
+
+# ---- changes
+
+
+class Change(NamedTuple):
+    """A record that is added, or deleted, from one version of a zone to a later one."""
+    is_added: bool
+    record: Record
+
+
+class Changes(NamedTuple):
+    """The differences from one version of a zone to a later one, whose SOA record this is."""
+    soa: Record
+    steps: list[Change]
+
+
+def ask_soa(server: Server, apex: str) -> Record:
+    """The SOA record that a server has of a zone."""
+    def at(address: str) -> Record:
+        found = [*ask(server, address, apex, ["-t", "SOA", "+tcp"])]
+        soa = begin(iter(found), apex)
+        if len(found) > 1:
+            raise Fault("there is more than one SOA record")
+        return soa
+    return each_address(server, at)
+
+
+def read_differences(records: Iterator[Record], apex: str, soa: Record, serial: int) -> list[Change]:
+    """The changes of an incremental transfer after its first two SOA records, the second one of this serial
+    (RFC 1995, 4)."""
+    last, steps, is_added = serial_of(soa), [], False
+    for record in records:
+        if record.kind != "SOA" or record.owner != apex:
+            steps.append(Change(is_added, record))
+            continue
+        here = serial_of(record)
+        if is_added and serial == last:
+            if here != last or next(records, None) is not None:
+                raise Fault("the differences do not end with the SOA record that they begin with")
+            return steps
+        if is_added and here != serial:
+            raise Fault(f"the differences go on from serial {here}, and not from {serial}")
+        is_added, serial = not is_added, here
+    raise Fault("the differences were cut short: they do not end with the SOA record that they begin with")
+
+
+def fetch_changes(server: Server, zone: Zone) -> Changes | Zone:
+    """What has changed since a zone was transferred: the differences, or the whole zone where the server sends that."""
+    assert zone.soa
+    serial = serial_of(zone.soa)
+
+    def at(address: str) -> Changes | Zone:
+        records = ask(server, address, zone.apex, ["-t", f"IXFR={serial}"])
+        soa = begin(records, zone.apex)
+        second = next(records, None)
+        if second is None:
+            if serial_of(soa) != serial:
+                raise Fault("the server sends no differences")
+            return Changes(soa, [])
+        if second.kind != "SOA" or second.owner != zone.apex or serial_of(second) == serial_of(soa):
+            return take(Zone(zone.apex, zone.apart, zone.truncate), soa,
+                        finish(itertools.chain([second], records), soa, zone.apex))
+        if serial_of(second) != serial:
+            raise Fault(f"the differences begin at serial {serial_of(second)}, and not at {serial}")
+        return Changes(soa, read_differences(records, zone.apex, soa, serial))
+    return each_address(server, at)
+
+
+def apply(zone: Zone, changes: Changes) -> list[str]:
+    """Makes the changes, and returns the names that they are of. After a Fault the zone is as it was."""
+    owners = [*dict.fromkeys(it.record.owner for it in changes.steps)]
+    before = {owner: zone.parts(owner) for owner in [*owners, zone.apex]}
+    try:
+        for is_added, record in changes.steps:
+            there = zone.left_out["that were there before"]
+            if is_added:
+                zone.add(record)
+            else:
+                zone.remove(record)
+            if zone.left_out["that were there before"] != there:
+                raise KeyError
+        zone.check(owners)
+    except (KeyError, Fault) as fault:
+        for owner, parts in before.items():
+            zone.put_back(owner, parts)
+        if isinstance(fault, Fault):
+            raise
+        raise Fault("the differences do not fit the zone that was transferred before") from None
+    name_the_soa(zone, changes.soa)
+    return owners
+
+
+# ---- the words of commands
+
+
+def add_words(parser: argparse.ArgumentParser) -> None:
+    """The words that say what is transferred, and how."""
+    parser.add_argument("server", metavar="SERVER[@PORT]", help="the name server: an address or a name; port 53 if none is given")
+    parser.add_argument("apex", metavar="APEX", help="the zone's name")
+    parser.add_argument("--tsig", metavar="FILE", help="a file with the key that signs the transfer, as BIND's "
+                        "tsig-keygen prints it; an answer that is not signed by it is refused")
+    parser.add_argument("--apart", metavar="CHILD", action="append", default=[],
+                        help="leave out the names of a child zone, CHILD and below, which is loaded elsewhere")
+    parser.add_argument("--truncate", action="store_true",
+                        help=f"keep the first {MAX_SET} records of a set that has more; without it, they are refused")
+    parser.add_argument("--timeout", metavar="SECONDS", type=int, default=10,
+                        help="for how long the server may be silent (10); a whole transfer may take 60 times as long")
+
+
+def read_words(parser: argparse.ArgumentParser, words: Sequence[str]) -> argparse.Namespace:
+    """The words that were given, with the server and the names read."""
+    given = parser.parse_args(words)
+    if given.timeout < 1:
+        parser.error("--timeout is less than a second")
+    try:
+        given.server = Server.read(given.server, given.tsig, given.timeout)
+        given.apex, *given.apart = map(read_name, [given.apex, *given.apart])
+    except ValueError as fault:
+        parser.error(str(fault))
+    if given.apex.startswith("*."):
+        parser.error(f"the first label of {given.apex} is *, which siploc loads no zone of (S9)")
+    for child in given.apart:
+        if child == given.apex or not is_within(child, given.apex):
+            parser.error(f"{child} is not below {given.apex}")
+    return given
