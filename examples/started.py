@@ -12,6 +12,8 @@ from pathlib import Path
 from typing import Callable, Dict, Iterator, List, Optional, Sequence
 
 TOP = Path(__file__).resolve().parent.parent
+# Where Debian has the programs of servers.
+os.environ["PATH"] = f"{os.environ.get('PATH', '')}:/usr/sbin"
 sys.path.insert(0, str(TOP / "clients/python"))
 import siploc  # noqa: E402
 
