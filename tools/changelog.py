@@ -9,7 +9,7 @@ from __future__ import annotations
 import ipaddress
 import re
 import socket
-from typing import BinaryIO, Iterable, Iterator, List, NamedTuple, Optional, Sequence, Tuple, Union
+from typing import BinaryIO, Dict, Iterable, Iterator, List, NamedTuple, Optional, Sequence, Tuple, Union
 
 #: How many changes are sent at once at most.
 WINDOW = 256
@@ -26,9 +26,10 @@ class Fault(Exception):
 
 
 class Change(NamedTuple):
-    """A change, and what it touches: an owner or an endpoint; None where it may touch all."""
+    """A change, its command word, and what it touches: an owner or an endpoint; None where it may touch all."""
 
     octets: bytes
+    word: str
     touches: Optional[Tuple[str, ...]]
 
     @property
@@ -49,7 +50,7 @@ def change_of(octets: bytes) -> Change:
         raise Fault(f"its fields do not fit: {shown!r}")
     if len(rest) != (zone_lines(fields) or 0):
         raise Fault(f"it has {len(rest)} lines after the first: {shown!r}")
-    return Change(octets, touched(fields))
+    return Change(octets, fields[0].decode(), touched(fields))
 
 
 def zone_lines(fields: Sequence[bytes]) -> Optional[int]:
@@ -97,20 +98,22 @@ class Entry(NamedTuple):
 
 
 def batches(entries: Iterable[Entry]) -> Iterator[List[Entry]]:
-    """Entries in order, in runs of which no two touch the same. A run that is sent again from its beginning,
-    after some first part of it was done, leaves all as if it had been sent once."""
+    """Entries in order, in runs in which no owner has both additions and deletions, and no endpoint both holds and
+    releases; any other change is a run of its own. A run that is sent again from its beginning, after a first part
+    of it was done, leaves all as if it had been sent once."""
     batch: List[Entry] = []
-    seen = set()
+    words: Dict[Tuple[str, ...], str] = {}
     for entry in entries:
-        touches = entry.change.touches
-        if batch and (touches is None or touches in seen or len(batch) == WINDOW):
+        _, word, touches = entry.change
+        if batch and (touches is None or words.get(touches, word) != word or len(batch) == WINDOW):
             yield batch
-            batch, seen = [], set()
+            batch, words = [], {}
         batch.append(entry)
-        seen.add(touches)
         if touches is None:
             yield batch
-            batch, seen = [], set()
+            batch = []
+        else:
+            words[touches] = word
     if batch:
         yield batch
 
@@ -225,7 +228,7 @@ class Stream:
             return text
         if kind == b"-":
             return Refusal(text.decode("utf-8", "replace"))
-        if kind not in (b":", b"$", b"*") or not re.fullmatch(rb"-?[0-9]{1,19}", text):
+        if kind not in (b":", b"$", b"*") or not text.lstrip(b"-").isdigit() or len(text) > 20:
             raise OSError(f"not a reply of Redis: {line[:60]!r}")
         number = int(text)
         if kind == b":" or number < 0:
