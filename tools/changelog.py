@@ -6,13 +6,21 @@ An entry of the stream has one field, `change`: a line of a session that changes
 
 from __future__ import annotations
 
+import hashlib
 import ipaddress
 import re
 import socket
-from typing import BinaryIO, Dict, Iterable, Iterator, List, NamedTuple, Optional, Sequence, Tuple, Union
+from typing import TYPE_CHECKING, BinaryIO, Dict, Iterable, Iterator, List, NamedTuple, Optional, Sequence, Tuple, Union
 
-#: How many changes are sent at once at most.
+if TYPE_CHECKING:
+    from siploc import Session
+
+#: How many changes are appended, or are a batch, at most.
 WINDOW = 256
+#: The zone of a locator's mark.
+MARKS = "applied.invalid."
+
+Place = Tuple[int, int]
 
 #: The number of fields of each change, its word among them: at least, and at most.
 _FIELDS = {b"zone": (3, 3), b"drop": (2, 2), b"add": (2, 65_536), b"del": (2, 65_536), b"hold": (5, 5),
@@ -93,8 +101,52 @@ def changes_in(lines: Iterable[bytes]) -> Iterator[Tuple[int, Change]]:
 class Entry(NamedTuple):
     """An entry of the stream: its place, and its change."""
 
-    place: Tuple[int, int]
+    place: Place
     change: Change
+
+
+class Mark(NamedTuple):
+    """What a locator was given: all entries of a stream up to a place, and maybe a first part of the batch after it.
+    It is broken where the locator has refused one of its own accord: then it is not what the stream says.
+
+    A locator has two, at two names. The older one is deleted before the next one is added in its place: so there is
+    always one, and space for the next."""
+
+    stream: str
+    place: Place = (0, 0)
+    first: Place = (0, 0)
+    is_broken: bool = False
+    turn: int = 0
+
+    def next(self, place: Place, first: Place) -> Mark:
+        """The mark after this one, of a place. `first` is the first entry of the stream, where it had none before."""
+        return self._replace(place=place, first=self.first if self.first > (0, 0) else first, turn=1 - self.turn)
+
+    @property
+    def record(self) -> str:
+        """The record that is the mark."""
+        state = "broken" if self.is_broken else "good"
+        return f"at{self.turn}.{MARKS} CNAME {id_of(self.place)}.{id_of(self.first)}.{self.stream}.{state}.{MARKS}"
+
+
+def stream_id(key: str) -> str:
+    """The stream of a key, in a mark."""
+    return hashlib.sha256(key.encode()).hexdigest()[:16]
+
+
+def marks_of(session: Session) -> List[Mark]:
+    """The marks of a locator, the last one last: none, or one or two. No event of its journal is made."""
+    marks, exists = [], False
+    for turn in range(2):
+        for it in session.deps(f"sip:at{turn}.{MARKS}:1"):
+            match = re.fullmatch(rf"([0-9-]+)\.([0-9-]+)\.([0-9a-f]+)\.(good|broken)\.{re.escape(MARKS)}", it.name)
+            exists = exists or it.count > 0 and it.name == MARKS
+            if match:
+                marks.append(Mark(match[3], place_of(match[1]), place_of(match[2]), match[4] == "broken", turn))
+                break
+    if exists and not marks:
+        raise Fault(f"the locator has a zone {MARKS} that is none of ours")
+    return sorted(marks, key=lambda mark: (mark.place, mark.is_broken))
 
 
 def batches(entries: Iterable[Entry]) -> Iterator[List[Entry]]:
@@ -118,7 +170,7 @@ def batches(entries: Iterable[Entry]) -> Iterator[List[Entry]]:
         yield batch
 
 
-def place_of(text: Union[str, bytes]) -> Tuple[int, int]:
+def place_of(text: Union[str, bytes]) -> Place:
     """The place of an entry's id, such as `1700000000000-0`."""
     match = re.fullmatch(r"([0-9]{1,20})-([0-9]{1,20})", text if isinstance(text, str) else text.decode("latin-1"))
     if not match:
@@ -126,7 +178,7 @@ def place_of(text: Union[str, bytes]) -> Tuple[int, int]:
     return int(match[1]), int(match[2])
 
 
-def id_of(place: Tuple[int, int]) -> str:
+def id_of(place: Place) -> str:
     """The id of an entry."""
     return f"{place[0]}-{place[1]}"
 
@@ -143,9 +195,9 @@ class Refusal(NamedTuple):
 class Extent(NamedTuple):
     """Which entries a stream has: the first, the last that there ever was, and the last that was deleted."""
 
-    first: Tuple[int, int]
-    last: Tuple[int, int]
-    deleted: Tuple[int, int]
+    first: Place
+    last: Place
+    deleted: Place
 
 
 class Stream:
@@ -160,12 +212,12 @@ class Stream:
             raise Fault(f"Redis at {address}: {fault}") from fault
         self.reader: BinaryIO = self.socket.makefile("rb")
 
-    def append(self, changes: Sequence[Change]) -> Tuple[int, int]:
+    def append(self, changes: Sequence[Change]) -> Place:
         """Appends changes in order; the place of the last one."""
         replies = self.ask([[b"XADD", self.key.encode(), b"*", b"change", it.octets] for it in changes])
         return place_of(bytes_of(replies[-1]))
 
-    def after(self, place: Tuple[int, int], wait: Optional[int] = None) -> List[Entry]:
+    def after(self, place: Place, wait: Optional[int] = None) -> List[Entry]:
         """Some entries after a place, in order; where there are none, waits so many milliseconds for one."""
         block = [] if wait is None else [b"BLOCK", b"%d" % wait]
         words = [b"XREAD", b"COUNT", b"1024", *block, b"STREAMS", self.key.encode(), id_of(place).encode()]
@@ -244,7 +296,7 @@ class Stream:
 class Garbage(Fault):
     """An entry that is no change; its place."""
 
-    def __init__(self, place: Tuple[int, int], message: str) -> None:
+    def __init__(self, place: Place, message: str) -> None:
         super().__init__(message)
         self.place = place
 
