@@ -1,0 +1,106 @@
+"""What kamailio.cfg asks a locator for: `locate` and `failed`, for python_exec of the module app_python3.
+
+Each process of Kamailio has a session of its own with the locator at SIPLOC_ADDRESS. Where it is away, `locate`
+says so at once, and each process tries a new connection once a second.
+"""
+
+from __future__ import annotations
+
+import os
+import random
+import sys
+import time
+from typing import Callable, List, Optional, TypeVar
+
+import KSR
+
+sys.path.insert(0, os.path.join(os.path.dirname(os.path.abspath(__file__)), "../../clients/python"))
+import siploc  # noqa: E402
+
+ADDRESS = os.environ.get("SIPLOC_ADDRESS", "127.0.0.1:5099")
+# How long a server that said nothing is left out, in milliseconds.
+HOLD = int(os.environ.get("SIPLOC_HOLD", "30000"))
+# How long a request waits for the locator before Kamailio's own resolver takes its place, in seconds.
+PATIENCE = 0.5
+# How many targets of an answer are tried at most.
+MOST = 4
+
+LOCATED, NO_TARGET, AWAY = 1, 2, 3
+FAILED = -1
+TARGETS = "$avp(targets)"
+Reply = TypeVar("Reply")
+
+
+class Away(Exception):
+    """The locator was away within the last second, and is not asked."""
+
+
+class Locator:
+    """The locator as one process of Kamailio sees it."""
+
+    def __init__(self) -> None:
+        self.session: Optional[siploc.Session] = None
+        self.next_try = 0.0
+        self.chance = random.SystemRandom()
+
+    def child_init(self, _rank: int) -> int:
+        return 0
+
+    def ask(self, question: Callable[[siploc.Session], Reply]) -> Reply:
+        """What the locator says, over a new connection where the old one has ended since."""
+        if self.session is not None and self.session.is_open:
+            try:
+                return question(self.session)
+            except siploc.TimedOut:
+                raise
+            except siploc.ConnectionLost:
+                pass
+        if time.monotonic() < self.next_try:
+            raise Away
+        self.next_try = time.monotonic() + 1
+        self.session = siploc.connect(ADDRESS, timeout=PATIENCE)
+        return question(self.session)
+
+    def locate(self, _message: object) -> int:
+        """Sets $du to the first target of the next hop, and keeps the others for `failed`."""
+        uri = KSR.pv.get("$nh(u)")
+        try:
+            answer = self.ask(lambda session: session.find(uri, seed=self.chance.getrandbits(64)))
+        except Away:
+            return AWAY
+        except siploc.Error as fault:
+            KSR.warn(f"siploc: {fault}: Kamailio's own resolver is asked for {uri}\n")
+            return AWAY
+        if not answer:
+            KSR.info(f"siploc: {uri}: {answer.reason}\n")
+            return NO_TARGET
+        go_to([" ".join(map(str, target)) for target in answer.targets[:MOST]])
+        return LOCATED
+
+    def failed(self, _message: object, retry_after: str) -> int:
+        """Holds the target that has failed, and sets $du to the next one, where there is one."""
+        first, *others = KSR.pv.get(TARGETS).split(",")
+        transport, address, port = first.split(" ")
+        digits = retry_after.split(";")[0].split("(")[0].strip()
+        wait = int(digits) * 1000 if digits.isdigit() and int(digits) else HOLD
+        try:
+            self.ask(lambda session: session.hold((transport, address, int(port)), wait))
+        except (Away, siploc.Error) as fault:
+            KSR.warn(f"siploc: {fault or 'away'}: {first} is not held\n")
+        if not others:
+            return FAILED
+        go_to(others)
+        return LOCATED
+
+
+def go_to(targets: List[str]) -> None:
+    """Makes the first target the next hop, and keeps all of them with the transaction."""
+    transport, address, port = targets[0].split(" ")
+    host = f"[{address}]" if ":" in address else address
+    KSR.pv.sets("$du", f"sip:{host}:{port};transport={transport}")
+    KSR.pv.sets(TARGETS, ",".join(targets))
+
+
+def mod_init() -> Locator:
+    """What app_python3 calls at the start."""
+    return Locator()

@@ -1,0 +1,138 @@
+"""What the examples share: programs that they start and end, the locator among them, and steps that are judged."""
+
+from __future__ import annotations
+
+import contextlib
+import os
+import socket
+import subprocess
+import sys
+import time
+from pathlib import Path
+from typing import Callable, Dict, Iterator, List, Optional, Sequence
+
+TOP = Path(__file__).resolve().parent.parent
+# Where Debian has the programs of servers.
+os.environ["PATH"] = f"{os.environ.get('PATH', '')}:/usr/sbin"
+sys.path.insert(0, str(TOP / "clients/python"))
+import siploc  # noqa: E402
+
+
+class Failed(Exception):
+    """What ends an example, with its cause."""
+
+
+def program(words: Sequence[str]) -> str:
+    """The locator's program: the first word, or SIPLOC, or the one that was built here."""
+    path = Path(words[0] if words else os.environ.get("SIPLOC", TOP / "crates/siploc/out/siploc")).resolve()
+    if not os.access(path, os.X_OK):
+        raise Failed(f"{path}: there is no program; name one, or build it (README, Install and first run)")
+    return str(path)
+
+
+def free_ports(count: int, kind: int = socket.SOCK_STREAM) -> List[int]:
+    """Distinct ports of 127.0.0.1 that nobody has."""
+    with contextlib.ExitStack() as stack:
+        probes = [stack.enter_context(socket.socket(socket.AF_INET, kind)) for _ in range(count)]
+        for probe in probes:
+            probe.bind(("127.0.0.1", 0))
+        return [probe.getsockname()[1] for probe in probes]
+
+
+def wait_for(what: str, is_so: Callable[[], object], seconds: float = 15.0) -> None:
+    """Waits until something is so."""
+    end = time.monotonic() + seconds
+    while not is_so():
+        if time.monotonic() > end:
+            raise Failed(f"{what}: not within {seconds:g} seconds")
+        time.sleep(0.02)
+
+
+class Started:
+    """A program that was started here. What it prints goes to a file of its name."""
+
+    def __init__(self, folder: Path, name: str, words: Sequence[str], environment: Optional[Dict[str, str]] = None,
+                 cwd: Optional[Path] = None) -> None:
+        self.name, self.log = name, folder / f"{name}.log"
+        try:
+            with self.log.open("ab") as log:
+                self.process = subprocess.Popen(words, stdin=subprocess.DEVNULL, stdout=log, stderr=log,
+                                                env={**os.environ, **(environment or {})}, cwd=cwd or folder)
+        except OSError as fault:
+            raise Failed(f"{words[0]}: {fault.strerror}") from fault
+
+    def is_up(self) -> bool:
+        """Whether it runs. Where it has ended, what it printed last is the cause."""
+        if self.process.poll() is not None:
+            raise Failed(f"{self.name} ended with {self.process.returncode}: {self.log.read_text()[-500:].strip()}")
+        return True
+
+    def end(self) -> None:
+        """Ends it, by force where it takes more than five seconds."""
+        if self.process.poll() is None:
+            self.process.terminate()
+            try:
+                self.process.wait(5)
+            except subprocess.TimeoutExpired:
+                self.kill()
+
+    def kill(self) -> None:
+        """Ends it at once."""
+        self.process.kill()
+        self.process.wait()
+
+
+class Locator(Started):
+    """A locator without zones. This is the one place where the examples know which program it is: the daemon has
+    the same lines, and settings of its own."""
+
+    def __init__(self, path: str, folder: Path, name: str, port: int, settings: str = "") -> None:
+        self.address = f"127.0.0.1:{port}"
+        # So many connections that the program does not end before it is ended.
+        text = f'listen = "{self.address}"\nsessions = 100000\n{settings}'
+        super().__init__(folder, name, [path, "serve", text])
+        wait_for(f"{name} at {self.address}", self.listens)
+
+    def listens(self) -> bool:
+        self.is_up()
+        try:
+            siploc.connect(self.address, 5).close()
+        except siploc.NotConnected:
+            return False
+        return True
+
+
+class Steps:
+    """Steps that are printed with what was seen, and judged."""
+
+    def __init__(self) -> None:
+        self.passed = self.failed = 0
+
+    def see(self, what: str, seen: object, is_wanted: bool) -> None:
+        """Prints a step with what was seen."""
+        self.passed += is_wanted
+        self.failed += not is_wanted
+        print(f"{'ok  ' if is_wanted else 'NOT '} {what}: {seen}", flush=True)
+
+    def end(self) -> int:
+        """Prints `passed` only if all was as wanted; the status."""
+        if self.failed or not self.passed:
+            print(f"not passed: {self.failed} of {self.passed + self.failed} steps are not as wanted")
+            return 1
+        print("passed")
+        return 0
+
+
+@contextlib.contextmanager
+def ended(stack: List[Started]) -> Iterator[List[Started]]:
+    """Ends all programs of a list, the last one first."""
+    try:
+        yield stack
+    finally:
+        for each in reversed(stack):
+            each.end()
+
+
+def load() -> str:
+    """What else the machine does, for figures."""
+    return f"{os.cpu_count()} processors, load {os.getloadavg()[0]:.1f}"
