@@ -575,11 +575,12 @@ class Faults(unittest.TestCase):
             self.assertIn(address, str(caught.exception))
 
     def test_all_codes_are_known(self):
-        """Each code of the tables of docs/FORMATS.md has a meaning, and no other."""
-        text = (TOP / "docs/FORMATS.md").read_text()
-        text = text[:text.index("\n## Scripts")]
-        codes = set(re.findall(r"^\| ([A-Z][0-9]+|Memory) \|", text, re.MULTILINE))
-        self.assertEqual(set(siploc.MEANINGS), codes | {"N1", "N2", "N3", "N4", "A1", "K1", "K2", "L1"})
+        """Each code of docs/CODES.md that a session may have has a meaning, and no other."""
+        text = (TOP / "docs/CODES.md").read_text()
+        text = text[:text.index("\n## Workers of a script")]
+        codes = set(re.findall(r"^\| `([A-Z][0-9]+|Memory)` \|", text, re.MULTILINE))
+        of_scripts_and_libraries = {"B1", "B2", "B4", "B5", "Q1", "X3"}
+        self.assertEqual(set(siploc.MEANINGS), codes - of_scripts_and_libraries | {"L1"})
 
 
 class Counting(unittest.TextTestResult):
