@@ -124,7 +124,7 @@ fn push_plain_answer(
 
 fn first_target(answer: &Answer) -> Option<Endpoint> {
     match answer {
-        Answer::Targets(targets) => targets.first().copied(),
+        Answer::Targets(targets) => targets.as_slice().first().copied(),
         Answer::None(_) => None,
     }
 }
