@@ -611,6 +611,33 @@ static void server_that_ends_in_the_midst(void)
     }
 }
 
+/* A client is killed within a zone, and within a line: the zone is as it was. */
+static void client_that_is_killed_in_a_zone(void)
+{
+    const char *const halves[] = {"zone e. 1000000\nb A 192.0.2.1\nc A 192.0.2.1\n", "del e. A 192.0.2.1"};
+    server server = start_server(3, "");
+    siploc *session = connect_to(server.address, 30000);
+    CHECK(session != NULL && siploc_load(session, "e.", "@ A 192.0.2.1", NULL) == SIPLOC_OK);
+    for (int turn = 0; turn < 2; turn++) {
+        pid_t child = start_child();
+        if (child == 0) {
+            /* The client's socket takes the first descriptor that is free. */
+            int stream = dup(0);
+            close(stream);
+            if (connect_to(server.address, 30000) != NULL)
+                put(stream, halves[turn], strlen(halves[turn]));
+            pause_for(100);
+            raise(SIGKILL);
+        }
+        CHECK(WIFSIGNALED(wait_for_child(child)));
+    }
+    pause_for(200);
+    CHECK(finds(session, "sip:e:5060", NULL, "1"));
+    siploc_close(session);
+    /* An edit by another than the first session would be an event more. */
+    CHECK(closes(&server, 2));
+}
+
 static void example_program(void)
 {
     char command[1024], output[256] = "";
@@ -899,7 +926,7 @@ int main(int count, char **words)
 #define TEST(name) {#name, name}
         TEST(readme_session_in_a_batch), TEST(readme_session_by_calls), TEST(other_calls), TEST(each_refusal),
         TEST(refusals_by_calls), TEST(finds_in_batches), TEST(batch_of_more_than_the_sockets_hold),
-        TEST(server_that_ends_in_the_midst), TEST(example_program), TEST(replies), TEST(what_a_refused_find_names),
+        TEST(server_that_ends_in_the_midst), TEST(client_that_is_killed_in_a_zone), TEST(example_program), TEST(replies), TEST(what_a_refused_find_names),
         TEST(garbage_without_end), TEST(invalid_commands_are_not_sent), TEST(lost_before_and_after), TEST(timeouts),
         TEST(addresses)};
     int passed = 0, failed = 0;

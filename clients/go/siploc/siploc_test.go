@@ -15,6 +15,7 @@ import (
 	"reflect"
 	"strings"
 	"sync"
+	"syscall"
 	"testing"
 	"time"
 )
@@ -422,6 +423,31 @@ func TestServerThatEndsInTheMidst(t *testing.T) {
 		_, err = Connect(server.address, time.Second)
 		equal(t, errors.Is(err, ErrNotConnected), true)
 	}
+}
+
+// A client is killed within a zone, and within a line: the zone is as it was. The client is this test, run again with
+// the server's address.
+func TestClientThatIsKilledInAZone(t *testing.T) {
+	const address, half = "SIPLOC_TEST_ADDRESS", "SIPLOC_TEST_HALF"
+	if os.Getenv(address) != "" {
+		session := connect(t, os.Getenv(address), 30*time.Second)
+		_, _ = io.WriteString(session.stream, os.Getenv(half))
+		time.Sleep(100 * time.Millisecond)
+		_ = syscall.Kill(os.Getpid(), syscall.SIGKILL)
+	}
+	server := start(t, 3, "")
+	session := connect(t, server.address, 30*time.Second)
+	must[Loaded](t)(session.Load("e.", "@ A 192.0.2.1"))
+	for _, text := range []string{"zone e. 1000000\nb A 192.0.2.1\nc A 192.0.2.1\n", "del e. A 192.0.2.1"} {
+		client := exec.Command(os.Args[0], "-test.run=^TestClientThatIsKilledInAZone$")
+		client.Env = append(os.Environ(), address+"="+server.address, half+"="+text)
+		equal(t, fmt.Sprint(client.Run()), "signal: killed")
+	}
+	time.Sleep(200 * time.Millisecond)
+	equal(t, must[Answer](t)(session.Find("sip:e:5060", Draws{})).Targets, []Target{{"udp", "192.0.2.1", 5060}})
+	session.Close()
+	// An edit by another than the first session would be an event more.
+	server.closes(t, 2)
 }
 
 // unescape returns the octets of a field of replies.txt.
