@@ -39,13 +39,13 @@ def free_ports(count: int, kind: int = socket.SOCK_STREAM) -> List[int]:
         return [probe.getsockname()[1] for probe in probes]
 
 
-def wait_for(what: str, is_so: Callable[[], object], seconds: float = 15.0) -> None:
+def wait_for(what: str, is_so: Callable[[], object], seconds: float = 15.0, pause: float = 0.02) -> None:
     """Waits until something is so."""
     end = time.monotonic() + seconds
     while not is_so():
         if time.monotonic() > end:
             raise Failed(f"{what}: not within {seconds:g} seconds")
-        time.sleep(0.02)
+        time.sleep(pause)
 
 
 class Started:
