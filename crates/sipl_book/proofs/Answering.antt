@@ -46,5 +46,6 @@ handed book question words journal number answer space has number_is answer_is j
       answer = answer_is;
       after = λ i. record book { journal = journal_is i };
       refused = tt;
+      memory = tt;
       unchanged = tt;
     }

@@ -167,6 +167,7 @@ made-change edit old store changed number journal edited space number_is journal
       entries = ap (λ keys. map (after_change keys) old.entries) edited.changed;
       queue = ap (λ keys. after_marks old.queue (dependents keys old.entries)) edited.changed;
       refused = tt;
+      memory = tt;
       unchanged = tt;
       looks = edited.looks;
       max_records = edited.limit;
@@ -209,6 +210,7 @@ refused-change edit old store journal fault edited space journal_is =
           cond-false (leb old.max_events (length old.journal)) (Some JournalFull) _ (lt-leb old.max_events (length old.journal) space)
           ∙ ap (option_map OfStore) (edited.refused (λ memory. some (ap of_store memory)))
           ∙ fault-of fault some;
+      memory = λ _. cond-false (leb old.max_events (length old.journal)) (Some JournalFull) None (lt-leb old.max_events (length old.journal) space);
       unchanged = λ i. record old { store = edited.unchanged i; journal = journal_is i };
       looks = edited.looks;
       max_records = edited.limit;

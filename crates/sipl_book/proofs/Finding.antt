@@ -38,7 +38,9 @@ module _ (question : Question) (words : List ℕ) (old : BookState) (outdated : 
         committed = λ _. (found, is_located, is.after ∙ ap (after_commit found words) looked);
         looks = λ current. absurd (not_current current);
         refused = tt;
+        memory = tt;
         unchanged = tt;
+        counted = (length found.items, ap (λ (b : BookState). b.store.looks) (is.after ∙ ap (after_commit found words) looked));
       }
 
   uncommitted_found : (new : BookState) (uncommitted : Uncommitted) → IsCommitted is_renumbered found words now now new (Err uncommitted) → IsFound question words old new (Err uncommitted.fault)
@@ -51,7 +53,9 @@ module _ (question : Question) (words : List ℕ) (old : BookState) (outdated : 
         committed = λ _. tt;
         looks = λ current. absurd (not_current current);
         refused = λ real. sym refusal ∙ is.refused real;
+        memory = λ failed. sym refusal ∙ is.memory failed;
         unchanged = subst (λ b. b ≡ with_looks b.store.looks old) (sym (is.unchanged ∙ looked)) refl;
+        counted = (length found.items, ap (λ (b : BookState). b.store.looks) (is.unchanged ∙ looked));
       }
 
   -- it is committed without a comparison, for its sets are as they were read
@@ -64,6 +68,7 @@ module _ (question : Question) (words : List ℕ) (old : BookState) (outdated : 
         answer = answer;
         after = after;
         refused = tt;
+        memory = tt;
         finding = tt;
         unchanged = tt;
       }
@@ -74,6 +79,7 @@ module _ (question : Question) (words : List ℕ) (old : BookState) (outdated : 
         answer = tt;
         after = tt;
         refused = λ real. absurd (real memory);
+        memory = λ _. refusal ∙ cond-false _ _ _ (lt-leb old.max_events (next_event old) space);
         finding = finding;
         unchanged = unchanged;
       }
@@ -96,5 +102,7 @@ found-handed question words old new handed has is =
       committed = λ outdated. let never : true ≡ false = sym has ∙ outdated in cc;
       looks = λ _. ap (λ (b : BookState). b.store.looks) is.after;
       refused = tt;
+      memory = tt;
       unchanged = tt;
+      counted = (0, ap (λ (b : BookState). b.store.looks) is.after);
     }

@@ -13,7 +13,7 @@ use Rattle.sipl_plans.specs.Findings.{Found, IsFound}
 use Rattle.sipl_plans.specs.Runs.{RunState, IsGiven, wanted}
 use Rattle.sipl_zonestore.specs.Store.{Store, number_in}
 use Rattle.sipl_book.specs.Book.{BookState}
-use Rattle.sipl_book.specs.Calls.{after_look, is_renumbered, with_looks}
+use Rattle.sipl_book.specs.Calls.{CountsLooks, after_look, is_renumbered, with_looks}
 use Rattle.sipl_book.specs.Honesty.{AreCurrent, IsHonest}
 use Rattle.sipl_book.specs.Lookups.{IsLocated, after_reads}
 use Rattle.sipl_book.proofs.Honest.{current-as}
@@ -63,6 +63,11 @@ pub looked_more : (before now later : BookState) → now ≡ with_looks now.stor
 looked_more before now later so is =
     let all : later ≡ after_look (with_looks now.store.looks before) = is ∙ ap after_look so in
     subst (λ b. b ≡ with_looks b.store.looks before) (sym all) refl
+
+-- looks that a run has counted, and one more
+pub counted-one_more : (before now later : BookState) (question : Question) (run : RunState) → GoesOn before now question run → later ≡ after_look now → CountsLooks before later
+counted-one_more before now later question run so is =
+    (length run.items + 1, ap (λ (b : BookState). b.store.looks) (is ∙ ap after_look so.book) ∙ ap (λ (s : Store). s.looks) (looked_once (length run.items) before.store))
 
 -- the items of a run that took a set
 given_items : (old new : RunState) (k : Key) (number : ℕ) (content : List Data) → wanted old ≡ Some k → IsGiven old new number content → new.items ≡ old.items ++ record { key = k; number = number; content = content } ∷ []

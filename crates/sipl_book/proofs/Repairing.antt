@@ -1,9 +1,10 @@
 -- Repairs of a book: what a lease and its settlement leave.
-use Rattle.std.proofs.Common.{◌≡◌, ℕ, zero, suc, ◌+◌, ◌-◌, ◌^◌, Bool, true, false, ◌&&◌, cond, eqb, List, [], ◌∷◌, ◌++◌, length, map, take, drop, Option, None, Some, option_map, Result, Ok, Err, inl, inr, min, position, refl, sym, ap, subst, ◌∙◌, append_assoc, add-zero, arith}
+use Rattle.std.proofs.Common.{◌≡◌, ◌≢◌, ℕ, zero, suc, ◌+◌, ◌-◌, ◌^◌, Bool, true, false, ◌&&◌, cond, eqb, List, [], ◌∷◌, ◌++◌, length, map, take, drop, Option, None, Some, option_map, Result, Ok, Err, inl, inr, min, position, refl, sym, ap, subst, ◌∙◌, append_assoc, add-zero, arith}
 use Rattle.std.specs.FinSet as set
 use Rattle.std.specs.Result.{IsOk}
 use Rattle.std.proofs.lemmas.Bool.{cond-true, eq-eqb, or_left, and_from}
 use Rattle.std.proofs.Math.ListN.{length-map}
+use Rattle.std.proofs.Math.Seq.{drop-nil}
 use Rattle.std.specs.List.{All, Contains, sum_by}
 use Rattle.std.proofs.lemmas.List.{drop-drop, append-nil, take-append-drop}
 use Rattle.std.proofs.lemmas.Grind.{common_steps}
@@ -15,15 +16,16 @@ use Rattle.sipl_uri.specs.declared.question.Question.{Question}
 use Rattle.sipl_repair.specs.QueueState.{QueueState, is_leased, first_of, after_lease, after_settle, after_give_back as after_front, with_first_leased}
 use Rattle.sipl_repair.proofs.Public.{contains-insert, remove-insert}
 use Rattle.sipl_book.specs.Book.{BookState}
-use Rattle.sipl_book.specs.Calls.{IsSettled, after_give_back, after_settlement, is_renumbered, looks_after, settle_refusal, with_looks}
+use Rattle.sipl_book.specs.Calls.{CountsLooks, IsSettled, after_give_back, after_settlement, is_renumbered, looks_after, settle_refusal, with_looks}
 use Rattle.sipl_book.specs.Entries.{EntryState, entry_of, has_current_entry, is_of, renewed}
 use Rattle.sipl_book.specs.Questions.{same_question}
 use Rattle.sipl_book.specs.Repairs.{after_return, entry_with, is_leased_for, is_outdated}
-use Rattle.sipl_book.specs.declared.fault.BookFault.TheVariants.{Stale, Gone}
+use Rattle.sipl_book.specs.declared.fault.BookFault.{BookFault}
+use Rattle.sipl_book.specs.declared.fault.BookFault.TheVariants.{JournalFull, NotCurrent, Stale, Unknown, Gone, Queue, Store as OfStore, Board, Memory}
 use Rattle.sipl_book.specs.declared.outcome.Uncommitted.{Uncommitted}
 use Rattle.sipl_plans.specs.Route.{reads}
 use Rattle.sipl_records.specs.Sets.{set_of}
-use Rattle.sipl_book.specs.Lookups.{IsLocated, IsOldOrRenewed, IsRenewed, after_reads, question_with, sets_read}
+use Rattle.sipl_book.specs.Lookups.{IsLocated, IsOldOrRenewed, IsRenewed, IsRepaired, after_reads, question_with, sets_read}
 use Rattle.sipl_book.proofs.Committed.{id-renewed, question-renewed, renewed_cases}
 use Rattle.sipl_book.proofs.Locating.{located-as, not_renumbered}
 
@@ -186,8 +188,8 @@ module _ (q : QueueState) (id : ℕ) (idle : is_leased q id ≡ false) where
 -- ---- the book
 
 -- looks are counted
-pub renewed-looked : (old new : BookState) → new ≡ with_looks new.store.looks old → IsRenewed old new
-renewed-looked old new is =
+pub renewed-looked : (old new : BookState) → new ≡ with_looks new.store.looks old → CountsLooks old new → IsRenewed old new
+renewed-looked old new is counted =
     record {
       ids = ap (λ (b : BookState). map (λ e. e.id) b.entries) is;
       questions = ap (λ (b : BookState). map (λ e. e.found.question) b.entries) is;
@@ -197,7 +199,13 @@ renewed-looked old new is =
       leased = ap (λ (b : BookState). b.queue.leased) is;
       capacity = ap (λ (b : BookState). b.queue.capacity) is;
       others = is ∙ (λ i. with_looks new.store.looks (record old { entries = (sym is i).entries; queue = (sym is i).queue }));
+      counted = counted;
     }
+
+-- some looks after others
+counted-more : (old now new : BookState) → CountsLooks old now → CountsLooks now new → CountsLooks old new
+counted-more old now new so later =
+    (later.0 + so.0, later.1 ∙ ap (looks_after later.0) so.1 ∙ looks_after-add later.0 so.0 old.store.looks)
 
 -- a finding on the records after a renewal is one on those before it
 located-before : (old now : BookState) (question : Question) (found : Found) → IsRenewed old now → IsLocated now.store question now.client found → IsLocated old.store question old.client found
@@ -220,14 +228,43 @@ renewed-more old now new so later =
       leased = later.leased ∙ so.leased;
       capacity = later.capacity ∙ so.capacity;
       others = later.others ∙ (λ i. with_looks new.store.looks (record (so.others i) { entries = new.entries; queue = new.queue }));
+      counted = counted-more old now new so.counted later.counted;
+    }
+
+-- a fault that is no other one
+is_memory : (fault : BookFault) → (fault ≢ Memory → ⊥) → fault ≡ Memory
+is_memory JournalFull never = absurd (never (λ same. cc))
+is_memory NotCurrent never = absurd (never (λ same. cc))
+is_memory (Stale place) never = absurd (never (λ same. cc))
+is_memory Unknown never = absurd (never (λ same. cc))
+is_memory Gone never = absurd (never (λ same. cc))
+is_memory (Queue fault) never = absurd (never (λ same. cc))
+is_memory (OfStore fault) never = absurd (never (λ same. cc))
+is_memory (Board fault) never = absurd (never (λ same. cc))
+is_memory Memory never = refl
+
+-- a repair that fails while an entry is queued
+pub unrepaired : (old now new : BookState) (fault : BookFault) → IsRenewed old now → now.queue.queued ≢ []
+    → (fault ≢ Memory → now.queue.queued ≡ []) → IsRenewed now new → IsRepaired old new (Err fault)
+unrepaired old now new fault so waits failed later =
+    record {
+      done = tt;
+      looks = tt;
+      failed = is_memory fault (λ other. waits (failed other));
+      memory = λ none. waits (so.queued.1 ∙ ap (λ ids. drop so.queued.0 ids) none ∙ drop-nil so.queued.0);
+      renewed = renewed-more old now new so later;
     }
 
 -- an entry that was leased
 module _ (old : BookState) (id : ℕ) (question : Question) (first : first_of old.queue.queued ≡ Ok id) (idle : is_leased old.queue id ≡ false)
     (own : option_map (λ e. e.id) (entry_of old.entries question) ≡ Some id) (leased now : BookState)
-    (is : leased ≡ record old { queue = after_lease old.queue }) (looked : now ≡ with_looks now.store.looks leased) where
+    (is : leased ≡ record old { queue = after_lease old.queue }) (looked : now ≡ with_looks now.store.looks leased) (counted : CountsLooks leased now) where
   before : now ≡ with_looks now.store.looks (record old { queue = after_lease old.queue })
   before = looked ∙ ap (with_looks now.store.looks) is
+
+  -- no look is taken back
+  counted-before : CountsLooks old now
+  counted-before = (counted.0, counted.1 ∙ ap (λ (b : BookState). looks_after counted.0 b.store.looks) is)
 
   is_own : is_leased_for old.entries (after_lease old.queue) id question ≡ true
   is_own =
@@ -289,6 +326,7 @@ module _ (old : BookState) (id : ℕ) (question : Question) (first : first_of ol
           others = after
               ∙ (λ i. record (before i) { entries = (sym after i).entries; queue = (sym after i).queue })
               ∙ ap (λ looks. with_looks looks (record old { entries = new.entries; queue = new.queue })) (sym (ap (λ (b : BookState). b.store.looks) after));
+          counted = (counted-before.0, ap (λ (b : BookState). b.store.looks) after ∙ counted-before.1);
         }
 
   pub settled_ok : (found : Found) (new : BookState) (result : Result (Unit {0}) Uncommitted) → IsLocated leased.store question leased.client found
@@ -325,6 +363,7 @@ module _ (old : BookState) (id : ℕ) (question : Question) (first : first_of ol
           others = after
               ∙ (λ i. record (before i) { entries = (sym after i).entries; queue = (sym after i).queue })
               ∙ ap (λ looks. with_looks looks (record old { entries = new.entries; queue = new.queue })) (sym (ap (λ (b : BookState). b.store.looks) after));
+          counted = (counted-before.0, ap (λ (b : BookState). b.store.looks) after ∙ counted-before.1);
         }
 
     pub renewed-returned : IsRenewed old new

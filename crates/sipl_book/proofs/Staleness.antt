@@ -1,6 +1,7 @@
 -- Sets that are no longer as they were read.
-use Rattle.std.proofs.Common.{◌≡◌, ℕ, ◌+◌, ◌<◌, Bool, true, false, ltb, List, [], ◌∷◌, length, length-take, take, get_or, Option, None, Some, position, refl, sym, ap, ◌∙◌, inl, inr, add-one, arith}
+use Rattle.std.proofs.Common.{◌≡◌, ℕ, ◌+◌, ◌^◌, ◌<◌, ◌≤◌, suc, zero, Bool, true, false, ltb, List, [], ◌∷◌, length, length-take, take, get_or, Option, None, Some, position, refl, sym, ap, ◌∙◌, inl, inr, add-one, arith}
 use Rattle.std.specs.List.{All, position_or_len}
+use Rattle.std.proofs.Math.Nat.{le-min}
 use Rattle.std.proofs.lemmas.Bool.{and_parts, not-false, eqb-true, cases_lt, lt-ltb, le-ltb, cond-true, cond-false}
 use Rattle.std.proofs.lemmas.List.{get_or-take}
 use Rattle.std.proofs.lemmas.List.Sums.{position_or_len_is, fails_before_first}
@@ -10,7 +11,8 @@ use Rattle.sipl_records.proofs.Public.{same_set-Decides}
 use Rattle.sipl_evidence.specs.Items.{Item}
 use Rattle.sipl_zonestore.specs.Store.{Store, number_in}
 use Rattle.sipl_zonestore.specs.Looks.{looked}
-use Rattle.sipl_book.specs.Calls.{after_looks, compared, is_renumbered, is_stale}
+use Rattle.sipl_book.specs.Book.{BookState}
+use Rattle.sipl_book.specs.Calls.{CountsLooks, after_looks, looks_after, compared, is_renumbered, is_stale}
 use Rattle.sipl_book.specs.Honesty.{AreCurrent, IsHonest}
 
 -- ---- the first item that passes a test
@@ -83,3 +85,12 @@ compared-all store items none =
 -- one look more
 pub looked_once : (count : ℕ) (store : Store) → looked (after_looks count store) ≡ after_looks (count + 1) store
 looked_once count store = ap (λ n. after_looks n store) (sym (add-one count))
+
+-- a count of 64 bits never falls
+looks_risen-by : (count looks : ℕ) → looks < 2 ^ 64 → looks ≤ looks_after count looks
+looks_risen-by zero looks small = omega arith
+looks_risen-by (suc more) looks small =
+    le-min (omega (arith, looks_risen-by more looks small)) (omega (arith, small))
+
+pub looks_risen : (old new : BookState) → old.store.looks < 2 ^ 64 → CountsLooks old new → old.store.looks ≤ new.store.looks
+looks_risen old new small counted = omega (arith, counted.1, looks_risen-by counted.0 old.store.looks small)

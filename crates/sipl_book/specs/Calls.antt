@@ -46,7 +46,8 @@ change_refusal edit book =
 
 -- An accepted edit changes the zones, the numbers of their sets, and which entries are current, and
 -- is the next event. The entries that it makes outdated are marked in their order, but for those
--- that are leased. A refused one changes nothing.
+-- that are leased. A refused one changes nothing. An allocation fails only where the journal is not
+-- full.
 pub record IsChanged (edit : Edit) (old new : BookState) (result : Result Done BookFault)
     : Type 0 where
   pub accepted : OnOk result (change_refusal edit old ≡ None)
@@ -65,6 +66,7 @@ pub record IsChanged (edit : Edit) (old new : BookState) (result : Result Done B
   pub queue : OnOk result (new.queue ≡ after_marks old.queue
       (dependents (changed_keys old.store.zones.records new.store.zones.records) old.entries))
   pub refused : IfErr result (λ fault. fault ≢ Memory → change_refusal edit old ≡ Some fault)
+  pub memory : IfErr result (λ fault. fault ≡ Memory → unless_full old None ≡ None)
   pub unchanged : OnErr result (new ≡ old)
   pub looks : new.store.looks ≡ old.store.looks
   pub max_records : new.store.max_records ≡ old.store.max_records
@@ -93,12 +95,14 @@ after_board event book =
     })
 
 -- An accepted hold, release or move of the clock is the next event. A refused one changes nothing.
+-- An allocation fails only where the journal is not full.
 pub record MovesBoard (event : BoardEvent) (old new : BookState) (result : Result ℕ BookFault)
     : Type 0 where
   pub accepted : OnOk result (board_refusal event old ≡ None)
   pub number : IfOk result (λ number. number ≡ next_event old)
   pub after : OnOk result (new ≡ after_board event old)
   pub refused : IfErr result (λ fault. fault ≢ Memory → board_refusal event old ≡ Some fault)
+  pub memory : IfErr result (λ fault. fault ≡ Memory → unless_full old None ≡ None)
   pub unchanged : OnErr result (new ≡ old)
 
 -- the event of the answer to a question
@@ -111,7 +115,8 @@ hand_refusal question book =
     unless_full book (if has_current_entry book.entries question then None else Some NotCurrent)
 
 -- An answer that is returned is that of the records and the holds as they are, and is the next
--- event. It looks at no set. A refused call changes nothing.
+-- event. It looks at no set. A refused call changes nothing. An allocation fails only where no fault
+-- applies.
 pub record IsHanded (question : Question) (words : List ℕ) (old new : BookState)
     (result : Result Handed BookFault) : Type 0 where
   pub accepted : OnOk result (hand_refusal question old ≡ None)
@@ -119,6 +124,7 @@ pub record IsHanded (question : Question) (words : List ℕ) (old new : BookStat
   pub answer : IfOk result (λ handed. handed.answer ≡ answer_now old question words)
   pub after : OnOk result (new ≡ recorded (answer_event old question words) old)
   pub refused : IfErr result (λ fault. fault ≢ Memory → hand_refusal question old ≡ Some fault)
+  pub memory : IfErr result (λ fault. fault ≡ Memory → hand_refusal question old ≡ None)
   pub unchanged : OnErr result (new ≡ old)
 
 -- whether a set has another number than when it was read
@@ -169,7 +175,8 @@ after_commit found words book =
 
 -- A finding that is committed gives the answer of the records and the holds as they are, which is
 -- the next event, and the question's entry is current and not queued. A refused one is returned, and
--- changes nothing. The test says which sets have changed; `looked` is the old book after its looks.
+-- changes nothing. An allocation fails only where no fault applies. The test says which sets have
+-- changed; `looked` is the old book after its looks.
 pub record IsCommitted (has_changed : Store → Item → Bool) (found : Found) (words : List ℕ)
     (old looked new : BookState) (result : Result Handed Uncommitted) : Type 0 where
   pub accepted : OnOk result (commit_refusal has_changed found old ≡ None)
@@ -178,6 +185,8 @@ pub record IsCommitted (has_changed : Store → Item → Bool) (found : Found) (
   pub after : OnOk result (new ≡ after_commit found words looked)
   pub refused : IfErr result (λ uncommitted. uncommitted.fault ≢ Memory
       → commit_refusal has_changed found old ≡ Some uncommitted.fault)
+  pub memory : IfErr result (λ uncommitted. uncommitted.fault ≡ Memory
+      → commit_refusal has_changed found old ≡ None)
   pub finding : IfErr result (λ uncommitted. uncommitted.finding ≡ found)
   pub unchanged : OnErr result (new ≡ looked)
 
@@ -190,6 +199,8 @@ pub record CommitsAnswer (found : Found) (words : List ℕ) (old new : BookState
   pub after : OnOk result (new ≡ after_commit found words (after_check found old))
   pub refused : IfErr result (λ uncommitted. uncommitted.fault ≢ Memory
       → commit_refusal is_stale found old ≡ Some uncommitted.fault)
+  pub memory : IfErr result (λ uncommitted. uncommitted.fault ≡ Memory
+      → commit_refusal is_stale found old ≡ None)
   pub finding : IfErr result (λ uncommitted. uncommitted.finding ≡ found)
   pub unchanged : OnErr result (new ≡ after_check found old)
 
@@ -201,12 +212,16 @@ store_with_looks looks store = record store { looks = looks }
 abbrev pub with_looks : ℕ → BookState → BookState
 with_looks looks book = record book { store = store_with_looks looks book.store }
 
+-- some looks were counted, and none was taken back
+abbrev pub CountsLooks : BookState → BookState → Type 0
+CountsLooks old new = (count : ℕ) × (new.store.looks ≡ looks_after count old.store.looks)
+
 -- a book after one look at a set
 abbrev pub after_look : BookState → BookState
 after_look book = record book { store = looked book.store }
 
 -- A lease is that of the first queued entry, which is not leased yet, and comes with its question.
--- Nothing else changes.
+-- Nothing else changes. An allocation fails only where an entry is queued.
 pub record IsLeased (old new : BookState) (result : Result (ℕ × Question) BookFault) : Type 0 where
   pub id : IfOk result (λ leased. first_of old.queue.queued ≡ Ok leased.0)
   pub question : IfOk result (λ leased.
@@ -215,6 +230,7 @@ pub record IsLeased (old new : BookState) (result : Result (ℕ × Question) Boo
   pub after : OnOk result (new ≡ record old { queue = after_lease old.queue })
   pub empty : IfErr result
       (λ fault. fault ≢ Memory → (fault ≡ Queue Empty) × (old.queue.queued ≡ []))
+  pub memory : IfErr result (λ fault. fault ≡ Memory → old.queue.queued ≢ [])
   pub unchanged : OnErr result (new ≡ old)
 
 -- the book after a lease was given back

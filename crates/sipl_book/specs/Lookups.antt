@@ -9,7 +9,7 @@ use Rattle.sipl_zonestore.specs.Store.{Store}
 use Rattle.sipl_plans.specs.Findings.{Found, IsSound}
 use Rattle.sipl_plans.specs.Route.{reads}
 use Rattle.sipl_book.specs.Book.{BookState, answer_now, next_event}
-use Rattle.sipl_book.specs.Calls.{after_commit, after_looks, answer_event, looks_after, recorded, unless_full, with_looks}
+use Rattle.sipl_book.specs.Calls.{CountsLooks, after_commit, after_looks, answer_event, looks_after, recorded, unless_full, with_looks}
 use Rattle.sipl_book.specs.Entries.{EntryState, has_current_entry}
 use Rattle.sipl_book.specs.Honesty.{AreCurrent}
 use Rattle.sipl_book.specs.Repairs.{entry_with}
@@ -38,8 +38,8 @@ IsKept question words old new =
 
 -- The answer to a question is that of the records and the holds as they are, and is the next event.
 -- Where the question has a current entry no set is looked at, and nothing else changes. Where it has
--- none a finding is committed. It is refused only where the journal is full or an allocation failed;
--- then nothing changes but that looks may be counted.
+-- none a finding is committed. It is refused only where the journal is full, or else where an
+-- allocation failed; then nothing changes but that looks may be counted.
 pub record IsFound (question : Question) (words : List ℕ) (old new : BookState)
     (result : Result Handed BookFault) : Type 0 where
   pub accepted : OnOk result (unless_full old None ≡ None)
@@ -51,7 +51,9 @@ pub record IsFound (question : Question) (words : List ℕ) (old new : BookState
       → OnOk result (IsKept question words old new)
   pub looks : IsTrue (has_current_entry old.entries question) → new.store.looks ≡ old.store.looks
   pub refused : IfErr result (λ fault. fault ≢ Memory → unless_full old None ≡ Some fault)
+  pub memory : IfErr result (λ fault. fault ≡ Memory → unless_full old None ≡ None)
   pub unchanged : OnErr result (new ≡ with_looks new.store.looks old)
+  pub counted : CountsLooks old new
 
 -- The dependencies of a question are the sets that its route reads on the records as they are, in
 -- their order, with a look at each. Nothing is kept of them. Only an allocation may fail; then looks
@@ -64,6 +66,7 @@ pub record AreDependencies (question : Question) (old new : BookState)
   pub looks : IfOk result (λ items. new ≡ after_reads (length items) old)
   pub failed : IfErr result (λ fault. fault ≡ Memory)
   pub unchanged : new ≡ with_looks new.store.looks old
+  pub counted : CountsLooks old new
 
 -- an entry of the book, or a current one with a finding on its records
 abbrev pub IsOldOrRenewed : BookState → EntryState → Type 0
@@ -86,6 +89,7 @@ pub record IsRenewed (old new : BookState) : Type 0 where
   pub capacity : new.queue.capacity ≡ old.queue.capacity
   pub others : new ≡ with_looks new.store.looks
       (record old { entries = new.entries; queue = new.queue })
+  pub counted : CountsLooks old new
 
 -- the question of the entry with an id
 abbrev pub question_with : List EntryState → ℕ → Option Question
@@ -100,10 +104,12 @@ sets_read book id =
     ]
 
 -- A repair looks the queued entries up again, which are current then, with a look at each set that
--- their routes read. Only an allocation may fail: then some of them still wait, in their order.
+-- their routes read. Only an allocation may fail, where an entry is queued: then some of them still
+-- wait, in their order.
 pub record IsRepaired (old new : BookState) (result : Result (Unit {0}) BookFault) : Type 0 where
   pub done : OnOk result (new.queue.queued ≡ [])
   pub looks : OnOk result (new.store.looks
       ≡ looks_after (sum_by (sets_read old) old.queue.queued) old.store.looks)
   pub failed : IfErr result (λ fault. fault ≡ Memory)
+  pub memory : OnErr result (old.queue.queued ≢ [])
   pub renewed : IsRenewed old new

@@ -190,11 +190,14 @@ impl Book {
     pub fn hand(&mut self, question: &Question, draws: &Draws) -> Result<Handed, BookFault>
         ensures { IsHanded question.now draws.now self.old self.new result }
     {
-        reserve_event(&mut self.journal, self.max_events)?;
+        if self.journal.len() >= self.max_events {
+            return Err(BookFault::JournalFull);
+        }
         let layout = match self.cache.get(question) {
             Some(entry) if entry.is_current() => entry.layout(),
             _ => return Err(BookFault::NotCurrent),
         };
+        reserve_event(&mut self.journal, self.max_events)?;
         let question = question.dup(self.alloc)?;
         let (event, answer) = prepare(self.alloc, question, layout, draws, &self.board, self.held)?;
         let number = record_event(&mut self.journal, event);
@@ -217,6 +220,8 @@ impl Book {
             (self.new ≡ recorded (answer_event self.old question draws.now) self.old) }
         ensures refused { IfErr result
             (λ fault. fault ≢ BookFault.Memory → unless_full self.old None ≡ Some fault) }
+        ensures memory { IfErr result
+            (λ fault. fault ≡ BookFault.Memory → unless_full self.old None ≡ None) }
         ensures unchanged { OnErr result (self.new ≡ self.old) }
     {
         reserve_event(&mut self.journal, self.max_events)?;

@@ -206,6 +206,8 @@ impl Cache {
             (self.new ≡ record self.old { queue = after_lease self.old.queue }) }
         ensures empty { IfErr result (λ fault. fault ≢ BookFault.Memory
             → (fault ≡ BookFault.Queue QueueFault.Empty) × (self.old.queue.queued ≡ [])) }
+        ensures memory { IfErr result
+            (λ fault. fault ≡ BookFault.Memory → self.old.queue.queued ≢ []) }
         ensures err { OnErr result (self.new ≡ self.old) }
     {
         if self.queue.is_empty() {

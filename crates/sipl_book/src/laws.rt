@@ -1,6 +1,6 @@
 //! What follows from the definitions. Each law is the contract of a function that does nothing.
 
-ghost use Rattle.std.specs.Prelude.{◌≡◌, ℕ, List, [], ◌∷◌, ◌++◌, Ok, Some, slice_get};
+ghost use Rattle.std.specs.Prelude.{◌≡◌, ◌^◌, ◌<◌, ◌≤◌, ℕ, List, [], ◌∷◌, ◌++◌, Ok, Some, slice_get};
 ghost use Rattle.sipl_choice.specs.Abilities.{Client};
 ghost use Rattle.sipl_uri.specs.declared.question.Question.{Question};
 ghost use Rattle.sipl_evidence.specs.Items.{Item};
@@ -10,7 +10,7 @@ ghost use Rattle.sipl_plans.specs.declared.answer.Answer.{Answer as Targets};
 ghost use Rattle.sipl_plans.specs.Findings.{Found};
 ghost use Rattle.sipl_zonestore.specs.Store.{Store};
 ghost use Rattle.sipl_book.specs.Book.{BookState, answer_now};
-ghost use Rattle.sipl_book.specs.Calls.{IsChanged, MovesBoard, IsHanded, IsCommitted, answer_event, board_event};
+ghost use Rattle.sipl_book.specs.Calls.{CountsLooks, IsChanged, MovesBoard, IsHanded, IsCommitted, answer_event, board_event};
 ghost use Rattle.sipl_book.specs.Honesty.{WereRead};
 ghost use Rattle.sipl_book.specs.Machine.{State, IsLegal, answer_in, replay};
 ghost use Rattle.sipl_book.specs.declared.edit.Edit.{Edit};
@@ -33,6 +33,12 @@ pub fn journalled_answers_are_plans()
 pub fn what_was_read_outlasts_edits()
     ensures { (edit : Edit) (old new : BookState) (done : Done) (items : List Item)
         → IsChanged edit old new (Ok done) → WereRead old.store items → WereRead new.store items }
+{}
+
+/// A count of looks, which is a number of 64 bits, never falls where some are counted.
+pub fn looks_never_fall()
+    ensures { (old new : BookState) → old.store.looks < 2 ^ 64 → CountsLooks old new
+        → old.store.looks ≤ new.store.looks }
 {}
 
 /// The number that a call returns is the place of its event in the journal.

@@ -2,7 +2,7 @@
 ghost use Rattle.std.specs.Prelude.{◌≡◌, ◌≢◌, ◌<◌, [], drop, take, length, IfOk, IfErr, OnOk, IsFalse};
 ghost use Rattle.std.specs.List.{sum_by};
 ghost use Rattle.sipl_book.specs.Book.{next_event};
-ghost use Rattle.sipl_book.specs.Calls.{looks_after, with_looks};
+ghost use Rattle.sipl_book.specs.Calls.{CountsLooks, looks_after, with_looks};
 ghost use Rattle.sipl_book.specs.Entries.{has_current_entry};
 ghost use Rattle.sipl_book.specs.Lookups.{AreDependencies, IsFound, IsLocated, IsRenewed, IsRepaired, after_reads, sets_read};
 
@@ -60,6 +60,8 @@ impl Book {
             (sum_by (sets_read self.old) (take 1 self.old.queue.queued)) self.old.store.looks) }
         ensures failed { IfErr result
             (λ fault. fault ≢ BookFault.Memory → self.old.queue.queued ≡ []) }
+        ensures memory { IfErr result
+            (λ fault. fault ≡ BookFault.Memory → self.old.queue.queued ≢ []) }
     {
         let (lease, question) = self.lease()?;
         match self.locate(question) {
@@ -82,6 +84,7 @@ impl Book {
         ensures looks { IfOk result
             (λ finding. self.new ≡ after_reads (length finding.items) self.old) }
         ensures unchanged { self.new ≡ with_looks self.new.store.looks self.old }
+        ensures counted { CountsLooks self.old self.new }
     {
         let alloc = self.alloc();
         let mut run = Run::start(alloc, question, self.abilities())?;
