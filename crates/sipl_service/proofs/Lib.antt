@@ -5,3 +5,4 @@ pub mod Entries
 pub mod Keys
 pub mod Marking
 pub mod Policies
+pub mod Free

@@ -1,5 +1,5 @@
 -- Whether a book is for a client and a policy on held endpoints.
-use Rattle.std.proofs.Common.{◌≡◌, Bool, true, refl, ◌×◌}
+use Rattle.std.proofs.Common.{◌≡◌, true, refl}
 use Rattle.std.specs.Bool.{Decides}
 use Rattle.std.proofs.lemmas.Bool.Decides.{Decides-and}
 use Rattle.sipl_choice.specs.Abilities.{Client, same_client}

@@ -1,0 +1,12 @@
+use Rattle.std.proofs.Common.{◌∙◌}
+use Rattle.sipl_service.proofs.Free.{draw-free}
+use Rattle.sipl_service.proofs.steps.drawn_again.Goals as goal
+
+pub returns-then-is_empty : goal.returns-then-is_empty
+returns-then-is_empty c =
+    let free = draw-free c.args.board.now.holds (c.is_empty.ensures.empty.0 c.if-is_empty.true) c.args.finding.now.layout c.args.draws.now c.args.held in
+    record {
+      told = c.requires.told ∙ free;
+      event = c.requires.event ∙ free;
+      receipt = c.requires.receipt ∙ free;
+    }
