@@ -1,5 +1,5 @@
 -- That the steps of workers are made as they are to be.
-use Rattle.std.proofs.Common.{◌≡◌, ℕ, ◌<◌, leb, true, false, ◌||◌, List, [], ◌∷◌, zero, suc, length, set, Option, Some, None, option_map, Result, Ok, Err, IfSome, inl, inr, refl, sym, ap, subst, ◌∙◌}
+use Rattle.std.proofs.Common.{◌≡◌, ◌≢◌, ℕ, ◌<◌, leb, true, false, ◌||◌, List, [], ◌∷◌, zero, suc, length, set, Option, Some, None, option_map, Result, Ok, Err, IfSome, inl, inr, refl, sym, ap, subst, ◌∙◌}
 use Rattle.std.specs.List.{position}
 use Rattle.std.proofs.lemmas.Bool.{cases_Bool, cond-true, cond-false, eq-eqb}
 use Rattle.std.proofs.lemmas.List.{set-get_or}
@@ -14,7 +14,7 @@ use Rattle.sipl_uri.specs.declared.question.Question.{Question}
 use Rattle.sipl_plans.specs.Findings.{Found, IsFound, IsSound}
 use Rattle.sipl_plans.specs.Runs.{RunState}
 use Rattle.sipl_book.specs.Book.{BookState}
-use Rattle.sipl_book.specs.Calls.{IsCommitted, IsLeased, IsSettled, after_give_back as give_back, is_renumbered}
+use Rattle.sipl_book.specs.Calls.{IsCommitted, IsLeased, IsSettled, after_give_back as give_back, after_look, is_renumbered, with_looks}
 use Rattle.sipl_book.specs.Honesty.{AreCurrent, WereRead}
 use Rattle.sipl_book.specs.Repairs.{is_leased_for, is_outdated}
 use Rattle.sipl_book.specs.declared.fault.BookFault.TheVariants.{JournalFull, Stale, Gone, Memory}
@@ -22,7 +22,7 @@ use Rattle.sipl_book.specs.declared.outcome.Handed.{Handed}
 use Rattle.sipl_book.specs.declared.outcome.Uncommitted.{Uncommitted}
 use Rattle.sipl_book.proofs.Public.{current-numbered}
 use Rattle.sipl_interleave.specs.Jobs.{Job, job_at, lease_of, new_run, refusal_of, run_of, with_item}
-use Rattle.sipl_interleave.specs.Steps.{IsCommittedBy, IsLeasedBy, IsMade, IsSettledBy, IsStarted, IsStep, Replies, worker_refusal, after_commit_by, commit_reply, is_memory, settle_reply}
+use Rattle.sipl_interleave.specs.Steps.{IsCommittedBy, IsLeasedBy, IsMade, IsRead, IsSettledBy, IsStarted, IsStep, Replies, worker_refusal, after_commit_by, commit_reply, is_memory, settle_reply}
 use Rattle.sipl_interleave.specs.World.{IsWorld, WorldState}
 use Rattle.sipl_interleave.specs.declared.act.Act.TheVariants.{Commit, Settle}
 use Rattle.sipl_interleave.specs.declared.fault.WorldFault.TheVariants.{Book as OfBook}
@@ -227,14 +227,36 @@ given-back old lent new id question lease outdated back =
     back ∙ ap (give_back id) lease.after
     ∙ (λ i. record old { queue = (cond-true (is_outdated old.entries id) (after_give_back (after_lease old.queue) id) (after_settle (after_lease old.queue) id) outdated ∙ lent-back old.queue id lease.id lease.idle) i })
 
-pub not_leased-by : (old : WorldState) (book : BookState) (w : ℕ) → book ≡ old.book
+-- a read that fails after its look
+pub not_read : (old : WorldState) (book : BookState) (workers : List (Option Job)) (w : ℕ) → book ≡ after_look old.book → workers ≡ old.workers
+    → IsRead w old (record { book = book; workers = workers }) (Err Memory)
+not_read old book workers w is same =
+    record {
+      key = tt;
+      number = tt;
+      content = tt;
+      workers = tt;
+      looked = tt;
+      book = subst (λ (b : BookState). b ≡ with_looks b.store.looks old.book) (sym is) refl;
+      counted = (1, ap (λ (b : BookState). b.store.looks) is);
+      memory = refl;
+      unchanged = same;
+    }
+
+-- what was leased was queued
+pub was_queued : (old lent : BookState) (id : ℕ) (question : Question) → IsLeased old lent (Ok (id, question)) → old.queue.queued ≢ []
+was_queued old lent id question lease = λ none.
+    let never : first_of [] ≡ Ok id = ap first_of (sym none) ∙ lease.id in
+    cc
+
+pub not_leased-by : (old : WorldState) (book : BookState) (w : ℕ) → book ≡ old.book → old.book.queue.queued ≢ []
     → Replies (λ leased. Leased leased.1) (IsLeasedBy w old (record { book = book; workers = old.workers })) (Refused (OfBook Memory))
-not_leased-by old book w same =
+not_leased-by old book w same waits =
     record {
       result = Err Memory;
       shown = refl;
       holds = record {
-        lease = record { id = tt; question = tt; idle = tt; after = tt; empty = λ some. absurd (some refl); unchanged = same };
+        lease = record { id = tt; question = tt; idle = tt; after = tt; empty = λ some. absurd (some refl); memory = λ _. waits; unchanged = same };
         workers = tt;
         unchanged = refl;
       };

@@ -7,7 +7,7 @@ use Rattle.sipl_outages.specs.Holds.BoardEvent.{Hold as HoldFor, Release as Rele
 use Rattle.sipl_plans.specs.Findings.{Found, IsFound}
 use Rattle.sipl_zonestore.specs.Store.{number_in}
 use Rattle.sipl_book.specs.Book.{BookState}
-use Rattle.sipl_book.specs.Calls.{IsChanged, MovesBoard, IsHanded, IsCommitted, IsLeased, IsSettled, IsForgotten, after_look, is_renumbered, with_looks}
+use Rattle.sipl_book.specs.Calls.{CountsLooks, IsChanged, MovesBoard, IsHanded, IsCommitted, IsLeased, IsSettled, IsForgotten, after_look, is_renumbered, with_looks}
 use Rattle.sipl_book.specs.Honesty.{AreCurrent}
 use Rattle.sipl_interleave.specs.Jobs.{Job, job_at, lease_of, new_run, refusal_of, wanted_by, with_item}
 use Rattle.sipl_interleave.specs.World.{WorldState, after_return}
@@ -78,6 +78,7 @@ pub record IsRead (w : ℕ) (old new : WorldState) (result : Result Item BookFau
       (λ item. new.workers ≡ set old.workers w (with_item item (job_at old.workers w)))
   pub looked : OnOk result (new.book ≡ after_look old.book)
   pub book : new.book ≡ with_looks new.book.store.looks old.book
+  pub counted : OnErr result (CountsLooks old.book new.book)
   pub memory : IfErr result (λ fault. fault ≡ Memory)
   pub unchanged : OnErr result (new.workers ≡ old.workers)
 

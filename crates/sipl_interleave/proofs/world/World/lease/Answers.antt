@@ -6,7 +6,7 @@ use Rattle.sipl_interleave.specs.World.{WorldState}
 use Rattle.sipl_interleave.specs.declared.act.Act.TheVariants.{Start}
 use Rattle.sipl_interleave.proofs.Jobs.{allowed, start-job}
 use Rattle.sipl_interleave.proofs.Keeping.{same-world}
-use Rattle.sipl_interleave.proofs.Making.{given-back, not_leased-by}
+use Rattle.sipl_interleave.proofs.Making.{given-back, not_leased-by, was_queued}
 use Rattle.sipl_interleave.proofs.Working.{world-leased}
 use Rattle.sipl_interleave.proofs.world.World.lease.Goals as goal
 
@@ -30,4 +30,5 @@ returns-in-Err-start_run c =
     let old : WorldState = record { book = c.self.inside.book; workers = c.self.inside.workers } in
     rw (← c.self.view_is)
     (not_leased-by old c.give_back.new.self c.args.worker
-    (given-back old.book c.lease.new.self c.give_back.new.self c.in-Ok.leased.0 c.in-Ok.leased.1 c.in-Ok.ensures.leased c.in-Ok.ensures.outdated c.give_back.ensures))
+    (given-back old.book c.lease.new.self c.give_back.new.self c.in-Ok.leased.0 c.in-Ok.leased.1 c.in-Ok.ensures.leased c.in-Ok.ensures.outdated c.give_back.ensures)
+    (was_queued old.book c.lease.new.self c.in-Ok.leased.0 c.in-Ok.leased.1 c.in-Ok.ensures.leased))
