@@ -102,7 +102,7 @@ fn remove(
     })
 }
 
-// Appends the reply of the plain program to a question, and counts it.
+// Appends the reply of the plain program to a question, counts it, and returns its first target.
 fn push_plain_answer(
     alloc: Global,
     want: &mut Vec<u8>,
@@ -113,16 +113,35 @@ fn push_plain_answer(
     uri: &str,
     seed: u64,
     shares: &mut Shares,
-) -> Result<(), Fail> {
+) -> Result<Option<Endpoint>, Fail> {
     let question = Uri::parse(alloc, uri.as_bytes())?;
     let draws = Draws::from_seed(seed);
     let answer = plain_answer(alloc, store, board, &question, abilities, &draws, held)?;
     count_answer(&answer, board, shares);
-    Ok(push_answer(want, &answer)?)
+    push_answer(want, &answer)?;
+    Ok(first_target(&answer))
+}
+
+fn first_target(answer: &Answer) -> Option<Endpoint> {
+    match answer {
+        Answer::Targets(targets) => targets.as_slice().first().copied(),
+        Answer::None(_) => None,
+    }
+}
+
+// An endpoint by chance.
+fn endpoint(numbers: &mut Numbers) -> Endpoint {
+    let number = (numbers.below(10) % 10) as u8;
+    Endpoint {
+        transport: Transport::Udp,
+        address: Address::V4(0xC000_0200 + u32::from(number)),
+        port: if numbers.below(2) == 0 { 5060 } else { 5070 },
+    }
 }
 
 // The policy on held endpoints, the records and the holds that lines lead to, the lines of the next
-// session and their replies, the record that was added last, and what the questions met.
+// session and their replies, the record that was added last, the first target of the last answer that
+// had any, and what the questions met.
 #[derive(Drop)]
 struct Live {
     alloc: Global,
@@ -132,6 +151,7 @@ struct Live {
     input: Vec<u8>,
     want: Vec<u8>,
     added: Vec<u8>,
+    target: Option<Endpoint>,
     shares: Shares,
 }
 
@@ -145,6 +165,7 @@ impl Live {
             input: Vec::new(alloc),
             want: Vec::new(alloc),
             added: Vec::new(alloc),
+            target: None,
             shares,
         }
     }
@@ -229,7 +250,7 @@ impl Live {
             &[b"find ", uri.as_bytes(), b" seed ", seed_text],
         )?;
         let (store, board) = (&mut self.store, &self.board);
-        push_plain_answer(
+        let target = push_plain_answer(
             self.alloc,
             &mut self.want,
             store,
@@ -239,7 +260,11 @@ impl Live {
             uri,
             seed,
             &mut self.shares,
-        )
+        )?;
+        if target.is_some() {
+            self.target = target;
+        }
+        Ok(())
     }
 
     // A line by chance.
@@ -257,17 +282,15 @@ impl Live {
         }
     }
 
-    // A hold, a release or a move of the clock.
+    // A hold, a release or a move of the clock. Half of the endpoints are those of answers.
     fn turn_outage(&mut self, numbers: &mut Numbers) -> Result<(), AllocError> {
         let ms = numbers.below(4) as u64;
         if numbers.below(3) == 0 {
             return self.advance(ms);
         }
-        let number = (numbers.below(10) % 10) as u8;
-        let endpoint = Endpoint {
-            transport: Transport::Udp,
-            address: Address::V4(0xC000_0200 + u32::from(number)),
-            port: if numbers.below(2) == 0 { 5060 } else { 5070 },
+        let endpoint = match self.target {
+            Some(target) if numbers.below(2) == 0 => target,
+            _ => endpoint(numbers),
         };
         if ms == 0 {
             return self.release(&endpoint);
