@@ -20,7 +20,7 @@ use Rattle.sipl_lines.specs.declared.desk_commands.HoldChange.TheVariants as cha
 use Rattle.sipl_lines.specs.declared.gather.Gathering.{Gathering}
 use Rattle.sipl_lines.specs.declared.gather.Gathered.TheVariants.{Lost}
 use Rattle.sipl_lines.specs.declared.session.Session.{Session}
-use Rattle.sipl_lines.specs.Session.{SessionState, AppendsText, AtDesk, LoadsGathered, GathersOrLoses, MayFail, Obeys, Performs, at_desk, with_gathering}
+use Rattle.sipl_lines.specs.Session.{SessionState, AppendsText, AtDesk, LoadsGathered, GathersOrLoses, Performs, at_desk, with_gathering}
 
 pub all_lost : {D F : Type 0} (rules : DeskRules D F) (gathering : Gathering) (before after : SessionState D) (old new : Octets)
     → (gathering.left == 0) ≡ true → IsTrue (keeps_lines gathering.gathered)

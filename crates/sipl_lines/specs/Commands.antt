@@ -57,7 +57,7 @@ abbrev pub DoesInSpace : {D F A : Type 0} → DeskRules D F → (D → Result A 
 DoesInSpace {D} {F} {A} rules Acts IsLong reply_of before text after =
     Does rules Acts reply_of before text after
     ⊎ ((value : A) × Acts before (Ok value) after × IsLong value
-      × (text ≡ refusal_line (codes "Memory")))
+    × (text ≡ refusal_line (codes "Memory")))
 
 -- the reply to an accepted edit: words, counts, and how many sets of records changed
 abbrev pub changed_text : Octets → List ℕ → Done → Octets

@@ -156,7 +156,7 @@ pub(crate) fn reply_handed(handed: &Handed, out: &mut Vec<u8>)
     requires space { vec_len out.old + MAX_REFUSAL_LEN ≤ vec_capacity out.old }
     ensures text { (out.new.items ≡ out.old.items ++ handed_text handed.now)
         ⊎ (HasTargets handed.now.answer
-          × (out.new.items ≡ out.old.items ++ refusal_line (codes "Memory"))) }
+        × (out.new.items ≡ out.old.items ++ refusal_line (codes "Memory"))) }
     ensures capacity { vec_capacity out.old ≤ vec_capacity out.new }
 {
     if write_answer(out, &handed.answer).is_err() {
