@@ -1,6 +1,8 @@
 -- The calls of a book, seen as those of the plain machine.
 use Rattle.std.proofs.Common.{◌≡◌, ◌≢◌, ◌⊎◌, ℕ, Bool, true, false, List, [], ◌∷◌, map, length, Option, None, Some, Result, Ok, Err, IfOk, IfErr, OnOk, OnErr, IsTrue, IsFalse, inl, inr, refl, sym, ap, subst, ◌∙◌, length-append}
 use Rattle.std.proofs.lemmas.List.Elements.{All-head, All-tail}
+use Rattle.std.specs.Prelude.{nat_le, option_map, if◌then◌else◌}
+use Rattle.std.specs.Option.{option_or}
 use Rattle.sipl_records.specs.Sets.{set_of}
 use Rattle.sipl_records.specs.declared.data.Data.{Data}
 use Rattle.sipl_records.specs.declared.record.Key.{Key}
@@ -8,9 +10,13 @@ use Rattle.sipl_uri.specs.declared.question.Question.{Question}
 use Rattle.sipl_evidence.specs.Items.{Item}
 use Rattle.sipl_evidence.specs.Known.{Agrees}
 use Rattle.sipl_evidence.specs.Looks.{Look}
-use Rattle.sipl_outages.specs.Holds.{BoardEvent, after as after_hold}
+use Rattle.sipl_outages.specs.Holds.{BoardEvent, after as after_hold, refusal_of as hold_refusal}
+use Rattle.sipl_outages.specs.declared.fault.BoardFault.{BoardFault}
+use Rattle.sipl_zonestore.specs.declared.fault.StoreFault.{StoreFault}
+use Rattle.sipl_zonestore.specs.Edits.{refusal_of as zones_refusal}
 use Rattle.sipl_zonestore.specs.Changes.{changed_count}
-use Rattle.sipl_zonestore.specs.Numbers.{next_after}
+use Rattle.sipl_zonestore.specs.Numbers.{next_after, number_refusal}
+use Rattle.sipl_book.specs.Machine.{zone_edit}
 use Rattle.sipl_book.specs.Book.{BookState, answer_now}
 use Rattle.sipl_book.specs.Calls.{IsChanged, MovesBoard, answer_event, board_event, recorded}
 use Rattle.sipl_book.specs.Entries.{has_current_entry}
@@ -39,16 +45,40 @@ memory_or_not (Store fault) = inr (λ same. cc)
 memory_or_not (Board fault) = inr (λ same. cc)
 memory_or_not Memory = inl refl
 
+-- the fault where there may be no more events is B3
+abbrev limited : Bool → Option BookFault → Option BookFault
+limited full fault = if full then Some JournalFull else fault
+
+-- a call ends otherwise than with B3 where there may be more events, if its own fault is another
+ending_open : {A : Type 0} (full : Bool) (fault : Option BookFault) (value : A) (after before : PlainState) → fault ≢ Some JournalFull
+    → limited full None ≡ None → (ending_of (limited full fault) value after before).0 ≢ Err JournalFull
+ending_open true fault value after before other room same = cc
+ending_open false None value after before other room same = cc
+ending_open false (Some e) value after before other room same = other (cc)
+
+of_the_store : (fault : Option StoreFault) → option_map Store fault ≢ Some JournalFull
+of_the_store None same = cc
+of_the_store (Some fault) same = cc
+
+of_the_board : (fault : Option BoardFault) → option_map Board fault ≢ Some JournalFull
+of_the_board None same = cc
+of_the_board (Some fault) same = cc
+
+if_err : {A E : Type 0} {P Q : E → Type 0} (r : Result A E) → ((e : E) → P e → Q e) → IfErr r P → IfErr r Q
+if_err (Ok value) weaker fact = tt
+if_err (Err e) weaker fact = weaker e fact
+
 -- a call that fails exactly with this fault, or for memory, and else has this value and this state
 ends_so : {A : Type 0} (fault : Option BookFault) (value : A) (after before : PlainState) (outcome : Result A BookFault) (new : PlainState)
     → OnOk outcome (fault ≡ None) → IfOk outcome (λ v. v ≡ value) → OnOk outcome (new ≡ after)
-    → IfErr outcome (λ e. e ≢ Memory → fault ≡ Some e) → OnErr outcome (new ≡ before)
+    → IfErr outcome (λ e. e ≢ Memory → fault ≡ Some e)
+    → IfErr outcome (λ e. e ≡ Memory → (ending_of fault value after before).0 ≢ Err JournalFull) → OnErr outcome (new ≡ before)
     → EndsSo (ending_of fault value after before) before outcome new
-ends_so {A} fault value after before (Ok v) new accepted is moved refused kept =
+ends_so {A} fault value after before (Ok v) new accepted is moved refused memory kept =
     inl (subst (λ f. (Ok v ≡ (ending_of f value after before).0) × (new ≡ (ending_of f value after before).1)) (sym accepted) (ap Ok is, moved))
-ends_so {A} fault value after before (Err e) new accepted is moved refused kept =
+ends_so {A} fault value after before (Err e) new accepted is moved refused memory kept =
     elim (memory_or_not e) as (λ _. EndsSo (ending_of fault value after before) before (Err e) new) [
-      | inl same ↦ inr (ap Err same, kept)
+      | inl same ↦ inr (memory same, ap Err same, kept)
       | inr other ↦ inl (subst (λ f. (Err e ≡ (ending_of f value after before).0) × (new ≡ (ending_of f value after before).1)) (sym (refused other)) (refl, kept))
     ]
 
@@ -79,9 +109,16 @@ finds question words old outcome new found =
     ends_so (unless_full (plain_of old) None) (record { number = length old.journal; answer = answer_now old question words }) (with_event (plain_of old)) (plain_of old) outcome (plain_of new)
     found.accepted (found_value question words old outcome found.number found.answer)
     (found_after (has_current_entry old.entries question) outcome question words old new (answer_event old question words) found.from_entry found.committed)
-    found.refused (on_err outcome (ap plain_of) found.unchanged)
+    found.refused
+    (if_err outcome (λ e room same. ending_open (nat_le old.max_events (length old.journal)) None (record { number = length old.journal; answer = answer_now old question words }) (with_event (plain_of old)) (plain_of old) (λ none. cc) (room same)) found.memory)
+    (on_err outcome (ap plain_of) found.unchanged)
 
 -- ---- an edit
+
+-- the fault of an edit where there may be more events
+abbrev zones_fault : Edit → PlainState → Option StoreFault
+zones_fault edit plain =
+    option_or (zones_refusal plain.max_records (zone_edit edit) plain.zones) (number_refusal plain.zones.records (edited edit plain).records plain.next)
 
 changed_value : (edit : Edit) (old new : BookState) (outcome : Result Done BookFault)
     → IfOk outcome (λ done. done.number ≡ length old.journal)
@@ -118,7 +155,11 @@ changes edit old outcome new is =
     (record { number = length old.journal; changed = changed_count old.store.zones.records (edited edit (plain_of old)).records })
     (after_change edit (plain_of old)) (plain_of old) outcome (plain_of new)
     is.accepted (changed_value edit old new outcome is.number is.changed is.zones) (changed_after edit old new outcome is)
-    is.refused (on_err outcome (ap plain_of) is.unchanged)
+    is.refused
+    (if_err outcome (λ e room same. ending_open (nat_le old.max_events (length old.journal)) (option_map Store (zones_fault edit (plain_of old)))
+    (record { number = length old.journal; changed = changed_count old.store.zones.records (edited edit (plain_of old)).records })
+    (after_change edit (plain_of old)) (plain_of old) (of_the_store (zones_fault edit (plain_of old))) (room same)) is.memory)
+    (on_err outcome (ap plain_of) is.unchanged)
 
 -- ---- a hold, a release or a move of the clock
 
@@ -128,7 +169,10 @@ moves event old outcome new is =
     let moved : BookState = record old { board = record { holds = after_hold event old.board.holds; max_holds = old.board.max_holds } } in
     ends_so (move_refusal event (plain_of old)) (length old.journal) (with_event (plain_of moved)) (plain_of old) outcome (plain_of new)
     is.accepted is.number (on_ok outcome (λ after. ap plain_of after ∙ recorded-plain (board_event event) moved) is.after)
-    is.refused (on_err outcome (ap plain_of) is.unchanged)
+    is.refused
+    (if_err outcome (λ e room same. ending_open (nat_le old.max_events (length old.journal)) (option_map Board (hold_refusal old.board.max_holds event old.board.holds)) (length old.journal) (with_event (plain_of moved)) (plain_of old)
+    (of_the_board (hold_refusal old.board.max_holds event old.board.holds)) (room same)) is.memory)
+    (on_err outcome (ap plain_of) is.unchanged)
 
 -- ---- the dependencies of a question
 
@@ -151,14 +195,14 @@ depends : (question : Question) (old : BookState) (outcome : Result (List Item) 
 depends question old (Ok items) new are =
     let look : Look = set_of old.store.zones.records in
     inl (ap Ok (listed-agree look items are.sets.agrees ∙ ap (map (keyed look)) are.keys), ap plain_of are.unchanged)
-depends question old (Err e) new are = inr (ap Err are.failed, ap plain_of are.unchanged)
+depends question old (Err e) new are = inr (λ same. cc, ap Err are.failed, ap plain_of are.unchanged)
 
 -- ---- a repair
 
 repairs : (old : BookState) (outcome : Result (Unit {0}) BookFault) (new : BookState)
     → IsRepaired old new outcome → EndsSo (Ok tt, plain_of old) (plain_of old) outcome (plain_of new)
 repairs old (Ok done) new is = inl (refl, ap plain_of is.renewed.others)
-repairs old (Err e) new is = inr (ap Err is.failed, ap plain_of is.renewed.others)
+repairs old (Err e) new is = inr (λ same. cc, ap Err is.failed, ap plain_of is.renewed.others)
 
 pub book_implies_plain : Implies plain_of book_rules plain_rules
 book_implies_plain = record { finds = finds; changes = changes; moves = moves; depends = depends; repairs = repairs; time = λ book now is. is; fault = λ fault. refl }

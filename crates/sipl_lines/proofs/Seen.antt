@@ -49,7 +49,7 @@ use Rattle.sipl_lines.specs.ReplyText.{counts_line, refusal_line}
 use Rattle.sipl_lines.specs.Requests.{Request, nothing, unknown, too_long, zone, drop, add, del, find, deps, repair, hold, release, clock, call, got, broke, quit, request_of}
 use Rattle.sipl_lines.specs.Serving.{ServesWithin, ServesDesk}
 use Rattle.sipl_lines.specs.ServeFault.{OnReadFault, OnTooManyTurns}
-use Rattle.sipl_lines.specs.Session.{SessionState, with_gathering, AtCall, AtDesk, Commands, Gathers, GathersOrLoses, LoadsGathered, MayReply, Obeys, TakesEnd, TakesItem, TakesLine, new_session, session_protocol}
+use Rattle.sipl_lines.specs.Session.{SessionState, with_gathering, AtCall, AtDesk, Gathers, GathersOrLoses, LoadsGathered, MayReply, Obeys, Performs, TakesEnd, TakesItem, TakesLine, new_session, session_protocol}
 use Rattle.sipl_lines.specs.Streams.{ServesAll, ServesPrefix, ServesRead}
 
 -- each rule of a desk implies that of another, where the states are seen so, and the faults have the
@@ -83,11 +83,6 @@ session_seen seen state = record { desk = seen state.desk; gathering = state.gat
 on_desk : {D E : Type 0} (seen : D → E) (Acts : D → Octets → D → Type 0) (Acts' : E → Octets → E → Type 0) → Carries seen Acts Acts'
     → Carries (session_seen seen) (AtDesk Acts) (AtDesk Acts')
 on_desk seen Acts Acts' carries before text after done = (carries before.desk text after.desk done.0, ap (session_seen seen) done.1)
-
-commands : {D E : Type 0} (seen : D → E) (Acts : D → Octets → D → Type 0) (Acts' : E → Octets → E → Type 0) → Carries seen Acts Acts'
-    → Carries (session_seen seen) (Commands Acts) (Commands Acts')
-commands seen Acts Acts' carries before text after (inl done) = inl (on_desk seen Acts Acts' carries before text after done)
-commands seen Acts Acts' carries before text after (inr fails) = inr (fails.0, ap (session_seen seen) fails.1)
 
 -- a desk with its call, as the desk is seen
 abbrev call_seen : {D E : Type 0} → (D → E) → CallDesk D → CallDesk E
@@ -154,12 +149,12 @@ module _ {D E F : Type 0} (seen : D → E) (R : DeskRules D F) (R' : DeskRules E
   answers_uri (Err fault) draws before text after kept = (kept.0, ap seen kept.1)
   answers_uri (Ok question) (Err fault) before text after kept = (kept.0, ap seen kept.1)
   answers_uri (Ok question) (Ok words) before text after (inl done) = inl (done.0, implies.finds question words before done.0 after done.1, told _ done.0 text done.2)
-  answers_uri (Ok question) (Ok words) before text after (inr done) = inr (done.0, implies.finds question words before done.0 after done.1, told _ done.0 text done.2)
+  answers_uri (Ok question) (Ok words) before text after (inr done) = inr (done.0, implies.finds question words before (Ok done.0) after done.1, done.2, done.3)
 
   lists_uri : (asked : Result Question UriFault) → Carries seen (ListsUri R asked) (ListsUri R' asked)
   lists_uri (Err fault) before text after kept = (kept.0, ap seen kept.1)
   lists_uri (Ok question) before text after (inl done) = inl (done.0, implies.depends question before done.0 after done.1, told _ done.0 text done.2)
-  lists_uri (Ok question) before text after (inr done) = inr (done.0, implies.depends question before done.0 after done.1, told _ done.0 text done.2)
+  lists_uri (Ok question) before text after (inr done) = inr (done.0, implies.depends question before (Ok done.0) after done.1, done.2, done.3)
 
   repairs : Carries seen (Repairs R) (Repairs R')
   repairs before text after done = (done.0, implies.repairs before done.0 after done.1, told _ done.0 text done.2)
@@ -243,36 +238,39 @@ module _ {D E F : Type 0} (seen : D → E) (R : DeskRules D F) (R' : DeskRules E
   gathers_or_loses gathering before text after (inl done) = inl (gathers gathering before text after done)
   gathers_or_loses gathering before text after (inr done) = inr (done.0, gathers (lost gathering.left) before text after done.1)
 
-  obeys : (request : Request) → Carries (session_seen seen) (Obeys R request) (Obeys R' request)
-  obeys nothing before text after kept = (kept.0, ap (session_seen seen) kept.1)
-  obeys unknown before text after kept = (kept.0, ap (session_seen seen) kept.1)
-  obeys too_long before text after kept = (kept.0, ap (session_seen seen) kept.1)
-  obeys (zone apex lines) before text after (inl done) = inl (gathers (gathering_of apex lines) before text after done)
-  obeys (zone apex lines) before text after (inr done) = inr (gathers (lost lines) before text after done)
-  obeys (drop apex) before text after done =
-      commands seen (Unloads R (name_of apex [])) (Unloads R' (name_of apex [])) (unloads (name_of apex [])) before text after done
-  obeys (add r) before text after done =
-      commands seen (EditsRecord R AddRecord (record_of r [])) (EditsRecord R' AddRecord (record_of r [])) (edits_record AddRecord (record_of r [])) before text after done
-  obeys (del r) before text after done =
-      commands seen (EditsRecord R RemoveRecord (record_of r [])) (EditsRecord R' RemoveRecord (record_of r [])) (edits_record RemoveRecord (record_of r [])) before text after done
-  obeys (find uri draws) before text after done =
-      commands seen (AnswersUri R (question_of uri) draws) (AnswersUri R' (question_of uri) draws) (answers_uri (question_of uri) draws) before text after done
-  obeys (deps uri) before text after done =
-      commands seen (ListsUri R (question_of uri)) (ListsUri R' (question_of uri)) (lists_uri (question_of uri)) before text after done
-  obeys repair before text after done = on_desk seen (Repairs R) (Repairs R') repairs before text after done
-  obeys (hold endpoint ms) before text after done =
+  performs : (request : Request) → Carries (session_seen seen) (Performs R request) (Performs R' request)
+  performs nothing before text after kept = (kept.0, ap (session_seen seen) kept.1)
+  performs unknown before text after kept = (kept.0, ap (session_seen seen) kept.1)
+  performs too_long before text after kept = (kept.0, ap (session_seen seen) kept.1)
+  performs (zone apex lines) before text after (inl done) = inl (gathers (gathering_of apex lines) before text after done)
+  performs (zone apex lines) before text after (inr done) = inr (gathers (lost lines) before text after done)
+  performs (drop apex) before text after done =
+      on_desk seen (Unloads R (name_of apex [])) (Unloads R' (name_of apex [])) (unloads (name_of apex [])) before text after done
+  performs (add r) before text after done =
+      on_desk seen (EditsRecord R AddRecord (record_of r [])) (EditsRecord R' AddRecord (record_of r [])) (edits_record AddRecord (record_of r [])) before text after done
+  performs (del r) before text after done =
+      on_desk seen (EditsRecord R RemoveRecord (record_of r [])) (EditsRecord R' RemoveRecord (record_of r [])) (edits_record RemoveRecord (record_of r [])) before text after done
+  performs (find uri draws) before text after done =
+      on_desk seen (AnswersUri R (question_of uri) draws) (AnswersUri R' (question_of uri) draws) (answers_uri (question_of uri) draws) before text after done
+  performs (deps uri) before text after done =
+      on_desk seen (ListsUri R (question_of uri)) (ListsUri R' (question_of uri)) (lists_uri (question_of uri)) before text after done
+  performs repair before text after done = on_desk seen (Repairs R) (Repairs R') repairs before text after done
+  performs (hold endpoint ms) before text after done =
       on_desk seen (ChangesHold R (change.Hold ms) endpoint) (ChangesHold R' (change.Hold ms) endpoint) (changes_hold (change.Hold ms) endpoint) before text after done
-  obeys (release endpoint) before text after done =
+  performs (release endpoint) before text after done =
       on_desk seen (ChangesHold R change.Release endpoint) (ChangesHold R' change.Release endpoint) (changes_hold change.Release endpoint) before text after done
-  obeys (clock ms) before text after done = on_call seen (SetsClock R ms) (SetsClock R' ms) (sets_clock ms) before text after done
-  obeys (call kind base uri draws) before text after (inl done) =
-      inl (on_call seen (CallsUri R kind base (question_of uri) draws) (CallsUri R' kind base (question_of uri) draws) (calls_uri kind base (question_of uri) draws) before text after done)
-  obeys (call kind base uri draws) before text after (inr fails) = inr (fails.0, ap (session_seen seen) fails.1)
-  obeys (got attempt code retry) before text after done =
+  performs (clock ms) before text after done = on_call seen (SetsClock R ms) (SetsClock R' ms) (sets_clock ms) before text after done
+  performs (call kind base uri draws) before text after done =
+      on_call seen (CallsUri R kind base (question_of uri) draws) (CallsUri R' kind base (question_of uri) draws) (calls_uri kind base (question_of uri) draws) before text after done
+  performs (got attempt code retry) before text after done =
       on_call seen (HearsOf R (codes "ok got") (Received attempt code retry)) (HearsOf R' (codes "ok got") (Received attempt code retry)) (hears_of (codes "ok got") (Received attempt code retry)) before text after done
-  obeys broke before text after done =
+  performs broke before text after done =
       on_call seen (HearsOf R (codes "ok broke") TransportFailed) (HearsOf R' (codes "ok broke") TransportFailed) (hears_of (codes "ok broke") TransportFailed) before text after done
-  obeys quit before text after done = (done.0, ap (session_seen seen) done.1)
+  performs quit before text after done = (done.0, ap (session_seen seen) done.1)
+
+  obeys : (request : Request) → Carries (session_seen seen) (Obeys R request) (Obeys R' request)
+  obeys request before text after (inl done) = inl (performs request before text after done)
+  obeys request before text after (inr fails) = inr (fails.0, (fails.1.0, ap (session_seen seen) fails.1.1))
 
   takes_line : (gathering : Option Gathering) (octets : Octets) → Carries (session_seen seen) (TakesLine R gathering octets) (TakesLine R' gathering octets)
   takes_line None octets before text after done = obeys (request_of octets) before text after done

@@ -13,14 +13,14 @@ use Rattle.sipl_book.specs.declared.outcome.Handed.{Handed}
 use Rattle.sipl_evidence.specs.Items.{Item}
 use Rattle.sipl_lines.specs.Commands.{Keeps, ChangesHold, DoesInSpace, AnswersUri, ListsUri, handed_text}
 use Rattle.sipl_lines.specs.Desk.{DeskRules}
-use Rattle.sipl_lines.specs.ReplyText.{evidence_text, refusal_line}
+use Rattle.sipl_lines.specs.ReplyText.{HasTargets, evidence_text, refusal_line}
 use Rattle.sipl_lines.specs.Requests.{hold, release}
 use Rattle.sipl_lines.specs.Gathering.{lost, keeps_lines}
 use Rattle.sipl_lines.specs.declared.desk_commands.HoldChange.TheVariants as change
 use Rattle.sipl_lines.specs.declared.gather.Gathering.{Gathering}
 use Rattle.sipl_lines.specs.declared.gather.Gathered.TheVariants.{Lost}
 use Rattle.sipl_lines.specs.declared.session.Session.{Session}
-use Rattle.sipl_lines.specs.Session.{SessionState, AppendsText, AtDesk, LoadsGathered, GathersOrLoses, Obeys, at_desk, with_gathering}
+use Rattle.sipl_lines.specs.Session.{SessionState, AppendsText, AtDesk, LoadsGathered, GathersOrLoses, Performs, at_desk, with_gathering}
 
 pub all_lost : {D F : Type 0} (rules : DeskRules D F) (gathering : Gathering) (before after : SessionState D) (old new : Octets)
     → (gathering.left == 0) ≡ true → IsTrue (keeps_lines gathering.gathered)
@@ -42,29 +42,29 @@ all_lost rules gathering before after old new all kept reply state = (
 module _ {D F : Type 0} (rules : DeskRules D F) (before after : D) (old new : Octets) where
   pub held_at_desk : (session : Session) (endpoint : Result Endpoint AddressFault) (ms : ℕ)
       → AppendsText (ChangesHold rules (change.Hold ms) endpoint) before old after new
-      → AppendsText (Obeys rules (hold endpoint ms)) (at_desk before session) old (at_desk after session) new
+      → AppendsText (Performs rules (hold endpoint ms)) (at_desk before session) old (at_desk after session) new
   held_at_desk session endpoint ms done = (done.0, (done.1, refl), done.2)
 
   pub released_at_desk : (session : Session) (endpoint : Result Endpoint AddressFault)
       → AppendsText (ChangesHold rules change.Release endpoint) before old after new
-      → AppendsText (Obeys rules (release endpoint)) (at_desk before session) old (at_desk after session) new
+      → AppendsText (Performs rules (release endpoint)) (at_desk before session) old (at_desk after session) new
   released_at_desk session endpoint done = (done.0, (done.1, refl), done.2)
 
   -- the desk has done its part, and the reply stands, or `err Memory` where there was no space
-  done_in_space : {A : Type 0} (Acts : D → Result A F → D → Type 0) (reply_of : A → Octets) (value : A) → Acts before (Ok value) after
-      → (new ≡ old ++ reply_of value) ⊎ (new ≡ old ++ refusal_line (codes "Memory"))
-      → AppendsText (DoesInSpace rules Acts reply_of) before old after new
-  done_in_space Acts reply_of value acts (inl whole) = (reply_of value, inl (Ok value, acts, refl), whole)
-  done_in_space Acts reply_of value acts (inr none) = (refusal_line (codes "Memory"), inr (Ok value, acts, refl), none)
+  done_in_space : {A : Type 0} (Acts : D → Result A F → D → Type 0) (IsLong : A → Type 0) (reply_of : A → Octets) (value : A) → Acts before (Ok value) after
+      → (new ≡ old ++ reply_of value) ⊎ (IsLong value × (new ≡ old ++ refusal_line (codes "Memory")))
+      → AppendsText (DoesInSpace rules Acts IsLong reply_of) before old after new
+  done_in_space Acts IsLong reply_of value acts (inl whole) = (reply_of value, inl (Ok value, acts, refl), whole)
+  done_in_space Acts IsLong reply_of value acts (inr none) = (refusal_line (codes "Memory"), inr (value, acts, none.0, refl), none.1)
 
   pub answered_uri : (read : Result Question UriFault) (draws : Result (List ℕ) DrawsFault) (question : Question) (words : List ℕ) (handed : Handed)
       → read ≡ Ok question → draws ≡ Ok words → rules.Finds question words before (Ok handed) after
-      → (new ≡ old ++ handed_text handed) ⊎ (new ≡ old ++ refusal_line (codes "Memory"))
+      → (new ≡ old ++ handed_text handed) ⊎ (HasTargets handed.answer × (new ≡ old ++ refusal_line (codes "Memory")))
       → AppendsText (AnswersUri rules read draws) before old after new
   answered_uri read draws question words handed is_read is_draws finds reply =
       subst (λ q. AppendsText (AnswersUri rules q draws) before old after new) (sym is_read)
       (subst (λ d. AppendsText (AnswersUri rules (Ok question) d) before old after new) (sym is_draws)
-      (done_in_space (rules.Finds question words) handed_text handed finds reply))
+      (done_in_space (rules.Finds question words) (λ (h : Handed). HasTargets h.answer) handed_text handed finds reply))
 
   pub listed_uri : (read : Result Question UriFault) (question : Question) (items : List Item)
       → read ≡ Ok question → rules.Depends question before (Ok items) after
@@ -72,4 +72,9 @@ module _ {D F : Type 0} (rules : DeskRules D F) (before after : D) (old new : Oc
       → AppendsText (ListsUri rules read) before old after new
   listed_uri read question items is_read depends reply =
       subst (λ q. AppendsText (ListsUri rules q) before old after new) (sym is_read)
-      (done_in_space (rules.Depends question) evidence_text items depends reply)
+      (done_in_space (rules.Depends question) (λ (i : List Item). Unit {0}) evidence_text items depends (listed reply))
+    where
+      listed : (new ≡ old ++ evidence_text items) ⊎ (new ≡ old ++ refusal_line (codes "Memory"))
+          → (new ≡ old ++ evidence_text items) ⊎ (Unit {0} × (new ≡ old ++ refusal_line (codes "Memory")))
+      listed (inl whole) = inl whole
+      listed (inr none) = inr (tt, none)

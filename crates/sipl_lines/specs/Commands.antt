@@ -26,7 +26,7 @@ use Rattle.sipl_lines.specs.declared.desk_commands.HoldChange.TheVariants as cha
 use Rattle.sipl_lines.specs.declared.desk_commands.RecordEdit.{RecordEdit}
 use Rattle.sipl_lines.specs.declared.desk_commands.RecordEdit.TheVariants.{Add as AddRecord, Remove as RemoveRecord}
 use Rattle.sipl_lines.specs.Desk.{DeskRules}
-use Rattle.sipl_lines.specs.ReplyText.{counts_line, refusal_line, text_fault_line, answer_text, evidence_text}
+use Rattle.sipl_lines.specs.ReplyText.{counts_line, refusal_line, text_fault_line, HasTargets, answer_text, evidence_text}
 
 -- this is the reply, and the desk is as it was
 abbrev pub Keeps : {D : Type 0} → Octets → D → Octets → D → Type 0
@@ -51,12 +51,13 @@ abbrev pub Does : {D F A : Type 0} → DeskRules D F → (D → Result A F → D
 Does {D} {F} {A} rules Acts reply_of before text after =
     (outcome : Result A F) × Acts before outcome after × (text ≡ result_text rules reply_of outcome)
 
--- the desk does its part; where there is no space for its reply, this is `err Memory`
+-- the desk does its part; where there is no space for a reply that may be long, it is `err Memory`
 abbrev pub DoesInSpace : {D F A : Type 0} → DeskRules D F → (D → Result A F → D → Type 0)
-    → (A → Octets) → D → Octets → D → Type 0
-DoesInSpace rules Acts reply_of before text after =
+    → (A → Type 0) → (A → Octets) → D → Octets → D → Type 0
+DoesInSpace {D} {F} {A} rules Acts IsLong reply_of before text after =
     Does rules Acts reply_of before text after
-    ⊎ Does rules Acts (λ value. refusal_line (codes "Memory")) before text after
+    ⊎ ((value : A) × Acts before (Ok value) after × IsLong value
+    × (text ≡ refusal_line (codes "Memory")))
 
 -- the reply to an accepted edit: words, counts, and how many sets of records changed
 abbrev pub changed_text : Octets → List ℕ → Done → Octets
@@ -101,10 +102,12 @@ EditsRecord rules kind (Err fault) before text after = Refuses (zone_code fault)
 EditsRecord rules kind (Ok r) before text after =
     Edits rules (record_words kind) [] (record_edit kind r) before text after
 
--- the targets of a question for random words, returned also where there is no space for their text
+-- the targets of a question for random words, returned also where there is no space for their text.
+-- Where there are none the reason is always the reply
 abbrev pub Answers : {D F : Type 0} → DeskRules D F → Question → List ℕ → D → Octets → D → Type 0
 Answers rules question words before text after =
-    DoesInSpace rules (rules.Finds question words) handed_text before text after
+    DoesInSpace rules (rules.Finds question words) (λ handed. HasTargets handed.answer) handed_text
+    before text after
 
 -- the targets of a question for the words that were given, if they are good
 abbrev pub AnswersWith : {D F : Type 0} → DeskRules D F → Question → Result (List ℕ) DrawsFault → D
@@ -121,7 +124,7 @@ AnswersUri rules (Ok question) draws before text after = AnswersWith rules quest
 -- the record sets that a question depends on
 abbrev pub Lists : {D F : Type 0} → DeskRules D F → Question → D → Octets → D → Type 0
 Lists rules question before text after =
-    DoesInSpace rules (rules.Depends question) evidence_text before text after
+    DoesInSpace rules (rules.Depends question) (λ items. Unit {0}) evidence_text before text after
 
 -- the record sets that a URI's targets depend on
 abbrev pub ListsUri : {D F : Type 0} → DeskRules D F → Result Question UriFault → D → Octets → D

@@ -1,6 +1,6 @@
 -- The plain machine of a session's text: zones, holds, the time, limits, a count of events and the
 -- next number of a set. It has no kept answer, no queue and no lease.
-use Rattle.std.specs.Prelude.{◌≡◌, ◌⊎◌, ◌+◌, ℕ, List, length, map, nat_le, if◌then◌else◌, Option, None, Some, option_map, Result, Ok, Err}
+use Rattle.std.specs.Prelude.{◌≡◌, ◌≢◌, ◌⊎◌, ◌+◌, ℕ, List, length, map, nat_le, if◌then◌else◌, Option, None, Some, option_map, Result, Ok, Err}
 use Rattle.std.specs.Option.{option_or}
 use Rattle.sipl_records.specs.Sets.{set_of}
 use Rattle.sipl_records.specs.declared.data.Data.{Data}
@@ -139,10 +139,12 @@ abbrev pub sets_listed : Result (List Item) BookFault → Result (List (Key × L
 sets_listed (Ok items) = Ok (map (λ item. (item.key, item.content)) items)
 sets_listed (Err fault) = Err fault
 
--- a call ends so; or an allocation failed, and the state is as it was
+-- a call ends so; or an allocation failed, and the state is as it was, but not where there may be no
+-- more events: that is found before anything is allocated
 abbrev pub EndsSo : {A : Type 0} → Ending A → PlainState → Result A BookFault → PlainState → Type 0
 EndsSo ending before outcome after =
-    ((outcome ≡ ending.0) × (after ≡ ending.1)) ⊎ ((outcome ≡ Err Memory) × (after ≡ before))
+    ((outcome ≡ ending.0) × (after ≡ ending.1))
+    ⊎ ((ending.0 ≢ Err JournalFull) × (outcome ≡ Err Memory) × (after ≡ before))
 
 -- what the calls of the plain machine do; there is nothing that a repair has to look up again
 abbrev pub plain_rules : DeskRules PlainState BookFault

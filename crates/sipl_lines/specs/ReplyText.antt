@@ -50,6 +50,11 @@ answer_text (Targets targets) =
     target_lines 1 targets ++ counts_line (codes "ok find") (length targets ∷ [])
 answer_text (None reason) = codes "none " ++ reason_text reason ++ 10 ∷ []
 
+-- whether an answer has targets: an output may have to grow for their lines alone
+abbrev pub HasTargets : Answer → Type 0
+HasTargets (Targets targets) = Unit {0}
+HasTargets (None reason) = ⊥
+
 -- the maximum length of a reply to a question: 94 octets for each target's line, and 29 for the
 -- line that counts them
 abbrev pub max_answer_len : Answer → ℕ

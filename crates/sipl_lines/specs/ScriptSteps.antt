@@ -1,5 +1,5 @@
 -- The step of the world that a line of a script asks for.
-use Rattle.std.specs.Prelude.{ℕ, List, [], Result, Ok, Err, codes}
+use Rattle.std.specs.Prelude.{ℕ, List, [], Result, Ok, Err, IsTrue, codes}
 use Rattle.sipl_names.specs.Labels.{Octets, Labels}
 use Rattle.sipl_names.specs.NameText.{name_of}
 use Rattle.sipl_names.specs.InvalidName.{code_of as name_code}
@@ -11,7 +11,7 @@ use Rattle.sipl_masterfile.specs.ZoneFault.{code_of as zone_code}
 use Rattle.sipl_choice.specs.declared.endpoint.Endpoint.{Endpoint}
 use Rattle.sipl_srv.specs.DrawsFault.{code_of as draws_code}
 use Rattle.sipl_srv.specs.declared.fault.DrawsFault.{DrawsFault}
-use Rattle.sipl_uri.specs.Uris.{question_of}
+use Rattle.sipl_uri.specs.Uris.{has_scheme_and_octets, question_of}
 use Rattle.sipl_uri.specs.UriFault.{code_of as uri_code}
 use Rattle.sipl_uri.specs.declared.question.Question.{Question}
 use Rattle.sipl_book.specs.declared.edit.Edit.TheVariants.{Unload, Add, Remove}
@@ -73,12 +73,13 @@ step_of (forget uri) = step_for Forget (question_in uri)
 step_of too_long = Err (codes "K2")
 step_of _ = Err (codes "K1")
 
--- whether an allocation may fail while the fields of a line are read, which then changes nothing
+-- whether an allocation may fail while the fields of a line are read, which then changes nothing:
+-- a fault in the scheme or the octets of a URI is found before anything is allocated
 abbrev pub MayFail : ScriptRequest → Type 0
 MayFail (drop apex) = Unit {0}
 MayFail (add text) = Unit {0}
 MayFail (del text) = Unit {0}
-MayFail (hand uri draws) = Unit {0}
-MayFail (start w uri) = Unit {0}
-MayFail (forget uri) = Unit {0}
+MayFail (hand uri draws) = IsTrue (has_scheme_and_octets uri)
+MayFail (start w uri) = IsTrue (has_scheme_and_octets uri)
+MayFail (forget uri) = IsTrue (has_scheme_and_octets uri)
 MayFail _ = ⊥

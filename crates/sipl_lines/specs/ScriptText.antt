@@ -20,7 +20,7 @@ use Rattle.sipl_interleave.specs.declared.reply.Reply.{Reply}
 use Rattle.sipl_interleave.specs.declared.reply.Reply.TheVariants.{Changed, Moved, Answered, Started, Read, Leased, Settled, Abandoned, Forgotten, Uncommitted, Refused}
 use Rattle.sipl_interleave.specs.declared.step.Step.{Step}
 use Rattle.sipl_interleave.specs.declared.step.Step.TheVariants as step
-use Rattle.sipl_lines.specs.ReplyText.{answer_text, counts_line, number_field, refusal_line, word_field}
+use Rattle.sipl_lines.specs.ReplyText.{HasTargets, answer_text, counts_line, number_field, refusal_line, word_field}
 use Rattle.sipl_lines.specs.declared.script_reply.Shown.{Shown}
 use Rattle.sipl_lines.specs.declared.script_reply.Shown.TheVariants as shown
 
@@ -113,13 +113,13 @@ text_of_reply shown (Uncommitted refused) =
     uncommitted_text refused.fault refused.finding.items
 text_of_reply shown (Refused fault) = refusal_line (code_of fault)
 
--- whether a step handed out an answer
-abbrev pub IsAnswer : Reply → Type 0
-IsAnswer (Answered handed) = Unit {0}
-IsAnswer _ = ⊥
+-- whether a step handed out targets
+abbrev pub HandsTargets : Reply → Type 0
+HandsTargets (Answered handed) = HasTargets handed.answer
+HandsTargets _ = ⊥
 
--- this is the reply; where there is no space for that of an answer, it is `err Memory`
+-- this is the reply; where there is no space for that of targets, it is `err Memory`
 abbrev pub Shows : Shown → Reply → Octets → Type 0
 Shows shown reply text =
     (text ≡ text_of_reply shown reply)
-    ⊎ (IsAnswer reply × (text ≡ refusal_line (codes "Memory")))
+    ⊎ (HandsTargets reply × (text ≡ refusal_line (codes "Memory")))

@@ -6,7 +6,7 @@ use Rattle.sipl_names.specs.NameText.{name_of}
 use Rattle.sipl_names.specs.InvalidName.{code_of as name_code}
 use Rattle.sipl_masterfile.specs.Zones.{zone_of}
 use Rattle.sipl_masterfile.specs.RecordText.{record_of}
-use Rattle.sipl_uri.specs.Uris.{question_of}
+use Rattle.sipl_uri.specs.Uris.{has_scheme_and_octets, question_of}
 use Rattle.sipl_failover.specs.FailoverRun.{FailoverRun}
 use Rattle.sipl_failover.specs.FailoverRun.Event.{Received, TransportFailed}
 use Rattle.sipl_lines.specs.declared.desk_commands.RecordEdit.TheVariants.{Add as AddRecord, Remove as RemoveRecord}
@@ -66,14 +66,15 @@ AtCall Acts before text after =
     Acts (with_call before.desk before.call) text (with_call after.desk after.call)
     × (after ≡ record before { desk = after.desk; call = after.call })
 
--- whether an allocation of a request may fail, which then changes nothing
+-- whether an allocation may fail while the fields of a request are read, which then changes nothing:
+-- a fault in the scheme or the octets of a URI is found before anything is allocated
 abbrev pub MayFail : Request → Type 0
 MayFail (drop apex) = Unit {0}
 MayFail (add r) = Unit {0}
 MayFail (del r) = Unit {0}
-MayFail (find uri draws) = Unit {0}
-MayFail (deps uri) = Unit {0}
-MayFail (call kind base uri draws) = Unit {0}
+MayFail (find uri draws) = IsTrue (has_scheme_and_octets uri)
+MayFail (deps uri) = IsTrue (has_scheme_and_octets uri)
+MayFail (call kind base uri draws) = IsTrue (has_scheme_and_octets uri)
 MayFail _ = ⊥
 
 -- `zone APEX COUNT`, once its lines are taken: the first of these that applies is reported
@@ -99,44 +100,45 @@ GathersOrLoses rules gathering before text after =
     Gathers rules gathering before text after
     ⊎ (IsTrue (keeps_lines gathering.gathered) × Gathers rules (lost gathering.left) before text after)
 
--- what a command asks of the desk; where an allocation fails the desk is as it was
-abbrev pub Commands : {D : Type 0} → (D → Octets → D → Type 0) → SessionState D → Octets → SessionState D → Type 0
-Commands Acts before text after =
-    AtDesk Acts before text after ⊎ Fails before text after
-
--- what a request does. Names and records are relative to the root
-abbrev pub Obeys : {D F : Type 0} → DeskRules D F → Request → SessionState D → Octets
+-- what a request does once its fields are read. Names and records are relative to the root
+abbrev pub Performs : {D F : Type 0} → DeskRules D F → Request → SessionState D → Octets
     → SessionState D → Type 0
-Obeys rules nothing before text after = Keeps [] before text after
-Obeys rules unknown before text after = Refuses (codes "K1") before text after
-Obeys rules too_long before text after = Refuses (codes "K2") before text after
-Obeys rules (zone apex lines) before text after =
+Performs rules nothing before text after = Keeps [] before text after
+Performs rules unknown before text after = Refuses (codes "K1") before text after
+Performs rules too_long before text after = Refuses (codes "K2") before text after
+Performs rules (zone apex lines) before text after =
     Gathers rules (gathering_of apex lines) before text after
     ⊎ Gathers rules (lost lines) before text after
-Obeys rules (drop apex) before text after =
-    Commands (Unloads rules (name_of apex [])) before text after
-Obeys rules (add r) before text after =
-    Commands (EditsRecord rules AddRecord (record_of r [])) before text after
-Obeys rules (del r) before text after =
-    Commands (EditsRecord rules RemoveRecord (record_of r [])) before text after
-Obeys rules (find uri draws) before text after =
-    Commands (AnswersUri rules (question_of uri) draws) before text after
-Obeys rules (deps uri) before text after = Commands (ListsUri rules (question_of uri)) before text after
-Obeys rules repair before text after = AtDesk (Repairs rules) before text after
-Obeys rules (hold endpoint ms) before text after =
+Performs rules (drop apex) before text after =
+    AtDesk (Unloads rules (name_of apex [])) before text after
+Performs rules (add r) before text after =
+    AtDesk (EditsRecord rules AddRecord (record_of r [])) before text after
+Performs rules (del r) before text after =
+    AtDesk (EditsRecord rules RemoveRecord (record_of r [])) before text after
+Performs rules (find uri draws) before text after =
+    AtDesk (AnswersUri rules (question_of uri) draws) before text after
+Performs rules (deps uri) before text after =
+    AtDesk (ListsUri rules (question_of uri)) before text after
+Performs rules repair before text after = AtDesk (Repairs rules) before text after
+Performs rules (hold endpoint ms) before text after =
     AtDesk (ChangesHold rules (change.Hold ms) endpoint) before text after
-Obeys rules (release endpoint) before text after =
+Performs rules (release endpoint) before text after =
     AtDesk (ChangesHold rules change.Release endpoint) before text after
-Obeys rules (clock ms) before text after = AtCall (SetsClock rules ms) before text after
-Obeys rules (call kind base uri draws) before text after =
+Performs rules (clock ms) before text after = AtCall (SetsClock rules ms) before text after
+Performs rules (call kind base uri draws) before text after =
     AtCall (CallsUri rules kind base (question_of uri) draws) before text after
-    ⊎ Fails before text after
-Obeys rules (got attempt code retry_after) before text after =
+Performs rules (got attempt code retry_after) before text after =
     AtCall (HearsOf rules (codes "ok got") (Received attempt code retry_after)) before text after
-Obeys rules broke before text after =
+Performs rules broke before text after =
     AtCall (HearsOf rules (codes "ok broke") TransportFailed) before text after
-Obeys rules quit before text after =
+Performs rules quit before text after =
     (text ≡ codes "ok quit\n") × (after ≡ record before { ended = true })
+
+-- what a request does; where an allocation for its fields fails, nothing happens
+abbrev pub Obeys : {D F : Type 0} → DeskRules D F → Request → SessionState D → Octets
+    → SessionState D → Type 0
+Obeys rules request before text after =
+    Performs rules request before text after ⊎ (MayFail request × Fails before text after)
 
 -- what a line does: it is a command, or one of the lines that a zone takes
 abbrev pub TakesLine : {D F : Type 0} → DeskRules D F → Option Gathering → Octets → SessionState D

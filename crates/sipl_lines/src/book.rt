@@ -3,7 +3,7 @@ ghost use Rattle.sipl_lines.specs.Desk.{book_rules};
 ghost use Rattle.sipl_lines.specs.PlainDesk.{plain_of, plain_rules};
 ghost use Rattle.sipl_lines.specs.Serving.{ServesDesk};
 
-use crate::server::{Ended, ServeFault, serve};
+use crate::server::{Ended, MAX_READS, ServeFault, serve_within};
 use crate::tapped::Tapped;
 use sipl_book::Book;
 use std::alloc::Global;
@@ -30,5 +30,21 @@ pub fn serve_book<R: Read, W: Write>(
     ensures book { ServesDesk book_rules (2 ^ 32) result R.remaining W.contents
         book.old book.new reader.old reader.new writer.old writer.new }
 {
-    serve(alloc, reader, writer, book)
+    serve_book_within(alloc, reader, writer, book, MAX_READS)
+}
+
+/// Serves as [`serve_book`] does, with at most `limit` reads.
+pub fn serve_book_within<R: Read, W: Write>(
+    alloc: Global,
+    reader: &mut Tapped<R>,
+    writer: &mut Tapped<W>,
+    book: &mut Book,
+    limit: u64,
+) -> Result<Ended, ServeFault>
+    ensures plain { ServesDesk plain_rules limit result R.remaining W.contents
+        (plain_of book.old) (plain_of book.new) reader.old reader.new writer.old writer.new }
+    ensures book { ServesDesk book_rules limit result R.remaining W.contents
+        book.old book.new reader.old reader.new writer.old writer.new }
+{
+    serve_within(alloc, reader, writer, book, limit)
 }

@@ -1,6 +1,6 @@
 // What `call`, `got`, `broke` and `clock` do with a session's call, and their replies.
-ghost use Rattle.std.specs.Prelude.{◌≡◌, ◌+◌, ◌^◌, ◌≤◌, [], ◌∷◌, length, codes, Some, vec_len, vec_capacity};
-ghost use Rattle.sipl_uri.specs.Uris.{question_of};
+ghost use Rattle.std.specs.Prelude.{◌≡◌, ◌+◌, ◌^◌, ◌≤◌, [], ◌∷◌, length, codes, Some, IsTrue, OnErr, vec_len, vec_capacity};
+ghost use Rattle.sipl_uri.specs.Uris.{has_scheme_and_octets, question_of};
 ghost use Rattle.sipl_failover.specs.FailoverRun.{Event};
 ghost use Rattle.sipl_failover.specs.Rules.{refusal_of};
 ghost use Rattle.sipl_lines.specs.Calls.{CallsUri, GoesOn, HearsOf, Opens, OpensOver, Reports, SetsClock, is_open, with_call};
@@ -34,8 +34,9 @@ pub(crate) fn open_call<D: Desk>(
     out: &mut Vec<u8>,
 ) -> Result<(), AllocError>
     requires space { vec_len out.old + MAX_SHORT_REPLY_LEN ≤ vec_capacity out.old }
-    ensures { Replies (CallsUri D.rules kind base (question_of uri.now) draws.now)
+    ensures replies { Replies (CallsUri D.rules kind base (question_of uri.now) draws.now)
         (with_call desk.old call.old) out.old result (with_call desk.new call.new) out.new }
+    ensures allocates { OnErr result (IsTrue (has_scheme_and_octets uri.now)) }
 {
     let question = match read_question(alloc, uri)? {
         Ok(question) => question,

@@ -1,12 +1,12 @@
 // What each command asks of a desk, and its reply.
-ghost use Rattle.std.specs.Prelude.{◌≡◌, ◌⊎◌, ◌+◌, ◌≤◌, [], ◌++◌, Ok, Err, length, codes, IfOk, IfErr, vec_len, vec_capacity};
+ghost use Rattle.std.specs.Prelude.{◌≡◌, ◌⊎◌, ◌+◌, ◌≤◌, [], ◌++◌, Ok, Err, length, codes, IfOk, IfErr, IsTrue, OnErr, vec_len, vec_capacity};
 ghost use Rattle.sipl_masterfile.specs.RecordText.{record_of};
 ghost use Rattle.sipl_masterfile.specs.Zones.{zone_of};
 ghost use Rattle.sipl_names.specs.NameFault.{IfInvalid};
 ghost use Rattle.sipl_names.specs.NameText.{name_of};
-ghost use Rattle.sipl_uri.specs.Uris.{question_of};
+ghost use Rattle.sipl_uri.specs.Uris.{has_scheme_and_octets, question_of};
 ghost use Rattle.sipl_lines.specs.Commands.{AnswersUri, ChangesHold, Edits, EditsRecord, ListsUri, Loads, Repairs, Unloads, handed_text, result_text};
-ghost use Rattle.sipl_lines.specs.ReplyText.{counts_line, evidence_text, refusal_line};
+ghost use Rattle.sipl_lines.specs.ReplyText.{HasTargets, counts_line, evidence_text, refusal_line};
 ghost use Rattle.sipl_lines.specs.Session.{AppendsText, Replies};
 
 use crate::desk::{Desk, MAX_REFUSAL_LEN};
@@ -132,8 +132,9 @@ pub(crate) fn find<D: Desk>(
     out: &mut Vec<u8>,
 ) -> Result<(), AllocError>
     requires space { vec_len out.old + MAX_SHORT_REPLY_LEN ≤ vec_capacity out.old }
-    ensures { Replies (AnswersUri D.rules (question_of uri.now) draws.now)
+    ensures replies { Replies (AnswersUri D.rules (question_of uri.now) draws.now)
         desk.old out.old result desk.new out.new }
+    ensures allocates { OnErr result (IsTrue (has_scheme_and_octets uri.now)) }
 {
     let question = match read_question(alloc, uri)? {
         Ok(question) => question,
@@ -150,11 +151,12 @@ pub(crate) fn find<D: Desk>(
     Ok(())
 }
 
-// Appends the reply to a question, or `err Memory` where there is no space for it.
+// Appends the reply to a question, or `err Memory` where there is no space for its targets.
 pub(crate) fn reply_handed(handed: &Handed, out: &mut Vec<u8>)
     requires space { vec_len out.old + MAX_REFUSAL_LEN ≤ vec_capacity out.old }
     ensures text { (out.new.items ≡ out.old.items ++ handed_text handed.now)
-        ⊎ (out.new.items ≡ out.old.items ++ refusal_line (codes "Memory")) }
+        ⊎ (HasTargets handed.now.answer
+        × (out.new.items ≡ out.old.items ++ refusal_line (codes "Memory"))) }
     ensures capacity { vec_capacity out.old ≤ vec_capacity out.new }
 {
     if write_answer(out, &handed.answer).is_err() {
@@ -170,8 +172,9 @@ pub(crate) fn list_evidence<D: Desk>(
     out: &mut Vec<u8>,
 ) -> Result<(), AllocError>
     requires space { vec_len out.old + MAX_SHORT_REPLY_LEN ≤ vec_capacity out.old }
-    ensures { Replies (ListsUri D.rules (question_of uri.now))
+    ensures replies { Replies (ListsUri D.rules (question_of uri.now))
         desk.old out.old result desk.new out.new }
+    ensures allocates { OnErr result (IsTrue (has_scheme_and_octets uri.now)) }
 {
     let question = match read_question(alloc, uri)? {
         Ok(question) => question,
@@ -287,7 +290,8 @@ pub(crate) fn read_question(
     alloc: Global,
     uri: &[u8],
 ) -> Result<Result<Question, UriFault>, AllocError>
-    ensures { IfOk result (λ read. read ≡ question_of uri.now) }
+    ensures read { IfOk result (λ read. read ≡ question_of uri.now) }
+    ensures memory { OnErr result (IsTrue (has_scheme_and_octets uri.now)) }
 {
     match Uri::parse(alloc, uri) {
         Err(UriFault::Memory) => Err(AllocError),

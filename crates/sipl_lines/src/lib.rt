@@ -25,7 +25,7 @@ mod settings;
 mod step_lines;
 mod tapped;
 
-pub use book::serve_book;
+pub use book::{serve_book, serve_book_within};
 pub use check::check_zone;
 pub use command::{MAX_LINE_LEN, MAX_ZONE_LINES};
 pub use desk::{Desk, MAX_REFUSAL_LEN};

@@ -1,5 +1,6 @@
 // The step of the world that a line of a script asks for.
-ghost use Rattle.std.specs.Prelude.{◌≡◌, ◌⊎◌, ◌≤◌, Ok, Err, codes, length, IfOk, IfErr};
+ghost use Rattle.std.specs.Prelude.{◌≡◌, ◌⊎◌, ◌≤◌, Ok, Err, codes, length, IfOk, IfErr, IsTrue};
+ghost use Rattle.sipl_uri.specs.Uris.{has_scheme_and_octets};
 ghost use Rattle.sipl_lines.specs.ScriptMeaning.{meaning_of_line};
 ghost use Rattle.sipl_lines.specs.ScriptSteps.{MayFail, apex_of, question_in, record_in, step_of};
 
@@ -77,8 +78,8 @@ fn read_record(alloc: Global, text: &[u8]) -> Result<Record, &'static str>
 // The question of a URI, or the code of its fault.
 fn read_uri(alloc: Global, uri: &[u8]) -> Result<Question, &'static str>
     ensures ok { IfOk result (λ question. question_in uri.now ≡ Ok question) }
-    ensures err { IfErr result
-        (λ code. (question_in uri.now ≡ Err code.now) ⊎ (code.now ≡ codes "Memory")) }
+    ensures err { IfErr result (λ code. (question_in uri.now ≡ Err code.now)
+        ⊎ (IsTrue (has_scheme_and_octets uri.now) × (code.now ≡ codes "Memory"))) }
     ensures short { IfErr result (λ code. length code.now ≤ 6) }
 {
     match read_question(alloc, uri) {

@@ -3,7 +3,7 @@ ghost use Rattle.sipl_lines.specs.CommandMeaning.{meaning_of};
 ghost use Rattle.sipl_lines.specs.Gathering.{keeps_lines};
 ghost use Rattle.sipl_lines.specs.Items.{Item};
 ghost use Rattle.sipl_lines.specs.Replies.{AppendsReply};
-ghost use Rattle.sipl_lines.specs.Session.{AppendsText, GathersOrLoses, LoadsGathered, MayFail, Obeys, Replies, at_desk, session_protocol};
+ghost use Rattle.sipl_lines.specs.Session.{AppendsText, GathersOrLoses, LoadsGathered, MayFail, Obeys, Performs, Replies, at_desk, session_protocol};
 
 use crate::calls::{hear_failure, hear_response, open_call, set_clock};
 use crate::command::{Command, read_command};
@@ -134,7 +134,7 @@ impl Session {
         out: &mut Vec<u8>,
     ) -> Result<(), AllocError>
         requires { vec_len out.old + MAX_SHORT_REPLY_LEN ≤ vec_capacity out.old }
-        ensures replies { Replies (Obeys D.rules (meaning_of command.now))
+        ensures replies { Replies (Performs D.rules (meaning_of command.now))
             (at_desk desk.old self.old) out.old result (at_desk desk.new self.new) out.new }
         ensures allocates { OnErr result (MayFail (meaning_of command.now)) }
     {
