@@ -104,7 +104,7 @@ pub(super) fn are_mixed(rt: &impl Abort, counts: Counts) {
     expects(rt, counts.settled > 50, "settlements");
     expects(rt, counts.unsettled > 50, "refused settlements");
     expects(rt, counts.abandoned > 50, "ended runs");
-    expects(rt, counts.held_targets > 100, "held targets");
+    expects(rt, counts.held_targets > 50, "held targets");
     are_of_all_names(rt, counts);
 }
 
