@@ -88,8 +88,9 @@ class Locator(Started):
 
     def __init__(self, path: str, folder: Path, name: str, port: int, settings: str = "") -> None:
         self.address = f"127.0.0.1:{port}"
-        # So many connections that the program does not end before it is ended.
-        text = f'listen = "{self.address}"\nsessions = 100000\n{settings}'
+        # So many connections that the program does not end before it is ended. Without repair workers: what an edit
+        # outdates is looked up at its next question.
+        text = f'listen = "{self.address}"\nsessions = 100000\nworkers = 0\n{settings}'
         super().__init__(folder, name, [path, "serve", text])
         wait_for(f"{name} at {self.address}", self.listens)
 

@@ -136,17 +136,19 @@ def stream_id(key: str) -> str:
 
 def marks_of(session: Session) -> List[Mark]:
     """The marks of a locator, the last one last: none, or one or two. No event of its journal is made."""
-    marks, exists = [], False
-    for turn in range(2):
-        for it in session.deps(f"sip:at{turn}.{MARKS}:1"):
-            match = re.fullmatch(rf"([0-9-]+)\.([0-9-]+)\.([0-9a-f]+)\.(good|broken)\.{re.escape(MARKS)}", it.name)
-            exists = exists or it.count > 0 and it.name == MARKS
-            if match:
-                marks.append(Mark(match[3], place_of(match[1]), place_of(match[2]), match[4] == "broken", turn))
-                break
-    if exists and not marks:
-        raise Fault(f"the locator has a zone {MARKS} that is none of ours")
-    return sorted(marks, key=lambda mark: (mark.place, mark.is_broken))
+    for _ in range(20):
+        marks, exists = [], False
+        for turn in range(2):
+            for it in session.deps(f"sip:at{turn}.{MARKS}:1"):
+                match = re.fullmatch(rf"([0-9-]+)\.([0-9-]+)\.([0-9a-f]+)\.(good|broken)\.{re.escape(MARKS)}", it.name)
+                exists = exists or it.count > 0 and it.name == MARKS
+                if match:
+                    marks.append(Mark(match[3], place_of(match[1]), place_of(match[2]), match[4] == "broken", turn))
+                    break
+        if marks or not exists:
+            return sorted(marks, key=lambda mark: (mark.place, mark.is_broken))
+        # Each of them was looked for while it was replaced: once more.
+    raise Fault(f"the locator has a zone {MARKS} that is none of ours")
 
 
 def batches(entries: Iterable[Entry]) -> Iterator[List[Entry]]:
