@@ -217,8 +217,15 @@ pub fn plain_answer(
     draws: &Draws,
     held: Held,
 ) -> Result<Answer, AllocError> {
-    let records = store.records();
-    plan_of(alloc, records, board, question, abilities, draws, held)
+    plan_of(
+        alloc,
+        store.records(),
+        board,
+        question,
+        abilities,
+        draws,
+        held,
+    )
 }
 
 // How many targets a URI has, where the book and the plain program agree on them.
