@@ -1,5 +1,5 @@
 -- A book, and what always holds of it.
-use Rattle.std.specs.Prelude.{◌≡◌, ◌≢◌, ℕ, ◌<◌, ◌≤◌, List, [], length, IsTrue}
+use Rattle.std.specs.Prelude.{◌≡◌, ◌≢◌, ℕ, ◌+◌, ◌-◌, ◌^◌, ◌<◌, ◌≤◌, List, [], length, IsTrue}
 use Rattle.std.specs.List.{All, AllPairs}
 use Rattle.sipl_records.specs.Sets.{set_of}
 use Rattle.sipl_choice.specs.Abilities.{Client}
@@ -21,13 +21,16 @@ use Rattle.sipl_book.specs.declared.event.Event.{Event}
 use Rattle.sipl_book.specs.declared.limits.Limits.{Limits}
 
 -- what callers see of a book: the client's abilities, the policy on held endpoints, the zones with
--- the numbers of their sets, the holds and the clock, the events, the entries with the queue of the
--- outdated ones, and the maxima of entries and events
+-- the numbers of their sets, the holds and the clock, the number of the journal's first event and the
+-- state before it, the events since then, the entries with the queue of the outdated ones, and the
+-- maxima of entries and of the journal's events
 pub record BookState : Type 0 where
   pub client : Client
   pub held : Held
   pub store : Store
   pub board : BoardState
+  pub first : ℕ
+  pub base : State
   pub journal : List Event
   pub entries : List EntryState
   pub queue : QueueState
@@ -57,6 +60,8 @@ new_book client held limits =
         looks = 0;
       };
       board = record { holds = no_holds; max_holds = limits.holds };
+      first = limits.first;
+      base = empty_state;
       journal = [];
       entries = [];
       queue = new_queue limits.entries;
@@ -66,7 +71,7 @@ new_book client held limits =
 
 -- the number of the next event, and the id of an entry that it makes
 abbrev pub next_event : BookState → ℕ
-next_event book = length book.journal
+next_event book = book.first + length book.journal
 
 -- an entry's finding is one for the client and is sound, and its sets were read; where the entry is
 -- current they are still so. The entry was made by an event before now
@@ -83,11 +88,12 @@ HasRoute book entry =
     IsTrue entry.is_current
     → route (set_of book.store.zones.records) entry.found.question book.client ≡ entry.found.layout
 
--- the journal is legal from the empty state and leads to the state as it is; the entries are good,
--- of distinct questions, and in the order in which they were made; the maxima are within the limits
+-- the journal is legal from the base and leads to the state as it is; the entries are good, of
+-- distinct questions, and in the order in which they were made; the first number and the maxima are
+-- within the limits
 pub record IsConsistent (book : BookState) : Type 0 where
-  pub legal : IsLegal book.client book.held book.journal empty_state
-  pub replayed : replay book.journal empty_state ≡ state_of book
+  pub legal : IsLegal book.client book.held book.journal book.base
+  pub replayed : replay book.journal book.base ≡ state_of book
   pub store : IsConsistentStore book.store
   pub board : IsConsistentBoard book.board
   pub entries : All (IsGoodEntry book) book.entries
@@ -95,6 +101,7 @@ pub record IsConsistent (book : BookState) : Type 0 where
   pub ids : AllPairs (λ a b. a.id < b.id) book.entries
   pub few_entries : length book.entries ≤ book.max_entries
   pub few_events : length book.journal ≤ book.max_events
+  pub first_limit : book.first ≤ 2 ^ 52 - 2 ^ 20
   pub records_limit : book.store.max_records ≤ 1048576
   pub entries_limit : book.max_entries ≤ 65536
   pub events_limit : book.max_events ≤ 1048576

@@ -8,7 +8,7 @@ use Rattle.sipl_zonestore.specs.StoreFault.{code_of as store_code}
 use Rattle.sipl_outages.specs.BoardFault.{code_of as board_code}
 use Rattle.sipl_repair.specs.QueueFault.{code_of as queue_code}
 use Rattle.sipl_book.specs.declared.fault.BookFault.{BookFault}
-use Rattle.sipl_book.specs.declared.fault.BookFault.TheVariants.{JournalFull, NotCurrent, Stale, Unknown, Gone, Queue, Store, Board, Memory}
+use Rattle.sipl_book.specs.declared.fault.BookFault.TheVariants.{JournalFull, NotCurrent, Stale, Unknown, Gone, PagesSpent, Queue, Store, Board, Memory}
 
 -- the fault's code in replies
 abbrev pub code_of : BookFault → List ℕ
@@ -17,6 +17,7 @@ code_of NotCurrent = codes "B1"
 code_of (Stale place) = codes "B2"
 code_of Unknown = codes "B4"
 code_of Gone = codes "B5"
+code_of PagesSpent = codes "B6"
 code_of (Queue fault) = queue_code fault
 code_of (Store fault) = store_code fault
 code_of (Board fault) = board_code fault

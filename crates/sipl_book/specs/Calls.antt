@@ -30,10 +30,13 @@ use Rattle.sipl_book.specs.declared.outcome.Done.{Done}
 use Rattle.sipl_book.specs.declared.outcome.Handed.{Handed}
 use Rattle.sipl_book.specs.declared.outcome.Uncommitted.{Uncommitted}
 
+-- whether the journal has as many events as it may have
+abbrev pub is_full : BookState → Bool
+is_full book = nat_le book.max_events (length book.journal)
+
 -- the fault of a call that records an event: a full journal comes before all others
 abbrev pub unless_full : BookState → Option BookFault → Option BookFault
-unless_full book fault =
-    if nat_le book.max_events (next_event book) then Some JournalFull else fault
+unless_full book fault = if is_full book then Some JournalFull else fault
 
 -- a book with one more event
 abbrev pub recorded : Event → BookState → BookState
@@ -68,6 +71,8 @@ pub record IsChanged (edit : Edit) (old new : BookState) (result : Result Done B
   pub refused : IfErr result (λ fault. fault ≢ Memory → change_refusal edit old ≡ Some fault)
   pub memory : IfErr result (λ fault. fault ≡ Memory → unless_full old None ≡ None)
   pub unchanged : OnErr result (new ≡ old)
+  pub first : new.first ≡ old.first
+  pub base : new.base ≡ old.base
   pub looks : new.store.looks ≡ old.store.looks
   pub max_records : new.store.max_records ≡ old.store.max_records
   pub board : new.board ≡ old.board
@@ -163,7 +168,7 @@ after_comparison found book =
 -- the same, but with a full journal none is compared
 abbrev pub after_check : Found → BookState → BookState
 after_check found book =
-    if nat_le book.max_events (next_event book) then book else after_comparison found book
+    if is_full book then book else after_comparison found book
 
 -- the book after the commit of a finding
 abbrev pub after_commit : Found → List ℕ → BookState → BookState

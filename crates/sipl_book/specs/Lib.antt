@@ -12,3 +12,7 @@ pub mod Cache
 pub mod Indexed
 pub mod Codes
 pub mod Lookups
+pub mod Pages
+pub mod PageFields
+pub mod StateFields
+pub mod SameState

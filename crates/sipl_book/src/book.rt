@@ -1,4 +1,4 @@
-ghost use Rattle.std.specs.Prelude.{◌≡◌, ◌≢◌, ◌+◌, ◌^◌, ◌<◌, ◌≤◌, ◌&&◌, [], ◌∷◌, ◌++◌, length, nat_le, None, Some, IfOk, IfErr, IfSome, OnOk, OnErr, vec_len, vec_capacity};
+ghost use Rattle.std.specs.Prelude.{◌≡◌, ◌≢◌, ◌+◌, ◌-◌, ◌^◌, ◌<◌, ◌≤◌, ◌&&◌, [], ◌∷◌, ◌++◌, length, None, Some, IfOk, IfErr, IfSome, OnOk, OnErr, vec_len, vec_capacity};
 ghost use Rattle.std.specs.List.{All, count_by};
 ghost use Rattle.std.specs.Option.{option_copied};
 ghost use Rattle.sipl_records.specs.Sets.{set_of};
@@ -9,12 +9,12 @@ ghost use Rattle.sipl_plans.specs.Plan.{draw};
 ghost use Rattle.sipl_plans.specs.Runs.{IsSet};
 ghost use Rattle.sipl_plans.specs.Servers.{HasFewServers};
 ghost use Rattle.sipl_book.specs.Book.{HasRoute, IsGoodEntry, answer_now, new_book, next_event, state_of};
-ghost use Rattle.sipl_book.specs.Calls.{IsChanged, MovesBoard, IsHanded, IsForgotten, after_look, answer_event, recorded, unless_full};
+ghost use Rattle.sipl_book.specs.Calls.{IsChanged, MovesBoard, IsHanded, IsForgotten, after_look, answer_event, is_full, recorded, unless_full};
 ghost use Rattle.sipl_book.specs.Lookups.{IsFound};
 ghost use Rattle.sipl_book.specs.Entries.{depends_on, entry_of};
 ghost use Rattle.sipl_book.specs.Honesty.{WasGiven};
 ghost use Rattle.sipl_book.specs.Repairs.{IsQueueOf};
-ghost use Rattle.sipl_book.specs.Machine.{IsLegal, replay, empty_state};
+ghost use Rattle.sipl_book.specs.Machine.{IsLegal, replay};
 
 use crate::cache::Cache;
 use crate::checks::reserve_event;
@@ -24,6 +24,7 @@ use crate::event::Event;
 use crate::fault::BookFault;
 use crate::limits::Limits;
 use crate::outcome::{Done, Handed};
+use crate::state::State;
 use sipl_choice::{Abilities, Endpoint};
 use sipl_evidence::dup_data;
 use sipl_outages::{Board, Held};
@@ -36,20 +37,23 @@ use std::alloc::{AllocError, Global};
 use std::marker::Model;
 
 /// The zones, the holds and the clock of a locator for one client and one policy on held endpoints,
-/// the journal of all events, and an entry for each question whose answer was committed.
+/// the journal of its events, and an entry for each question whose answer was committed.
 ///
 /// Contracts see the state that the events lead to (the apexes, the records, the holds and the
-/// time), the numbers of the record sets, the journal and the entries. The journal is always legal
-/// from the empty state: each edit, hold, release and move of the clock in it was accepted there,
-/// and each answer is what RFC 3263, 4, gives from scratch on the records and holds at its place. A
-/// current entry's record sets are as they were read; each outdated entry is queued or leased.
+/// time), the numbers of the record sets, the journal since the last page, with the state before it and
+/// the number of its first event, and the entries. The journal is always legal from that state: each
+/// edit, hold, release and move of the clock in it was accepted there, and each answer is what RFC 3263,
+/// 4, gives from scratch on the records and holds at its place. A current entry's record sets are as they
+/// were read; each outdated entry is queued or leased.
 #[derive(Drop)]
 pub struct Book {
-    alloc: Global,
-    abilities: Abilities,
+    pub(crate) alloc: Global,
+    pub(crate) abilities: Abilities,
     pub(crate) held: Held,
     pub(crate) store: ZoneStore,
     pub(crate) board: Board,
+    pub(crate) first: u64,
+    pub(crate) base: State,
     pub(crate) journal: Vec<Event>,
     pub(crate) cache: Cache,
     pub(crate) max_events: usize,
@@ -81,6 +85,7 @@ impl Book {
         requires holds { limits.now.holds ≤ 4096 }
         requires first { 1 ≤ limits.now.next }
         requires last { limits.now.next ≤ 2 ^ 52 }
+        requires page { limits.now.first ≤ 2 ^ 52 - 2 ^ 20 }
         ensures { result ≡ new_book abilities held limits.now }
     {
         Book {
@@ -89,6 +94,8 @@ impl Book {
             held,
             store: ZoneStore::with(alloc, limits.next, limits.records as u64),
             board: Board::with(alloc, limits.holds),
+            first: limits.first,
+            base: State::empty(),
             journal: Vec::new(alloc),
             cache: Cache::new(alloc, limits.entries),
             max_events: limits.journal,
@@ -112,7 +119,7 @@ impl Book {
         reserve_event(&mut self.journal, self.max_events)?;
         let changed = edit.apply(&mut self.store)?;
         self.cache.outdate(changed.keys.as_slice());
-        let number = record_event(&mut self.journal, Event::Change(edit));
+        let number = record_event(&mut self.journal, self.first, Event::Change(edit));
         Ok(Done {
             number,
             changed: changed.sets as u64,
@@ -130,7 +137,7 @@ impl Book {
     {
         reserve_event(&mut self.journal, self.max_events)?;
         self.board.hold(endpoint, ms)?;
-        Ok(record_event(&mut self.journal, Event::Hold(*endpoint, ms)))
+        Ok(record_event(&mut self.journal, self.first, Event::Hold(*endpoint, ms)))
     }
 
     /// Ends the hold of an endpoint. Returns the event's number. Linear in the number of held
@@ -142,7 +149,7 @@ impl Book {
     {
         reserve_event(&mut self.journal, self.max_events)?;
         self.board.release(endpoint)?;
-        Ok(record_event(&mut self.journal, Event::Release(*endpoint)))
+        Ok(record_event(&mut self.journal, self.first, Event::Release(*endpoint)))
     }
 
     /// Sets the time, in milliseconds, and drops the holds that end at or before it. Returns the
@@ -155,7 +162,7 @@ impl Book {
     {
         reserve_event(&mut self.journal, self.max_events)?;
         self.board.advance(to)?;
-        Ok(record_event(&mut self.journal, Event::Advance(to)))
+        Ok(record_event(&mut self.journal, self.first, Event::Advance(to)))
     }
 
     /// The number of the key's set, 0 where it is empty; of a name's existence 1 where it exists.
@@ -200,7 +207,7 @@ impl Book {
         reserve_event(&mut self.journal, self.max_events)?;
         let question = question.dup(self.alloc)?;
         let (event, answer) = prepare(self.alloc, question, layout, draws, &self.board, self.held)?;
-        let number = record_event(&mut self.journal, event);
+        let number = record_event(&mut self.journal, self.first, event);
         Ok(Handed { number, answer })
     }
 
@@ -226,7 +233,7 @@ impl Book {
     {
         reserve_event(&mut self.journal, self.max_events)?;
         let event = Event::Answer(question, *draws, answer);
-        Ok(record_event(&mut self.journal, event))
+        Ok(record_event(&mut self.journal, self.first, event))
     }
 
     /// The answer to a question for these random words: that of its current entry, or else that of a
@@ -243,7 +250,7 @@ impl Book {
             _ => return self.find_anew(question, draws),
         };
         let (event, answer) = prepare(self.alloc, question, layout, draws, &self.board, self.held)?;
-        let number = record_event(&mut self.journal, event);
+        let number = record_event(&mut self.journal, self.first, event);
         Ok(Handed { number, answer })
     }
 
@@ -288,30 +295,37 @@ impl Book {
         self.cache.dependents(key) as u64
     }
 
-    /// The events, in their order. They are legal from the empty state and lead to the state as it is.
+    /// The events since the last page, in their order. They are legal from the base and lead to the
+    /// state as it is.
     pub fn journal(&self) -> &[Event]
         ensures journal { result.now ≡ self.now.journal }
-        ensures legal { IsLegal self.now.client self.now.held self.now.journal empty_state }
-        ensures replayed { replay self.now.journal empty_state ≡ state_of self.now }
+        ensures legal { IsLegal self.now.client self.now.held self.now.journal self.now.base }
+        ensures replayed { replay self.now.journal self.now.base ≡ state_of self.now }
         ensures few { length self.now.journal ≤ self.now.max_events }
     {
         &self.journal
     }
 
-    /// Whether the journal has as many events as it may have.
-    pub fn is_full(&self) -> bool
-        ensures { result ≡ nat_le self.now.max_events (next_event self.now) }
+    /// The state before the events of the journal: that of the last page's end, or nothing.
+    pub fn base(&self) -> &State
+        ensures { result.now ≡ self.now.base }
     {
-        self.journal.len() >= self.max_events
+        &self.base
     }
 
-    /// The events, in their order, as the only thing that is left of the book. Does not allocate.
-    pub fn into_journal(self) -> Sequence<Event>
-        ensures journal { result ≡ self.journal }
-        ensures legal { IsLegal self.client self.held self.journal empty_state }
-        ensures few { length self.journal ≤ self.max_events }
+    /// The number of the next event, at most 2^52.
+    pub fn next_event(&self) -> u64
+        ensures next { result ≡ next_event self.now }
+        ensures limit { next_event self.now ≤ 2 ^ 52 }
     {
-        Sequence::from_vec(self.journal)
+        self.first + self.journal.len() as u64
+    }
+
+    /// Whether the journal has as many events as it may have.
+    pub fn is_full(&self) -> bool
+        ensures { result ≡ is_full self.now }
+    {
+        self.journal.len() >= self.max_events
     }
 
     /// How many looks at record sets were counted; at most 2^64 - 1.
@@ -351,12 +365,14 @@ impl Book {
 }
 
 // Appends an event to a journal that has space for it. Returns its number.
-pub(crate) fn record_event(journal: &mut Vec<Event>, event: Event) -> u64
-    requires { vec_len journal.old < vec_capacity journal.old }
-    ensures number { result ≡ length journal.old.items }
+pub(crate) fn record_event(journal: &mut Vec<Event>, first: u64, event: Event) -> u64
+    requires space { vec_len journal.old < vec_capacity journal.old }
+    requires limit { first ≤ 2 ^ 52 - 2 ^ 20 }
+    requires few { length journal.old.items < 1048576 }
+    ensures number { result ≡ first + length journal.old.items }
     ensures items { journal.new.items ≡ journal.old.items ++ event ∷ [] }
 {
-    let number = journal.len() as u64;
+    let number = first + journal.len() as u64;
     journal.push_reserved(event);
     number
 }

@@ -1,5 +1,5 @@
 //! Commits of findings: answers are recorded, and entries made current.
-ghost use Rattle.std.specs.Prelude.{◌≡◌, ◌<◌, IfOk, IfErr, OnOk, OnErr};
+ghost use Rattle.std.specs.Prelude.{◌≡◌, ◌<◌, length, IfOk, IfErr, OnOk, OnErr};
 ghost use Rattle.sipl_plans.specs.Findings.{IsSound};
 ghost use Rattle.sipl_plans.specs.Plan.{draw};
 ghost use Rattle.sipl_book.specs.Book.{answer_now, next_event};
@@ -109,7 +109,7 @@ impl Book {
         requires client { finding.client ≡ self.old.client }
         requires sound { IsSound finding }
         requires current { AreCurrent self.old.store finding.items }
-        requires space { next_event self.old < self.old.max_events }
+        requires space { length self.old.journal < self.old.max_events }
         ensures number { IfOk result (λ handed. handed.number ≡ next_event self.old) }
         ensures answer { IfOk result
             (λ handed. handed.answer ≡ answer_now self.old finding.question draws.now) }
@@ -148,7 +148,7 @@ impl Book {
         requires client { finding.client ≡ self.old.client }
         requires sound { IsSound finding }
         requires current { AreCurrent self.old.store finding.items }
-        requires space { next_event self.old < self.old.max_events }
+        requires space { length self.old.journal < self.old.max_events }
         requires question { question ≡ finding.question }
         requires answer { answer
             ≡ draw finding.layout self.old.board.holds draws.now self.old.held }
@@ -162,11 +162,11 @@ impl Book {
         let Ok(()) = self.journal.reserve(1) else {
             return Err(Uncommitted { fault, finding });
         };
-        let id = self.journal.len() as u64;
+        let id = self.next_event();
         match self.cache.commit(finding, id) {
             Ok(released) => {
                 let event = Event::Answer(question, *draws, answer);
-                let number = record_event(&mut self.journal, event);
+                let number = record_event(&mut self.journal, self.first, event);
                 Ok(Recorded { number, released })
             }
             Err(finding) => Err(Uncommitted { fault, finding }),

@@ -7,7 +7,7 @@ use sipl_srv::Draws;
 use sipl_uri::Question;
 use std::alloc::{AllocError, Global};
 
-/// What happened in a step. An event's number is its place in the journal, from 0.
+/// What happened in a step. The numbers of events go on over all pages of a book's journal, one by one.
 #[derive(PartialEq, Eq, Drop)]
 pub enum Event {
     /// The zones were edited.

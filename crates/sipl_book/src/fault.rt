@@ -27,6 +27,9 @@ pub enum BookFault {
     /// book's.
     #[error("the lease is not one of the question's entry")]
     Gone,
+    /// B6: the number of the next page's first event is over 2^52 - 2^20.
+    #[error("no number is left for another page")]
+    PagesSpent,
     /// A fault of the queue: no entry is queued (Q1).
     #[error(transparent)]
     Queue(QueueFault),
@@ -52,6 +55,7 @@ impl BookFault {
             BookFault::Stale(_) => "B2",
             BookFault::Unknown => "B4",
             BookFault::Gone => "B5",
+            BookFault::PagesSpent => "B6",
             BookFault::Queue(fault) => fault.code(),
             BookFault::Store(fault) => fault.code(),
             BookFault::Board(fault) => fault.code(),

@@ -1,6 +1,7 @@
 //! What follows from the definitions. Each law is the contract of a function that does nothing.
 
-ghost use Rattle.std.specs.Prelude.{◌≡◌, ◌^◌, ◌<◌, ◌≤◌, ℕ, List, [], ◌∷◌, ◌++◌, Ok, Some, slice_get};
+ghost use Rattle.std.specs.Prelude.{◌≡◌, ◌-◌, ◌^◌, ◌<◌, ◌≤◌, ℕ, List, [], ◌∷◌, ◌++◌, Ok, None, Some, slice_get};
+ghost use Rattle.std.specs.List.{All};
 ghost use Rattle.sipl_choice.specs.Abilities.{Client};
 ghost use Rattle.sipl_uri.specs.declared.question.Question.{Question};
 ghost use Rattle.sipl_evidence.specs.Items.{Item};
@@ -12,7 +13,8 @@ ghost use Rattle.sipl_zonestore.specs.Store.{Store};
 ghost use Rattle.sipl_book.specs.Book.{BookState, answer_now};
 ghost use Rattle.sipl_book.specs.Calls.{CountsLooks, IsChanged, MovesBoard, IsHanded, IsCommitted, answer_event, board_event};
 ghost use Rattle.sipl_book.specs.Honesty.{WereRead};
-ghost use Rattle.sipl_book.specs.Machine.{State, IsLegal, answer_in, replay};
+ghost use Rattle.sipl_book.specs.Machine.{State, IsLegal, answer_in, empty_state, replay};
+ghost use Rattle.sipl_book.specs.Pages.{AreInOrder, IsPage, PageState, events_in};
 ghost use Rattle.sipl_book.specs.declared.edit.Edit.{Edit};
 ghost use Rattle.sipl_book.specs.declared.event.Event.{Event};
 ghost use Rattle.sipl_book.specs.declared.event.Event.TheVariants.{Change, Answer};
@@ -41,14 +43,28 @@ pub fn looks_never_fall()
         → old.store.looks ≤ new.store.looks }
 {}
 
-/// The number that a call returns is the place of its event in the journal.
+/// The number that a call returns, less that of the journal's first event, is the place of its event in
+/// the journal.
 pub fn numbers_are_places()
     ensures edits { (edit : Edit) (old new : BookState) (done : Done)
-        → IsChanged edit old new (Ok done) → slice_get new.journal done.number ≡ Some (Change edit) }
+        → IsChanged edit old new (Ok done)
+        → slice_get new.journal (done.number - new.first) ≡ Some (Change edit) }
     ensures holds { (event : BoardEvent) (old new : BookState) (number : ℕ)
         → MovesBoard event old new (Ok number)
-        → slice_get new.journal number ≡ Some (board_event event) }
+        → slice_get new.journal (number - new.first) ≡ Some (board_event event) }
     ensures handed { (question : Question) (words : List ℕ) (old new : BookState) (handed : Handed)
         → IsHanded question words old new (Ok handed)
-        → slice_get new.journal handed.number ≡ Some (answer_event old question words) }
+        → slice_get new.journal (handed.number - new.first)
+        ≡ Some (answer_event old question words) }
+{}
+
+/// Where each page follows the one before it, the events of all of them are legal from the empty state,
+/// and lead to the last page's result.
+pub fn joined_pages_are_legal()
+    ensures legal { (first : PageState) (pages : List PageState) → All IsPage (first ∷ pages)
+        → AreInOrder None (first ∷ pages)
+        → IsLegal first.client first.held (events_in (first ∷ pages)) empty_state }
+    ensures replayed { (last : PageState) (pages : List PageState)
+        → All IsPage (pages ++ last ∷ []) → AreInOrder None (pages ++ last ∷ [])
+        → replay (events_in (pages ++ last ∷ [])) empty_state ≡ last.result }
 {}

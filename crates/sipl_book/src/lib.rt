@@ -1,5 +1,5 @@
-//! The book: the zones, the holds and the clock of a locator, a journal of all that happened, and
-//! an entry for each question whose answer was committed (RFC 3263, 4).
+//! The book: the zones, the holds and the clock of a locator, a journal of all that happened, page by
+//! page, and an entry for each question whose answer was committed (RFC 3263, 4).
 //!
 //! Each call is one step. What a caller computes between two calls is checked when it is committed.
 //! Times are milliseconds that the caller passes in, from 0 to 2^52.
@@ -20,7 +20,10 @@ mod limits;
 mod lookups;
 mod outcome;
 mod outdating;
+mod page;
+mod pages;
 mod settlement;
+mod state;
 
 pub use book::Book;
 pub use edit::Edit;
@@ -29,3 +32,6 @@ pub use event::Event;
 pub use fault::BookFault;
 pub use limits::{Limits, MAX_ENTRIES, MAX_EVENTS};
 pub use outcome::{Done, Handed, Recorded, Uncommitted};
+pub use page::Page;
+pub use pages::MAX_FIRST;
+pub use state::State;

@@ -1,7 +1,6 @@
 // Looking questions up: runs over a book's own sets.
 ghost use Rattle.std.specs.Prelude.{◌≡◌, ◌≢◌, ◌<◌, [], drop, take, length, IfOk, IfErr, OnOk, IsFalse};
 ghost use Rattle.std.specs.List.{sum_by};
-ghost use Rattle.sipl_book.specs.Book.{next_event};
 ghost use Rattle.sipl_book.specs.Calls.{CountsLooks, looks_after, with_looks};
 ghost use Rattle.sipl_book.specs.Entries.{has_current_entry};
 ghost use Rattle.sipl_book.specs.Lookups.{AreDependencies, IsFound, IsLocated, IsRenewed, IsRepaired, after_reads, sets_read};
@@ -24,7 +23,7 @@ impl Book {
         draws: &Draws,
     ) -> Result<Handed, BookFault>
         requires outdated { IsFalse (has_current_entry self.old.entries question) }
-        requires space { next_event self.old < self.old.max_events }
+        requires space { length self.old.journal < self.old.max_events }
         ensures { IsFound question draws.now self.old self.new result }
     {
         let finding = self.locate(question)?;

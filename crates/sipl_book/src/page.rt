@@ -1,0 +1,116 @@
+ghost use Rattle.std.specs.Prelude.{◌≡◌, ◌≤◌, ◌^◌, ◌-◌, length, None, Some, MatchBool};
+ghost use Rattle.sipl_book.specs.Machine.{IsLegal, replay};
+ghost use Rattle.sipl_book.specs.Pages.{Follows, IsPage, next_of};
+
+use crate::event::Event;
+use crate::state::State;
+use sipl_choice::Abilities;
+use sipl_outages::Held;
+use sipl_records::Sequence;
+use std::marker::Model;
+
+/// The events of a book between two moments, with the states before and after them, for one client and
+/// one policy on held endpoints.
+///
+/// The events are legal from the state before them, and lead to the one after them: each edit, hold,
+/// release and move of the clock was accepted at its place, and each answer is what RFC 3263, 4, gives
+/// from scratch on the records and holds there.
+#[derive(Drop)]
+pub struct Page {
+    pub(crate) first: u64,
+    pub(crate) base: State,
+    pub(crate) events: Sequence<Event>,
+    pub(crate) result: State,
+    pub(crate) abilities: Abilities,
+    pub(crate) held: Held,
+}
+
+impl Model for Page {
+    ghost use Rattle.sipl_book.specs.Pages.{PageState};
+
+    ghost Value = { PageState };
+
+    ghost use Rattle.sipl_book.specs.PageFields.{IsValidPage, page_in};
+
+    ghost view = { page_in };
+
+    ghost invariant = { IsValidPage };
+}
+
+impl Page {
+    /// The number of the first event, from 0 to 2^52 - 2^20.
+    pub fn first(&self) -> u64
+        ensures first { result ≡ self.now.first }
+        ensures limit { self.now.first ≤ 2 ^ 52 - 2 ^ 20 }
+    {
+        self.first
+    }
+
+    /// The state before the events.
+    pub fn base(&self) -> &State
+        ensures { result.now ≡ self.now.base }
+    {
+        &self.base
+    }
+
+    /// The events, in their order, at most 1,048,576. The number of each is that of the first event and
+    /// its place, from 0.
+    pub fn events(&self) -> &[Event]
+        ensures events { result.now ≡ self.now.events }
+        ensures legal { IsLegal self.now.client self.now.held self.now.events self.now.base }
+        ensures replayed { replay self.now.events self.now.base ≡ self.now.result }
+        ensures few { length self.now.events ≤ 1048576 }
+    {
+        self.events.as_slice()
+    }
+
+    /// The state after the events.
+    pub fn result(&self) -> &State
+        ensures { result.now ≡ self.now.result }
+    {
+        &self.result
+    }
+
+    /// The abilities of the client.
+    pub fn abilities(&self) -> &Abilities
+        ensures { result.now ≡ self.now.client }
+    {
+        &self.abilities
+    }
+
+    /// The policy on held endpoints.
+    pub fn held(&self) -> Held
+        ensures { result ≡ self.now.held }
+    {
+        self.held
+    }
+
+    /// The number of the event after those of the page.
+    pub fn next(&self) -> u64
+        ensures next { result ≡ next_of self.now }
+        ensures page { IsPage self.now }
+    {
+        self.first + self.events.len() as u64
+    }
+
+    /// Whether the page begins where nothing is loaded or held, at time 0, as the first one does. Linear
+    /// in the held endpoints at most.
+    pub fn is_first(&self) -> bool
+        ensures { MatchBool result (Follows None self.now) (Follows None self.now → ⊥) }
+    {
+        self.base == State::empty()
+    }
+
+    /// Whether the page goes on where the other one ended: its first number is the other's next one, its
+    /// base the other's result, and it is for the same client and policy. Linear in the records and the
+    /// held endpoints.
+    pub fn follows(&self, before: &Page) -> bool
+        ensures { MatchBool result (Follows (Some before.now) self.now)
+            (Follows (Some before.now) self.now → ⊥) }
+    {
+        self.first == before.next()
+            && self.held == before.held
+            && self.abilities == before.abilities
+            && self.base == before.result
+    }
+}

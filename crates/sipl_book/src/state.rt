@@ -1,0 +1,146 @@
+ghost use Rattle.std.specs.Prelude.{◌≡◌, ◌≢◌, MatchBool, IfOk, IfSome, IfNone};
+ghost use Rattle.std.specs.Arc.{arc_value};
+ghost use Rattle.sipl_outages.specs.Holds.{no_holds};
+ghost use Rattle.sipl_book.specs.Machine.{empty_state};
+ghost use Rattle.sipl_book.specs.SameState.{same_state};
+
+use sipl_names::Name;
+use sipl_outages::Board;
+use sipl_records::Record;
+use sipl_zonestore::Zones;
+use std::alloc::AllocError;
+use std::marker::Model;
+use std::sync::Arc;
+
+/// What events lead to: the loaded zones with their records, the holds and the time. Two states are
+/// equal where their apexes, records, holds and times are, each in its order; how many endpoints may be
+/// held at most does not count.
+#[derive(Drop)]
+pub struct State {
+    parts: Parts,
+}
+
+// The zones and the holds, which other states may share. The holds are those of a board.
+#[derive(Drop)]
+enum Parts {
+    Empty,
+    Own(Zones, Board),
+    Shared(Arc<Zones>, Arc<Board>),
+}
+
+impl Model for State {
+    ghost use Rattle.sipl_book.specs.Machine.{State as MachineState};
+
+    ghost Value = { MachineState };
+
+    ghost use Rattle.sipl_book.specs.StateFields.{state_in};
+
+    ghost view = { state_in };
+}
+
+impl State {
+    /// Nothing is loaded or held, at time 0. Does not allocate.
+    pub fn empty() -> Self
+        ensures { result ≡ empty_state }
+    {
+        State {
+            parts: Parts::Empty,
+        }
+    }
+
+    // The state of these zones and holds. Does not allocate.
+    pub(crate) fn of(zones: Zones, board: Board) -> Self
+        ensures { result ≡ record { zones = zones; holds = board.holds } }
+    {
+        State {
+            parts: Parts::Own(zones, board),
+        }
+    }
+
+    // The state of these zones and holds twice, which share them. Does not allocate: the only error is
+    // that 2^63 others share them.
+    pub(crate) fn shared(zones: Arc<Zones>, board: Arc<Board>) -> Result<(Self, Self), AllocError>
+        ensures first { IfOk result (λ states. states.0
+            ≡ record { zones = arc_value zones; holds = (arc_value board).holds }) }
+        ensures second { IfOk result (λ states. states.1
+            ≡ record { zones = arc_value zones; holds = (arc_value board).holds }) }
+    {
+        let other = State {
+            parts: Parts::Shared(Arc::try_clone(&zones)?, Arc::try_clone(&board)?),
+        };
+        let state = State {
+            parts: Parts::Shared(zones, board),
+        };
+        Ok((state, other))
+    }
+
+    /// The apexes of the loaded zones, in the order of addition.
+    pub fn apexes(&self) -> &[Name]
+        ensures { result.now ≡ self.now.zones.apexes }
+    {
+        match &self.parts {
+            Parts::Empty => &[],
+            Parts::Own(zones, _) => zones.apexes(),
+            Parts::Shared(zones, _) => zones.apexes(),
+        }
+    }
+
+    /// All records, in the order of addition.
+    pub fn records(&self) -> &[Record]
+        ensures { result.now ≡ self.now.zones.records }
+    {
+        match &self.parts {
+            Parts::Empty => &[],
+            Parts::Own(zones, _) => zones.records(),
+            Parts::Shared(zones, _) => zones.records(),
+        }
+    }
+
+    /// The holds and the time; `None` where nothing is held, at time 0, and no board was kept for it.
+    pub fn board(&self) -> Option<&Board>
+        ensures board { IfSome result (λ board. board.now.holds ≡ self.now.holds) }
+        ensures none { IfNone result (self.now.holds ≡ no_holds) }
+    {
+        match &self.parts {
+            Parts::Empty => None,
+            Parts::Own(_, board) => Some(board),
+            Parts::Shared(_, board) => Some(board),
+        }
+    }
+
+    // Whether nothing is held, at time 0.
+    fn holds_nothing(&self) -> bool
+        ensures { MatchBool result (self.now.holds ≡ no_holds) (self.now.holds ≢ no_holds) }
+    {
+        match self.board() {
+            Some(board) => board.is_empty() && board.now() == 0,
+            None => true,
+        }
+    }
+
+    // Whether the holds and the times of both are the same.
+    fn same_holds(&self, other: &State) -> bool
+        ensures { MatchBool result (self.now.holds ≡ other.now.holds)
+            (self.now.holds ≢ other.now.holds) }
+    {
+        match (self.board(), other.board()) {
+            (Some(a), Some(b)) => a.same_holds(b),
+            (Some(_), None) => self.holds_nothing(),
+            (None, _) => other.holds_nothing(),
+        }
+    }
+}
+
+impl PartialEq for State {
+    ghost eq = { same_state };
+
+    ghost laws = { same_state-per };
+
+    fn eq(&self, other: &Self) -> bool {
+        self.same_holds(other) && self.apexes() == other.apexes() && self.records() == other.records()
+    }
+}
+
+impl Eq for State {
+    ghost laws = { same_state-equivalence };
+}
