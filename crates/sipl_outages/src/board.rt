@@ -1,4 +1,5 @@
 ghost use Rattle.std.specs.Prelude.{◌≡◌, ◌≢◌, ◌≤◌, ◌↔◌, [], length, filter, nat_lt, None, IsTrue, IfOk, Err};
+ghost use Rattle.std.specs.Bool.{Decides};
 ghost use Rattle.indexmap.specs.IndexMap.{IsUnique};
 ghost use Rattle.sipl_choice.specs.Endpoints.{same_endpoint};
 ghost use Rattle.sipl_outages.specs.Holds.{no_holds, is_held, is_new_hold, refusal_of};
@@ -94,6 +95,15 @@ impl Board {
         ensures consistent { IsConsistent self.now }
     {
         self.ends.contains_key(endpoint)
+    }
+
+    /// Whether the two boards have the same time, and hold the same endpoints to the same ends, in the
+    /// same order. Their maxima do not count. Linear in the number of held endpoints. Does not
+    /// allocate.
+    pub fn same_holds(&self, other: &Board) -> bool
+        ensures { Decides result (self.now.holds ≡ other.now.holds) }
+    {
+        self.time == other.time && self.ends.as_slice() == other.ends.as_slice()
     }
 
     /// Holds an endpoint for some milliseconds from now. One that is held already is held to the

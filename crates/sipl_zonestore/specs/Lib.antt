@@ -2,6 +2,7 @@ pub mod StoreFault
 pub mod Changes
 pub mod Numbers
 pub mod Store
+pub mod SameZones
 pub mod Looks
 pub mod Edits
 pub mod Consistent

@@ -276,7 +276,7 @@ fn replace_tables(
 }
 
 // Copies of the records.
-fn copy_records(alloc: Global, records: &[Record]) -> Result<Vec<Record>, AllocError>
+pub(crate) fn copy_records(alloc: Global, records: &[Record]) -> Result<Vec<Record>, AllocError>
     ensures { IfOk result (λ copies. copies.items ≡ records.now) }
 {
     let mut copies = Vec::with_capacity(alloc, records.len())?;

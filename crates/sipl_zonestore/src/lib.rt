@@ -21,10 +21,12 @@ mod record_set;
 mod set_numbers;
 mod sets;
 mod store;
+mod zones;
 
 pub use changed::Changed;
 pub use fault::StoreFault;
 pub use store::ZoneStore;
+pub use zones::Zones;
 
 /// The greatest number of a record set.
 pub const MAX_NUMBER: u64 = 4_503_599_627_370_496;

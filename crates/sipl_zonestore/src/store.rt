@@ -1,4 +1,5 @@
-ghost use Rattle.std.specs.Prelude.{◌≡◌, ◌≢◌, ◌^◌, ◌≤◌, [], Err};
+ghost use Rattle.std.specs.Prelude.{◌≡◌, ◌≢◌, ◌^◌, ◌≤◌, [], Err, IfOk};
+ghost use Rattle.std.specs.Arc.{arc_value};
 ghost use Rattle.std.specs.Borrow.{sem};
 ghost use Rattle.std.specs.Io.BufRead.{Rests};
 ghost use Rattle.sipl_records.specs.Sets.{set_of};
@@ -14,11 +15,13 @@ use crate::changed::Changed;
 use crate::checks::{check_add, check_load, check_remove, check_unload};
 use crate::fault::StoreFault;
 use crate::indexed_records::IndexedRecords;
+use crate::zones::Zones;
 use sipl_masterfile::ZoneText;
 use sipl_names::Name;
 use sipl_records::{Data, Key, Record};
-use std::alloc::Global;
+use std::alloc::{AllocError, Global};
 use std::marker::Model;
+use std::sync::Arc;
 
 /// The loaded zones and their records, seen as the list of their apexes, the list of all records,
 /// each in the order of addition, and a number for each record set (RFC 2181, 5). No zone is
@@ -37,18 +40,19 @@ pub struct ZoneStore {
     apexes: Vec<Name>,
     records: IndexedRecords,
     looks: u64,
+    // The zones as they are, where they were shared since the last edit.
+    shared: Option<Arc<Zones>>,
 }
 
 impl Model for ZoneStore {
     ghost use Rattle.sipl_zonestore.specs.Store.{Store};
-    ghost use Rattle.sipl_zonestore.specs.Consistent.{IsConsistent};
-    ghost use Rattle.sipl_zonestore.specs.ZoneStore.{state_of};
+    ghost use Rattle.sipl_zonestore.specs.ZoneStore.{state_of, IsValidStore};
 
     ghost Value = { Store };
 
     ghost view = { state_of };
 
-    ghost invariant = { λ s. IsConsistent (state_of s) };
+    ghost invariant = { IsValidStore };
 }
 
 impl ZoneStore {
@@ -88,6 +92,7 @@ impl ZoneStore {
             apexes: Vec::new(alloc),
             records: IndexedRecords::new(alloc, next),
             looks: 0,
+            shared: None,
         }
     }
 
@@ -112,6 +117,7 @@ impl ZoneStore {
         self.apexes.reserve(1)?;
         let changed = self.records.replace_within(zone.apex(), zone.records())?;
         push_apex(&mut self.apexes, apex);
+        self.shared = None;
         Ok(changed)
     }
 
@@ -128,6 +134,7 @@ impl ZoneStore {
         check_unload(apex, &self.apexes)?;
         let changed = self.records.replace_within(apex, &[])?;
         self.apexes.retain(|other| *apex != *other);
+        self.shared = None;
         Ok(changed)
     }
 
@@ -144,7 +151,9 @@ impl ZoneStore {
         ensures { IsEdited (add new.now) self.old self.new result }
     {
         check_add(self.max_records, new, &self.apexes, &self.records)?;
-        self.records.push(new)
+        let changed = self.records.push(new)?;
+        self.shared = None;
+        Ok(changed)
     }
 
     /// Removes the record that is equal to this one. Returns the key of its set, if it is in one,
@@ -158,7 +167,9 @@ impl ZoneStore {
         ensures { IsEdited (remove old.now) self.old self.new result }
     {
         check_remove(old, &self.apexes, &self.records)?;
-        self.records.remove(old)
+        let changed = self.records.remove(old)?;
+        self.shared = None;
+        Ok(changed)
     }
 
     /// The number of the key's set and its data, in the order of addition; 0 and no data where it
@@ -207,5 +218,25 @@ impl ZoneStore {
         ensures consistent { IsConsistent self.now }
     {
         &self.apexes
+    }
+
+    /// The zones as they are, as a value that is shared until the next edit: constant time where there
+    /// was no edit since the last call, else linear in the records, which are copied. Counts no look.
+    /// The first accepted edit after it drops the store's share.
+    ///
+    /// The only error is an allocation failure (or 2^63 that share the value); then nothing changes.
+    pub fn share_zones(&mut self) -> Result<Arc<Zones>, AllocError>
+        ensures zones { IfOk result (λ zones. arc_value zones ≡ self.old.zones) }
+        ensures unchanged { self.new ≡ self.old }
+        ensures consistent { IsConsistent self.old }
+    {
+        if let Some(zones) = &self.shared {
+            return Arc::try_clone(zones);
+        }
+        let zones = Zones::copied(self.alloc, &self.apexes, self.records.as_slice())?;
+        let zones = Arc::new(self.alloc, zones)?;
+        let shared = Arc::try_clone(&zones)?;
+        self.shared = Some(zones);
+        Ok(shared)
     }
 }
