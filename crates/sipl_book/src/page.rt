@@ -1,4 +1,5 @@
-ghost use Rattle.std.specs.Prelude.{◌≡◌, ◌≤◌, ◌^◌, ◌-◌, length, None, Some, MatchBool};
+ghost use Rattle.std.specs.Prelude.{◌≡◌, ◌≤◌, ◌^◌, ◌-◌, length, None, Some};
+ghost use Rattle.std.specs.Bool.{Decides};
 ghost use Rattle.sipl_book.specs.Machine.{IsLegal, replay};
 ghost use Rattle.sipl_book.specs.Pages.{Follows, IsPage, next_of};
 
@@ -96,7 +97,7 @@ impl Page {
     /// Whether the page begins where nothing is loaded or held, at time 0, as the first one does. Linear
     /// in the held endpoints at most.
     pub fn is_first(&self) -> bool
-        ensures { MatchBool result (Follows None self.now) (Follows None self.now → ⊥) }
+        ensures { Decides result (Follows None self.now) }
     {
         self.base == State::empty()
     }
@@ -105,8 +106,7 @@ impl Page {
     /// base the other's result, and it is for the same client and policy. Linear in the records and the
     /// held endpoints.
     pub fn follows(&self, before: &Page) -> bool
-        ensures { MatchBool result (Follows (Some before.now) self.now)
-            (Follows (Some before.now) self.now → ⊥) }
+        ensures { Decides result (Follows (Some before.now) self.now) }
     {
         self.first == before.next()
             && self.held == before.held

@@ -1,8 +1,10 @@
-ghost use Rattle.std.specs.Prelude.{◌≡◌, ◌≢◌, MatchBool, IfOk, IfSome, IfNone};
+ghost use Rattle.std.specs.Prelude.{◌≡◌, IfOk, IfSome, IfNone};
 ghost use Rattle.std.specs.Arc.{arc_value};
+ghost use Rattle.std.specs.Bool.{Decides};
+ghost use Rattle.std.specs.Cmp.{partial_equiv_from_equiv};
 ghost use Rattle.sipl_outages.specs.Holds.{no_holds};
 ghost use Rattle.sipl_book.specs.Machine.{empty_state};
-ghost use Rattle.sipl_book.specs.SameState.{same_state};
+ghost use Rattle.sipl_book.specs.SameState.{same_state, same_state-equivalence};
 
 use sipl_names::Name;
 use sipl_outages::Board;
@@ -110,7 +112,7 @@ impl State {
 
     // Whether nothing is held, at time 0.
     fn holds_nothing(&self) -> bool
-        ensures { MatchBool result (self.now.holds ≡ no_holds) (self.now.holds ≢ no_holds) }
+        ensures { Decides result (self.now.holds ≡ no_holds) }
     {
         match self.board() {
             Some(board) => board.is_empty() && board.now() == 0,
@@ -120,8 +122,7 @@ impl State {
 
     // Whether the holds and the times of both are the same.
     fn same_holds(&self, other: &State) -> bool
-        ensures { MatchBool result (self.now.holds ≡ other.now.holds)
-            (self.now.holds ≢ other.now.holds) }
+        ensures { Decides result (self.now.holds ≡ other.now.holds) }
     {
         match (self.board(), other.board()) {
             (Some(a), Some(b)) => a.same_holds(b),
@@ -134,7 +135,7 @@ impl State {
 impl PartialEq for State {
     ghost eq = { same_state };
 
-    ghost laws = { same_state-per };
+    ghost laws = { partial_equiv_from_equiv same_state-equivalence };
 
     fn eq(&self, other: &Self) -> bool {
         self.same_holds(other) && self.apexes() == other.apexes() && self.records() == other.records()

@@ -104,6 +104,14 @@ impl IndexedRecords {
         self.records.as_slice()
     }
 
+    // All records, as the only thing that is left. Linear where one was removed since the last call. Does
+    // not allocate.
+    pub(crate) fn into_records(self) -> Vec<Record>
+        ensures { result.items ≡ self.records }
+    {
+        self.records.into_vec()
+    }
+
     // The number of the key's set, and its data.
     pub(crate) fn set(&self, key: &Key) -> (u64, &[Data])
         ensures number { result.0 ≡ number_by self.now.records self.now.numbers key.now }

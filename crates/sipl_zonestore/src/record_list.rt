@@ -68,6 +68,19 @@ impl RecordList {
         &self.records
     }
 
+    // The records as a `Vec`. Linear where one was removed since the last call. Does not allocate.
+    pub(crate) fn into_vec(self) -> Vec<Record>
+        ensures { result.items ≡ self.records }
+    {
+        let RecordList {
+            mut records,
+            mut codes,
+            len,
+        } = self;
+        compact(&mut records, &mut codes, len);
+        records
+    }
+
     // Reserves space for so many more records. Moves the records together where more were removed than
     // are left, so that this takes constant time for each removal.
     pub(crate) fn reserve(&mut self, additional: usize) -> Result<(), AllocError>

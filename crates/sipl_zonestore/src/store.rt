@@ -239,4 +239,12 @@ impl ZoneStore {
         self.shared = Some(zones);
         Ok(shared)
     }
+
+    /// The zones as they are, as the only thing that is left of the store. Linear in the records where
+    /// one was removed. Does not allocate.
+    pub fn into_zones(self) -> Zones
+        ensures { result ≡ self.zones }
+    {
+        Zones::of(self.apexes, self.records.into_records())
+    }
 }

@@ -40,6 +40,13 @@ impl Zones {
         })
     }
 
+    // The zones of these apexes and records. Does not allocate.
+    pub(crate) fn of(apexes: Vec<Name>, records: Vec<Record>) -> Self
+        ensures { result ≡ record { apexes = apexes.items; records = records.items } }
+    {
+        Zones { apexes, records }
+    }
+
     /// The apexes of the loaded zones, in the order of addition.
     pub fn apexes(&self) -> &[Name]
         ensures { result.now ≡ self.now.apexes }
