@@ -6,6 +6,7 @@ use Rattle.sipl_book.specs.Book.{BookState, next_event, state_of}
 use Rattle.sipl_book.specs.Machine.{State, IsLegal, empty_state, replay}
 use Rattle.sipl_book.specs.declared.event.Event.{Event}
 use Rattle.sipl_book.specs.declared.fault.BookFault.{BookFault}
+use Rattle.sipl_book.specs.declared.outcome.Extent.{Extent}
 use Rattle.sipl_book.specs.declared.fault.BookFault.TheVariants.{PagesSpent, Memory}
 
 -- what callers see of a page: the number of its first event, the state before its events, the events,
@@ -28,6 +29,10 @@ pub record IsPage (page : PageState) : Type 0 where
 -- the number of the event after those of a page
 abbrev pub next_of : PageState → ℕ
 next_of page = page.first + length page.events
+
+-- which events a page has
+abbrev pub extent_of : PageState → Extent
+extent_of page = record { first = page.first; count = length page.events }
 
 -- a page goes on where the one before it ended, for the same client and policy
 pub record GoesOn (before page : PageState) : Type 0 where

@@ -31,7 +31,7 @@ pub use entry::Entry;
 pub use event::Event;
 pub use fault::BookFault;
 pub use limits::{Limits, MAX_ENTRIES, MAX_EVENTS};
-pub use outcome::{Done, Handed, Recorded, Uncommitted};
+pub use outcome::{Done, Extent, Handed, Recorded, Uncommitted};
 pub use page::Page;
 pub use pages::MAX_FIRST;
 pub use state::State;

@@ -15,6 +15,15 @@ pub struct Done {
     pub changed: u64,
 }
 
+/// Which events a page has.
+#[derive(Clone, Copy, Debug, PartialEq, Eq)]
+pub struct Extent {
+    /// The number of the first event.
+    pub first: u64,
+    /// How many events there are.
+    pub count: u64,
+}
+
 /// An answer, and the number of its event.
 #[derive(Debug, Drop)]
 pub struct Handed {

@@ -1,9 +1,10 @@
 ghost use Rattle.std.specs.Prelude.{◌≡◌, ◌≤◌, ◌^◌, ◌-◌, length, None, Some};
 ghost use Rattle.std.specs.Bool.{Decides};
 ghost use Rattle.sipl_book.specs.Machine.{IsLegal, replay};
-ghost use Rattle.sipl_book.specs.Pages.{Follows, IsPage, next_of};
+ghost use Rattle.sipl_book.specs.Pages.{Follows, IsPage, extent_of, next_of};
 
 use crate::event::Event;
+use crate::outcome::Extent;
 use crate::state::State;
 use sipl_choice::Abilities;
 use sipl_outages::Held;
@@ -92,6 +93,16 @@ impl Page {
         ensures page { IsPage self.now }
     {
         self.first + self.events.len() as u64
+    }
+
+    /// The number of the first event, and how many events there are.
+    pub fn extent(&self) -> Extent
+        ensures { result ≡ extent_of self.now }
+    {
+        Extent {
+            first: self.first,
+            count: self.events.len() as u64,
+        }
     }
 
     /// Whether the page begins where nothing is loaded or held, at time 0, as the first one does. Linear
