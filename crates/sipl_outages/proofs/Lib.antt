@@ -1,4 +1,5 @@
 mod Ends
 mod Lasting
 mod Runs
+mod SameHolds
 mod Steps
