@@ -7,7 +7,7 @@ use Rattle.sipl_uri.specs.declared.question.Question.{Question}
 use Rattle.sipl_plans.specs.Plan.{draw}
 use Rattle.sipl_plans.specs.Route.{route}
 use Rattle.sipl_plans.specs.declared.answer.Answer.{Answer as Targets}
-use Rattle.sipl_book.specs.Book.{BookState, IsConsistent, IsGoodEntry, answer_now}
+use Rattle.sipl_book.specs.Book.{BookState, IsConsistent, IsGoodEntry, answer_now, next_event}
 use Rattle.sipl_book.specs.Calls.{IsHanded, answer_event}
 use Rattle.sipl_book.specs.Entries.{EntryState, entry_of, has_current_entry}
 use Rattle.sipl_book.specs.declared.event.Event.{Event}
@@ -36,7 +36,7 @@ consistent-answered book question words journal good space is =
 
 -- the answer of a current entry is handed out
 pub handed : (book : BookState) (question : Question) (words : List ℕ) (journal : List Event) (number : ℕ) (answer : Targets)
-    → length book.journal < book.max_events → has_current_entry book.entries question ≡ true → number ≡ length book.journal
+    → length book.journal < book.max_events → has_current_entry book.entries question ≡ true → number ≡ next_event book
     → answer ≡ answer_now book question words → journal ≡ book.journal ++ answer_event book question words ∷ []
     → IsHanded question words book (record book { journal = journal }) (Ok (record { number = number; answer = answer }))
 handed book question words journal number answer space has number_is answer_is journal_is =

@@ -17,12 +17,12 @@ use Rattle.sipl_zonestore.specs.Store.{Zones, Store, overlaps, is_covered, recor
 use Rattle.sipl_zonestore.specs.Edits.{Edit as ZoneEdit, load, unload, add, remove, refusal_of}
 use Rattle.sipl_zonestore.specs.Edited.{IsEdited, IsKept}
 use Rattle.sipl_repair.specs.QueueState.{QueueState}
-use Rattle.sipl_book.specs.Book.{BookState, IsConsistent, IsGoodEntry}
+use Rattle.sipl_book.specs.Book.{BookState, IsConsistent, IsGoodEntry, next_event}
 use Rattle.sipl_book.specs.BookFault.{of_store}
 use Rattle.sipl_book.specs.Calls.{IsChanged}
 use Rattle.sipl_book.specs.Entries.{EntryState, depends_on, after_change}
 use Rattle.sipl_book.specs.Repairs.{after_marks, dependents}
-use Rattle.sipl_book.specs.Machine.{IsAccepted, zone_edit, empty_state, after}
+use Rattle.sipl_book.specs.Machine.{IsAccepted, zone_edit, after}
 use Rattle.sipl_book.specs.declared.edit.Edit.{Edit}
 use Rattle.sipl_book.specs.declared.event.Event.{Event}
 use Rattle.sipl_book.specs.declared.event.Event.TheVariants.{Change}
@@ -93,7 +93,7 @@ apart (k ∷ keys) items none =
 -- a good entry stays good: what changed is not in its evidence, or else it is outdated
 module _ (old new : BookState) (keys : List Key) (client : new.client ≡ old.client)
     (kept : (key : Key) → list_any (same_key key) keys ≡ false → IsKept old.store new.store key)
-    (edited : TakesNumbers old.store new.store) (longer : length old.journal ≤ length new.journal) where
+    (edited : TakesNumbers old.store new.store) (later : next_event old ≤ next_event new) where
   good-after_change : (entry : EntryState) → IsGoodEntry old entry → IsGoodEntry new (after_change keys entry)
   good-after_change entry good =
       record {
@@ -108,7 +108,7 @@ module _ (old new : BookState) (keys : List Key) (client : new.client ≡ old.cl
               agrees = λ i d inside. (kept _ (others i d inside)).0 ∙ fresh.agrees i d inside;
               numbers = λ i d inside. (kept _ (others i d inside)).1 ∙ fresh.numbers i d inside;
             };
-        made = omega (arith, good.made, longer);
+        made = omega (arith, good.made, later);
       } where
         was_true : (b : Bool) → not b ≡ true → b ≡ false
         was_true true is = sym is
@@ -132,8 +132,8 @@ consistent-changed edit old store changed journal entries queue good edited spac
     let new : BookState = record old { store = store; journal = events; entries = map (after_change keys) old.entries; queue = queue } in
     subst (λ (p : List Event × List EntryState). IsConsistent (record old { store = store; journal = p.0; entries = p.1; queue = queue })) (λ i. (sym journal_is i, sym entries_is i))
     (record {
-      legal = legal-push old.client old.held old.journal (Change edit) empty_state good.legal (subst (IsAccepted old.client old.held (Change edit)) (sym good.replayed) accepted);
-      replayed = replay-push old.journal (Change edit) empty_state ∙ ap (after (Change edit)) good.replayed ∙ (λ i. record { zones = sym edited.after i; holds = old.board.holds });
+      legal = legal-push old.client old.held old.journal (Change edit) old.base good.legal (subst (IsAccepted old.client old.held (Change edit)) (sym good.replayed) accepted);
+      replayed = replay-push old.journal (Change edit) old.base ∙ ap (after (Change edit)) good.replayed ∙ (λ i. record { zones = sym edited.after i; holds = old.board.holds });
       store = edited.consistent;
       board = good.board;
       entries = all_good-after_change old new keys refl edited.kept (record { numbers = edited.numbers; next = edited.next }) (omega (arith, longer)) old.entries good.entries;
@@ -141,13 +141,14 @@ consistent-changed edit old store changed journal entries queue good edited spac
       ids = AllPairs-map (after_change keys) (λ a b. a.id < b.id) (λ a b. a.id < b.id) (λ a b below. below) old.entries good.ids;
       few_entries = omega (arith, length-map old.entries (after_change keys), good.few_entries);
       few_events = omega (arith, longer, space);
+      first_limit = good.first_limit;
       records_limit = rw edited.limit good.records_limit;
       entries_limit = good.entries_limit;
       events_limit = good.events_limit;
     })
 
 pub made-change : (edit : Edit) (old : BookState) (store : Store) (changed : Changed) (number : ℕ) (journal : List Event)
-    → IsEdited (zone_edit edit) old.store store (Ok changed) → length old.journal < old.max_events → number ≡ length old.journal → journal ≡ old.journal ++ Change edit ∷ []
+    → IsEdited (zone_edit edit) old.store store (Ok changed) → length old.journal < old.max_events → number ≡ next_event old → journal ≡ old.journal ++ Change edit ∷ []
     → IsChanged edit old (record old {
       store = store;
       journal = journal;
@@ -169,6 +170,8 @@ made-change edit old store changed number journal edited space number_is journal
       refused = tt;
       memory = tt;
       unchanged = tt;
+      first = refl;
+      base = refl;
       looks = edited.looks;
       max_records = edited.limit;
       board = refl;
@@ -212,6 +215,8 @@ refused-change edit old store journal fault edited space journal_is =
           ∙ fault-of fault some;
       memory = λ _. cond-false (leb old.max_events (length old.journal)) (Some JournalFull) None (lt-leb old.max_events (length old.journal) space);
       unchanged = λ i. record old { store = edited.unchanged i; journal = journal_is i };
+      first = refl;
+      base = refl;
       looks = edited.looks;
       max_records = edited.limit;
       board = refl;

@@ -2,11 +2,11 @@
 use Rattle.std.proofs.Common.{◌≡◌, ℕ, ◌+◌, ◌<◌, List, [], ◌∷◌, length, length-append, refl, sym, ap, ◌∙◌, arith}
 use Rattle.std.proofs.lemmas.List.Elements.{All-weaker}
 use Rattle.sipl_plans.specs.Findings.{Found, IsSound}
-use Rattle.sipl_book.specs.Book.{BookState, IsConsistent, IsGoodEntry}
+use Rattle.sipl_book.specs.Book.{BookState, IsConsistent, IsGoodEntry, next_event}
 use Rattle.sipl_book.specs.Calls.{after_commit, answer_event, with_looks}
 use Rattle.sipl_book.specs.Entries.{EntryState}
 use Rattle.sipl_book.specs.Honesty.{AreCurrent}
-use Rattle.sipl_book.specs.Machine.{State, answer_in, empty_state}
+use Rattle.sipl_book.specs.Machine.{State, answer_in}
 use Rattle.sipl_book.specs.declared.event.Event.{Event}
 use Rattle.sipl_book.proofs.Committed.{current, All-committed, questions-committed, ids-committed, length-committed}
 use Rattle.sipl_book.proofs.Journal.{legal-push, replay-push, good-later}
@@ -39,6 +39,7 @@ module _ (looks : ℕ) (book : BookState) (so : IsConsistent book) where
         ids = so.ids;
         few_entries = so.few_entries;
         few_events = so.few_events;
+        first_limit = so.first_limit;
         records_limit = so.records_limit;
         entries_limit = so.entries_limit;
         events_limit = so.events_limit;
@@ -51,16 +52,16 @@ module _ (book : BookState) (found : Found) (words : List ℕ) (so : IsConsisten
   new = after_commit found words book
 
   abbrev number : ℕ
-  number = length book.journal
+  number = next_event book
 
   abbrev event : Event
   event = answer_event book found.question words
 
-  one_more : length new.journal ≡ number + 1
+  one_more : length new.journal ≡ length book.journal + 1
   one_more = length-append book.journal (event ∷ [])
 
   -- an entry with the finding is good
-  good-current : (id : ℕ) → id < length new.journal → IsGoodEntry new (current id found)
+  good-current : (id : ℕ) → id < next_event new → IsGoodEntry new (current id found)
   good-current id made =
       record {
         client = client;
@@ -73,9 +74,9 @@ module _ (book : BookState) (found : Found) (words : List ℕ) (so : IsConsisten
   pub consistent_committed : IsConsistent new
   consistent_committed =
       record {
-        legal = legal-push book.client book.held book.journal event empty_state so.legal
+        legal = legal-push book.client book.held book.journal event book.base so.legal
             (ap (λ (state : State). answer_in state found.question book.client book.held words) (sym so.replayed));
-        replayed = replay-push book.journal event empty_state ∙ so.replayed;
+        replayed = replay-push book.journal event book.base ∙ so.replayed;
         store = so.store;
         board = so.board;
         entries = All-committed (IsGoodEntry book) (IsGoodEntry new) found number book.max_entries book.entries
@@ -87,6 +88,7 @@ module _ (book : BookState) (found : Found) (words : List ℕ) (so : IsConsisten
             (All-weaker (IsGoodEntry book) (λ (entry : EntryState). entry.id < number) (λ entry good. good.made) book.entries so.entries) so.ids;
         few_entries = length-committed found number book.max_entries book.entries so.few_entries;
         few_events = omega (arith, one_more, space);
+        first_limit = so.first_limit;
         records_limit = so.records_limit;
         entries_limit = so.entries_limit;
         events_limit = so.events_limit;

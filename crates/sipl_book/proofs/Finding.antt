@@ -32,7 +32,7 @@ module _ (question : Question) (words : List ℕ) (old : BookState) (outdated : 
   committed_found new handed is =
       record {
         accepted = sym refusal ∙ is.accepted;
-        number = is.number ∙ ap (λ (b : BookState). length b.journal) looked;
+        number = is.number ∙ ap next_event looked;
         answer = is.answer ∙ ap (λ b. answer_now b found.question words) looked ∙ ap (λ q. answer_now old q words) is_located.question;
         from_entry = λ current. absurd (not_current current);
         committed = λ _. (found, is_located, is.after ∙ ap (after_commit found words) looked);
@@ -59,11 +59,11 @@ module _ (question : Question) (words : List ℕ) (old : BookState) (outdated : 
       }
 
   -- it is committed without a comparison, for its sets are as they were read
-  pub as_committed : next_event old < old.max_events → (new : BookState) (result : Result Handed Uncommitted) → IfOk result (λ handed. handed.number ≡ next_event now) → IfOk result (λ handed. handed.answer ≡ answer_now now found.question words)
+  pub as_committed : length old.journal < old.max_events → (new : BookState) (result : Result Handed Uncommitted) → IfOk result (λ handed. handed.number ≡ next_event now) → IfOk result (λ handed. handed.answer ≡ answer_now now found.question words)
       → OnOk result (new ≡ after_commit found words now) → IfErr result (λ uncommitted. uncommitted.fault ≡ Memory) → IfErr result (λ uncommitted. uncommitted.finding ≡ found) → OnErr result (new ≡ now) → IsCommitted is_renumbered found words now now new result
   as_committed space new (Ok handed) number answer after memory finding unchanged =
       record {
-        accepted = refusal ∙ cond-false _ _ _ (lt-leb old.max_events (next_event old) space);
+        accepted = refusal ∙ cond-false _ _ _ (lt-leb old.max_events (length old.journal) space);
         number = number;
         answer = answer;
         after = after;
@@ -79,7 +79,7 @@ module _ (question : Question) (words : List ℕ) (old : BookState) (outdated : 
         answer = tt;
         after = tt;
         refused = λ real. absurd (real memory);
-        memory = λ _. refusal ∙ cond-false _ _ _ (lt-leb old.max_events (next_event old) space);
+        memory = λ _. refusal ∙ cond-false _ _ _ (lt-leb old.max_events (length old.journal) space);
         finding = finding;
         unchanged = unchanged;
       }

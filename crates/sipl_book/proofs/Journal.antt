@@ -9,10 +9,10 @@ use Rattle.sipl_outages.specs.declared.held.Held.{Held}
 use Rattle.sipl_outages.specs.declared.fault.BoardFault.TheVariants.{TooFar, BoardFull}
 use Rattle.sipl_outages.specs.Holds.{Holds, BoardEvent, is_new_hold, refusal_of}
 use Rattle.sipl_outages.specs.Holds.BoardEvent.{Hold, Release, Advance}
-use Rattle.sipl_book.specs.Book.{BookState, IsConsistent, IsGoodEntry, state_of}
+use Rattle.sipl_book.specs.Book.{BookState, IsConsistent, IsGoodEntry, next_event, state_of}
 use Rattle.sipl_book.specs.Calls.{recorded}
 use Rattle.sipl_book.specs.Entries.{EntryState}
-use Rattle.sipl_book.specs.Machine.{State, IsAccepted, IsLegal, after, empty_state, replay}
+use Rattle.sipl_book.specs.Machine.{State, IsAccepted, IsLegal, after, replay}
 use Rattle.sipl_book.specs.declared.event.Event.{Event}
 use Rattle.sipl_book.proofs.Honest.{current-as, read-as}
 
@@ -50,7 +50,7 @@ accepted_with_more max_holds (Advance to) holds within accepted = accepted
 
 -- a good entry stays good where the zones and the numbers of their sets are as before
 module _ (old new : BookState) (client : new.client ≡ old.client) (zones : new.store.zones ≡ old.store.zones)
-    (numbers : new.store.numbers ≡ old.store.numbers) (next : new.store.next ≡ old.store.next) (longer : length old.journal ≤ length new.journal) where
+    (numbers : new.store.numbers ≡ old.store.numbers) (next : new.store.next ≡ old.store.next) (later : next_event old ≤ next_event new) where
   pub good-later : (entry : EntryState) → IsGoodEntry old entry → IsGoodEntry new entry
   good-later entry good =
       record {
@@ -58,7 +58,7 @@ module _ (old new : BookState) (client : new.client ≡ old.client) (zones : new
         sound = good.sound;
         read = read-as old.store new.store zones numbers entry.found.items next good.read;
         up_to_date = λ current. current-as old.store new.store zones numbers entry.found.items (good.up_to_date current);
-        made = omega (arith, good.made, longer);
+        made = omega (arith, good.made, later);
       }
 
   pub all_good-later : (entries : List EntryState) → All (IsGoodEntry old) entries → All (IsGoodEntry new) entries
@@ -73,8 +73,8 @@ pub consistent-recorded : (book : BookState) (event : Event) (board : BoardState
 consistent-recorded book event board good good_board space accepted leads =
     let longer : length (book.journal ++ event ∷ []) ≡ length book.journal + 1 = length-append book.journal (event ∷ []) in
     record {
-      legal = legal-push book.client book.held book.journal event empty_state good.legal (subst (IsAccepted book.client book.held event) (sym good.replayed) accepted);
-      replayed = replay-push book.journal event empty_state ∙ ap (after event) good.replayed ∙ leads;
+      legal = legal-push book.client book.held book.journal event book.base good.legal (subst (IsAccepted book.client book.held event) (sym good.replayed) accepted);
+      replayed = replay-push book.journal event book.base ∙ ap (after event) good.replayed ∙ leads;
       store = good.store;
       board = good_board;
       entries = all_good-later book (recorded event (record book { board = board })) refl refl refl refl (omega (arith, longer)) book.entries good.entries;
@@ -82,6 +82,7 @@ consistent-recorded book event board good good_board space accepted leads =
       ids = good.ids;
       few_entries = good.few_entries;
       few_events = omega (arith, longer, space);
+      first_limit = good.first_limit;
       records_limit = good.records_limit;
       entries_limit = good.entries_limit;
       events_limit = good.events_limit;

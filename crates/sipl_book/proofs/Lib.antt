@@ -28,3 +28,5 @@ mod Finding
 mod Repairing
 mod SameEvent
 mod Unrefused
+mod Joining
+mod States

@@ -5,4 +5,4 @@ pub use Rattle.sipl_book.proofs.Ids.{InOrder-head, InOrder-tail, differ}
 pub use Rattle.sipl_book.proofs.SameEvent.{same_event_decides}
 pub use Rattle.sipl_book.proofs.Staleness.{current-fresh, current-numbered}
 pub use Rattle.sipl_book.proofs.StoreSets.{set_is_set}
-pub use Rattle.sipl_book.proofs.Unrefused.{full, no_place, space, unrefused}
+pub use Rattle.sipl_book.proofs.Unrefused.{no_place, space, unrefused}

@@ -21,7 +21,7 @@ use Rattle.sipl_book.specs.Entries.{EntryState, entry_of, has_current_entry, is_
 use Rattle.sipl_book.specs.Questions.{same_question}
 use Rattle.sipl_book.specs.Repairs.{after_return, entry_with, is_leased_for, is_outdated}
 use Rattle.sipl_book.specs.declared.fault.BookFault.{BookFault}
-use Rattle.sipl_book.specs.declared.fault.BookFault.TheVariants.{JournalFull, NotCurrent, Stale, Unknown, Gone, Queue, Store as OfStore, Board, Memory}
+use Rattle.sipl_book.specs.declared.fault.BookFault.TheVariants.{JournalFull, NotCurrent, Stale, Unknown, Gone, PagesSpent, Queue, Store as OfStore, Board, Memory}
 use Rattle.sipl_book.specs.declared.outcome.Uncommitted.{Uncommitted}
 use Rattle.sipl_plans.specs.Route.{reads}
 use Rattle.sipl_records.specs.Sets.{set_of}
@@ -238,6 +238,7 @@ is_memory NotCurrent never = absurd (never (λ same. cc))
 is_memory (Stale place) never = absurd (never (λ same. cc))
 is_memory Unknown never = absurd (never (λ same. cc))
 is_memory Gone never = absurd (never (λ same. cc))
+is_memory PagesSpent never = absurd (never (λ same. cc))
 is_memory (Queue fault) never = absurd (never (λ same. cc))
 is_memory (OfStore fault) never = absurd (never (λ same. cc))
 is_memory (Board fault) never = absurd (never (λ same. cc))

@@ -32,6 +32,7 @@ consistent-with book entries queue so good apart order few =
       ids = order;
       few_entries = omega (arith, few, so.few_entries);
       few_events = so.few_events;
+      first_limit = so.first_limit;
       records_limit = so.records_limit;
       entries_limit = so.entries_limit;
       events_limit = so.events_limit;

@@ -1,26 +1,22 @@
 -- What is so where a commit is not refused.
-use Rattle.std.proofs.Common.{◌≡◌, ℕ, ◌<◌, Bool, true, false, Option, None, Some, position, refl, sym, subst, ◌∙◌}
-use Rattle.std.specs.Prelude.{nat_le, option_map}
+use Rattle.std.proofs.Common.{◌≡◌, ℕ, ◌<◌, Bool, true, false, length, Option, None, Some, position, refl, sym, subst, ◌∙◌}
+use Rattle.std.specs.Prelude.{option_map}
 use Rattle.std.proofs.lemmas.Bool.{cond-true, cond-false, leb-false}
 use Rattle.sipl_plans.specs.Findings.{Found}
-use Rattle.sipl_book.specs.Book.{BookState, next_event}
-use Rattle.sipl_book.specs.Calls.{after_check, after_comparison, commit_refusal, is_stale, unless_full}
+use Rattle.sipl_book.specs.Book.{BookState}
+use Rattle.sipl_book.specs.Calls.{after_check, after_comparison, commit_refusal, is_full, is_stale, unless_full}
 use Rattle.sipl_book.specs.Honesty.{AreCurrent}
 use Rattle.sipl_book.specs.declared.fault.BookFault.{BookFault}
 use Rattle.sipl_book.specs.declared.fault.BookFault.TheVariants.{JournalFull, Stale}
 use Rattle.sipl_book.proofs.Staleness.{current-fresh}
 
--- whether the journal is full
-abbrev pub full : BookState → Bool
-full book = nat_le book.max_events (next_event book)
-
 -- where no fault is left, the journal has space
-pub space : (book : BookState) (fault : Option BookFault) → unless_full book fault ≡ None → (full book ≡ false) × (fault ≡ None)
-space book fault none = by (full book) refl
+pub space : (book : BookState) (fault : Option BookFault) → unless_full book fault ≡ None → (is_full book ≡ false) × (fault ≡ None)
+space book fault none = by (is_full book) refl
   where
-    by : (b : Bool) → full book ≡ b → (full book ≡ false) × (fault ≡ None)
-    by true is = let never : Some JournalFull ≡ None = sym (cond-true (full book) (Some JournalFull) fault is) ∙ none in cc
-    by false is = (is, sym (cond-false (full book) (Some JournalFull) fault is) ∙ none)
+    by : (b : Bool) → is_full book ≡ b → (is_full book ≡ false) × (fault ≡ None)
+    by true is = let never : Some JournalFull ≡ None = sym (cond-true (is_full book) (Some JournalFull) fault is) ∙ none in cc
+    by false is = (is, sym (cond-false (is_full book) (Some JournalFull) fault is) ∙ none)
 
 pub no_place : (place : Option ℕ) → option_map Stale place ≡ None → place ≡ None
 no_place None none = refl
@@ -28,7 +24,7 @@ no_place (Some n) none = cc
 
 -- a commit that is not refused: the journal has space, no set is stale, and each was compared
 pub record IsUnrefused (found : Found) (book : BookState) : Type 0 where
-  pub space : next_event book < book.max_events
+  pub space : length book.journal < book.max_events
   pub fresh : position (is_stale book.store) found.items ≡ None
   pub checked : after_check found book ≡ after_comparison found book
 
@@ -38,7 +34,7 @@ unrefused found book none =
     record {
       space = leb-false _ _ has.0;
       fresh = no_place (position (is_stale book.store) found.items) has.1;
-      checked = cond-false (full book) book (after_comparison found book) has.0;
+      checked = cond-false (is_full book) book (after_comparison found book) has.0;
     }
 
 -- after the comparison, the sets of a finding that is not refused are as they were read

@@ -119,9 +119,22 @@ impl Page {
     pub fn follows(&self, before: &Page) -> bool
         ensures { Decides result (Follows (Some before.now) self.now) }
     {
-        self.first == before.next()
-            && self.held == before.held
-            && self.abilities == before.abilities
-            && self.base == before.result
+        self.is_for_client_of(before) && self.begins_after(before)
+    }
+
+    // Whether both pages are for the same client and policy.
+    fn is_for_client_of(&self, other: &Page) -> bool
+        ensures { Decides result
+            ((self.now.client ≡ other.now.client) × (self.now.held ≡ other.now.held)) }
+    {
+        self.abilities == other.abilities && self.held == other.held
+    }
+
+    // Whether the page's first number is the other's next one, and its base the other's result.
+    fn begins_after(&self, before: &Page) -> bool
+        ensures { Decides result
+            ((self.now.first ≡ next_of before.now) × (self.now.base ≡ before.now.result)) }
+    {
+        self.first == before.next() && self.base == before.result
     }
 }

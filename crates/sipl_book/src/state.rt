@@ -3,6 +3,7 @@ ghost use Rattle.std.specs.Arc.{arc_value};
 ghost use Rattle.std.specs.Bool.{Decides};
 ghost use Rattle.std.specs.Cmp.{partial_equiv_from_equiv};
 ghost use Rattle.sipl_outages.specs.Holds.{no_holds};
+ghost use Rattle.sipl_zonestore.specs.SameZones.{same_zones};
 ghost use Rattle.sipl_book.specs.Machine.{empty_state};
 ghost use Rattle.sipl_book.specs.SameState.{same_state, same_state-equivalence};
 
@@ -130,6 +131,13 @@ impl State {
             (None, _) => other.holds_nothing(),
         }
     }
+
+    // Whether the apexes and the records of both are the same, each in its order.
+    fn same_zones(&self, other: &State) -> bool
+        ensures { result ≡ same_zones self.now.zones other.now.zones }
+    {
+        self.apexes() == other.apexes() && self.records() == other.records()
+    }
 }
 
 impl PartialEq for State {
@@ -138,7 +146,7 @@ impl PartialEq for State {
     ghost laws = { partial_equiv_from_equiv same_state-equivalence };
 
     fn eq(&self, other: &Self) -> bool {
-        self.same_holds(other) && self.apexes() == other.apexes() && self.records() == other.records()
+        self.same_holds(other) && self.same_zones(other)
     }
 }
 

@@ -172,15 +172,6 @@ refused-edit edit store fault held why = record {
   consistent = held;
 }
 
--- a fact, whatever the result
-pub always-ok : {P : Type 0} (result : Result Changed StoreFault) → P → OnOk result P
-always-ok (Ok done) p = p
-always-ok (Err fault) p = tt
-
-pub always-err : {P : Type 0} (result : Result Changed StoreFault) → P → OnErr result P
-always-err (Ok done) p = tt
-always-err (Err fault) p = p
-
 -- a store by its parts
 abbrev pub store_of : List (List (List ℕ)) → IndexedState → ℕ → ℕ → Store
 store_of apexes records max_records looks =

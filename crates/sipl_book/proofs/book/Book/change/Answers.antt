@@ -1,4 +1,4 @@
-use Rattle.std.proofs.Common.{◌≡◌, Ok, List, [], ◌∷◌, ◌++◌, length, map, refl, sym, ap, subst, ◌∙◌}
+use Rattle.std.proofs.Common.{◌≡◌, ◌+◌, Ok, List, [], ◌∷◌, ◌++◌, length, map, refl, sym, ap, subst, ◌∙◌}
 use Rattle.std.proofs.lemmas.Result.{err_from_is_err_and}
 use Rattle.sipl_records.specs.declared.record.Key.{Key}
 use Rattle.sipl_book.specs.Book.{IsConsistent}
@@ -26,16 +26,12 @@ invariant_of-self-2 c =
       queue = after_marks inside.cache.queue (dependents changes inside.cache.entries);
     } in
     let cache : c.outdate.new.self ≡ changed keys = c.outdate.ensures ∙ ap changed c.as_slice.ensures in
-    subst (λ (k : CacheState). IsConsistent (record {
-      client = inside.abilities;
-      held = inside.held;
+    subst (λ (k : CacheState). IsConsistent (record (book_of inside) {
       store = c.apply.new.store;
-      board = inside.board;
       journal = events;
       entries = k.entries;
       queue = k.queue;
       max_entries = k.max_entries;
-      max_events = inside.max_events;
     })) (sym cache)
     (consistent-changed c.args.edit _ c.apply.new.store c.in_ok-changed.changed events (changed keys).entries (changed keys).queue c.self.invariant c.in_ok-changed.ensures c.in_ok-reserve_event.ensures.few
     (c.record_event-number.ensures.items ∙ ap (λ events. events ++ Change c.args.edit ∷ []) c.reserve_event.ensures.items) refl)
@@ -51,17 +47,13 @@ returns c =
     } in
     let cache : c.outdate.new.self ≡ changed keys = c.outdate.ensures ∙ ap changed c.as_slice.ensures in
     rw (← c.self.view_is)
-    (subst (λ (k : CacheState). IsChanged c.args.edit (book_of inside) (record {
-      client = inside.abilities;
-      held = inside.held;
+    (subst (λ (k : CacheState). IsChanged c.args.edit (book_of inside) (record (book_of inside) {
       store = c.apply.new.store;
-      board = inside.board;
       journal = events;
       entries = k.entries;
       queue = k.queue;
       max_entries = k.max_entries;
-      max_events = inside.max_events;
     }) (Ok (record { number = c.record_event-number.result; changed = c.in_ok-changed.changed.sets }))) (sym cache)
     (made-change c.args.edit (book_of inside) c.apply.new.store c.in_ok-changed.changed c.record_event-number.result events c.in_ok-changed.ensures c.in_ok-reserve_event.ensures.few
-    (c.record_event-number.ensures.number ∙ ap length c.reserve_event.ensures.items)
+    (c.record_event-number.ensures.number ∙ ap (λ events. inside.first + length events) c.reserve_event.ensures.items)
     (c.record_event-number.ensures.items ∙ ap (λ events. events ++ Change c.args.edit ∷ []) c.reserve_event.ensures.items)))

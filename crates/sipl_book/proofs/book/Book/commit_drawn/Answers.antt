@@ -3,7 +3,7 @@ use Rattle.sipl_plans.specs.Plan.{draw}
 use Rattle.sipl_plans.specs.declared.layout.Layout.{Layout}
 use Rattle.sipl_choice.specs.Abilities.{Client}
 use Rattle.sipl_records.specs.Sets.{set_of}
-use Rattle.sipl_book.specs.Book.{BookState, IsConsistent, answer_now}
+use Rattle.sipl_book.specs.Book.{BookState, IsConsistent, answer_now, next_event}
 use Rattle.sipl_book.specs.Calls.{after_commit, answer_event}
 use Rattle.sipl_book.specs.Entries.{committed, entry_of}
 use Rattle.sipl_book.specs.Honesty.{AreCurrent}
@@ -29,11 +29,11 @@ invariant_of-self-in-Ok-commit c =
     ∙ ap (λ (client : Client). answer_in (record { zones = inside.store.zones; holds = inside.board.holds }) found.question client inside.held words) client in
     let event : Answer c.args.question words c.args.answer ≡ answer_event old found.question words =
     λ i. Answer (c.requires.question i) words (answer i) in
-    let id : c.len-id.result ≡ length inside.journal.items = search rules in
+    let id : c.next_event-id.result ≡ next_event old = search rules in
     let journal : c.record_event-number.new.journal.items ≡ inside.journal.items ++ answer_event old found.question words ∷ [] =
     c.record_event-number.ensures.items ∙ (λ i. c.reserve.ensures.items i ++ event i ∷ []) in
     let cache : c.commit.new.self ≡ record inside.cache {
-      entries = committed found (length inside.journal.items) inside.cache.max_entries inside.cache.entries;
+      entries = committed found (next_event old) inside.cache.max_entries inside.cache.entries;
       queue = after_renewal inside.cache.queue (entry_of inside.cache.entries found.question);
     } =
     c.in-Ok-commit.ensures.ok ∙ ap (λ n. record inside.cache {

@@ -1,6 +1,6 @@
-use Rattle.std.proofs.Common.{◌<◌, rules, ap, sym, subst}
+use Rattle.std.proofs.Common.{◌<◌, length, rules, ap, sym, subst}
 use Rattle.std.proofs.lemmas.Result.{MatchResult-weaker}
-use Rattle.sipl_book.specs.Book.{BookState, next_event}
+use Rattle.sipl_book.specs.Book.{BookState}
 use Rattle.sipl_book.proofs.Finding.{as_committed, found_anew}
 use Rattle.sipl_book.proofs.Honest.{current-as}
 use Rattle.sipl_book.proofs.book.Book.find_anew.Goals as goal
@@ -13,7 +13,7 @@ commit_current-requires-clause-current c =
 
 pub commit_current-requires-clause-space : goal.commit_current-requires-clause-space
 commit_current-requires-clause-space c =
-    subst (λ (book : BookState). next_event book < book.max_events) (sym c.in_ok-finding.ensures.looks) c.requires.space
+    subst (λ (book : BookState). length book.journal < book.max_events) (sym c.in_ok-finding.ensures.looks) c.requires.space
 
 pub returns : goal.returns
 returns c =

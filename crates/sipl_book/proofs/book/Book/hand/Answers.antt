@@ -1,6 +1,7 @@
-use Rattle.std.proofs.Common.{◌≡◌, true, [], ◌∷◌, ◌++◌, length, Option, Some, None, Ok, Bool, false, sym, ap, subst, ◌∙◌}
+use Rattle.std.proofs.Common.{◌≡◌, ◌+◌, true, [], ◌∷◌, ◌++◌, length, Option, Some, None, Ok, Bool, false, sym, ap, subst, ◌∙◌}
 use Rattle.sipl_plans.specs.Plan.{draw}
 use Rattle.sipl_book.specs.Book.{BookState, answer_now}
+use Rattle.sipl_book.specs.BookFields.{book_of}
 use Rattle.sipl_book.specs.Calls.{IsHanded, answer_event}
 use Rattle.sipl_book.specs.Entries.{EntryState, has_current_entry}
 use Rattle.sipl_book.specs.declared.event.Event.TheVariants.{Answer}
@@ -9,19 +10,7 @@ use Rattle.sipl_book.proofs.book.Book.hand.Goals as goal
 
 module _ (c : goal.After-record_event-number) where
   abbrev old : BookState
-  old =
-      let b = c.self.inside in
-      record {
-        client = b.abilities;
-        held = b.held;
-        store = b.store;
-        board = b.board;
-        journal = b.journal.items;
-        entries = b.cache.entries;
-        queue = b.cache.queue;
-        max_entries = b.cache.max_entries;
-        max_events = b.max_events;
-      }
+  old = book_of c.self.inside
 
   current : c.in-Some.entry.now.is_current ≡ true
   current = sym c.is_current.ensures ∙ c.if-is_current.true
@@ -48,4 +37,4 @@ returns c =
     subst (λ before. IsHanded c.args.question.now c.args.draws.now before
     (record (old c) { journal = c.record_event-number.new.journal.items }) (Ok (record { number = c.record_event-number.result; answer = c.in_ok-event.answer }))) c.self.view_is
     (handed (old c) c.args.question.now c.args.draws.now c.record_event-number.new.journal.items c.record_event-number.result c.in_ok-event.answer
-    c.in_ok-reserve_event.ensures.few has (c.record_event-number.ensures.number ∙ ap length c.reserve_event.ensures.items) (c.in_ok-event.ensures.answer ∙ drawn c) (journal c))
+    c.in_ok-reserve_event.ensures.few has (c.record_event-number.ensures.number ∙ ap (λ events. c.self.inside.first + length events) c.reserve_event.ensures.items) (c.in_ok-event.ensures.answer ∙ drawn c) (journal c))

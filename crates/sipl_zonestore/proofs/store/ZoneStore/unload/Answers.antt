@@ -12,20 +12,20 @@ use Rattle.sipl_zonestore.proofs.store.ZoneStore.unload.Goals as goal
 
 pub invariant_of-self-2 : goal.invariant_of-self-2
 invariant_of-self-2 c =
-    (edited-with (unload c.args.apex.now) c.self.inside.apexes.items c.retain.new.self.items c.self.inside.records c.replace_within.new.self c.self.inside.max_records c.self.inside.looks (Ok c.in_ok-changed.changed) tt c.self.invariant (loaded c.self.inside.max_records c.args.apex.now (record { apexes = c.self.inside.apexes.items; records = c.self.inside.records.records }) (rw c.deref.ensures.value at c.in_ok-check_unload.ensures)) (subst (λ records. IsReplaced records c.self.inside.records c.replace_within.new.self (Ok c.in_ok-changed.changed)) (append-nil (records_outside c.args.apex.now c.self.inside.records.records)) c.in_ok-changed.ensures) tt (filter_same _ (λ other. not (same_name c.args.apex.now other)) _ (λ x b f k. search rules) _ _ c.retain.ensures.filtered) tt).consistent
+    record { consistent = (edited-with (unload c.args.apex.now) c.self.inside.apexes.items c.retain.new.self.items c.self.inside.records c.replace_within.new.self c.self.inside.max_records c.self.inside.looks (Ok c.in_ok-changed.changed) tt c.self.invariant.consistent (loaded c.self.inside.max_records c.args.apex.now (record { apexes = c.self.inside.apexes.items; records = c.self.inside.records.records }) (rw c.deref.ensures.value at c.in_ok-check_unload.ensures)) (subst (λ records. IsReplaced records c.self.inside.records c.replace_within.new.self (Ok c.in_ok-changed.changed)) (append-nil (records_outside c.args.apex.now c.self.inside.records.records)) c.in_ok-changed.ensures) tt (filter_same _ (λ other. not (same_name c.args.apex.now other)) _ (λ x b f k. search rules) _ _ c.retain.ensures.filtered) tt).consistent; shared = tt }
 
 pub returns-clause-edited : goal.returns-clause-edited
 returns-clause-edited c =
-    rw (← c.self.view_is) (edited-with (unload c.args.apex.now) c.self.inside.apexes.items c.retain.new.self.items c.self.inside.records c.replace_within.new.self c.self.inside.max_records c.self.inside.looks (Ok c.in_ok-changed.changed) tt c.self.invariant (loaded c.self.inside.max_records c.args.apex.now (record { apexes = c.self.inside.apexes.items; records = c.self.inside.records.records }) (rw c.deref.ensures.value at c.in_ok-check_unload.ensures)) (subst (λ records. IsReplaced records c.self.inside.records c.replace_within.new.self (Ok c.in_ok-changed.changed)) (append-nil (records_outside c.args.apex.now c.self.inside.records.records)) c.in_ok-changed.ensures) tt (filter_same _ (λ other. not (same_name c.args.apex.now other)) _ (λ x b f k. search rules) _ _ c.retain.ensures.filtered) tt)
+    rw (← c.self.view_is) (edited-with (unload c.args.apex.now) c.self.inside.apexes.items c.retain.new.self.items c.self.inside.records c.replace_within.new.self c.self.inside.max_records c.self.inside.looks (Ok c.in_ok-changed.changed) tt c.self.invariant.consistent (loaded c.self.inside.max_records c.args.apex.now (record { apexes = c.self.inside.apexes.items; records = c.self.inside.records.records }) (rw c.deref.ensures.value at c.in_ok-check_unload.ensures)) (subst (λ records. IsReplaced records c.self.inside.records c.replace_within.new.self (Ok c.in_ok-changed.changed)) (append-nil (records_outside c.args.apex.now c.self.inside.records.records)) c.in_ok-changed.ensures) tt (filter_same _ (λ other. not (same_name c.args.apex.now other)) _ (λ x b f k. search rules) _ _ c.retain.ensures.filtered) tt)
 
 pub returns-in_err-changed-clause-numbers : goal.returns-in_err-changed-clause-numbers
 returns-in_err-changed-clause-numbers c =
     let p = err_from_is_err_and c.from_residual-in_err-changed.result c.from_residual-in_err-changed.ensures.1 in
-    rw (p.1, p.2) (λ spent. let is : c.in_err-changed.field-0.0 ≡ NumberSpent = cc in never_spent c.args.apex.now c.self.inside.records.records c.self.inside.records.next c.in_err-changed.field-0.0 c.self.invariant.numbered.last c.in_err-changed.ensures.refused is)
+    rw (p.1, p.2) (λ spent. let is : c.in_err-changed.field-0.0 ≡ NumberSpent = cc in never_spent c.args.apex.now c.self.inside.records.records c.self.inside.records.next c.in_err-changed.field-0.0 c.self.invariant.consistent.numbered.last c.in_err-changed.ensures.refused is)
 
 pub returns-in_err-changed-clause-edited : goal.returns-in_err-changed-clause-edited
 returns-in_err-changed-clause-edited c =
     let p = err_from_is_err_and c.from_residual-in_err-changed.result c.from_residual-in_err-changed.ensures.1 in
     let store = store_of c.self.inside.apexes.items c.self.inside.records c.self.inside.max_records c.self.inside.looks in
     let accepted = loaded c.self.inside.max_records c.args.apex.now (record { apexes = c.self.inside.apexes.items; records = c.self.inside.records.records }) (rw c.deref.ensures.value at c.in_ok-check_unload.ensures) in
-    rw (p.1, p.2, ← c.self.view_is) (edited-with (unload c.args.apex.now) c.self.inside.apexes.items c.self.inside.apexes.items c.self.inside.records c.replace_within.new.self c.self.inside.max_records c.self.inside.looks (Err c.in_err-changed.field-0.0) tt c.self.invariant accepted (subst (λ records. IsReplaced records c.self.inside.records c.replace_within.new.self (Err c.in_err-changed.field-0.0)) (append-nil (records_outside c.args.apex.now c.self.inside.records.records)) c.in_err-changed.ensures) (memory-edit (unload c.args.apex.now) store (Err c.in_err-changed.field-0.0) accepted (λ memory. enough-unload c.args.apex.now c.self.inside.records.records c.self.inside.records.next c.self.invariant.numbered.last)) tt refl)
+    rw (p.1, p.2, ← c.self.view_is) (edited-with (unload c.args.apex.now) c.self.inside.apexes.items c.self.inside.apexes.items c.self.inside.records c.replace_within.new.self c.self.inside.max_records c.self.inside.looks (Err c.in_err-changed.field-0.0) tt c.self.invariant.consistent accepted (subst (λ records. IsReplaced records c.self.inside.records c.replace_within.new.self (Err c.in_err-changed.field-0.0)) (append-nil (records_outside c.args.apex.now c.self.inside.records.records)) c.in_err-changed.ensures) (memory-edit (unload c.args.apex.now) store (Err c.in_err-changed.field-0.0) accepted (λ memory. enough-unload c.args.apex.now c.self.inside.records.records c.self.inside.records.next c.self.invariant.consistent.numbered.last)) tt refl)
