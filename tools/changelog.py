@@ -141,7 +141,7 @@ def marks_of(session: Session) -> List[Mark]:
         for turn in range(2):
             for it in session.deps(f"sip:at{turn}.{MARKS}:1"):
                 match = re.fullmatch(rf"([0-9-]+)\.([0-9-]+)\.([0-9a-f]+)\.(good|broken)\.{re.escape(MARKS)}", it.name)
-                exists = exists or it.count > 0 and it.name == MARKS
+                exists = exists or it.records > 0 and it.name == MARKS
                 if match:
                     marks.append(Mark(match[3], place_of(match[1]), place_of(match[2]), match[4] == "broken", turn))
                     break

@@ -34,6 +34,7 @@ typedef enum word {
     FIND,
     DEPS,
     REPAIR,
+    PAGE,
     HOLD,
     RELEASE,
     CLOCK,
@@ -48,8 +49,9 @@ typedef enum word {
 static const struct {
     const char *text;
     size_t count;
-} words[OTHER] = {{"zone", 4},   {"drop", 1}, {"add", 1},     {"del", 1},   {"find", 1}, {"deps", 1}, {"repair", 0},
-                  {"hold", 0},   {"release", 0}, {"clock", 1}, {"call", 0}, {"got", 0},  {"broke", 0}, {"quit", 0}};
+} words[OTHER] = {{"zone", 4}, {"drop", 1}, {"add", 1},     {"del", 1},   {"find", 1},
+                  {"deps", 1}, {"repair", 0}, {"page", 2},  {"hold", 0},  {"release", 0},
+                  {"clock", 1}, {"call", 0}, {"got", 0},    {"broke", 0}, {"quit", 0}};
 
 static const struct {
     const char *code;
@@ -105,7 +107,8 @@ static const struct {
     {"O2", "a time would be after 2^52"},
     {"O3", "the endpoint is not held"},
     {"O4", "as many endpoints are held as the settings allow"},
-    {"B3", "the journal is full: there were as many events as the settings allow"},
+    {"B3", "the journal is full: a page makes room"},
+    {"B6", "no number is left for another page"},
     {"L1", "a record set changed in each of the tries: ask again"},
     {"Memory", "an allocation failed"}};
 
@@ -887,6 +890,11 @@ siploc_status siploc_remove(siploc *s, const char *record, const siploc_reply **
 siploc_status siploc_repair(siploc *s, const siploc_reply **reply)
 {
     return ask_if(s, begin(s, "repair"), reply);
+}
+
+siploc_status siploc_page(siploc *s, const siploc_reply **reply)
+{
+    return ask_if(s, begin(s, "page"), reply);
 }
 
 siploc_status siploc_hold(siploc *s, const siploc_target *target, uint64_t milliseconds, const siploc_reply **reply)

@@ -86,7 +86,8 @@ typedef struct siploc_reply {
     size_t dependency_count;
     const siploc_step *steps; /* of `call`, `got`, `broke` and `clock`, of a refused one too */
     size_t step_count;
-    uint64_t counts[4];  /* the numbers after `ok`: of `zone` records, outside, repeated, changed; of an edit changed */
+    uint64_t counts[4];  /* the numbers after `ok`: of `zone` records, outside, repeated, changed; of an edit changed;
+                            of `page` the number of its first event, and how many it has */
     const char *reason;  /* of `none`: NoAddress, NotAvailable, NoTransport or AllHeld */
     const char *code;    /* of `err`: such as S3 */
     const char *meaning; /* and what it means */
@@ -145,6 +146,8 @@ siploc_status siploc_drop(siploc *session, const char *apex, const siploc_reply 
 siploc_status siploc_add(siploc *session, const char *record, const siploc_reply **reply);
 siploc_status siploc_remove(siploc *session, const char *record, const siploc_reply **reply);
 siploc_status siploc_repair(siploc *session, const siploc_reply **reply);
+/* Hands out the journal as a page, which the server keeps, and begins an empty one: no longer B3. */
+siploc_status siploc_page(siploc *session, const siploc_reply **reply);
 
 siploc_status siploc_hold(siploc *session, const siploc_target *target, uint64_t milliseconds,
                           const siploc_reply **reply);

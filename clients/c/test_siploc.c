@@ -396,6 +396,25 @@ static void other_calls(void)
     siploc_close(s);
 }
 
+/* sessions/serve.txt: a full journal, and room again; `closed` counts all pages. */
+static void pages(void)
+{
+    const char *uri = "sip:server1.example.com:5060";
+    const siploc_reply *reply;
+    server server = start_server(1, "journal = 2");
+    siploc *s = connect_to(server.address, 30000);
+    CHECK(s != NULL);
+    CHECK(siploc_load(s, "example.com.", "", NULL) == SIPLOC_OK);
+    CHECK(siploc_add(s, "server1.example.com. A 192.0.2.1", NULL) == SIPLOC_OK);
+    CHECK(siploc_find(s, uri, NULL, &reply) == SIPLOC_REFUSED && strcmp(reply->code, "B3") == 0);
+    CHECK(siploc_page(s, &reply) == SIPLOC_OK && reply->counts[0] == 0 && reply->counts[1] == 2);
+    CHECK(finds(s, uri, NULL, "1"));
+    CHECK(siploc_page(s, &reply) == SIPLOC_OK && reply->counts[0] == 2 && reply->counts[1] == 1);
+    CHECK(siploc_page(s, &reply) == SIPLOC_OK && reply->counts[0] == 3 && reply->counts[1] == 0);
+    siploc_close(s);
+    CHECK(closes(&server, 3));
+}
+
 /* What a batch of refusals has shown. */
 typedef struct refusals {
     char *end;
@@ -417,7 +436,7 @@ static void keep_refusal(void *context, size_t place, const siploc_reply *reply)
     }
 }
 
-/* Each code once, by a batch: 47 of the 53 of docs/CODES.md; K2, L1, S8, Memory, X1 and F1 are not in the file. */
+/* Each code once, by a batch: 47 of the 54 of docs/CODES.md; K2, L1, S8, B6, Memory, X1 and F1 are not in the file. */
 static void each_refusal(void)
 {
     static char input[1 << 16], want[1 << 16], replies[1 << 16], settings[512];
@@ -736,7 +755,7 @@ static void replies(void)
         rows++;
     }
     free(text);
-    CHECK(rows == 118);
+    CHECK(rows == 125);
 }
 
 static void keep_set(void *context, size_t place, const siploc_reply *reply)
@@ -924,7 +943,7 @@ int main(int count, char **words)
         void (*run)(void);
     } tests[] = {
 #define TEST(name) {#name, name}
-        TEST(readme_session_in_a_batch), TEST(readme_session_by_calls), TEST(other_calls), TEST(each_refusal),
+        TEST(readme_session_in_a_batch), TEST(readme_session_by_calls), TEST(other_calls), TEST(pages), TEST(each_refusal),
         TEST(refusals_by_calls), TEST(finds_in_batches), TEST(batch_of_more_than_the_sockets_hold),
         TEST(server_that_ends_in_the_midst), TEST(client_that_is_killed_in_a_zone), TEST(example_program), TEST(replies), TEST(what_a_refused_find_names),
         TEST(garbage_without_end), TEST(invalid_commands_are_not_sent), TEST(lost_before_and_after), TEST(timeouts),

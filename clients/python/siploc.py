@@ -39,8 +39,8 @@ from typing import Dict, Iterable, Iterator, List, NamedTuple, Optional, Pattern
 
 __all__ = [
     "Ack", "Answer", "BadReply", "ConnectionLost", "Deliver", "Dependency", "Error", "Exhausted", "HalfReply", "Hold",
-    "InvalidCommand", "Loaded", "MEANINGS", "NotConnected", "Opened", "Refused", "Reply", "Resend", "Send", "Session",
-    "SessionBroken", "Step", "Target", "TimedOut", "connect", "line", "zone",
+    "InvalidCommand", "Loaded", "MEANINGS", "NotConnected", "Opened", "Page", "Refused", "Reply", "Resend", "Send",
+    "Session", "SessionBroken", "Step", "Target", "TimedOut", "connect", "line", "zone",
 ]
 
 #: What each code of a refusal means.
@@ -95,7 +95,8 @@ MEANINGS: Dict[str, str] = {
     "O2": "a time would be after 2^52",
     "O3": "the endpoint is not held",
     "O4": "as many endpoints are held as the settings allow",
-    "B3": "the journal is full: there were as many events as the settings allow",
+    "B3": "the journal is full: a page makes room",
+    "B6": "no number is left for another page",
     "L1": "a record set changed in each of the tries: ask again",
     "Memory": "an allocation failed",
 }
@@ -152,6 +153,13 @@ class Loaded(NamedTuple):
     outside: int
     repeated: int
     changed: int
+
+
+class Page(NamedTuple):
+    """The reply to `page`: the number of the page's first event, and how many events it has."""
+
+    first: int
+    events: int
 
 
 class Send(NamedTuple):
@@ -351,6 +359,7 @@ _FORMS: Dict[str, _Form] = {
     "find": _Form(_done(rf"find {_NUMBER}"), _REFUSED_FIND, _TARGET, has_none=True, is_counted=True),
     "deps": _Form(_done(rf"deps {_NUMBER}"), _REFUSED, _DEPENDENCY, is_counted=True),
     "repair": _Form(_done("repair")),
+    "page": _Form(_done(rf"page {_NUMBER} {_NUMBER}")),
     "hold": _Form(_done("hold")),
     "release": _Form(_done("release")),
     "clock": _Form(_done(rf"clock {_NUMBER}"), _REFUSED, _STEP, has_steps=True),
@@ -634,6 +643,10 @@ class Session:
     def repair(self) -> None:
         """Looks up again all kept answers that edits outdated, before anyone asks."""
         self._ask("repair")
+
+    def page(self) -> Page:
+        """Hands out the journal as a page, which the server keeps, and begins an empty one: no longer B3."""
+        return Page(*self._ask("page").counts)
 
     # Holds and the clock.
 

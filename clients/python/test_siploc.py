@@ -220,6 +220,21 @@ class Sessions(unittest.TestCase):
             self.assertEqual(session.broke(), [Hold(Target("udp", "192.0.2.9", 5060), 30000), Deliver(500),
                                                Exhausted()])
 
+    def test_pages(self):
+        """sessions/serve.txt: a full journal, and room again; `closed` counts all pages."""
+        with Server(settings="journal = 2") as server:
+            with server.connect() as session:
+                session.load("example.com.", "")
+                session.add("server1.example.com. A 192.0.2.1")
+                with self.assertRaises(siploc.Refused) as caught:
+                    session.find("sip:server1.example.com:5060")
+                self.assertEqual(caught.exception.code, "B3")
+                page = session.page()
+                self.assertEqual((page.first, page.events), (0, 2))
+                self.assertEqual(list(session.find("sip:server1.example.com:5060")), [("udp", "192.0.2.1", 5060)])
+                self.assertEqual([session.page(), session.page()], [(2, 1), (3, 0)])
+            self.assertEqual(server.closed(), ("closed 3\n", 0))
+
     def test_draws(self):
         """A seed, as in sessions/draws.txt; words that are given; and none."""
         zone = [f"_sip._tcp SRV {place // 4} {place % 4 + 1} 5060 {name}" for place, name in enumerate("abcd")]
@@ -249,7 +264,7 @@ class Sessions(unittest.TestCase):
         refusals = [reply.refusal for reply in replies if reply.refusal]
         codes = [refusal.code for refusal in refusals]
         self.assertEqual(len(codes), len(set(codes)))
-        self.assertEqual(set(siploc.MEANINGS) - set(codes), {"K2", "L1", "S8", "Memory", "X1", "F1"})
+        self.assertEqual(set(siploc.MEANINGS) - set(codes), {"K2", "L1", "S8", "B6", "Memory", "X1", "F1"})
         for refusal in refusals:
             self.assertEqual(refusal.meaning, siploc.MEANINGS[refusal.code])
         self.assertEqual({refusal.code: refusal.line for refusal in refusals if refusal.line},
@@ -465,7 +480,8 @@ class Faults(unittest.TestCase):
         def serve(stream):
             for reply in (b"ok zone 2 0 0 1\n", b"ok drop 1\n", b"ok hold\n", b"ok release\n", b"ok add 1\n",
                           b"ok del 1\n", b"none NoAddress\n", b"none NoAddress\n", b"none NoAddress\n", b"ok deps 0\n",
-                          b"ok repair\n", b"ok clock 7\n", b"none NoAddress\n", b"ok got\n", b"ok got\n", b"ok broke\n"):
+                          b"ok repair\n", b"ok page 3 0\n", b"ok clock 7\n", b"none NoAddress\n", b"ok got\n", b"ok got\n",
+                          b"ok broke\n"):
                 received.append(read_lines(stream, 3 if b"zone" in reply else 1))
                 stream.sendall(reply)
             return read_lines(stream)
@@ -484,6 +500,7 @@ class Faults(unittest.TestCase):
                 session.find("sip:a", seed=42)
                 session.deps("sip:a")
                 session.repair()
+                self.assertEqual(session.page(), (3, 0))
                 session.clock(7)
                 session.call("invite", 1, "sip:a", seed=0)
                 session.got(1, 200)
@@ -492,7 +509,7 @@ class Faults(unittest.TestCase):
         self.assertEqual(received, [
             b"zone e. 2\na A 192.0.2.1\na A 192.0.2.2\n", b"drop e.\n", b"hold tcp 192.0.2.1 5060 5000\n",
             b"release tcp 192.0.2.1 5060\n", b"add a.e. A 192.0.2.1\n", b"del a.e. TXT \xc3\xa9\xff\n", b"find sip:a\n",
-            b"find sip:a words 2,0\n", b"find sip:a seed 42\n", b"deps sip:a\n", b"repair\n", b"clock 7\n",
+            b"find sip:a words 2,0\n", b"find sip:a seed 42\n", b"deps sip:a\n", b"repair\n", b"page\n", b"clock 7\n",
             b"call invite 1 sip:a seed 0\n", b"got 1 200\n", b"got 2 503 retry 0\n", b"broke\n"])
         self.assertEqual(last, [b"quit\n"])
 

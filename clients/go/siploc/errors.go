@@ -144,7 +144,8 @@ var meanings = map[string]string{
 	"O2":     "a time would be after 2^52",
 	"O3":     "the endpoint is not held",
 	"O4":     "as many endpoints are held as the settings allow",
-	"B3":     "the journal is full: there were as many events as the settings allow",
+	"B3":     "the journal is full: a page makes room",
+	"B6":     "no number is left for another page",
 	"L1":     "a record set changed in each of the tries: ask again",
 	"Memory": "an allocation failed",
 }

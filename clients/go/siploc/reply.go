@@ -40,6 +40,11 @@ type Loaded struct {
 	Records, Outside, Repeated, Changed uint64
 }
 
+// Page is the reply to Page: the number of its first event, and how many events it has.
+type Page struct {
+	First, Events uint64
+}
+
 // The kinds of steps.
 const (
 	// Send: send the request of Attempt to Target, with Branch. Attempts count from 1.
@@ -326,6 +331,8 @@ func areCounts(word string, before int, fields []string) bool {
 	switch word {
 	case "zone":
 		want = 4
+	case "page":
+		want = 2
 	case "drop", "add", "del", "find", "deps", "clock":
 		want = 1
 	case "repair", "hold", "release", "call", "got", "broke", "quit":

@@ -161,6 +161,16 @@ func (s *Session) Remove(record string) (uint64, error) { return count(s.one("de
 // Repair looks up again all kept answers that edits outdated, before anyone asks.
 func (s *Session) Repair() error { return only(s.ask("repair", "")) }
 
+// Page hands out the journal as a page, which the server keeps, and begins an empty one: no longer B3.
+func (s *Session) Page() (Page, error) {
+	reply, err := s.ask("page", "")
+	if err != nil {
+		return Page{}, err
+	}
+	counts := reply.Counts()
+	return Page{counts[0], counts[1]}, nil
+}
+
 // Hold leaves an endpoint out of answers for so many milliseconds.
 func (s *Session) Hold(target Target, milliseconds uint64) error {
 	return only(s.ask("hold", "", target.Transport, target.Address, decimal(uint64(target.Port)), decimal(milliseconds)))

@@ -235,6 +235,23 @@ func TestReadmeSessionByMethods(t *testing.T) {
 	find(second, first, third)
 }
 
+// sessions/serve.txt: a full journal, and room again; `closed` counts all pages.
+func TestPages(t *testing.T) {
+	server := start(t, 1, "journal = 2")
+	session := connect(t, server.address, 30*time.Second)
+	must[Loaded](t)(session.Load("example.com.", ""))
+	must[uint64](t)(session.Add("server1.example.com. A 192.0.2.1"))
+	_, err := session.Find("sip:server1.example.com:5060", Draws{})
+	var refused *RefusedError
+	equal(t, errors.As(err, &refused) && refused.Code == "B3", true)
+	equal(t, must[Page](t)(session.Page()), Page{0, 2})
+	equal(t, len(must[Answer](t)(session.Find("sip:server1.example.com:5060", Draws{})).Targets), 1)
+	equal(t, must[Page](t)(session.Page()), Page{2, 1})
+	equal(t, must[Page](t)(session.Page()), Page{3, 0})
+	session.Close()
+	server.closes(t, 3)
+}
+
 // What the README's session has not: sessions/holds.txt, calls.txt, edits.txt and draws.txt.
 func TestOtherMethods(t *testing.T) {
 	session := connect(t, start(t, 1, "").address, 30*time.Second)
@@ -282,7 +299,7 @@ func TestEachRefusal(t *testing.T) {
 	session := connect(t, server.address, 30*time.Second)
 	replies := must[[]Reply](t)(session.Batch(commands(inputs)))
 	equal(t, allLines(replies), want)
-	codes := map[string]bool{"K2": true, "L1": true, "S8": true, "Memory": true, "X1": true, "F1": true}
+	codes := map[string]bool{"K2": true, "L1": true, "S8": true, "B6": true, "Memory": true, "X1": true, "F1": true}
 	for _, reply := range replies {
 		var refused *RefusedError
 		if errors.As(reply.Err(), &refused) {

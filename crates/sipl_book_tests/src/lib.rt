@@ -7,4 +7,6 @@ mod book;
 #[cfg(test)]
 mod interleave;
 #[cfg(test)]
+mod pages;
+#[cfg(test)]
 mod readme;

@@ -8,8 +8,9 @@ use Rattle.sipl_outages.specs.Holds.{BoardEvent}
 use Rattle.sipl_repair.specs.QueueState.{is_leased}
 use Rattle.sipl_uri.specs.declared.question.Question.{Question}
 use Rattle.sipl_zonestore.specs.Changes.{changed_keys}
-use Rattle.sipl_book.specs.Book.{BookState}
+use Rattle.sipl_book.specs.Book.{BookState, next_event}
 use Rattle.sipl_book.specs.Calls.{IsChanged, MovesBoard, IsHanded, IsForgotten, after_forget, answer_event}
+use Rattle.sipl_book.specs.Pages.{IsTurned, PageState, after_turn}
 use Rattle.sipl_book.specs.Entries.{EntryState, after_change, entry_of, is_of}
 use Rattle.sipl_book.specs.Repairs.{after_removal, dependents, entry_with, without}
 use Rattle.sipl_book.specs.declared.edit.Edit.{Edit}
@@ -31,12 +32,18 @@ Made n es = All (λ e. e.id < n) es
 made-later : (n m : ℕ) (es : List EntryState) → n ≤ m → All (λ e. e.id < n) es → All (λ e. e.id < m) es
 made-later n m es within made = All-weaker (λ e. e.id < n) (λ e. e.id < m) (λ e below. omega (arith, below, within)) es made
 
+-- the number after an event
+pub one_later : (old new : BookState) (event : Event) → new.first ≡ old.first → new.journal ≡ old.journal ++ event ∷ [] → next_event new ≡ next_event old + 1
+one_later old new event first journal =
+    let longer : length new.journal ≡ length old.journal + 1 = ap length journal ∙ length-append old.journal (event ∷ []) in
+    omega (arith, first, longer)
+
 -- ---- an edit
 
 moves-changed : (edit : Edit) (old : WorldState) (book : BookState) (done : Done) → IsWorld old → IsChanged edit old.book book (Ok done) → Moves old.book book
 moves-changed edit old book done good change =
     let keys = changed_keys old.book.store.zones.records book.store.zones.records in
-    let longer : length book.journal ≡ length old.book.journal + 1 = ap length change.journal ∙ length-append old.book.journal (Change edit ∷ []) in
+    let longer : next_event book ≡ next_event old.book + 1 = one_later old.book book (Change edit) change.first change.journal in
     let leased : (id : ℕ) → is_leased book.queue id ≡ is_leased old.book.queue id =
     λ id. ap (λ q. is_leased q id) change.queue ∙ leased-marks old.book.queue (dependents keys old.book.entries) id in
     record {
@@ -50,9 +57,9 @@ moves-changed edit old book done good change =
         ];
       };
       held = λ id held. sym (leased id) ∙ held;
-      made = subst (λ (es : List EntryState). All (λ e. e.id < length book.journal) es) (sym change.entries)
-          (All-map (λ e. e.id < length book.journal) (after_change keys) old.book.entries
-          (made-later (length old.book.journal) (length book.journal) old.book.entries (omega (arith, longer)) good.made));
+      made = subst (λ (es : List EntryState). All (λ e. e.id < next_event book) es) (sym change.entries)
+          (All-map (λ e. e.id < next_event book) (after_change keys) old.book.entries
+          (made-later (next_event old.book) (next_event book) old.book.entries (omega (arith, longer)) good.made));
       ids = subst (λ (es : List EntryState). AllPairs (λ a b. a.id < b.id) es) (sym change.entries)
           (AllPairs-map (after_change keys) (λ a b. a.id < b.id) (λ a b. a.id < b.id) (λ a b below. below) old.book.entries good.ids);
     }
@@ -66,9 +73,9 @@ world-changed edit old book (Err fault) good change = same-world old book good c
 
 -- a book with one event more, and other holds
 moves-event : (old : WorldState) (book : BookState) (event : Event) → IsWorld old → book.client ≡ old.book.client → book.store ≡ old.book.store
-    → book.journal ≡ old.book.journal ++ event ∷ [] → book.entries ≡ old.book.entries → book.queue ≡ old.book.queue → Moves old.book book
-moves-event old book event good client store journal entries queue =
-    let longer : length book.journal ≡ length old.book.journal + 1 = ap length journal ∙ length-append old.book.journal (event ∷ []) in
+    → book.first ≡ old.book.first → book.journal ≡ old.book.journal ++ event ∷ [] → book.entries ≡ old.book.entries → book.queue ≡ old.book.queue → Moves old.book book
+moves-event old book event good client store first journal entries queue =
+    let longer : next_event book ≡ next_event old.book + 1 = one_later old.book book event first journal in
     record {
       client = client;
       read = λ items was. rw store was;
@@ -80,8 +87,8 @@ moves-event old book event good client store journal entries queue =
         ];
       };
       held = λ id held. ap (λ q. is_leased q id) (sym queue) ∙ held;
-      made = subst (λ (es : List EntryState). All (λ e. e.id < length book.journal) es) (sym entries)
-          (made-later (length old.book.journal) (length book.journal) old.book.entries (omega (arith, longer)) good.made);
+      made = subst (λ (es : List EntryState). All (λ e. e.id < next_event book) es) (sym entries)
+          (made-later (next_event old.book) (next_event book) old.book.entries (omega (arith, longer)) good.made);
       ids = subst (λ (es : List EntryState). AllPairs (λ a b. a.id < b.id) es) (sym entries) good.ids;
     }
 
@@ -89,14 +96,14 @@ pub world-board : (event : BoardEvent) (old : WorldState) (book : BookState) (re
     → MovesBoard event old.book book result → IsWorld (record { book = book; workers = old.workers })
 world-board event old book (Ok number) good move =
     moved-world old book good (moves-event old book _ good (ap (λ b. b.client) move.after) (ap (λ b. b.store) move.after)
-    (ap (λ b. b.journal) move.after) (ap (λ b. b.entries) move.after) (ap (λ b. b.queue) move.after))
+    (ap (λ b. b.first) move.after) (ap (λ b. b.journal) move.after) (ap (λ b. b.entries) move.after) (ap (λ b. b.queue) move.after))
 world-board event old book (Err fault) good move = same-world old book good move.unchanged
 
 pub world-handed : (question : Question) (words : List ℕ) (old : WorldState) (book : BookState) (result : Result Handed BookFault) → IsWorld old
     → IsHanded question words old.book book result → IsWorld (record { book = book; workers = old.workers })
 world-handed question words old book (Ok handed) good hand =
     moved-world old book good (moves-event old book (answer_event old.book question words) good (ap (λ b. b.client) hand.after) (ap (λ b. b.store) hand.after)
-    (ap (λ b. b.journal) hand.after) (ap (λ b. b.entries) hand.after) (ap (λ b. b.queue) hand.after))
+    (ap (λ b. b.first) hand.after) (ap (λ b. b.journal) hand.after) (ap (λ b. b.entries) hand.after) (ap (λ b. b.queue) hand.after))
 world-handed question words old book (Err fault) good hand = same-world old book good hand.unchanged
 
 -- ---- an entry is forgotten
@@ -122,7 +129,7 @@ moves-forgotten question old good = by (entry_of old.book.entries question) refl
           ];
         };
         held = λ id held. held;
-        made = All-filter (λ e. not (is_of question e)) (λ e. e.id < length old.book.journal) es good.made;
+        made = All-filter (λ e. not (is_of question e)) (λ e. e.id < next_event old.book) es good.made;
         ids = AllPairs-filter (λ a b. a.id < b.id) (λ e. not (is_of question e)) es good.ids;
       }
   by (Some e) is =
@@ -141,7 +148,7 @@ moves-forgotten question old good = by (entry_of old.book.entries question) refl
           ];
         };
         held = λ id held. (was_leased e.id old.book.queue (with (Some e)).queue spent id held).1;
-        made = All-filter (λ e. not (is_of question e)) (λ e. e.id < length old.book.journal) es good.made;
+        made = All-filter (λ e. not (is_of question e)) (λ e. e.id < next_event old.book) es good.made;
         ids = AllPairs-filter (λ a b. a.id < b.id) (λ e. not (is_of question e)) es good.ids;
       }
 
@@ -151,3 +158,25 @@ world-forgotten question old book (Ok done) good forget =
     subst (λ (b : BookState). IsWorld (record { book = b; workers = old.workers })) (sym forget.after)
     (moved-world old (after_forget question old.book) good (moves-forgotten question old good))
 world-forgotten question old book (Err fault) good forget = same-world old book good forget.unchanged
+
+-- ---- the page is turned
+
+-- the number of the next event stays
+moves-turned : (old : WorldState) → IsWorld old → Moves old.book (after_turn old.book)
+moves-turned old good =
+    let same : next_event (after_turn old.book) ≡ next_event old.book = omega arith in
+    record {
+      client = refl;
+      read = λ items was. was;
+      leases = λ id out. record { made = omega (arith, out.made, same); leased = out.leased };
+      held = λ id held. held;
+      made = made-later (next_event old.book) (next_event (after_turn old.book)) old.book.entries (omega (arith, same)) good.made;
+      ids = good.ids;
+    }
+
+pub world-turned : (old : WorldState) (book : BookState) (result : Result PageState BookFault) → IsWorld old
+    → IsTurned old.book book result → IsWorld (record { book = book; workers = old.workers })
+world-turned old book (Ok page) good turn =
+    subst (λ (b : BookState). IsWorld (record { book = b; workers = old.workers })) (sym turn.after)
+    (moved-world old (after_turn old.book) good (moves-turned old good))
+world-turned old book (Err fault) good turn = same-world old book good turn.unchanged

@@ -1,5 +1,5 @@
 -- That each answer is right, by the plain machine alone.
-use Rattle.std.proofs.Common.{◌≡◌, ◌≢◌, ◌⊎◌, ℕ, ◌<◌, Bool, true, false, List, [], ◌∷◌, ◌++◌, set, length, Option, Some, None, option_map, Result, Ok, Err, IfSome, inl, inr, refl, sym, ap, subst, ◌∙◌, append_assoc, append-nil}
+use Rattle.std.proofs.Common.{◌≡◌, ◌≢◌, ◌⊎◌, ℕ, ◌<◌, Bool, true, false, List, [], ◌∷◌, ◌++◌, set, length, Option, Some, None, option_map, Result, Ok, Err, IfSome, inl, inr, refl, sym, ap, subst, ◌∙◌}
 use Rattle.std.proofs.lemmas.Bool.{cond-true, cond-false, eq-eqb}
 use Rattle.std.proofs.lemmas.Option.{none-some, same_Some}
 use Rattle.sipl_choice.specs.Abilities.{Client}
@@ -12,6 +12,7 @@ use Rattle.sipl_plans.specs.Findings.{Found, IsFound}
 use Rattle.sipl_book.specs.Book.{BookState, state_of}
 use Rattle.sipl_book.specs.Calls.{IsChanged, MovesBoard, IsHanded, IsCommitted, IsSettled, IsForgotten, after_give_back, is_renumbered}
 use Rattle.sipl_book.specs.Machine.{State, answer_in}
+use Rattle.sipl_book.specs.Pages.{IsTurned, PageState, extent_of}
 use Rattle.sipl_book.specs.declared.edit.Edit.{Edit}
 use Rattle.sipl_book.specs.declared.event.Event.{Event}
 use Rattle.sipl_book.specs.declared.event.Event.TheVariants.{Answer as Answers}
@@ -22,16 +23,16 @@ use Rattle.sipl_book.specs.declared.outcome.Handed.{Handed}
 use Rattle.sipl_book.specs.declared.outcome.Uncommitted.{Uncommitted}
 use Rattle.sipl_book.proofs.Public.{differ}
 use Rattle.sipl_interleave.specs.Jobs.{Job, job_at, lease_of, new_run, with_item}
-use Rattle.sipl_interleave.specs.Plays.{AnswersAreRight, Asked, IsRightAnswer, Plays, after_event, asked_after, asked_by, event_of, events_of, with_event}
+use Rattle.sipl_interleave.specs.Plays.{AnswersAreRight, Asked, IsRightAnswer, Plays, after_event, asked_after, asked_by, event_of, journal_after, journal_with, with_event}
 use Rattle.sipl_interleave.specs.Steps.{CallsBook, IsLeasedBy, IsMade, IsRead, IsStarted, IsStep, after_commit_by, commit_reply, is_memory, reply_of, settle_reply, worker_refusal}
 use Rattle.sipl_interleave.specs.World.{WorldState, after_return}
 use Rattle.sipl_interleave.specs.declared.act.Act.TheVariants.{Start as ToStart, Read as ToRead, Commit as ToCommit, Settle as ToSettle, Abandon as ToAbandon}
 use Rattle.sipl_interleave.specs.declared.fault.WorldFault.{WorldFault}
 use Rattle.sipl_interleave.specs.declared.fault.WorldFault.TheVariants.{Book as OfBook}
 use Rattle.sipl_interleave.specs.declared.reply.Reply.{Reply}
-use Rattle.sipl_interleave.specs.declared.reply.Reply.TheVariants.{Changed, Moved, Answered, Started, Read as ReadSet, Leased, Settled, Abandoned, Forgotten, Uncommitted as NotCommitted, Refused}
+use Rattle.sipl_interleave.specs.declared.reply.Reply.TheVariants.{Changed, Moved, Answered, Started, Read as ReadSet, Leased, Settled, Abandoned, Forgotten, Paged, Uncommitted as NotCommitted, Refused}
 use Rattle.sipl_interleave.specs.declared.step.Step.{Step}
-use Rattle.sipl_interleave.specs.declared.step.Step.TheVariants.{Change, Hold, Release, Advance, Hand, Start, Read, Commit, Lease, Settle, Abandon, Forget}
+use Rattle.sipl_interleave.specs.declared.step.Step.TheVariants.{Change, Hold, Release, Advance, Hand, Start, Read, Commit, Lease, Settle, Abandon, Forget, Page}
 use Rattle.sipl_interleave.proofs.Jobs.{allowed, commit-job, own_or_other}
 use Rattle.sipl_interleave.proofs.Working.{IsSpent, gone_or_not, spent-by_settling}
 
@@ -44,7 +45,7 @@ pub record IsRight (asked : Asked) (step : Step) (old new : WorldState) (reply :
   pub client : new.book.client ≡ old.book.client
   pub held : new.book.held ≡ old.book.held
   pub state : state_of new.book ≡ after_event (event_of asked step reply) (state_of old.book)
-  pub journal : new.book.journal ≡ old.book.journal ++ with_event (event_of asked step reply) []
+  pub journal : new.book.journal ≡ journal_with asked step reply old.book.journal
   pub answer : IsRightAnswer old.book.client old.book.held (state_of old.book) asked step reply
   pub knows : Knows (asked_after step reply asked) new.workers
 
@@ -53,6 +54,7 @@ pub record IsRight (asked : Asked) (step : Step) (old new : WorldState) (reply :
 -- a reply that shows no event
 pub record IsQuiet (asked : Asked) (step : Step) (old : WorldState) (reply : Reply) : Type 0 where
   pub event : event_of asked step reply ≡ None
+  pub journal : (events : List Event) → journal_with asked step reply events ≡ events
   pub answer : IsRightAnswer old.book.client old.book.held (state_of old.book) asked step reply
   pub asking : asked_after step reply asked ≡ asked
 
@@ -63,7 +65,7 @@ quiet asked step old new reply none client held state journal knows =
       client = client;
       held = held;
       state = state ∙ ap (λ (e : Option Event). after_event e (state_of old.book)) (sym none.event);
-      journal = journal ∙ sym (append-nil old.book.journal) ∙ ap (λ (e : Option Event). old.book.journal ++ with_event e []) (sym none.event);
+      journal = journal ∙ sym (none.journal old.book.journal);
       answer = none.answer;
       knows = subst (λ (a : Asked). Knows a new.workers) (sym none.asking) knows;
     }
@@ -76,7 +78,7 @@ same asked step old new reply none knows is =
     (ap (λ (x : WorldState). x.book.journal) is) (subst (λ (ws : List (Option Job)). Knows asked ws) (ap (λ (x : WorldState). x.workers) (sym is)) knows)
 
 refused : (asked : Asked) (step : Step) (old : WorldState) (fault : WorldFault) → IsQuiet asked step old (Refused fault)
-refused asked step old fault = record { event = refl; answer = tt; asking = refl }
+refused asked step old fault = record { event = refl; journal = λ _. refl; answer = tt; asking = refl }
 
 -- ---- the workers
 
@@ -196,9 +198,21 @@ module _ (asked : Asked) (old new : WorldState) (knows : Knows asked old.workers
   forgotten : (question : Question) (result : Result (Unit {0}) BookFault) → CallsBook (IsForgotten question) old new result
       → IsRight asked (Forget question) old new (reply_of (λ _. Forgotten) result)
   forgotten question (Ok done) made =
-      quiet asked (Forget question) old new Forgotten (record { event = refl; answer = tt; asking = refl }) (ap (λ (b : BookState). b.client) made.call.after) (ap (λ (b : BookState). b.held) made.call.after)
+      quiet asked (Forget question) old new Forgotten (record { event = refl; journal = λ _. refl; answer = tt; asking = refl }) (ap (λ (b : BookState). b.client) made.call.after) (ap (λ (b : BookState). b.held) made.call.after)
       (ap state_of made.call.after) (ap (λ (b : BookState). b.journal) made.call.after) (with-workers made.workers)
   forgotten question (Err fault) made = unmoved (Forget question) fault made.call.unchanged made.workers
+
+  turned : (result : Result PageState BookFault) → CallsBook IsTurned old new result → IsRight asked Page old new (reply_of (λ page. Paged (extent_of page)) result)
+  turned (Ok page) made =
+      record {
+        client = ap (λ (b : BookState). b.client) made.call.after;
+        held = ap (λ (b : BookState). b.held) made.call.after;
+        state = ap state_of made.call.after;
+        journal = ap (λ (b : BookState). b.journal) made.call.after;
+        answer = tt;
+        knows = with-workers made.workers;
+      }
+  turned (Err fault) made = unmoved Page fault made.call.unchanged made.workers
 
   -- ---- the steps of a worker
 
@@ -209,7 +223,7 @@ module _ (asked : Asked) (old new : WorldState) (knows : Knows asked old.workers
         client = ap (λ (b : BookState). b.client) made.book;
         held = ap (λ (b : BookState). b.held) made.book;
         state = ap state_of made.book;
-        journal = ap (λ (b : BookState). b.journal) made.book ∙ sym (append-nil old.book.journal);
+        journal = ap (λ (b : BookState). b.journal) made.book;
         answer = tt;
         knows = subst (λ (ws : List (Option Job)). Knows (asked_after (Start w question) Started asked) ws) (sym made.workers)
             (keeps-start asked old.workers w question old.book.client knows within);
@@ -218,7 +232,7 @@ module _ (asked : Asked) (old new : WorldState) (knows : Knows asked old.workers
 
   read : (w : ℕ) (result : Result Item BookFault) → w < length old.workers → IsRead w old new result → IsRight asked (Read w) old new (reply_of ReadSet result)
   read w (Ok item) within made =
-      quiet asked (Read w) old new (ReadSet item) (record { event = refl; answer = tt; asking = refl }) (ap (λ (b : BookState). b.client) made.book) (ap (λ (b : BookState). b.held) made.book)
+      quiet asked (Read w) old new (ReadSet item) (record { event = refl; journal = λ _. refl; answer = tt; asking = refl }) (ap (λ (b : BookState). b.client) made.book) (ap (λ (b : BookState). b.held) made.book)
       (ap state_of made.book) (ap (λ (b : BookState). b.journal) made.book)
       (subst (λ (ws : List (Option Job)). Knows asked ws) (sym made.workers) (keeps-read asked old.workers w item knows within))
   read w (Err fault) within made =
@@ -228,7 +242,7 @@ module _ (asked : Asked) (old new : WorldState) (knows : Knows asked old.workers
   lent : (w : ℕ) (result : Result (ℕ × Question) BookFault) → w < length old.workers → IsLeasedBy w old new result
       → IsRight asked (Lease w) old new (reply_of (λ leased. Leased leased.1) result)
   lent w (Ok leased) within made =
-      quiet asked (Lease w) old new (Leased leased.1) (record { event = refl; answer = tt; asking = refl }) (ap (λ (b : BookState). b.client) made.lease.after) (ap (λ (b : BookState). b.held) made.lease.after)
+      quiet asked (Lease w) old new (Leased leased.1) (record { event = refl; journal = λ _. refl; answer = tt; asking = refl }) (ap (λ (b : BookState). b.client) made.lease.after) (ap (λ (b : BookState). b.held) made.lease.after)
       (ap state_of made.lease.after) (ap (λ (b : BookState). b.journal) made.lease.after)
       (subst (λ (ws : List (Option Job)). Knows asked ws) (sym made.workers)
       (keeps-lent asked old.workers w (record { run = new_run leased.1 old.book.client; lease = Some leased.0 }) leased.0 knows within refl))
@@ -247,7 +261,7 @@ module _ (asked : Asked) (old new : WorldState) (knows : Knows asked old.workers
         held = ap (λ (b : BookState). b.held) commit.after;
         state = ap state_of commit.after ∙ ap (λ (e : Option Event). after_event e (state_of old.book)) (sym event);
         journal = ap (λ (b : BookState). b.journal) commit.after ∙ ap (λ answer. old.book.journal ++ Answers found.question words answer ∷ []) (sym commit.answer)
-            ∙ ap (λ (e : Option Event). old.book.journal ++ with_event e []) (sym event);
+            ∙ ap (λ (e : Option Event). with_event e old.book.journal) (sym event);
         answer = ap (λ (o : Option Question). option_map (λ (question : Question × List ℕ). answer_in (state_of old.book) question.0 old.book.client old.book.held question.1) (option_map (λ (q : Question). (q, words)) o)) question
             ∙ ap (λ answer. Some answer) (sym commit.answer);
         knows = subst (λ (ws : List (Option Job)). Knows asked ws) (sym workers) (keeps-idle asked old.workers w knows within);
@@ -259,7 +273,7 @@ module _ (asked : Asked) (old new : WorldState) (knows : Knows asked old.workers
         (unmoved (Commit w words) Memory commit.unchanged (workers ∙ cond-true _ _ _ is))
     by false is =
         subst (IsRight asked (Commit w words) old new) (sym (cond-false _ _ _ is))
-        (quiet asked (Commit w words) old new (NotCommitted refusal) (record { event = refl; answer = tt; asking = refl }) (ap (λ (b : BookState). b.client) commit.unchanged) (ap (λ (b : BookState). b.held) commit.unchanged)
+        (quiet asked (Commit w words) old new (NotCommitted refusal) (record { event = refl; journal = λ _. refl; answer = tt; asking = refl }) (ap (λ (b : BookState). b.client) commit.unchanged) (ap (λ (b : BookState). b.held) commit.unchanged)
         (ap state_of commit.unchanged) (ap (λ (b : BookState). b.journal) commit.unchanged)
         (subst (λ (ws : List (Option Job)). Knows asked ws) (sym (workers ∙ cond-false _ _ _ is)) (keeps-idle asked old.workers w knows within)))
 
@@ -267,12 +281,12 @@ module _ (asked : Asked) (old new : WorldState) (knows : Knows asked old.workers
       → IsSettled is_renumbered id found old.book old.book new.book result → new.workers ≡ set old.workers w None
       → IsRight asked (Settle w) old new (settle_reply result)
   settled w id found (Ok done) within settle workers =
-      quiet asked (Settle w) old new Settled (record { event = refl; answer = tt; asking = refl }) (ap (λ (b : BookState). b.client) settle.after) (ap (λ (b : BookState). b.held) settle.after)
+      quiet asked (Settle w) old new Settled (record { event = refl; journal = λ _. refl; answer = tt; asking = refl }) (ap (λ (b : BookState). b.client) settle.after) (ap (λ (b : BookState). b.held) settle.after)
       (ap state_of settle.after) (ap (λ (b : BookState). b.journal) settle.after)
       (subst (λ (ws : List (Option Job)). Knows asked ws) (sym workers) (keeps-idle asked old.workers w knows within))
   settled w id found (Err refusal) within settle workers =
       let after = spent-by_settling id found old.book new.book (Err refusal) settle in
-      quiet asked (Settle w) old new (NotCommitted refusal) (record { event = refl; answer = tt; asking = refl }) after.client after.held
+      quiet asked (Settle w) old new (NotCommitted refusal) (record { event = refl; journal = λ _. refl; answer = tt; asking = refl }) after.client after.held
       (after_state after) after.journal
       (subst (λ (ws : List (Option Job)). Knows asked ws) (sym workers) (keeps-idle asked old.workers w knows within))
     where
@@ -292,7 +306,7 @@ module _ (asked : Asked) (old new : WorldState) (knows : Knows asked old.workers
       → IsRight asked (Abandon w) old new Abandoned
   abandoned w within book workers =
       let worker = job_at old.workers w in
-      quiet asked (Abandon w) old new Abandoned (record { event = refl; answer = tt; asking = refl })
+      quiet asked (Abandon w) old new Abandoned (record { event = refl; journal = λ _. refl; answer = tt; asking = refl })
       (ap (λ (b : BookState). b.client) book ∙ returned-book worker old.book (λ b. b.client ≡ old.book.client) refl (λ id. refl))
       (ap (λ (b : BookState). b.held) book ∙ returned-book worker old.book (λ b. b.held ≡ old.book.held) refl (λ id. refl))
       (ap state_of book ∙ returned-book worker old.book (λ b. state_of b ≡ state_of old.book) refl (λ id. refl))
@@ -309,6 +323,7 @@ made-right asked (Release endpoint) old new reply knows none made = subst (IsRig
 made-right asked (Advance to) old new reply knows none made = subst (IsRight asked (Advance to) old new) (sym made.shown) (advanced asked old new knows to made.result made.holds)
 made-right asked (Hand question words) old new reply knows none made = subst (IsRight asked (Hand question words) old new) (sym made.shown) (handed asked old new knows question words made.result made.holds)
 made-right asked (Forget question) old new reply knows none made = subst (IsRight asked (Forget question) old new) (sym made.shown) (forgotten asked old new knows question made.result made.holds)
+made-right asked Page old new reply knows none made = subst (IsRight asked Page old new) (sym made.shown) (turned asked old new knows made.result made.holds)
 made-right asked (Start w question) old new reply knows none made =
     subst (IsRight asked (Start w question) old new) (sym made.shown) (started asked old new knows w question made.result (allowed ToStart old.workers w none).within made.holds)
 made-right asked (Read w) old new reply knows none made =
@@ -355,22 +370,15 @@ all-right asked (step ∷ steps) old new (reply ∷ replies) knows plays =
           (all-right (asked_after step reply asked) steps plays.0 new replies right.knows plays.2),
     )
 
-pub all-events : (asked : Asked) (steps : List Step) (old new : WorldState) (replies : List Reply) → Knows asked old.workers → Plays steps old replies new
-    → new.book.journal ≡ old.book.journal ++ events_of asked steps replies
-all-events asked [] old new [] knows plays = ap (λ (w : WorldState). w.book.journal) plays ∙ sym (append-nil old.book.journal)
-all-events asked [] old new (reply ∷ replies) knows plays = absurd plays
-all-events asked (step ∷ steps) old new [] knows plays = absurd plays
-all-events asked (step ∷ steps) old new (reply ∷ replies) knows plays =
+pub all-journal : (asked : Asked) (steps : List Step) (old new : WorldState) (replies : List Reply) → Knows asked old.workers → Plays steps old replies new
+    → new.book.journal ≡ journal_after asked steps replies old.book.journal
+all-journal asked [] old new [] knows plays = ap (λ (w : WorldState). w.book.journal) plays
+all-journal asked [] old new (reply ∷ replies) knows plays = absurd plays
+all-journal asked (step ∷ steps) old new [] knows plays = absurd plays
+all-journal asked (step ∷ steps) old new (reply ∷ replies) knows plays =
     let right = step-right asked step old plays.0 reply knows plays.1 in
-    let rest = events_of (asked_after step reply asked) steps replies in
-    all-events (asked_after step reply asked) steps plays.0 new replies right.knows plays.2
-    ∙ ap (λ events. events ++ rest) right.journal
-    ∙ append_assoc old.book.journal (with_event (event_of asked step reply) []) rest
-    ∙ ap (λ events. old.book.journal ++ events) (before (event_of asked step reply) rest)
-  where
-    before : (e : Option Event) (rest : List Event) → with_event e [] ++ rest ≡ with_event e rest
-    before None rest = refl
-    before (Some event) rest = refl
+    all-journal (asked_after step reply asked) steps plays.0 new replies right.knows plays.2
+    ∙ ap (journal_after (asked_after step reply asked) steps replies) right.journal
 
 pub asked-knows : (workers : List (Option Job)) → Knows (asked_by workers) workers
 asked-knows workers w job is own = ap (λ (o : Option Job). option_map (λ (j : Job). j.run.question) o) is

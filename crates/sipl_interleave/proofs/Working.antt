@@ -18,7 +18,7 @@ use Rattle.sipl_book.specs.Entries.{EntryState, entry_of, renewed}
 use Rattle.sipl_book.specs.Honesty.{WasGiven, WereRead}
 use Rattle.sipl_book.specs.Repairs.{entry_with}
 use Rattle.sipl_book.specs.declared.fault.BookFault.{BookFault}
-use Rattle.sipl_book.specs.declared.fault.BookFault.TheVariants.{JournalFull, NotCurrent, Stale, Unknown, Gone, Queue, Store as OfStore, Board, Memory}
+use Rattle.sipl_book.specs.declared.fault.BookFault.TheVariants.{JournalFull, NotCurrent, Stale, Unknown, Gone, PagesSpent, Queue, Store as OfStore, Board, Memory}
 use Rattle.sipl_book.specs.declared.outcome.Uncommitted.{Uncommitted}
 use Rattle.sipl_book.proofs.Public.{All-committed, AllPairs-map, id-renewed, ids-committed}
 use Rattle.sipl_interleave.specs.Jobs.{Job, job_at, lease_of, with_item}
@@ -26,6 +26,7 @@ use Rattle.sipl_interleave.specs.World.{IsGoodJob, IsLeaseOf, IsWorld, WorldStat
 use Rattle.sipl_interleave.proofs.Entries.{absent-committed, absent-map}
 use Rattle.sipl_interleave.proofs.Keeping.{Moves, changed-world, moved-world}
 use Rattle.sipl_interleave.proofs.Leases.{Leases, Spends, leased-renewal, leases-lease, spends-failure, spends-return, spends-settle, was_leased}
+use Rattle.sipl_interleave.proofs.Moving.{one_later}
 use Rattle.sipl_interleave.proofs.Numbers.{same_or_not}
 
 -- ---- a worker keeps its lease, or has none before and after
@@ -129,9 +130,9 @@ world-idle old book w good within to none = worked-world old book w None good wi
 moves-committed : (old : WorldState) (found : Found) (words : List ℕ) → IsWorld old → Moves old.book (after_commit found words old.book)
 moves-committed old found words good =
     let book = old.book in
-    let n = length book.journal in
+    let n = next_event book in
     let new = after_commit found words book in
-    let longer : length new.journal ≡ n + 1 = length-append book.journal _ in
+    let longer : next_event new ≡ n + 1 = one_later book new _ refl refl in
     let entry = entry_of book.entries found.question in
     record {
       client = refl;
@@ -144,7 +145,7 @@ moves-committed old found words good =
         ];
       };
       held = λ id held. sym (leased-renewal book.queue entry id) ∙ held;
-      made = All-committed (λ e. e.id < n) (λ e. e.id < length new.journal) found n book.max_entries book.entries
+      made = All-committed (λ e. e.id < n) (λ e. e.id < next_event new) found n book.max_entries book.entries
           (λ e below. omega (arith, below, longer)) (λ e below. omega (arith, below, longer)) (omega (arith, longer)) good.made;
       ids = ids-committed found n book.max_entries book.entries good.made good.ids;
     }
@@ -168,6 +169,7 @@ pub record IsSpent (id : ℕ) (old new : BookState) : Type 0 where
   pub client : new.client ≡ old.client
   pub held : new.held ≡ old.held
   pub store : new.store ≡ old.store
+  pub first : new.first ≡ old.first
   pub journal : new.journal ≡ old.journal
   pub absent : (k : ℕ) → entry_with old.entries k ≡ None → entry_with new.entries k ≡ None
   pub spends : Spends id old.queue new.queue
@@ -177,7 +179,7 @@ pub record IsSpent (id : ℕ) (old new : BookState) : Type 0 where
 pub world-spent : (old : WorldState) (book : BookState) (w id : ℕ) → IsWorld old → w < length old.workers → lease_of (job_at old.workers w) ≡ Some id
     → IsSpent id old.book book → IsWorld (record { book = book; workers = set old.workers w None })
 world-spent old book w id good within own spent =
-    let events : next_event book ≡ next_event old.book = ap length spent.journal in
+    let events : next_event book ≡ next_event old.book = λ i. spent.first i + length (spent.journal i) in
     changed-world old book w None good (record {
       within = within;
       client = spent.client;
@@ -209,6 +211,7 @@ spent-return id old =
       client = refl;
       held = refl;
       store = refl;
+      first = refl;
       journal = refl;
       absent = λ k none. none;
       spends = spends-return old.entries old.queue id;
@@ -222,6 +225,7 @@ spent-stale id old =
       client = refl;
       held = refl;
       store = refl;
+      first = refl;
       journal = refl;
       absent = λ k none. none;
       spends = spends-failure old.entries old.queue id;
@@ -235,6 +239,7 @@ spent-settled id found old =
       client = refl;
       held = refl;
       store = refl;
+      first = refl;
       journal = refl;
       absent = λ k none. absent-map (renewed found) (id-renewed found) old.entries k none;
       spends = spends-settle old.queue id;
@@ -252,6 +257,7 @@ gone_or_not JournalFull = inr (λ is. cc)
 gone_or_not NotCurrent = inr (λ is. cc)
 gone_or_not (Stale place) = inr (λ is. cc)
 gone_or_not Unknown = inr (λ is. cc)
+gone_or_not PagesSpent = inr (λ is. cc)
 gone_or_not (Queue fault) = inr (λ is. cc)
 gone_or_not (OfStore fault) = inr (λ is. cc)
 gone_or_not (Board fault) = inr (λ is. cc)

@@ -1,5 +1,5 @@
 -- The steps of a world in their order: each answer is right by the plain machine.
-use Rattle.std.specs.Prelude.{◌≡◌, ℕ, ◌==◌, List, [], ◌∷◌, if◌then◌else◌, Option, None, Some, option_map}
+use Rattle.std.specs.Prelude.{◌≡◌, ℕ, ◌==◌, List, [], ◌∷◌, ◌++◌, if◌then◌else◌, Option, None, Some, option_map}
 use Rattle.sipl_choice.specs.Abilities.{Client}
 use Rattle.sipl_uri.specs.declared.question.Question.{Question}
 use Rattle.sipl_outages.specs.declared.held.Held.{Held}
@@ -10,7 +10,7 @@ use Rattle.sipl_interleave.specs.World.{WorldState}
 use Rattle.sipl_book.specs.declared.event.Event.{Event}
 use Rattle.sipl_book.specs.declared.event.Event.TheVariants.{Change as Changes, Hold as Holds, Release as Releases, Advance as Advances, Answer as Answers}
 use Rattle.sipl_interleave.specs.declared.reply.Reply.{Reply}
-use Rattle.sipl_interleave.specs.declared.reply.Reply.TheVariants.{Changed, Moved, Answered, Started}
+use Rattle.sipl_interleave.specs.declared.reply.Reply.TheVariants.{Changed, Moved, Answered, Started, Paged}
 use Rattle.sipl_interleave.specs.declared.step.Step.{Step}
 use Rattle.sipl_interleave.specs.declared.step.Step.TheVariants.{Change, Hold, Release, Advance, Hand, Start, Commit}
 
@@ -69,10 +69,16 @@ abbrev pub after_event : Option Event → State → State
 after_event (Some event) state = after event state
 after_event None state = state
 
--- an event, if there is one, before others
+-- a journal with one more event, if there is one
 abbrev pub with_event : Option Event → List Event → List Event
-with_event (Some event) events = event ∷ events
-with_event None events = events
+with_event (Some event) journal = journal ++ event ∷ []
+with_event None journal = journal
+
+-- the journal after a step with its reply: it is empty where the page was turned, and else has the
+-- step's event, if there is one, as its last
+abbrev pub journal_with : Asked → Step → Reply → List Event → List Event
+journal_with asked step (Paged extent) journal = []
+journal_with asked step reply journal = with_event (event_of asked step reply) journal
 
 -- an answer that is handed out is that of the plain machine in this state, for the step's question
 -- and random words, by the policy on held endpoints
@@ -91,11 +97,11 @@ AnswersAreRight client held state asked (step ∷ steps) (reply ∷ replies) =
     (asked_after step reply asked) steps replies
 AnswersAreRight client held state asked steps replies = Unit {0}
 
--- the events of the steps with their replies, in their order
-abbrev pub events_of : Asked → List Step → List Reply → List Event
-events_of asked (step ∷ steps) (reply ∷ replies) =
-    with_event (event_of asked step reply) (events_of (asked_after step reply asked) steps replies)
-events_of asked steps replies = []
+-- the journal after the steps with their replies: the events since the last page, in their order
+abbrev pub journal_after : Asked → List Step → List Reply → List Event → List Event
+journal_after asked (step ∷ steps) (reply ∷ replies) journal =
+    journal_after (asked_after step reply asked) steps replies (journal_with asked step reply journal)
+journal_after asked steps replies journal = journal
 
 -- the questions that the workers look up
 abbrev pub asked_by : List (Option Job) → Asked

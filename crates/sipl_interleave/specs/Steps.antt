@@ -9,17 +9,18 @@ use Rattle.sipl_zonestore.specs.Store.{number_in}
 use Rattle.sipl_book.specs.Book.{BookState}
 use Rattle.sipl_book.specs.Calls.{CountsLooks, IsChanged, MovesBoard, IsHanded, IsCommitted, IsLeased, IsSettled, IsForgotten, after_look, is_renumbered, with_looks}
 use Rattle.sipl_book.specs.Honesty.{AreCurrent}
+use Rattle.sipl_book.specs.Pages.{IsTurned, extent_of}
 use Rattle.sipl_interleave.specs.Jobs.{Job, job_at, lease_of, new_run, refusal_of, wanted_by, with_item}
 use Rattle.sipl_interleave.specs.World.{WorldState, after_return}
 use Rattle.sipl_interleave.specs.declared.act.Act.TheVariants.{Start as ToStart, Read as ToRead, Commit as ToCommit, Settle as ToSettle, Abandon as ToAbandon}
 use Rattle.sipl_book.specs.declared.fault.BookFault.{BookFault}
-use Rattle.sipl_book.specs.declared.fault.BookFault.TheVariants.{JournalFull, NotCurrent, Stale, Unknown, Gone, Queue, Store, Board, Memory}
+use Rattle.sipl_book.specs.declared.fault.BookFault.TheVariants.{JournalFull, NotCurrent, Stale, Unknown, Gone, PagesSpent, Queue, Store, Board, Memory}
 use Rattle.sipl_book.specs.declared.outcome.Handed.{Handed}
 use Rattle.sipl_book.specs.declared.outcome.Uncommitted.{Uncommitted}
 use Rattle.sipl_interleave.specs.declared.reply.Reply.{Reply}
-use Rattle.sipl_interleave.specs.declared.reply.Reply.TheVariants.{Changed, Moved, Answered, Started, Read as ReadSet, Leased, Settled, Abandoned, Forgotten, Uncommitted as NotCommitted, Refused}
+use Rattle.sipl_interleave.specs.declared.reply.Reply.TheVariants.{Changed, Moved, Answered, Started, Read as ReadSet, Leased, Settled, Abandoned, Forgotten, Paged, Uncommitted as NotCommitted, Refused}
 use Rattle.sipl_interleave.specs.declared.step.Step.{Step}
-use Rattle.sipl_interleave.specs.declared.step.Step.TheVariants.{Change, Hold, Release, Advance, Hand, Start, Read, Commit, Lease, Settle, Abandon, Forget}
+use Rattle.sipl_interleave.specs.declared.step.Step.TheVariants.{Change, Hold, Release, Advance, Hand, Start, Read, Commit, Lease, Settle, Abandon, Forget, Page}
 use Rattle.sipl_interleave.specs.declared.fault.WorldFault.{WorldFault}
 use Rattle.sipl_interleave.specs.declared.fault.WorldFault.TheVariants.{Book as OfBook}
 
@@ -38,6 +39,7 @@ worker_refusal (Release endpoint) workers = None
 worker_refusal (Advance to) workers = None
 worker_refusal (Hand question words) workers = None
 worker_refusal (Forget question) workers = None
+worker_refusal Page workers = None
 
 -- the reply that shows the result of a call of the book
 abbrev pub reply_of : {A : Type 0} → (A → Reply) → Result A BookFault → Reply
@@ -100,6 +102,7 @@ is_memory NotCurrent = false
 is_memory (Stale place) = false
 is_memory Unknown = false
 is_memory Gone = false
+is_memory PagesSpent = false
 is_memory (Queue fault) = false
 is_memory (Store fault) = false
 is_memory (Board fault) = false
@@ -169,6 +172,7 @@ IsMade (Lease w) old new = Replies (λ leased. Leased leased.1) (IsLeasedBy w ol
 IsMade (Settle w) old new = IsSettledBy w old new
 IsMade (Abandon w) old new = IsAbandonedBy w old new
 IsMade (Forget question) old new = Replies (λ _. Forgotten) (CallsBook (IsForgotten question) old new)
+IsMade Page old new = Replies (λ page. Paged (extent_of page)) (CallsBook IsTurned old new)
 
 -- A step that a worker refuses changes nothing. Any other is made.
 pub record IsStep (step : Step) (old new : WorldState) (reply : Reply) : Type 0 where

@@ -1,5 +1,5 @@
 use crate::fault::WorldFault;
-use sipl_book::{Done, Handed, Uncommitted};
+use sipl_book::{Done, Extent, Handed, Uncommitted};
 use sipl_evidence::Item;
 use sipl_uri::Question;
 
@@ -24,6 +24,8 @@ pub enum Reply {
     Abandoned,
     /// An entry was forgotten.
     Forgotten,
+    /// The page was turned: the number of its first event, and how many events it has.
+    Paged(Extent),
     /// A finding was not committed or settled, and why.
     Uncommitted(Uncommitted),
     /// The step was refused.

@@ -30,4 +30,6 @@ pub enum Step {
     Abandon(usize),
     /// Forgets the entry of a question.
     Forget(Question),
+    /// Turns the page of the journal, and drops it.
+    Page,
 }

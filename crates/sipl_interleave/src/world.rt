@@ -1,8 +1,8 @@
 //! A world: a book and its workers, in which any steps can be made one after the other.
-ghost use Rattle.std.specs.Prelude.{◌≡◌, ◌≤◌, ◌^◌, ◌++◌, [], length, replicate, None, IfOk, OnOk, OnErr};
+ghost use Rattle.std.specs.Prelude.{◌≡◌, ◌≤◌, ◌-◌, ◌^◌, [], length, replicate, None, IfOk, OnOk, OnErr};
 ghost use Rattle.sipl_book.specs.Book.{BookState, new_book, state_of};
 ghost use Rattle.sipl_interleave.specs.Jobs.{Job, refusal_of};
-ghost use Rattle.sipl_interleave.specs.Plays.{AnswersAreRight, Plays, asked_by, events_of};
+ghost use Rattle.sipl_interleave.specs.Plays.{AnswersAreRight, Plays, asked_by, journal_after};
 ghost use Rattle.sipl_interleave.specs.Steps.{IsMade, IsRead, IsStep, worker_refusal};
 ghost use Rattle.sipl_interleave.specs.World.{IsWorld};
 
@@ -78,6 +78,7 @@ impl World {
         requires holds { limits.now.holds ≤ 4096 }
         requires first { 1 ≤ limits.now.next }
         requires last { limits.now.next ≤ 2 ^ 52 }
+        requires page { limits.now.first ≤ 2 ^ 52 - 2 ^ 20 }
         requires some { 1 ≤ workers }
         requires few { workers ≤ 64 }
         ensures { IfOk result (λ world. world ≡ record {
@@ -136,6 +137,7 @@ impl World {
             Step::Settle(worker) => self.settle(worker),
             Step::Abandon(worker) => self.abandon(worker),
             Step::Forget(question) => self.forget(&question),
+            Step::Page => self.page(),
         }
     }
 
@@ -156,7 +158,8 @@ impl World {
             | Step::Release(_)
             | Step::Advance(_)
             | Step::Hand(_, _)
-            | Step::Forget(_) => None,
+            | Step::Forget(_)
+            | Step::Page => None,
         }
     }
 
@@ -210,6 +213,15 @@ impl World {
     {
         match self.book.forget(question) {
             Ok(()) => Reply::Forgotten,
+            Err(fault) => Reply::Refused(WorldFault::Book(fault)),
+        }
+    }
+
+    fn page(&mut self) -> Reply
+        ensures { IsMade Step.Page self.old self.new result }
+    {
+        match self.book.turn_page() {
+            Ok(page) => Reply::Paged(page.extent()),
             Err(fault) => Reply::Refused(WorldFault::Book(fault)),
         }
     }
@@ -334,7 +346,7 @@ fn start_run(
 ///
 /// Each answer in the replies is what RFC 3263, 4, gives from scratch on the records and the holds to
 /// which the edits, holds, releases and moves of the clock lead that were accepted before it, by the
-/// book's policy on held endpoints.
+/// book's policy on held endpoints. The book's journal has the events since the last page.
 pub fn play(world: &mut World, steps: Vec<Step>) -> Result<Vec<Reply>, AllocError>
     ensures answers { IfOk result
         (λ replies. AnswersAreRight world.old.book.client world.old.book.held
@@ -342,8 +354,8 @@ pub fn play(world: &mut World, steps: Vec<Step>) -> Result<Vec<Reply>, AllocErro
     ensures steps { IfOk result
         (λ replies. Plays steps.items world.old replies.items world.new) }
     ensures journal { IfOk result (λ replies. world.new.book.journal
-        ≡ world.old.book.journal
-        ++ events_of (asked_by world.old.workers) steps.items replies.items) }
+        ≡ journal_after (asked_by world.old.workers) steps.items replies.items
+        world.old.book.journal) }
     ensures refused { OnErr result (world.new ≡ world.old) }
 {
     let mut replies = Vec::with_capacity(world.alloc, steps.len())?;

@@ -1,8 +1,9 @@
 -- The calls of a book, seen as those of the plain machine.
 use Rattle.std.proofs.Common.{◌≡◌, ◌≢◌, ◌⊎◌, ℕ, Bool, true, false, List, [], ◌∷◌, map, length, Option, None, Some, Result, Ok, Err, IfOk, IfErr, OnOk, OnErr, IsTrue, IsFalse, inl, inr, refl, sym, ap, subst, ◌∙◌, length-append}
 use Rattle.std.proofs.lemmas.List.Elements.{All-head, All-tail}
-use Rattle.std.specs.Prelude.{nat_le, option_map, if◌then◌else◌}
+use Rattle.std.specs.Prelude.{◌-◌, ◌^◌, nat_le, nat_lt, option_map, if◌then◌else◌}
 use Rattle.std.specs.Option.{option_or}
+use Rattle.std.specs.Result.{result_map_both}
 use Rattle.sipl_records.specs.Sets.{set_of}
 use Rattle.sipl_records.specs.declared.data.Data.{Data}
 use Rattle.sipl_records.specs.declared.record.Key.{Key}
@@ -17,19 +18,21 @@ use Rattle.sipl_zonestore.specs.Edits.{refusal_of as zones_refusal}
 use Rattle.sipl_zonestore.specs.Changes.{changed_count}
 use Rattle.sipl_zonestore.specs.Numbers.{next_after, number_refusal}
 use Rattle.sipl_book.specs.Machine.{zone_edit}
-use Rattle.sipl_book.specs.Book.{BookState, answer_now}
+use Rattle.sipl_book.specs.Book.{BookState, answer_now, next_event}
 use Rattle.sipl_book.specs.Calls.{IsChanged, MovesBoard, answer_event, board_event, recorded}
 use Rattle.sipl_book.specs.Entries.{has_current_entry}
 use Rattle.sipl_book.specs.Lookups.{AreDependencies, IsFound, IsKept, IsRepaired, after_reads}
+use Rattle.sipl_book.specs.Pages.{IsTurned, PageState, after_turn, extent_of, page_of, turn_refusal}
 use Rattle.sipl_book.specs.declared.edit.Edit.{Edit}
 use Rattle.sipl_book.specs.declared.event.Event.{Event}
 use Rattle.sipl_book.specs.declared.event.Event.TheVariants.{Change}
 use Rattle.sipl_book.specs.declared.fault.BookFault.{BookFault}
-use Rattle.sipl_book.specs.declared.fault.BookFault.TheVariants.{JournalFull, NotCurrent, Stale, Unknown, Gone, Queue, Store, Board, Memory}
+use Rattle.sipl_book.specs.declared.fault.BookFault.TheVariants.{JournalFull, NotCurrent, Stale, Unknown, Gone, PagesSpent, Queue, Store, Board, Memory}
 use Rattle.sipl_book.specs.declared.outcome.Done.{Done}
+use Rattle.sipl_book.specs.declared.outcome.Extent.{Extent}
 use Rattle.sipl_book.specs.declared.outcome.Handed.{Handed}
 use Rattle.sipl_lines.specs.Desk.{book_rules}
-use Rattle.sipl_lines.specs.PlainDesk.{EndsSo, PlainState, after_change, change_ending, change_refusal, edited, ending_of, find_ending, move_ending, move_refusal, plain_of, plain_rules, sets_listed, sets_read, unless_full, with_event}
+use Rattle.sipl_lines.specs.PlainDesk.{EndsSo, PlainState, after_change, change_ending, change_refusal, edited, ending_of, find_ending, move_ending, move_refusal, page_ending, plain_of, plain_rules, sets_listed, sets_read, unless_full, with_event}
 use Rattle.sipl_lines.proofs.Seen.{Implies, on_err, on_ok}
 
 -- ---- how a call ends
@@ -40,6 +43,7 @@ memory_or_not NotCurrent = inr (λ same. cc)
 memory_or_not (Stale place) = inr (λ same. cc)
 memory_or_not Unknown = inr (λ same. cc)
 memory_or_not Gone = inr (λ same. cc)
+memory_or_not PagesSpent = inr (λ same. cc)
 memory_or_not (Queue fault) = inr (λ same. cc)
 memory_or_not (Store fault) = inr (λ same. cc)
 memory_or_not (Board fault) = inr (λ same. cc)
@@ -88,8 +92,8 @@ recorded-plain event book = λ i. record (plain_of book) { events = length-appen
 -- ---- the answer to a question
 
 found_value : (question : Question) (words : List ℕ) (old : BookState) (outcome : Result Handed BookFault)
-    → IfOk outcome (λ handed. handed.number ≡ length old.journal) → IfOk outcome (λ handed. handed.answer ≡ answer_now old question words)
-    → IfOk outcome (λ handed. handed ≡ record { number = length old.journal; answer = answer_now old question words })
+    → IfOk outcome (λ handed. handed.number ≡ next_event old) → IfOk outcome (λ handed. handed.answer ≡ answer_now old question words)
+    → IfOk outcome (λ handed. handed ≡ record { number = next_event old; answer = answer_now old question words })
 found_value question words old (Ok handed) number answer = λ i. record { number = number i; answer = answer i }
 found_value question words old (Err e) number answer = tt
 
@@ -106,11 +110,11 @@ found_after current (Err e) question words old new event from_entry committed = 
 finds : (question : Question) (words : List ℕ) (old : BookState) (outcome : Result Handed BookFault) (new : BookState)
     → IsFound question words old new outcome → EndsSo (find_ending question words (plain_of old)) (plain_of old) outcome (plain_of new)
 finds question words old outcome new found =
-    ends_so (unless_full (plain_of old) None) (record { number = length old.journal; answer = answer_now old question words }) (with_event (plain_of old)) (plain_of old) outcome (plain_of new)
+    ends_so (unless_full (plain_of old) None) (record { number = next_event old; answer = answer_now old question words }) (with_event (plain_of old)) (plain_of old) outcome (plain_of new)
     found.accepted (found_value question words old outcome found.number found.answer)
     (found_after (has_current_entry old.entries question) outcome question words old new (answer_event old question words) found.from_entry found.committed)
     found.refused
-    (if_err outcome (λ e room same. ending_open (nat_le old.max_events (length old.journal)) None (record { number = length old.journal; answer = answer_now old question words }) (with_event (plain_of old)) (plain_of old) (λ none. cc) (room same)) found.memory)
+    (if_err outcome (λ e room same. ending_open (nat_le old.max_events (length old.journal)) None (record { number = next_event old; answer = answer_now old question words }) (with_event (plain_of old)) (plain_of old) (λ none. cc) (room same)) found.memory)
     (on_err outcome (ap plain_of) found.unchanged)
 
 -- ---- an edit
@@ -121,10 +125,10 @@ zones_fault edit plain =
     option_or (zones_refusal plain.max_records (zone_edit edit) plain.zones) (number_refusal plain.zones.records (edited edit plain).records plain.next)
 
 changed_value : (edit : Edit) (old new : BookState) (outcome : Result Done BookFault)
-    → IfOk outcome (λ done. done.number ≡ length old.journal)
+    → IfOk outcome (λ done. done.number ≡ next_event old)
     → IfOk outcome (λ done. done.changed ≡ changed_count old.store.zones.records new.store.zones.records)
     → OnOk outcome (new.store.zones ≡ edited edit (plain_of old))
-    → IfOk outcome (λ done. done ≡ record { number = length old.journal; changed = changed_count old.store.zones.records (edited edit (plain_of old)).records })
+    → IfOk outcome (λ done. done ≡ record { number = next_event old; changed = changed_count old.store.zones.records (edited edit (plain_of old)).records })
 changed_value edit old new (Ok done) number changed zones =
     let count = changed ∙ ap (λ z. changed_count old.store.zones.records z.records) zones in
     λ i. record { number = number i; changed = count i }
@@ -143,6 +147,7 @@ changed_after edit old new (Ok done) is =
       max_records = is.max_records i;
       max_holds = (is.board i).max_holds;
       max_events = is.max_events i;
+      first = is.first i;
       events = events i;
       next = next i;
     }
@@ -152,12 +157,12 @@ changes : (edit : Edit) (old : BookState) (outcome : Result Done BookFault) (new
     → IsChanged edit old new outcome → EndsSo (change_ending edit (plain_of old)) (plain_of old) outcome (plain_of new)
 changes edit old outcome new is =
     ends_so (change_refusal edit (plain_of old))
-    (record { number = length old.journal; changed = changed_count old.store.zones.records (edited edit (plain_of old)).records })
+    (record { number = next_event old; changed = changed_count old.store.zones.records (edited edit (plain_of old)).records })
     (after_change edit (plain_of old)) (plain_of old) outcome (plain_of new)
     is.accepted (changed_value edit old new outcome is.number is.changed is.zones) (changed_after edit old new outcome is)
     is.refused
     (if_err outcome (λ e room same. ending_open (nat_le old.max_events (length old.journal)) (option_map Store (zones_fault edit (plain_of old)))
-    (record { number = length old.journal; changed = changed_count old.store.zones.records (edited edit (plain_of old)).records })
+    (record { number = next_event old; changed = changed_count old.store.zones.records (edited edit (plain_of old)).records })
     (after_change edit (plain_of old)) (plain_of old) (of_the_store (zones_fault edit (plain_of old))) (room same)) is.memory)
     (on_err outcome (ap plain_of) is.unchanged)
 
@@ -167,10 +172,10 @@ moves : (event : BoardEvent) (old : BookState) (outcome : Result ℕ BookFault) 
     → MovesBoard event old new outcome → EndsSo (move_ending event (plain_of old)) (plain_of old) outcome (plain_of new)
 moves event old outcome new is =
     let moved : BookState = record old { board = record { holds = after_hold event old.board.holds; max_holds = old.board.max_holds } } in
-    ends_so (move_refusal event (plain_of old)) (length old.journal) (with_event (plain_of moved)) (plain_of old) outcome (plain_of new)
+    ends_so (move_refusal event (plain_of old)) (next_event old) (with_event (plain_of moved)) (plain_of old) outcome (plain_of new)
     is.accepted is.number (on_ok outcome (λ after. ap plain_of after ∙ recorded-plain (board_event event) moved) is.after)
     is.refused
-    (if_err outcome (λ e room same. ending_open (nat_le old.max_events (length old.journal)) (option_map Board (hold_refusal old.board.max_holds event old.board.holds)) (length old.journal) (with_event (plain_of moved)) (plain_of old)
+    (if_err outcome (λ e room same. ending_open (nat_le old.max_events (length old.journal)) (option_map Board (hold_refusal old.board.max_holds event old.board.holds)) (next_event old) (with_event (plain_of moved)) (plain_of old)
     (of_the_board (hold_refusal old.board.max_holds event old.board.holds)) (room same)) is.memory)
     (on_err outcome (ap plain_of) is.unchanged)
 
@@ -204,5 +209,32 @@ repairs : (old : BookState) (outcome : Result (Unit {0}) BookFault) (new : BookS
 repairs old (Ok done) new is = inl (refl, ap plain_of is.renewed.others)
 repairs old (Err e) new is = inr (λ same. cc, ap Err is.failed, ap plain_of is.renewed.others)
 
+-- ---- a page
+
+-- the fault of a page is not B3
+not_full : (spent : Bool) → (if spent then Some PagesSpent else None) ≢ Some JournalFull
+not_full true same = cc
+not_full false same = cc
+
+page_open : {A : Type 0} (fault : Option BookFault) (value : A) (after before : PlainState) → fault ≢ Some JournalFull → (ending_of fault value after before).0 ≢ Err JournalFull
+page_open None value after before other same = cc
+page_open (Some e) value after before other same = other (cc)
+
+turns : (old : BookState) (turned : Result PageState BookFault) (new : BookState)
+    → IsTurned old new turned → EndsSo (page_ending (plain_of old)) (plain_of old) (result_map_both extent_of (λ fault. fault) turned) (plain_of new)
+turns old (Ok page) new is =
+    ends_so (turn_refusal old) (extent_of (page_of old)) (plain_of (after_turn old)) (plain_of old) (Ok (extent_of page)) (plain_of new)
+    is.accepted (ap extent_of is.page) (ap plain_of is.after) tt tt tt
+turns old (Err e) new is =
+    ends_so (turn_refusal old) (extent_of (page_of old)) (plain_of (after_turn old)) (plain_of old) (Err e) (plain_of new)
+    tt tt tt is.refused
+    (λ same. page_open (turn_refusal old) (extent_of (page_of old)) (plain_of (after_turn old)) (plain_of old) (not_full (nat_lt (2 ^ 52 - 2 ^ 20) (next_event old))))
+    (ap plain_of is.unchanged)
+
+pages : (old : BookState) (outcome : Result Extent BookFault) (new : BookState)
+    → book_rules.Pages old outcome new → EndsSo (page_ending (plain_of old)) (plain_of old) outcome (plain_of new)
+pages old outcome new done =
+    subst (λ o. EndsSo (page_ending (plain_of old)) (plain_of old) o (plain_of new)) (sym done.2) (turns old done.0 new done.1)
+
 pub book_implies_plain : Implies plain_of book_rules plain_rules
-book_implies_plain = record { finds = finds; changes = changes; moves = moves; depends = depends; repairs = repairs; time = λ book now is. is; fault = λ fault. refl }
+book_implies_plain = record { finds = finds; changes = changes; moves = moves; depends = depends; repairs = repairs; pages = pages; time = λ book now is. is; fault = λ fault. refl }

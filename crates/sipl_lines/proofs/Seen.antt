@@ -26,6 +26,7 @@ use Rattle.sipl_failover.specs.declared.fault.FailoverFault.{FailoverFault}
 use Rattle.sipl_book.specs.declared.edit.Edit.{Edit}
 use Rattle.sipl_book.specs.declared.edit.Edit.TheVariants.{Load, Unload}
 use Rattle.sipl_book.specs.declared.outcome.Done.{Done}
+use Rattle.sipl_book.specs.declared.outcome.Extent.{Extent}
 use Rattle.sipl_book.specs.declared.outcome.Handed.{Handed}
 use Rattle.sipl_lines.specs.declared.desk_commands.HoldChange.{HoldChange}
 use Rattle.sipl_lines.specs.declared.desk_commands.HoldChange.TheVariants as change
@@ -39,14 +40,14 @@ use Rattle.sipl_lines.specs.declared.server.ServeFault.{ServeFault}
 use Rattle.sipl_lines.specs.declared.server.ServeFault.TheVariants.{Read, Write, TooManyTurns, Memory}
 use Rattle.sipl_lines.specs.declared.tapped.Tapped.{Tapped}
 use Rattle.sipl_lines.specs.Tapped.{tapped_inner}
-use Rattle.sipl_lines.specs.Commands.{Keeps, Loads, Unloads, EditsRecord, record_edit, AnswersUri, ListsUri, Repairs, MovesTo, ChangesHold, change_words, change_event, result_text}
+use Rattle.sipl_lines.specs.Commands.{Keeps, Loads, Unloads, EditsRecord, record_edit, AnswersUri, ListsUri, Repairs, TurnsPage, MovesTo, ChangesHold, change_words, change_event, result_text}
 use Rattle.sipl_lines.specs.Calls.{CallDesk, with_call, hold_in, MakesHold, GoesOn, Hears, HearsOf, Ticks, TellsTime, SetsClock, OpensFor, is_open, CallsUnlessOpen, CallsUri}
 use Rattle.sipl_lines.specs.Desk.{DeskRules}
 use Rattle.sipl_lines.specs.Gathering.{gathering_of, after_line, at_end, lost}
 use Rattle.sipl_lines.specs.Items.{Item, line, end_of_input, items_of, complete_items}
 use Rattle.sipl_lines.specs.Replies.{Serves}
 use Rattle.sipl_lines.specs.ReplyText.{counts_line, refusal_line}
-use Rattle.sipl_lines.specs.Requests.{Request, nothing, unknown, too_long, zone, drop, add, del, find, deps, repair, hold, release, clock, call, got, broke, quit, request_of}
+use Rattle.sipl_lines.specs.Requests.{Request, nothing, unknown, too_long, zone, drop, add, del, find, deps, repair, page, hold, release, clock, call, got, broke, quit, request_of}
 use Rattle.sipl_lines.specs.Serving.{ServesWithin, ServesDesk}
 use Rattle.sipl_lines.specs.ServeFault.{OnReadFault, OnTooManyTurns}
 use Rattle.sipl_lines.specs.Session.{SessionState, with_gathering, AtCall, AtDesk, Gathers, GathersOrLoses, LoadsGathered, MayReply, Obeys, Performs, TakesEnd, TakesItem, TakesLine, new_session, session_protocol}
@@ -65,6 +66,8 @@ pub record Implies {D E F : Type 0} (seen : D → E) (R : DeskRules D F) (R' : D
       → R.Depends question before outcome after → R'.Depends question (seen before) outcome (seen after)
   pub repairs : (before : D) (outcome : Result (Unit {0}) F) (after : D)
       → R.Repairs before outcome after → R'.Repairs (seen before) outcome (seen after)
+  pub pages : (before : D) (outcome : Result Extent F) (after : D)
+      → R.Pages before outcome after → R'.Pages (seen before) outcome (seen after)
   pub time : (state : D) (now : ℕ) → R.IsTime state now → R'.IsTime (seen state) now
   pub fault : (fault : F) → R.fault_text fault ≡ R'.fault_text fault
 
@@ -158,6 +161,9 @@ module _ {D E F : Type 0} (seen : D → E) (R : DeskRules D F) (R' : DeskRules E
 
   repairs : Carries seen (Repairs R) (Repairs R')
   repairs before text after done = (done.0, implies.repairs before done.0 after done.1, told _ done.0 text done.2)
+
+  turns_page : Carries seen (TurnsPage R) (TurnsPage R')
+  turns_page before text after done = (done.0, implies.pages before done.0 after done.1, told _ done.0 text done.2)
 
   moves_to : (reply : Octets) (event : BoardEvent) → Carries seen (MovesTo R reply event) (MovesTo R' reply event)
   moves_to reply event before text after done = (done.0, implies.moves event before done.0 after done.1, told _ done.0 text done.2)
@@ -255,6 +261,7 @@ module _ {D E F : Type 0} (seen : D → E) (R : DeskRules D F) (R' : DeskRules E
   performs (deps uri) before text after done =
       on_desk seen (ListsUri R (question_of uri)) (ListsUri R' (question_of uri)) (lists_uri (question_of uri)) before text after done
   performs repair before text after done = on_desk seen (Repairs R) (Repairs R') repairs before text after done
+  performs page before text after done = on_desk seen (TurnsPage R) (TurnsPage R') turns_page before text after done
   performs (hold endpoint ms) before text after done =
       on_desk seen (ChangesHold R (change.Hold ms) endpoint) (ChangesHold R' (change.Hold ms) endpoint) (changes_hold (change.Hold ms) endpoint) before text after done
   performs (release endpoint) before text after done =

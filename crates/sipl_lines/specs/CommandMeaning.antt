@@ -1,8 +1,8 @@
 -- What a command that was read asks for.
 use Rattle.std.specs.Prelude.{Option, unwrap_or}
 use Rattle.sipl_lines.specs.declared.command.Command.{Command}
-use Rattle.sipl_lines.specs.declared.command.Command.TheVariants.{Nothing, Unknown, TooLong, Zone, Drop, Add, Del, Find, Deps, Repair, Hold, Release, Clock, Call, Got, Broke, Quit}
-use Rattle.sipl_lines.specs.Requests.{Request, nothing, unknown, too_long, zone, drop, add, del, find, deps, repair, hold, release, clock, call, got, broke, quit}
+use Rattle.sipl_lines.specs.declared.command.Command.TheVariants.{Nothing, Unknown, TooLong, Zone, Drop, Add, Del, Find, Deps, Repair, Page, Hold, Release, Clock, Call, Got, Broke, Quit}
+use Rattle.sipl_lines.specs.Requests.{Request, nothing, unknown, too_long, zone, drop, add, del, find, deps, repair, page, hold, release, clock, call, got, broke, quit}
 
 -- the request of a command
 abbrev pub meaning_of : Command → Request
@@ -16,6 +16,7 @@ meaning_of (Del text) = del text.now
 meaning_of (Find uri draws) = find uri.now draws
 meaning_of (Deps uri) = deps uri.now
 meaning_of Repair = repair
+meaning_of Page = page
 meaning_of (Hold endpoint ms) = hold endpoint ms
 meaning_of (Release endpoint) = release endpoint
 meaning_of (Clock to) = clock to

@@ -20,6 +20,7 @@ use Rattle.sipl_outages.specs.Holds.BoardEvent.{Hold, Release}
 use Rattle.sipl_book.specs.declared.edit.Edit.{Edit}
 use Rattle.sipl_book.specs.declared.edit.Edit.TheVariants.{Load, Unload, Add, Remove}
 use Rattle.sipl_book.specs.declared.outcome.Done.{Done}
+use Rattle.sipl_book.specs.declared.outcome.Extent.{Extent}
 use Rattle.sipl_book.specs.declared.outcome.Handed.{Handed}
 use Rattle.sipl_lines.specs.declared.desk_commands.HoldChange.{HoldChange}
 use Rattle.sipl_lines.specs.declared.desk_commands.HoldChange.TheVariants as change
@@ -136,6 +137,14 @@ ListsUri rules (Ok question) before text after = Lists rules question before tex
 abbrev pub Repairs : {D F : Type 0} → DeskRules D F → D → Octets → D → Type 0
 Repairs rules before text after =
     Does rules rules.Repairs (λ done. counts_line (codes "ok repair") []) before text after
+
+-- the reply to an accepted page: the number of its first event, and how many events it has
+abbrev pub page_text : Extent → Octets
+page_text extent = counts_line (codes "ok page") (extent.first ∷ extent.count ∷ [])
+
+-- the journal is handed out as a page, and begins anew
+abbrev pub TurnsPage : {D F : Type 0} → DeskRules D F → D → Octets → D → Type 0
+TurnsPage rules before text after = Does rules rules.Pages page_text before text after
 
 -- a hold, a release or a move of the clock, and its reply
 abbrev pub MovesTo : {D F : Type 0} → DeskRules D F → Octets → BoardEvent → D → Octets → D → Type 0

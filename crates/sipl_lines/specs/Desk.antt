@@ -1,5 +1,6 @@
 -- What a desk does for a session, and the desk of a book.
 use Rattle.std.specs.Prelude.{◌≡◌, ℕ, List, Result}
+use Rattle.std.specs.Result.{result_map_both}
 use Rattle.sipl_names.specs.Labels.{Octets}
 use Rattle.sipl_evidence.specs.Items.{Item}
 use Rattle.sipl_uri.specs.declared.question.Question.{Question}
@@ -8,9 +9,11 @@ use Rattle.sipl_book.specs.Book.{BookState}
 use Rattle.sipl_book.specs.BookFault.{code_of as book_code}
 use Rattle.sipl_book.specs.Calls.{IsChanged, MovesBoard}
 use Rattle.sipl_book.specs.Lookups.{AreDependencies, IsFound, IsRepaired}
+use Rattle.sipl_book.specs.Pages.{IsTurned, PageState, extent_of}
 use Rattle.sipl_book.specs.declared.edit.Edit.{Edit}
 use Rattle.sipl_book.specs.declared.fault.BookFault.{BookFault}
 use Rattle.sipl_book.specs.declared.outcome.Done.{Done}
+use Rattle.sipl_book.specs.declared.outcome.Extent.{Extent}
 use Rattle.sipl_book.specs.declared.outcome.Handed.{Handed}
 
 -- what the calls of a desk may do, from a state to a state, with a value or a fault; which times, in
@@ -21,10 +24,11 @@ pub record DeskRules (D F : Type 0) : Type 1 where
   pub Moves : BoardEvent → D → Result ℕ F → D → Type 0
   pub Depends : Question → D → Result (List Item) F → D → Type 0
   pub Repairs : D → Result (Unit {0}) F → D → Type 0
+  pub Pages : D → Result Extent F → D → Type 0
   pub IsTime : D → ℕ → Type 0
   pub fault_text : F → Octets
 
--- what the calls of a book's desk do: those of the book
+-- what the calls of a book's desk do: those of the book. Of a page it returns the extent alone
 abbrev pub book_rules : DeskRules BookState BookFault
 book_rules =
     record {
@@ -33,6 +37,8 @@ book_rules =
       Moves = λ event old outcome new. MovesBoard event old new outcome;
       Depends = λ question old outcome new. AreDependencies question old new outcome;
       Repairs = λ old outcome new. IsRepaired old new outcome;
+      Pages = λ old outcome new. (turned : Result PageState BookFault) × IsTurned old new turned
+          × (outcome ≡ result_map_both extent_of (λ fault. fault) turned);
       IsTime = λ book now. now ≡ book.board.holds.now;
       fault_text = book_code;
     }

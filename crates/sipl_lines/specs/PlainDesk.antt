@@ -1,6 +1,7 @@
--- The plain machine of a session's text: zones, holds, the time, limits, a count of events and the
--- next number of a set. It has no kept answer, no queue and no lease.
-use Rattle.std.specs.Prelude.{◌≡◌, ◌≢◌, ◌⊎◌, ◌+◌, ℕ, List, length, map, nat_le, if◌then◌else◌, Option, None, Some, option_map, Result, Ok, Err}
+-- The plain machine of a session's text: zones, holds, the time, limits, the number of the page's first
+-- event, a count of the page's events and the next number of a set. It has no kept answer, no queue and
+-- no lease.
+use Rattle.std.specs.Prelude.{◌≡◌, ◌≢◌, ◌⊎◌, ◌+◌, ◌-◌, ◌^◌, ℕ, List, length, map, nat_le, nat_lt, if◌then◌else◌, Option, None, Some, option_map, Result, Ok, Err}
 use Rattle.std.specs.Option.{option_or}
 use Rattle.sipl_records.specs.Sets.{set_of}
 use Rattle.sipl_records.specs.declared.data.Data.{Data}
@@ -21,14 +22,15 @@ use Rattle.sipl_book.specs.BookFault.{code_of as book_code}
 use Rattle.sipl_book.specs.Machine.{zone_edit}
 use Rattle.sipl_book.specs.declared.edit.Edit.{Edit}
 use Rattle.sipl_book.specs.declared.fault.BookFault.{BookFault}
-use Rattle.sipl_book.specs.declared.fault.BookFault.TheVariants.{JournalFull, Store, Board, Memory}
+use Rattle.sipl_book.specs.declared.fault.BookFault.TheVariants.{JournalFull, PagesSpent, Store, Board, Memory}
 use Rattle.sipl_book.specs.declared.outcome.Done.{Done}
+use Rattle.sipl_book.specs.declared.outcome.Extent.{Extent}
 use Rattle.sipl_book.specs.declared.outcome.Handed.{Handed}
 use Rattle.sipl_lines.specs.Desk.{DeskRules}
 
 -- the client's abilities, what becomes of held endpoints, the zones with their records, the holds with
--- the time, the maxima of records, holds and events, how many events there were, and the next number
--- of a set
+-- the time, the maxima of records, holds and events, the number of the first event since the last page,
+-- how many events there were since then, and the next number of a set
 pub record PlainState : Type 0 where
   pub client : Client
   pub held : Held
@@ -37,6 +39,7 @@ pub record PlainState : Type 0 where
   pub max_records : ℕ
   pub max_holds : ℕ
   pub max_events : ℕ
+  pub first : ℕ
   pub events : ℕ
   pub next : ℕ
 
@@ -51,6 +54,7 @@ plain_of book =
       max_records = book.store.max_records;
       max_holds = book.board.max_holds;
       max_events = book.max_events;
+      first = book.first;
       events = length book.journal;
       next = book.store.next;
     }
@@ -69,6 +73,10 @@ abbrev pub unless_full : PlainState → Option BookFault → Option BookFault
 unless_full plain fault =
     if nat_le plain.max_events plain.events then Some JournalFull else fault
 
+-- the number of the next event
+abbrev pub next_number : PlainState → ℕ
+next_number plain = plain.first + plain.events
+
 -- the state after one more event
 abbrev pub with_event : PlainState → PlainState
 with_event plain = record plain { events = plain.events + 1 }
@@ -83,7 +91,7 @@ abbrev pub find_ending : Question → List ℕ → PlainState → Ending Handed
 find_ending question words plain =
     ending_of (unless_full plain None)
     (record {
-      number = plain.events;
+      number = next_number plain;
       answer = plan (sets_in plain) plain.holds question plain.client words plain.held;
     })
     (with_event plain) plain
@@ -113,7 +121,7 @@ abbrev pub change_ending : Edit → PlainState → Ending Done
 change_ending edit plain =
     ending_of (change_refusal edit plain)
     (record {
-      number = plain.events;
+      number = next_number plain;
       changed = changed_count plain.zones.records (edited edit plain).records;
     })
     (after_change edit plain) plain
@@ -126,8 +134,19 @@ move_refusal event plain =
 -- a hold, a release or a move of the clock, which is the next event
 abbrev pub move_ending : BoardEvent → PlainState → Ending ℕ
 move_ending event plain =
-    ending_of (move_refusal event plain) plain.events
+    ending_of (move_refusal event plain) (next_number plain)
     (with_event (record plain { holds = after_hold event plain.holds })) plain
+
+-- the fault of a page: the numbers of the next page's events may be over 2^52
+abbrev pub page_refusal : PlainState → Option BookFault
+page_refusal plain = if nat_lt (2 ^ 52 - 2 ^ 20) (next_number plain) then Some PagesSpent else None
+
+-- a page: the number of its first event and how many events it has; there are none after it
+abbrev pub page_ending : PlainState → Ending Extent
+page_ending plain =
+    ending_of (page_refusal plain)
+    (record { first = plain.first; count = plain.events })
+    (record plain { first = next_number plain; events = 0 }) plain
 
 -- the sets that the route of a question reads, in the order of reading (RFC 3263, 4)
 abbrev pub sets_read : Question → PlainState → List (Key × List Data)
@@ -156,6 +175,7 @@ plain_rules =
       Depends = λ question before outcome after.
           EndsSo (Ok (sets_read question before), before) before (sets_listed outcome) after;
       Repairs = λ before outcome after. EndsSo (Ok tt, before) before outcome after;
+      Pages = λ before outcome after. EndsSo (page_ending before) before outcome after;
       IsTime = λ plain now. now ≡ plain.holds.now;
       fault_text = book_code;
     }

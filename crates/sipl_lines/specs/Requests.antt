@@ -27,6 +27,7 @@ pub data Request : Type 0 where
   find : Octets → Result (List ℕ) DrawsFault → Request
   deps : Octets → Request
   repair : Request
+  page : Request
   hold : Result Endpoint AddressFault → ℕ → Request
   release : Result Endpoint AddressFault → Request
   clock : ℕ → Request
@@ -76,6 +77,11 @@ deps_request _ = unknown
 abbrev pub repair_request : List Octets → Request
 repair_request [] = repair
 repair_request _ = unknown
+
+-- `page`
+abbrev pub page_request : List Octets → Request
+page_request [] = page
+page_request _ = unknown
 
 -- the endpoint at an address, or the fault of the address's text
 abbrev pub endpoint_at : Transport → Octets → ℕ → Result Endpoint AddressFault
@@ -175,13 +181,14 @@ command_request word others text =
     else (if pointwise nat_eq word (codes "find") then find_request others
     else (if pointwise nat_eq word (codes "deps") then deps_request others
     else (if pointwise nat_eq word (codes "repair") then repair_request others
+    else (if pointwise nat_eq word (codes "page") then page_request others
     else (if pointwise nat_eq word (codes "hold") then hold_request others
     else (if pointwise nat_eq word (codes "release") then release_request others
     else (if pointwise nat_eq word (codes "clock") then clock_request others
     else (if pointwise nat_eq word (codes "call") then call_request others
     else (if pointwise nat_eq word (codes "got") then got_request others
     else (if pointwise nat_eq word (codes "broke") then broke_request others
-    else (if pointwise nat_eq word (codes "quit") then quit_request others else unknown)))))))))))))
+    else (if pointwise nat_eq word (codes "quit") then quit_request others else unknown))))))))))))))
 
 -- what the fields of a line ask for
 abbrev pub fields_request : List Octets → Octets → Request

@@ -24,6 +24,7 @@ pub data ScriptRequest : Type 0 where
   hold : Result Endpoint AddressFault → ℕ → ScriptRequest
   release : Result Endpoint AddressFault → ScriptRequest
   clock : ℕ → ScriptRequest
+  page : ScriptRequest
   hand : Octets → Result (List ℕ) DrawsFault → ScriptRequest
   start : ℕ → Octets → ScriptRequest
   read : ℕ → ScriptRequest
@@ -44,6 +45,7 @@ as_in_session (session.del r) = del r
 as_in_session (session.hold endpoint ms) = hold endpoint ms
 as_in_session (session.release endpoint) = release endpoint
 as_in_session (session.clock ms) = clock ms
+as_in_session session.page = page
 as_in_session _ = unknown
 
 -- the number of a worker, of 64 bits, if it is one

@@ -2,7 +2,7 @@
 use Rattle.std.specs.Prelude.{Ok, Err}
 use Rattle.sipl_lines.specs.declared.script_line.ScriptLine.{ScriptLine}
 use Rattle.sipl_lines.specs.declared.script_line.ScriptLine.TheVariants as line
-use Rattle.sipl_lines.specs.ScriptLines.{ScriptRequest, nothing, unknown, too_long, zone, drop, add, del, hold, release, clock, hand, start, read, commit, lease, settle, abandon, forget}
+use Rattle.sipl_lines.specs.ScriptLines.{ScriptRequest, nothing, unknown, too_long, zone, drop, add, del, hold, release, clock, page, hand, start, read, commit, lease, settle, abandon, forget}
 
 -- the request of a line
 abbrev pub meaning_of_line : ScriptLine → ScriptRequest
@@ -16,6 +16,7 @@ meaning_of_line (line.Del text) = del text.now
 meaning_of_line (line.Hold endpoint ms) = hold endpoint ms
 meaning_of_line (line.Release endpoint) = release endpoint
 meaning_of_line (line.Clock to) = clock to
+meaning_of_line line.Page = page
 meaning_of_line (line.Hand uri draws) = hand uri.now (Ok draws)
 meaning_of_line (line.HandFault uri fault) = hand uri.now (Err fault)
 meaning_of_line (line.Start w uri) = start w uri.now

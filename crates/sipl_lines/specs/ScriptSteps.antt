@@ -16,8 +16,8 @@ use Rattle.sipl_uri.specs.UriFault.{code_of as uri_code}
 use Rattle.sipl_uri.specs.declared.question.Question.{Question}
 use Rattle.sipl_book.specs.declared.edit.Edit.TheVariants.{Unload, Add, Remove}
 use Rattle.sipl_interleave.specs.declared.step.Step.{Step}
-use Rattle.sipl_interleave.specs.declared.step.Step.TheVariants.{Change, Hold, Release, Advance, Hand, Start, Read, Commit, Lease, Settle, Abandon, Forget}
-use Rattle.sipl_lines.specs.ScriptLines.{ScriptRequest, too_long, drop, add, del, hold, release, clock, hand, start, read, commit, lease, settle, abandon, forget}
+use Rattle.sipl_interleave.specs.declared.step.Step.TheVariants.{Change, Hold, Release, Advance, Page, Hand, Start, Read, Commit, Lease, Settle, Abandon, Forget}
+use Rattle.sipl_lines.specs.ScriptLines.{ScriptRequest, too_long, drop, add, del, hold, release, clock, page, hand, start, read, commit, lease, settle, abandon, forget}
 
 -- a value, or the code of the fault in its stead
 abbrev pub ValueOrCode : Type 0 → Type 0
@@ -62,6 +62,7 @@ step_of (del text) = step_for (λ r. Change (Remove r)) (record_in text)
 step_of (hold endpoint ms) = step_for (λ it. Hold it ms) (endpoint_in endpoint)
 step_of (release endpoint) = step_for Release (endpoint_in endpoint)
 step_of (clock ms) = Ok (Advance ms)
+step_of page = Ok Page
 step_of (hand uri draws) = hand_step (question_in uri) (words_in draws)
 step_of (start w uri) = step_for (Start w) (question_in uri)
 step_of (read w) = Ok (Read w)

@@ -17,9 +17,10 @@ use Rattle.sipl_book.specs.declared.fault.BookFault.{BookFault}
 use Rattle.sipl_book.specs.declared.fault.BookFault.TheVariants.{Stale}
 use Rattle.sipl_interleave.specs.WorldFault.{code_of}
 use Rattle.sipl_interleave.specs.declared.reply.Reply.{Reply}
-use Rattle.sipl_interleave.specs.declared.reply.Reply.TheVariants.{Changed, Moved, Answered, Started, Read, Leased, Settled, Abandoned, Forgotten, Uncommitted, Refused}
+use Rattle.sipl_interleave.specs.declared.reply.Reply.TheVariants.{Changed, Moved, Paged, Answered, Started, Read, Leased, Settled, Abandoned, Forgotten, Uncommitted, Refused}
 use Rattle.sipl_interleave.specs.declared.step.Step.{Step}
 use Rattle.sipl_interleave.specs.declared.step.Step.TheVariants as step
+use Rattle.sipl_lines.specs.Commands.{page_text}
 use Rattle.sipl_lines.specs.ReplyText.{HasTargets, answer_text, counts_line, number_field, refusal_line, word_field}
 use Rattle.sipl_lines.specs.declared.script_reply.Shown.{Shown}
 use Rattle.sipl_lines.specs.declared.script_reply.Shown.TheVariants as shown
@@ -102,6 +103,7 @@ uncommitted_text fault items = refusal_line (book_code fault)
 abbrev pub text_of_reply : Shown → Reply → Octets
 text_of_reply shown (Changed done) = changed_text shown done.changed
 text_of_reply shown (Moved number) = moved_text shown
+text_of_reply shown (Paged extent) = page_text extent
 text_of_reply shown (Answered handed) = answer_text handed.answer
 text_of_reply shown Started = counts_line (codes "ok start") []
 text_of_reply shown (Read item) = read_text item

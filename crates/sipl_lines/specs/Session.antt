@@ -11,12 +11,12 @@ use Rattle.sipl_failover.specs.FailoverRun.{FailoverRun}
 use Rattle.sipl_failover.specs.FailoverRun.Event.{Received, TransportFailed}
 use Rattle.sipl_lines.specs.declared.desk_commands.RecordEdit.TheVariants.{Add as AddRecord, Remove as RemoveRecord}
 use Rattle.sipl_lines.specs.declared.desk_commands.HoldChange.TheVariants as change
-use Rattle.sipl_lines.specs.Commands.{Keeps, Refuses, Fails, Loads, Unloads, EditsRecord, AnswersUri, ListsUri, Repairs, ChangesHold}
+use Rattle.sipl_lines.specs.Commands.{Keeps, Refuses, Fails, Loads, Unloads, EditsRecord, AnswersUri, ListsUri, Repairs, TurnsPage, ChangesHold}
 use Rattle.sipl_lines.specs.Calls.{CallDesk, CallsUri, HearsOf, SetsClock, with_call}
 use Rattle.sipl_lines.specs.Desk.{DeskRules}
 use Rattle.sipl_lines.specs.Items.{Item, line, end_of_input}
 use Rattle.sipl_lines.specs.Protocol.{Protocol}
-use Rattle.sipl_lines.specs.Requests.{Request, nothing, unknown, too_long, zone, drop, add, del, find, deps, repair, hold, release, clock, call, got, broke, quit, request_of}
+use Rattle.sipl_lines.specs.Requests.{Request, nothing, unknown, too_long, zone, drop, add, del, find, deps, repair, page, hold, release, clock, call, got, broke, quit, request_of}
 use Rattle.sipl_lines.specs.Gathering.{gathering_of, after_line, at_end, lost, keeps_lines}
 use Rattle.sipl_lines.specs.declared.gather.Gathered.{Gathered}
 use Rattle.sipl_lines.specs.declared.gather.Gathered.TheVariants.{Lines, BadApex, LongLine, Lost}
@@ -120,6 +120,7 @@ Performs rules (find uri draws) before text after =
 Performs rules (deps uri) before text after =
     AtDesk (ListsUri rules (question_of uri)) before text after
 Performs rules repair before text after = AtDesk (Repairs rules) before text after
+Performs rules page before text after = AtDesk (TurnsPage rules) before text after
 Performs rules (hold endpoint ms) before text after =
     AtDesk (ChangesHold rules (change.Hold ms) endpoint) before text after
 Performs rules (release endpoint) before text after =

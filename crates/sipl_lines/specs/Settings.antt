@@ -66,7 +66,7 @@ pub record IsWithinLimits (settings : Settings) : Type 0 where
   pub once : 1 ≤ settings.tries
   pub tries : settings.tries ≤ 16
 
--- what a book with these settings keeps at most; its sets are numbered from 1
+-- what a book with these settings keeps at most; its sets are numbered from 1, its events from 0
 abbrev pub limits_of : Settings → Limits
 limits_of settings = record {
   records = settings.records;
@@ -74,6 +74,7 @@ limits_of settings = record {
   journal = settings.journal;
   holds = settings.holds;
   next = 1;
+  first = 0;
 }
 
 -- whether a value is as it may be

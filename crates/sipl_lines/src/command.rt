@@ -4,7 +4,7 @@ ghost use Rattle.sipl_records.specs.Fields.{fields_of, trim_start};
 ghost use Rattle.sipl_records.specs.Numbers.{number_of};
 ghost use Rattle.sipl_choice.specs.Transports.{transport_named};
 ghost use Rattle.sipl_lines.specs.CommandMeaning.{meaning_of, meaning_if_read};
-ghost use Rattle.sipl_lines.specs.Requests.{add_request, broke_request, call_request, clock_request, command_request, del_request, deps_request, drop_request, endpoint_of, find_request, got_request, hold_request, kind_named, quit_request, release_request, repair_request, request_of, retry_of, zone_request};
+ghost use Rattle.sipl_lines.specs.Requests.{add_request, broke_request, call_request, clock_request, command_request, del_request, deps_request, drop_request, endpoint_of, find_request, got_request, hold_request, kind_named, page_request, quit_request, release_request, repair_request, request_of, retry_of, zone_request};
 ghost use Rattle.sipl_lines.specs.ScriptLines.{as_in_session};
 ghost use Rattle.sipl_lines.specs.ScriptMeaning.{meaning_of_line};
 
@@ -44,6 +44,8 @@ pub(crate) enum Command<'a> {
     Deps(&'a [u8]),
     // `repair`: looks up again what edits have changed.
     Repair,
+    // `page`: hands the journal out as a page, and begins an empty one.
+    Page,
     // `hold TRANSPORT ADDRESS PORT MS`: holds an endpoint for some milliseconds.
     Hold(Result<Endpoint, AddressFault>, u64),
     // `release TRANSPORT ADDRESS PORT`: ends an endpoint's hold.
@@ -97,6 +99,7 @@ pub(crate) fn read_shared_line(line: &[u8]) -> ScriptLine<'_>
         Command::Hold(endpoint, ms) => ScriptLine::Hold(endpoint, ms),
         Command::Release(endpoint) => ScriptLine::Release(endpoint),
         Command::Clock(to) => ScriptLine::Clock(to),
+        Command::Page => ScriptLine::Page,
         _ => ScriptLine::Unknown,
     }
 }
@@ -114,6 +117,7 @@ fn read_fields<'a>(word: &str, rest: &'a [u8]) -> Option<Command<'a>>
         "find" => read_find(rest),
         "deps" => read_deps(rest),
         "repair" => read_repair(rest),
+        "page" => read_page(rest),
         "hold" => read_hold(rest),
         "release" => read_release(rest),
         "clock" => read_clock(rest),
@@ -195,6 +199,16 @@ fn read_repair(rest: &[u8]) -> Option<Command<'_>>
         return None;
     }
     Some(Command::Repair)
+}
+
+// `page`.
+fn read_page(rest: &[u8]) -> Option<Command<'_>>
+    ensures { meaning_if_read result ≡ page_request (fields_of rest.now) }
+{
+    if next_field(rest).is_some() {
+        return None;
+    }
+    Some(Command::Page)
 }
 
 // `hold TRANSPORT ADDRESS PORT MS`.

@@ -5,7 +5,7 @@ ghost use Rattle.sipl_lines.specs.Desk.{DeskRules};
 ghost use Rattle.sipl_lines.specs.ReplyText.{refusal_line};
 
 use crate::reply::write_refusal;
-use sipl_book::{Book, BookFault, Done, Edit, Handed};
+use sipl_book::{Book, BookFault, Done, Edit, Extent, Handed};
 use sipl_choice::Endpoint;
 use sipl_evidence::Evidence;
 use sipl_srv::Draws;
@@ -63,6 +63,10 @@ pub trait Desk {
     fn repair(&mut self, alloc: Global) -> Result<(), Self::Fault>
         ensures { rules.Repairs self.old result self.new };
 
+    /// Hands the journal out as a page, and begins an empty one. Returns which events the page has.
+    fn page(&mut self) -> Result<Extent, Self::Fault>
+        ensures { rules.Pages self.old result self.new };
+
     /// Appends the reply to a command that is refused for this fault, to space that is reserved: it
     /// does not allocate.
     fn write_fault(fault: Self::Fault, out: &mut Vec<u8>)
@@ -71,7 +75,7 @@ pub trait Desk {
         ensures capacity { vec_capacity out.old ≤ vec_capacity out.new };
 }
 
-/// A book as a desk: the calls are those of the book, which has its own allocator.
+/// A book as a desk: the calls are those of the book, which has its own allocator. Its pages are dropped.
 impl Desk for Book {
     ghost use Rattle.sipl_lines.specs.Desk.{book_rules};
 
@@ -114,6 +118,10 @@ impl Desk for Book {
 
     fn repair(&mut self, _alloc: Global) -> Result<(), BookFault> {
         Book::repair(self)
+    }
+
+    fn page(&mut self) -> Result<Extent, BookFault> {
+        Ok(self.turn_page()?.extent())
     }
 
     fn write_fault(fault: BookFault, out: &mut Vec<u8>) {

@@ -5,13 +5,15 @@ ghost use Rattle.sipl_masterfile.specs.Zones.{zone_of};
 ghost use Rattle.sipl_names.specs.NameFault.{IfInvalid};
 ghost use Rattle.sipl_names.specs.NameText.{name_of};
 ghost use Rattle.sipl_uri.specs.Uris.{has_scheme_and_octets, question_of};
-ghost use Rattle.sipl_lines.specs.Commands.{AnswersUri, ChangesHold, Edits, EditsRecord, ListsUri, Loads, Repairs, Unloads, handed_text, result_text};
+ghost use Rattle.sipl_lines.specs.Commands.{AnswersUri, ChangesHold, Edits, EditsRecord, ListsUri, Loads, Repairs, TurnsPage, Unloads, handed_text, result_text};
 ghost use Rattle.sipl_lines.specs.ReplyText.{HasTargets, counts_line, evidence_text, refusal_line};
 ghost use Rattle.sipl_lines.specs.Session.{AppendsText, Replies};
 
 use crate::desk::{Desk, MAX_REFUSAL_LEN};
 use crate::gather::ZoneLines;
-use crate::reply::{write_answer, write_counts, write_evidence, write_refusal, write_text_fault};
+use crate::reply::{
+    write_answer, write_counts, write_evidence, write_page, write_refusal, write_text_fault,
+};
 use sipl_book::{Edit, Handed};
 use sipl_choice::Endpoint;
 use sipl_evidence::Evidence;
@@ -208,6 +210,19 @@ pub(crate) fn repair<D: Desk>(alloc: Global, desk: &mut D, out: &mut Vec<u8>)
 {
     match desk.repair(alloc) {
         Ok(()) => write_counts(out, b"ok repair", &[]),
+        Err(fault) => D::write_fault(fault, out),
+    }
+}
+
+// `page`: hands the journal out as a page, and appends the reply.
+pub(crate) fn turn_page<D: Desk>(desk: &mut D, out: &mut Vec<u8>)
+    requires space { vec_len out.old + MAX_SHORT_REPLY_LEN ≤ vec_capacity out.old }
+    ensures done { AppendsText (TurnsPage D.rules)
+        desk.old out.old.items desk.new out.new.items }
+    ensures capacity { vec_capacity out.old ≤ vec_capacity out.new }
+{
+    match desk.page() {
+        Ok(extent) => write_page(out, extent),
         Err(fault) => D::write_fault(fault, out),
     }
 }

@@ -1,10 +1,12 @@
 // How replies are written.
 ghost use Rattle.std.specs.Prelude.{◌≡◌, ◌+◌, ◌*◌, ◌≤◌, [], ◌∷◌, ◌++◌, length, take, codes, IsOk, OnOk, OnErr, vec_len, vec_capacity};
+ghost use Rattle.sipl_lines.specs.Commands.{page_text};
 ghost use Rattle.sipl_lines.specs.ReplyText.{answer_text, evidence_line, evidence_text, max_answer_len, counts_line, refusal_line, text_fault_line, number_field, target_line, target_lines, word_field};
 ghost use Rattle.sipl_names.specs.NamePrint.{text_of};
 ghost use Rattle.sipl_records.specs.Kinds.{text_of_kind};
 
 use itoa::Buffer;
+use sipl_book::Extent;
 use sipl_choice::Endpoint;
 use sipl_evidence::Item;
 use sipl_names::Name;
@@ -94,6 +96,15 @@ pub(crate) fn write_name(out: &mut Vec<u8>, name: &Name)
     // each octet of the wire form is printed in at most four
     out.reserve(4 * name.wire_len()).unwrap();
     name.write(out).unwrap();
+}
+
+// Appends the reply to an accepted page to space that is reserved.
+pub(crate) fn write_page(out: &mut Vec<u8>, extent: Extent)
+    requires { vec_len out.old + 50 ≤ vec_capacity out.old }
+    ensures ok { out.new.items ≡ out.old.items ++ page_text extent }
+    ensures capacity { vec_capacity out.old ≤ vec_capacity out.new }
+{
+    write_counts(out, b"ok page", &[extent.first, extent.count]);
 }
 
 // Appends the reply to a command that is refused. An error leaves `out` as it was.

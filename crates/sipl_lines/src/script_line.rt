@@ -37,6 +37,8 @@ pub(crate) enum ScriptLine<'a> {
     Release(Result<Endpoint, AddressFault>),
     // `clock MS`: sets the time, in milliseconds.
     Clock(u64),
+    // `page`: hands the journal out as a page, and begins an empty one.
+    Page,
     // `hand URI DRAWS`: asks for the kept answer to a URI, for these random words.
     Hand(&'a [u8], Draws),
     // `hand URI DRAWS` with faulty random words.

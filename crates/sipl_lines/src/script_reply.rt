@@ -6,7 +6,9 @@ ghost use Rattle.sipl_lines.specs.ScriptText.{Shows, changed_text, lease_text, m
 ghost use Rattle.sipl_lines.specs.Session.{AppendsText};
 
 use crate::desk_commands::reply_handed;
-use crate::reply::{write_counts, write_key, write_name, write_number, write_refusal, write_word};
+use crate::reply::{
+    write_counts, write_key, write_name, write_number, write_page, write_refusal, write_word,
+};
 use sipl_book::{BookFault, Edit, Uncommitted};
 use sipl_choice::Transport;
 use sipl_evidence::Item;
@@ -68,6 +70,7 @@ pub(crate) fn write_reply(shown: Shown, reply: &Reply, out: &mut Vec<u8>)
     match reply {
         Reply::Changed(done) => write_changed(shown, done.changed, out),
         Reply::Moved(_) => write_moved(shown, out),
+        Reply::Paged(extent) => write_page(out, *extent),
         Reply::Answered(handed) => reply_handed(handed, out),
         Reply::Started => write_counts(out, b"ok start", &[]),
         Reply::Read(item) => write_read(item, out),

@@ -29,6 +29,7 @@ pub(crate) fn read_step(alloc: Global, line: &ScriptLine<'_>) -> Result<Step, &'
         ScriptLine::Release(Ok(endpoint)) => Ok(Step::Release(*endpoint)),
         ScriptLine::Hold(Err(fault), _) | ScriptLine::Release(Err(fault)) => Err(fault.code()),
         ScriptLine::Clock(to) => Ok(Step::Advance(*to)),
+        ScriptLine::Page => Ok(Step::Page),
         ScriptLine::Hand(uri, draws) => Ok(Step::Hand(read_uri(alloc, uri)?, *draws)),
         ScriptLine::HandFault(uri, fault) => {
             read_uri(alloc, uri)?;

@@ -1,9 +1,9 @@
 //! A service as a desk.
-ghost use Rattle.std.specs.Prelude.{◌≡◌};
+ghost use Rattle.std.specs.Prelude.{◌≡◌, []};
 
 use crate::desk::Desk;
 use crate::reply::{write_key, write_refusal};
-use sipl_book::{Done, Edit, Handed};
+use sipl_book::{Done, Edit, Extent, Handed, Page};
 use sipl_choice::Endpoint;
 use sipl_evidence::Evidence;
 use sipl_service::{OpenGate, Pass, Service, ServiceFault};
@@ -14,12 +14,13 @@ use std::marker::Model;
 use std::sync::Wait;
 
 /// A service that threads share, as the desk of one caller: the calls are those of the service, with
-/// the caller's pass.
+/// the caller's pass. It keeps the pages that the caller turns.
 #[derive(Drop)]
 pub struct ServiceDesk<'a, R: Wait> {
     rt: &'a R,
     service: &'a Service,
     pass: Pass,
+    pages: Vec<Page>,
 }
 
 impl<'a, R: Wait> Model for ServiceDesk<'a, R> {
@@ -31,26 +32,34 @@ impl<'a, R: Wait> Model for ServiceDesk<'a, R> {
       client = desk.service.now.client;
       held = desk.service.now.held;
       pass = desk.pass;
+      pages = desk.pages.items;
     } };
 }
 
 impl<'a, R: Wait> ServiceDesk<'a, R> {
-    /// The desk of the caller who has this pass.
-    pub fn new(rt: &'a R, service: &'a Service, pass: Pass) -> Self
+    /// The desk of the caller who has this pass, and has turned no page. Does not allocate.
+    pub fn new(alloc: Global, rt: &'a R, service: &'a Service, pass: Pass) -> Self
         ensures { result ≡ record {
           client = service.now.client;
           held = service.now.held;
           pass = pass;
+          pages = [];
         } }
     {
-        ServiceDesk { rt, service, pass }
+        ServiceDesk {
+            rt,
+            service,
+            pass,
+            pages: Vec::new(alloc),
+        }
     }
 
-    /// The pass, with the receipts of all calls.
-    pub fn into_pass(self) -> Pass
-        ensures { result ≡ self.entry.pass }
+    /// The pass, with the receipts of all calls, and the pages that were turned, in their order.
+    pub fn into_parts(self) -> (Pass, Vec<Page>)
+        ensures pass { result.0 ≡ self.entry.pass }
+        ensures pages { result.1.items ≡ self.entry.pages }
     {
-        self.pass
+        (self.pass, self.pages)
     }
 }
 
@@ -101,6 +110,15 @@ impl<'a, R: Wait> Desk for ServiceDesk<'a, R> {
 
     fn repair(&mut self, _alloc: Global) -> Result<(), ServiceFault> {
         self.service.repair(self.rt)
+    }
+
+    fn page(&mut self) -> Result<Extent, ServiceFault> {
+        // Space for the page comes before it is turned, so that it is not lost.
+        self.pages.reserve(1)?;
+        let page = self.service.turn_page(self.rt)?;
+        let extent = page.extent();
+        self.pages.push_reserved(page);
+        Ok(extent)
     }
 
     fn write_fault(fault: ServiceFault, out: &mut Vec<u8>) {

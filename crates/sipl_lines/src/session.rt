@@ -10,7 +10,7 @@ use crate::command::{Command, read_command};
 use crate::desk::Desk;
 use crate::desk_commands::{
     HoldChange, MAX_SHORT_REPLY_LEN, RecordEdit, change_hold, edit_record, find, list_evidence,
-    load_zone, repair, unload_zone,
+    load_zone, repair, turn_page, unload_zone,
 };
 use crate::gather::{Gathered, Gathering};
 use crate::reply::write_refusal;
@@ -153,6 +153,10 @@ impl Session {
             Command::Deps(uri) => list_evidence(alloc, desk, uri, out),
             Command::Repair => {
                 repair(alloc, desk, out);
+                Ok(())
+            }
+            Command::Page => {
+                turn_page(desk, out);
                 Ok(())
             }
             Command::Hold(endpoint, ms) => {

@@ -72,7 +72,8 @@ impl Settings {
         Ok(settings)
     }
 
-    /// What a book with these settings keeps at most; its record sets are numbered from 1.
+    /// What a book with these settings keeps at most; its record sets are numbered from 1, its events
+    /// from 0.
     pub fn limits(&self) -> Limits
         ensures { result ≡ limits_of self.now }
     {
@@ -82,6 +83,7 @@ impl Settings {
             journal: self.journal,
             holds: self.holds,
             next: 1,
+            first: 0,
         }
     }
 

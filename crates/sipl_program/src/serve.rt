@@ -1,6 +1,7 @@
 //! Sessions over TCP, each in a thread of its own, over one service.
 ghost use Rattle.sipl_lines.specs.Settings.{IsWithinLimits};
 
+use sipl_book::Page;
 use sipl_lines::{ServiceDesk, Settings, Tapped, serve};
 use sipl_service::{ClaimFault, OpenGate, Pass, Service, ServiceFault, claim};
 use std::alloc::{AllocError, Global};
@@ -16,7 +17,8 @@ pub enum ServerFault {
     Listen,
     /// The service cannot be closed.
     Close(ServiceFault),
-    /// The journal is not the union of the receipts of all sessions.
+    /// The pages do not follow one another, or their events are not the union of the receipts of all
+    /// sessions, or an allocation failed.
     Claim(ClaimFault),
     /// An allocation failed before a connection was accepted.
     Memory,
@@ -28,17 +30,20 @@ impl From<AllocError> for ServerFault {
     }
 }
 
-// What the threads of a server share: the service, and the passes of the sessions that have ended.
+// What is left of a session: its pass, and the pages that it turned.
+type Parts = (Pass, Vec<Page>);
+
+// What the threads of a server share: the service, and what is left of the sessions that have ended.
 #[derive(Drop)]
 struct Server {
     alloc: Global,
     service: Service,
-    passes: Mutex<Vec<Pass>>,
+    ended: Mutex<Vec<Parts>>,
 }
 
 /// Serves as many connections as the settings say, beside the repair workers. When all sessions have
-/// ended, closes the service, and claims its journal with the passes of all sessions. Returns how many
-/// events it has.
+/// ended, closes the service, and claims the events of all pages with the passes of all sessions. Returns
+/// how many events there were. All pages are kept until then.
 pub fn serve_connections<H>(alloc: Global, host: &H, settings: Settings) -> Result<u64, ServerFault>
 where
     H: Net<Listener = TcpListener, Stream = TcpStream> + Threads + Wait + Sync,
@@ -52,8 +57,8 @@ where
     let server = Server {
         alloc,
         service: Service::new(alloc, settings.abilities, &limits, tries, settings.held)?,
-        // Space for the passes of all sessions, so that none is lost.
-        passes: Mutex::new(Vec::with_capacity(alloc, sessions)?),
+        // Space for the passes and the pages of all sessions, so that none is lost.
+        ended: Mutex::new(Vec::with_capacity(alloc, sessions)?),
     };
     let served = thread::scope(thread::scope_env(), host, |scope| {
         let _ = scope.spawn(|| server.service.run_workers(host, workers, &OpenGate));
@@ -88,26 +93,56 @@ impl Server {
         })
     }
 
-    // Serves the session of a connection, and keeps its pass. A fault ends only this session.
+    // Serves the session of a connection, and keeps its pass and its pages. A fault ends only this
+    // session.
     fn serve_connection<H: Wait>(&self, host: &H, stream: TcpStream) {
         // Without this a short reply may wait until the client has acknowledged the one before.
         let _ = stream.set_nodelay(true);
-        let mut desk = ServiceDesk::new(host, &self.service, self.service.pass());
+        let mut desk = ServiceDesk::new(self.alloc, host, &self.service, self.service.pass());
         let mut reader = Tapped::new(&stream);
         let mut writer = Tapped::new(&stream);
         let _ = serve(self.alloc, &mut reader, &mut writer, &mut desk);
-        let _ = self.passes.lock(host).push(desk.into_pass());
+        let _ = self.ended.lock(host).push(desk.into_parts());
     }
 
-    // Closes the service, and claims its journal. Returns how many events it has.
+    // Closes the service, and claims the events of all pages. Returns how many there were.
     fn close(self) -> Result<u64, ServerFault> {
-        let passes = self.passes.into_inner();
-        match self.service.close() {
-            Ok(closing) => match claim(self.alloc, &closing, passes.as_slice()) {
-                Ok(()) => Ok(closing.journal.len() as u64),
-                Err(fault) => Err(ServerFault::Claim(fault)),
-            },
-            Err((fault, _service)) => Err(ServerFault::Close(fault)),
+        let ended = self.ended.into_inner();
+        let last = match self.service.close() {
+            Ok(last) => last,
+            Err((fault, _service)) => return Err(ServerFault::Close(fault)),
+        };
+        // The first event has the number 0.
+        let events = last.next();
+        match claim_all(self.alloc, ended, last) {
+            Ok(()) => Ok(events),
+            Err(fault) => Err(ServerFault::Claim(fault)),
         }
     }
+}
+
+// Claims the events of the pages of all sessions, and of the last page, with the passes of all sessions.
+fn claim_all(alloc: Global, ended: Vec<Parts>, last: Page) -> Result<(), ClaimFault> {
+    match split(alloc, ended, last) {
+        Ok((passes, pages)) => claim(alloc, pages.as_slice(), passes.as_slice()),
+        Err(_) => Err(ClaimFault::Memory),
+    }
+}
+
+// The passes of all sessions, and all pages in their order.
+fn split(
+    alloc: Global,
+    ended: Vec<Parts>,
+    last: Page,
+) -> Result<(Vec<Pass>, Vec<Page>), AllocError> {
+    let mut passes = Vec::with_capacity(alloc, ended.len())?;
+    let mut pages = Vec::new(alloc);
+    for (pass, turned) in ended {
+        passes.push(pass)?;
+        pages.extend(turned)?;
+    }
+    // A page without events has the first number of the page after it.
+    pages.sort_unstable_by_key(|page| (page.first(), page.extent().count));
+    pages.push(last)?;
+    Ok((passes, pages))
 }

@@ -2,6 +2,7 @@ mod comparison;
 mod faults;
 mod limits;
 mod live;
+mod pages;
 pub mod process;
 mod program;
 mod repairs;

@@ -1,17 +1,25 @@
 //! Plays by chance, from seeds: beside the world a plain store and a plain board take the same
 //! edits, holds, releases and moves of the clock, and each answer is that of the plain program on
-//! them.
+//! them. One step in fifty turns the page, which nothing shows but the reply to it and B3.
 ghost use Rattle.std.specs.Prelude.{◌≤◌};
 
-use super::counts::{Counts, are_mixed, count, count_commit};
+mod outcomes;
+mod work;
+
+use self::outcomes::{
+    Move, Outcome, edit_store, is_answered_or, is_made_or, is_outcome, move_board, outcome_of,
+    step_of,
+};
+use self::work::{Work, idle};
+use super::counts::{Counts, are_mixed, count};
 use super::numbers::{Numbers, URIS};
 use super::{copy_of, expects, is_same, plain_answer};
 use crate::book::{apex, question, zone};
-use sipl_book::{Book, Edit, Limits};
+use sipl_book::{Book, Edit, Extent, Limits};
 use sipl_choice::Abilities;
 use sipl_evidence::Item;
 use sipl_interleave::{Reply, Step, World};
-use sipl_outages::{Board, BoardFault, Held};
+use sipl_outages::{Board, Held};
 use sipl_plans::Answer;
 use sipl_records::Record;
 use sipl_srv::Draws;
@@ -25,6 +33,9 @@ const PLAYS: u64 = 250;
 
 const STEPS: u64 = 250;
 
+// The events of a page at most: few, so that some pages are full.
+const JOURNAL: usize = 48;
+
 // What the zone has at first.
 const ZONE: &[u8] = b"a NAPTR 1 1 s SIP+D2U \"\" _sip._udp.a
 _sip._udp.a SRV 0 1 5060 b
@@ -36,66 +47,6 @@ d A 192.0.2.2
 * A 192.0.2.3
 ";
 
-// What a worker does that has a run. A run that wants no set is complete.
-#[derive(Clone, Copy)]
-enum Work {
-    // It looks up the question of this URI.
-    Reading(&'static str),
-    Complete(&'static str),
-    // It looks up the question of its lease.
-    LeaseReading,
-    LeaseComplete,
-}
-
-// What a step results in: how many sets it changed, where it is an edit, or the code of a fault.
-type Outcome = Result<u64, &'static str>;
-
-fn outcome_of(reply: &Reply) -> Outcome {
-    match reply {
-        Reply::Changed(done) => Ok(done.changed),
-        Reply::Uncommitted(uncommitted) => Err(uncommitted.code()),
-        Reply::Refused(fault) => Err(fault.code()),
-        _ => Ok(0),
-    }
-}
-
-// The same of an edit of a plain store.
-fn edit_store(store: &mut ZoneStore, edit: &Edit) -> Outcome {
-    let edited = match edit {
-        Edit::Load(zone) => store.load(zone),
-        Edit::Unload(apex) => store.unload(apex),
-        Edit::Add(record) => store.add(record),
-        Edit::Remove(record) => store.remove(record),
-    };
-    match edited {
-        Ok(changed) => Ok(changed.sets as u64),
-        Err(fault) => Err(fault.code()),
-    }
-}
-
-// The same of a hold, a release or a move of the clock of a plain board.
-fn moved(outcome: Result<(), BoardFault>) -> Outcome {
-    match outcome {
-        Ok(()) => Ok(0),
-        Err(fault) => Err(fault.code()),
-    }
-}
-
-fn is_outcome(rt: &impl Abort, outcome: Outcome, expected: Outcome) {
-    expects(
-        rt,
-        outcome == expected,
-        "the reply of the store or the board",
-    );
-}
-
-// The step is made, or its fault has this code.
-fn is_made_or(rt: &impl Abort, outcome: Outcome, code: &str) {
-    if let Err(other) = outcome {
-        expects(rt, other == code, code);
-    }
-}
-
 // Whether a target of the answer is held.
 fn has_held(board: &Board, answer: &Answer) -> bool {
     match answer {
@@ -105,7 +56,8 @@ fn has_held(board: &Board, answer: &Answer) -> bool {
 }
 
 // The zones and the holds beside a world, what its workers do, the question and the random words of
-// the last step that asked for an answer, and how many answers had a held target.
+// the last step that asked for an answer, the number of the page's first event and how many events it
+// has, and how many answers had a held target, pages were turned and steps were refused by a full one.
 #[derive(Drop)]
 struct Beside {
     alloc: Global,
@@ -115,7 +67,11 @@ struct Beside {
     workers: Vec<Option<Work>>,
     uri: &'static str,
     draws: Draws,
+    first: u64,
+    events: u64,
     held_targets: u64,
+    pages: u64,
+    full: u64,
 }
 
 impl Beside {
@@ -128,7 +84,11 @@ impl Beside {
             workers: idle(rt, alloc, workers),
             uri: "",
             draws: Draws::from_seed(0),
+            first: 0,
+            events: 0,
             held_targets: 0,
+            pages: 0,
+            full: 0,
         }
     }
 
@@ -144,6 +104,9 @@ impl Beside {
     }
 
     fn step(&mut self, rt: &impl Abort, world: &mut World, counts: &mut Counts) {
+        if self.numbers.below(50) == 0 {
+            return self.page(rt, world);
+        }
         match self.numbers.below(16) {
             0 | 1 => self.edit(rt, world),
             2 => self.outage(rt, world),
@@ -161,13 +124,22 @@ impl Beside {
 
     fn take(&mut self, rt: &impl Abort, world: &World, reply: Reply) -> Outcome {
         self.judge(rt, world, &reply);
-        outcome_of(&reply)
+        let outcome = outcome_of(&reply);
+        count(outcome == Err("B3"), &mut self.full);
+        outcome
     }
 
-    // An answer in the reply is that of the plain program, and a set is the store's.
+    // An answer in the reply is that of the plain program, a set is the store's, and the number of an
+    // event is the next one.
     fn judge(&mut self, rt: &impl Abort, world: &World, reply: &Reply) {
         match reply {
-            Reply::Answered(handed) => self.is_answer(rt, world.book(), &handed.answer),
+            Reply::Answered(handed) => {
+                self.is_event(rt, handed.number);
+                self.is_answer(rt, world.book(), &handed.answer);
+            }
+            Reply::Changed(done) => self.is_event(rt, done.number),
+            Reply::Moved(number) => self.is_event(rt, *number),
+            Reply::Paged(page) => self.is_page(rt, world.book(), *page),
             Reply::Read(item) => self.is_set(rt, item),
             _ => {}
         }
@@ -217,7 +189,11 @@ impl Beside {
     }
 
     fn change(&mut self, rt: &impl Abort, world: &mut World, edit: Edit) {
-        let expected = edit_store(&mut self.store, &edit);
+        let expected = if self.is_full() {
+            Err("B3")
+        } else {
+            edit_store(&mut self.store, &edit)
+        };
         let outcome = self.make(rt, world, Step::Change(edit));
         is_outcome(rt, outcome, expected);
     }
@@ -247,34 +223,56 @@ impl Beside {
     // ---- holds and the clock
 
     fn outage(&mut self, rt: &impl Abort, world: &mut World) {
+        let next = self.next_move();
+        let expected = if self.is_full() {
+            Err("B3")
+        } else {
+            move_board(&mut self.board, next)
+        };
+        let outcome = self.make(rt, world, step_of(next));
+        is_outcome(rt, outcome, expected);
+    }
+
+    // A move of the clock is to a time before or after this one.
+    fn next_move(&mut self) -> Move {
         let ms = self.numbers.below(4) as u64;
         match self.numbers.below(4) {
-            0 => self.advance(rt, world, ms),
-            1 => self.release(rt, world),
-            _ => self.hold(rt, world, ms),
+            0 => Move::Advance(self.board.now().saturating_add(ms).saturating_sub(1)),
+            1 => Move::Release(self.numbers.endpoint()),
+            _ => Move::Hold(self.numbers.endpoint(), ms),
         }
     }
 
-    fn hold(&mut self, rt: &impl Abort, world: &mut World, ms: u64) {
-        let endpoint = self.numbers.endpoint();
-        let expected = moved(self.board.hold(&endpoint, ms));
-        let outcome = self.make(rt, world, Step::Hold(endpoint, ms));
-        is_outcome(rt, outcome, expected);
+    // ---- pages
+
+    fn page(&mut self, rt: &impl Abort, world: &mut World) {
+        let outcome = self.make(rt, world, Step::Page);
+        is_outcome(rt, outcome, Ok(0));
     }
 
-    fn release(&mut self, rt: &impl Abort, world: &mut World) {
-        let endpoint = self.numbers.endpoint();
-        let expected = moved(self.board.release(&endpoint));
-        let outcome = self.make(rt, world, Step::Release(endpoint));
-        is_outcome(rt, outcome, expected);
+    // Whether the page has as many events as it may have: then a step with an event is refused (B3).
+    fn is_full(&self) -> bool {
+        self.events >= JOURNAL as u64
     }
 
-    // Sets the clock to a time before or after this one.
-    fn advance(&mut self, rt: &impl Abort, world: &mut World, ms: u64) {
-        let to = self.board.now().saturating_add(ms).saturating_sub(1);
-        let expected = moved(self.board.advance(to));
-        let outcome = self.make(rt, world, Step::Advance(to));
-        is_outcome(rt, outcome, expected);
+    // An event's number is that of the page's first one and its place.
+    fn is_event(&mut self, rt: &impl Abort, number: u64) {
+        let expected = self.first.saturating_add(self.events);
+        expects(rt, number == expected, "the number of the next event");
+        self.events = self.events.saturating_add(1);
+    }
+
+    // A page that is turned has the events since the one before it.
+    fn is_page(&mut self, rt: &impl Abort, book: &Book, page: Extent) {
+        let expected = Extent {
+            first: self.first,
+            count: self.events,
+        };
+        expects(rt, page == expected, "the events since the last page");
+        expects(rt, book.journal().is_empty(), "an empty page");
+        self.first = self.first.saturating_add(self.events);
+        self.events = 0;
+        count(true, &mut self.pages);
     }
 
     // ---- answers from entries
@@ -283,8 +281,9 @@ impl Beside {
         self.uri = self.numbers.one_of(&URIS);
         self.draws = self.numbers.words();
         let step = Step::Hand(self.question(rt, self.uri), self.draws);
+        let is_full = self.is_full();
         let outcome = self.make(rt, world, step);
-        is_made_or(rt, outcome, "B1");
+        is_answered_or(rt, outcome, is_full, "B1");
         count(outcome.is_ok(), &mut counts.handed);
     }
 
@@ -294,154 +293,6 @@ impl Beside {
         let outcome = self.make(rt, world, step);
         is_made_or(rt, outcome, "B4");
     }
-
-    // ---- workers
-
-    // A worker does what is next for it, or ends its run.
-    fn work(&mut self, rt: &impl Abort, world: &mut World, counts: &mut Counts) {
-        let worker = self.numbers.below(self.workers.len());
-        let work = self.workers.get(worker).copied().flatten();
-        let next = match work {
-            Some(work) => self.go_on(rt, world, worker, work, counts),
-            None => self.begin(rt, world, worker, counts),
-        };
-        self.set_work(worker, next);
-    }
-
-    fn set_work(&mut self, worker: usize, next: Option<Work>) {
-        if let Some(work) = self.workers.get_mut(worker) {
-            *work = next;
-        }
-    }
-
-    fn begin(
-        &mut self,
-        rt: &impl Abort,
-        world: &mut World,
-        worker: usize,
-        counts: &mut Counts,
-    ) -> Option<Work> {
-        if self.numbers.below(3) == 0 {
-            self.lease(rt, world, worker, counts)
-        } else {
-            self.start(rt, world, worker)
-        }
-    }
-
-    fn go_on(
-        &mut self,
-        rt: &impl Abort,
-        world: &mut World,
-        worker: usize,
-        work: Work,
-        counts: &mut Counts,
-    ) -> Option<Work> {
-        if self.numbers.below(64) == 0 {
-            return self.abandon(rt, world, worker, counts);
-        }
-        match work {
-            Work::Reading(_) | Work::LeaseReading => self.read(rt, world, worker, work),
-            Work::Complete(uri) => self.commit(rt, world, worker, uri, counts),
-            Work::LeaseComplete => self.settle(rt, world, worker, counts),
-        }
-    }
-
-    fn start(&mut self, rt: &impl Abort, world: &mut World, worker: usize) -> Option<Work> {
-        let uri = self.numbers.one_of(&URIS);
-        let step = Step::Start(worker, self.question(rt, uri));
-        let outcome = self.make(rt, world, step);
-        is_outcome(rt, outcome, Ok(0));
-        Some(Work::Reading(uri))
-    }
-
-    fn lease(
-        &mut self,
-        rt: &impl Abort,
-        world: &mut World,
-        worker: usize,
-        counts: &mut Counts,
-    ) -> Option<Work> {
-        let outcome = self.make(rt, world, Step::Lease(worker));
-        is_made_or(rt, outcome, "Q1");
-        count(outcome.is_ok(), &mut counts.leased);
-        outcome.ok().map(|_| Work::LeaseReading)
-    }
-
-    fn read(
-        &mut self,
-        rt: &impl Abort,
-        world: &mut World,
-        worker: usize,
-        work: Work,
-    ) -> Option<Work> {
-        let outcome = self.make(rt, world, Step::Read(worker));
-        is_made_or(rt, outcome, "I4");
-        let is_complete = outcome.is_err();
-        Some(if is_complete { complete(work) } else { work })
-    }
-
-    fn commit(
-        &mut self,
-        rt: &impl Abort,
-        world: &mut World,
-        worker: usize,
-        uri: &'static str,
-        counts: &mut Counts,
-    ) -> Option<Work> {
-        self.uri = uri;
-        self.draws = self.numbers.words();
-        let reply = world.step(Step::Commit(worker, self.draws));
-        count_commit(world.book(), &self.question(rt, uri), &reply, counts);
-        let outcome = self.take(rt, world, reply);
-        is_made_or(rt, outcome, "B2");
-        None
-    }
-
-    // A lease of an entry that was forgotten settles nothing (B5).
-    fn settle(
-        &mut self,
-        rt: &impl Abort,
-        world: &mut World,
-        worker: usize,
-        counts: &mut Counts,
-    ) -> Option<Work> {
-        let outcome = self.make(rt, world, Step::Settle(worker));
-        if outcome != Err("B5") {
-            is_made_or(rt, outcome, "B2");
-        }
-        count(outcome.is_ok(), &mut counts.settled);
-        count(outcome.is_err(), &mut counts.unsettled);
-        None
-    }
-
-    fn abandon(
-        &mut self,
-        rt: &impl Abort,
-        world: &mut World,
-        worker: usize,
-        counts: &mut Counts,
-    ) -> Option<Work> {
-        let outcome = self.make(rt, world, Step::Abandon(worker));
-        is_outcome(rt, outcome, Ok(0));
-        count(true, &mut counts.abandoned);
-        None
-    }
-}
-
-fn complete(work: Work) -> Work {
-    match work {
-        Work::Reading(uri) => Work::Complete(uri),
-        Work::LeaseReading => Work::LeaseComplete,
-        other => other,
-    }
-}
-
-fn idle(rt: &impl Abort, alloc: Global, workers: usize) -> Vec<Option<Work>> {
-    let mut works = Vec::new(alloc);
-    for _ in 0..workers {
-        works.push(None).expect(rt, "out of memory");
-    }
-    works
 }
 
 // Plays with a world of so many workers, which it alone owns.
@@ -466,7 +317,11 @@ fn new_world(
     requires some { 1 ≤ workers }
     requires few { workers ≤ 64 }
 {
-    World::new(alloc, abilities, &Limits::greatest(), workers, held).expect(rt, "out of memory")
+    let limits = Limits {
+        journal: JOURNAL,
+        ..Limits::greatest()
+    };
+    World::new(alloc, abilities, &limits, workers, held).expect(rt, "out of memory")
 }
 
 fn play_beside(
@@ -480,6 +335,8 @@ fn play_beside(
     let mut beside = Beside::new(rt, alloc, numbers, workers);
     beside.steps(rt, world, counts);
     counts.held_targets = counts.held_targets.saturating_add(beside.held_targets);
+    counts.pages = counts.pages.saturating_add(beside.pages);
+    counts.full = counts.full.saturating_add(beside.full);
 }
 
 // Plays with so many workers, or up to three more.

@@ -19,6 +19,9 @@ pub(super) struct Counts {
     pub(super) abandoned: u64,
     // Answers with a held target, which only `Held::Last` has.
     pub(super) held_targets: u64,
+    // Pages that were turned, and steps that a full page refused.
+    pub(super) pages: u64,
+    pub(super) full: u64,
     // Accepted commits with a name that does not exist, with the set of a wildcard for one, and with a
     // name that is asked for and exists without the set; and commits that were refused since a name
     // began or ceased to exist.
@@ -75,6 +78,7 @@ fn is_of_existence(items: &[Item], fault: &BookFault) -> bool {
 // What came of a commit. An accepted one has an entry, with what was read.
 pub(super) fn count_commit(book: &Book, question: &Question, reply: &Reply, counts: &mut Counts) {
     match reply {
+        Reply::Uncommitted(uncommitted) if uncommitted.fault == BookFault::JournalFull => {}
         Reply::Uncommitted(uncommitted) => {
             let items = uncommitted.finding.evidence().items();
             count(true, &mut counts.outdated);
@@ -105,6 +109,8 @@ pub(super) fn are_mixed(rt: &impl Abort, counts: Counts) {
     expects(rt, counts.unsettled > 50, "refused settlements");
     expects(rt, counts.abandoned > 50, "ended runs");
     expects(rt, counts.held_targets > 50, "held targets");
+    expects(rt, counts.pages > 1000, "pages");
+    expects(rt, counts.full > 50, "steps that a full page refused");
     are_of_all_names(rt, counts);
 }
 

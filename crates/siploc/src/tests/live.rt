@@ -1,8 +1,11 @@
 // Books over some hundred lines, made from a seed, beside a plain store and a plain board: the reply to
 // each line is what these give, and that to a `find` is the plain program's on the records and the
-// holds as they are, by the book's policy on held endpoints.
+// holds as they are, by the book's policy on held endpoints. A page in fifty lines has the number of the
+// first event since the last one, and how many there were.
 use super::comparison::{Numbers, URIS, plain_answer, zone};
-use super::shares::{Shares, are_held, are_mixed, count_answer, count_entries};
+use super::shares::{
+    Shares, are_held, are_mixed, are_paged, count, count_answer, count_entries,
+};
 use super::streams::{new_book, replies_at};
 use itoa::Buffer;
 use sipl_book::Book;
@@ -66,6 +69,13 @@ fn push_answer(text: &mut Vec<u8>, answer: &Answer) -> Result<(), AllocError> {
         Answer::Targets(targets) => push_targets(text, targets.as_slice()),
         Answer::None(reason) => push_line(text, &[b"none ", reason.name().as_bytes()]),
     }
+}
+
+// Appends the reply to a page.
+fn push_extent(text: &mut Vec<u8>, first: u64, count: u64) -> Result<(), AllocError> {
+    text.extend_from_slice(b"ok page ")?;
+    text.extend_from_slice(Buffer::new().format(first).as_bytes())?;
+    push_line(text, &[b" ", Buffer::new().format(count).as_bytes()])
 }
 
 // Loads the empty zone `e.`.
@@ -139,15 +149,17 @@ fn endpoint(numbers: &mut Numbers) -> Endpoint {
     }
 }
 
-// The policy on held endpoints, the records and the holds that lines lead to, the lines of the next
-// session and their replies, the record that was added last, the first target of the last answer that
-// had any, and what the questions met.
+// The policy on held endpoints, the records and the holds that lines lead to, the number of the page's
+// first event and how many events it has, the lines of the next session and their replies, the record
+// that was added last, the first target of the last answer that had any, and what the lines met.
 #[derive(Drop)]
 struct Live {
     alloc: Global,
     held: Held,
     store: ZoneStore,
     board: Board,
+    first: u64,
+    events: u64,
     input: Vec<u8>,
     want: Vec<u8>,
     added: Vec<u8>,
@@ -162,6 +174,8 @@ impl Live {
             held,
             store: ZoneStore::new(alloc),
             board: Board::new(alloc),
+            first: 0,
+            events: 0,
             input: Vec::new(alloc),
             want: Vec::new(alloc),
             added: Vec::new(alloc),
@@ -173,6 +187,7 @@ impl Live {
     // Loads the empty zone `e.`.
     fn load(&mut self) -> Result<(), Fail> {
         load_empty(self.alloc, &mut self.store)?;
+        count(true, &mut self.events);
         self.push("zone e. 0", "ok zone 0 0 0 0")
     }
 
@@ -183,18 +198,24 @@ impl Live {
         Ok(())
     }
 
+    // Appends the reply to a command, which is an event if it is accepted.
+    fn reply(&mut self, outcome: Result<&str, &str>) -> Result<(), AllocError> {
+        count(outcome.is_ok(), &mut self.events);
+        push_outcome(&mut self.want, outcome)
+    }
+
     fn add(&mut self, text: &[u8]) -> Result<(), Fail> {
         push_line(&mut self.input, &[b"add ", text])?;
         self.added.clear();
         self.added.extend_from_slice(text)?;
         let outcome = add(self.alloc, &mut self.store, text)?;
-        Ok(push_outcome(&mut self.want, outcome)?)
+        Ok(self.reply(outcome)?)
     }
 
     fn remove(&mut self, text: &[u8]) -> Result<(), Fail> {
         push_line(&mut self.input, &[b"del ", text])?;
         let outcome = remove(self.alloc, &mut self.store, text)?;
-        Ok(push_outcome(&mut self.want, outcome)?)
+        Ok(self.reply(outcome)?)
     }
 
     // Removes the record that was added last.
@@ -216,7 +237,7 @@ impl Live {
             Ok(()) => Ok("ok hold"),
             Err(fault) => Err(fault.code()),
         };
-        push_outcome(&mut self.want, outcome)
+        self.reply(outcome)
     }
 
     fn release(&mut self, endpoint: &Endpoint) -> Result<(), AllocError> {
@@ -226,7 +247,7 @@ impl Live {
             Ok(()) => Ok("ok release"),
             Err(fault) => Err(fault.code()),
         };
-        push_outcome(&mut self.want, outcome)
+        self.reply(outcome)
     }
 
     // Moves the clock. No time is too great.
@@ -236,9 +257,22 @@ impl Live {
         let to_text = buffer.format(to).as_bytes();
         push_line(&mut self.input, &[b"clock ", to_text])?;
         match self.board.advance(to) {
-            Ok(()) => push_line(&mut self.want, &[b"ok clock ", to_text]),
-            Err(fault) => push_outcome(&mut self.want, Err(fault.code())),
+            Ok(()) => {
+                count(true, &mut self.events);
+                push_line(&mut self.want, &[b"ok clock ", to_text])
+            }
+            Err(fault) => self.reply(Err(fault.code())),
         }
+    }
+
+    // A page: the next one begins with the number after its events.
+    fn page(&mut self) -> Result<(), AllocError> {
+        push_line(&mut self.input, &[b"page"])?;
+        push_extent(&mut self.want, self.first, self.events)?;
+        self.first = self.first.saturating_add(self.events);
+        self.events = 0;
+        count(true, &mut self.shares.pages);
+        Ok(())
     }
 
     // A question, with the answer of the plain program.
@@ -249,6 +283,7 @@ impl Live {
             &mut self.input,
             &[b"find ", uri.as_bytes(), b" seed ", seed_text],
         )?;
+        count(true, &mut self.events);
         let (store, board) = (&mut self.store, &self.board);
         let target = push_plain_answer(
             self.alloc,
@@ -269,6 +304,9 @@ impl Live {
 
     // A line by chance.
     fn turn(&mut self, numbers: &mut Numbers, abilities: &Abilities) -> Result<(), Fail> {
+        if numbers.below(50) == 0 {
+            return Ok(self.page()?);
+        }
         match numbers.below(9) {
             0 | 1 => self.add(&numbers.record(self.alloc)?),
             2 => self.remove_added(),
@@ -311,13 +349,14 @@ impl Live {
         Ok(())
     }
 
-    // Whether a session of the lines at a book replies so. The next session has no lines yet.
+    // Whether a session of the lines at a book replies so, and leaves so many events in its journal. The
+    // next session has no lines yet.
     fn is_replied(&mut self, book: &mut Book) -> Result<bool, Fail> {
         let text = replies_at(self.alloc, book, &self.input)?;
         let is_wanted = text.as_slice() == self.want.as_slice();
         self.input.clear();
         self.want.clear();
-        Ok(is_wanted)
+        Ok(is_wanted && book.journal().len() as u64 == self.events)
     }
 
     // How many results were repaired in 60 sessions of ten lines and a repair, where all replies are as
@@ -366,5 +405,6 @@ fn replies_are_those_of_the_plain_program(rt: HostRuntime) -> Result<(), Fail> {
     assert!(rt; all_repaired > 100);
     are_mixed(&rt, shares, 10);
     are_held(&rt, shares, 10);
+    are_paged(&rt, shares, 50);
     Ok(())
 }

@@ -2,7 +2,7 @@
 use super::process::Process;
 use sipl_lines::Settings;
 use sipl_program::{serve_connections, start};
-use std::alloc::Global;
+use std::alloc::{AllocError, Global};
 use std::io::{Read, Write};
 use std::net::{Net, Shutdown, SocketAddr, TcpListener, TcpStream};
 use std::process::{Abort, ExitCode};
@@ -35,7 +35,17 @@ fn serve_at<H>(host: &H, alloc: Global, port: u16) -> io::Result<Option<u64>>
 where
     H: Net<Listener = TcpListener, Stream = TcpStream> + Threads + Wait + Sync + Abort,
 {
-    let text = format!(in alloc; "transports = [\"tcp\", \"udp\"]\nlisten = \"127.0.0.1:{port}\"")?;
+    serve_sessions(host, alloc, port, 1)
+}
+
+// Serves so many sessions at a port, each in a thread. Returns how many events there were.
+fn serve_sessions<H>(host: &H, alloc: Global, port: u16, sessions: u64) -> io::Result<Option<u64>>
+where
+    H: Net<Listener = TcpListener, Stream = TcpStream> + Threads + Wait + Sync + Abort,
+{
+    let text = format!(in alloc;
+        "transports = [\"tcp\", \"udp\"]\nlisten = \"127.0.0.1:{port}\"\nsessions = {sessions}"
+    )?;
     let settings = Settings::from_toml(alloc, text.as_str()).expect(
         host,
         "the settings are refused",
@@ -90,6 +100,62 @@ fn a_session_over_tcp_is_claimed_when_it_has_ended(rt: HostRuntime) -> Result<()
     );
     assert_eq!(rt; replies?.as_slice(), REPLIES);
     assert_eq!(rt; events?, Some(2));
+    Ok(())
+}
+
+// Lines of a client that turns a page after each ninth hold: so many times ten lines.
+fn push_pages(input: &mut Vec<u8>, times: u64) -> Result<(), AllocError> {
+    for _ in 0..times {
+        for _ in 0..9 {
+            input.extend_from_slice(b"hold udp 192.0.2.9 5060 1\n")?;
+        }
+        input.extend_from_slice(b"page\n")?;
+    }
+    Ok(())
+}
+
+// How many of the lines begin so.
+fn count_lines(text: &[u8], word: &[u8]) -> usize {
+    let lines = text.split(|octet| *octet == b'\n');
+    lines.filter(|line| line.starts_with(word)).count()
+}
+
+// What a server replies to a client that holds an endpoint and turns pages, 400 lines long: how many
+// holds are accepted, and how many pages.
+fn turn_pages<H>(host: &H, alloc: Global, port: u16) -> io::Result<(usize, usize)>
+where
+    H: Net<Listener = TcpListener, Stream = TcpStream> + Clock,
+{
+    let mut input = Vec::new(alloc);
+    push_pages(&mut input, 40)?;
+    let replies = ask(host, alloc, port, &input)?;
+    Ok((count_lines(&replies, b"ok hold"), count_lines(&replies, b"ok page ")))
+}
+
+// Two clients turn pages beside a third that asks. Their pages are claimed with the passes of all three.
+#[test]
+fn pages_of_clients_beside_others_are_claimed(rt: HostRuntime) -> Result<(), Fail> {
+    let port = free_port(&rt)?;
+    let ((one, other), (replies, events)) = thread::join(
+        &rt,
+        || {
+            thread::join(
+                &rt,
+                || turn_pages(&rt, rt.alloc(), port),
+                || turn_pages(&rt, rt.alloc(), port),
+            )
+        },
+        || {
+            thread::join(
+                &rt,
+                || ask(&rt, rt.alloc(), port, LINES),
+                || serve_sessions(&rt, rt.alloc(), port, 3),
+            )
+        },
+    );
+    assert_eq!(rt; (one?, other?), ((360, 40), (360, 40)));
+    assert_eq!(rt; replies?.as_slice(), REPLIES);
+    assert_eq!(rt; events?, Some(722));
     Ok(())
 }
 

@@ -1,5 +1,5 @@
 // How many questions met names that do not exist, wildcards that stand for them (RFC 4592), and held
-// endpoints.
+// endpoints, and how many pages there were.
 use super::comparison::URIS;
 use sipl_book::Book;
 use sipl_evidence::Item;
@@ -24,6 +24,8 @@ pub struct Shares {
     // Answers of which a target is held, and without targets since all endpoints are.
     pub held: u64,
     pub all_held: u64,
+    // Pages.
+    pub pages: u64,
 }
 
 pub fn count(is_seen: bool, counter: &mut u64) {
@@ -105,4 +107,9 @@ pub fn are_held(rt: &impl Abort, shares: Shares, least: u64) {
         shares.all_held > least,
         "answers whose endpoints are all held"
     );
+}
+
+// Pages are there: so many at least.
+pub fn are_paged(rt: &impl Abort, shares: Shares, least: u64) {
+    assert!(rt; shares.pages > least, "pages");
 }

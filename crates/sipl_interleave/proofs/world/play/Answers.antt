@@ -2,7 +2,7 @@ use Rattle.std.proofs.Common.{◌≡◌, List, [], ◌∷◌, length, ap, arith,
 use Rattle.std.specs.Vec.Iter.{into_iter_items}
 use Rattle.sipl_interleave.specs.Plays.{Plays, asked_by}
 use Rattle.sipl_interleave.specs.declared.step.Step.{Step}
-use Rattle.sipl_interleave.proofs.Right.{all-events, all-right, asked-knows, plays-push}
+use Rattle.sipl_interleave.proofs.Right.{all-journal, all-right, asked-knows, plays-push}
 use Rattle.sipl_interleave.proofs.world.play.Goals as goal
 
 nothing_left : {X : Type 0} (xs : List X) → length xs ≡ 0 → xs ≡ []
@@ -40,5 +40,5 @@ returns-clause-journal c =
     let empty : into_iter_items at.step-iterator ≡ [] = nothing_left _ (sym at.invariant.len ∙ none.0) in
     let all = sym (append-nil at.yielded) ∙ rw empty at at.invariant.steps ∙ c.into_iter-step-iterator.ensures.into_iter_gives.0 in
     let old = c.args.world.now in
-    all-events (asked_by old.workers) c.args.steps.items old at.world at.replies.items (asked-knows old.workers)
+    all-journal (asked_by old.workers) c.args.steps.items old at.world at.replies.items (asked-knows old.workers)
     (subst (λ (l : List Step). Plays l old at.replies.items at.world) all at.invariant.played)

@@ -37,3 +37,6 @@ returns-in-Abandon c = step-at c.args.step _ c.args.self.now c.abandon.new.self 
 
 pub returns-in-Forget : goal.returns-in-Forget
 returns-in-Forget c = step-at c.args.step _ c.args.self.now c.forget.new.self c.forget.result c.in-Forget.is (sym c.refusal.ensures ∙ c.in_default.is) c.forget.ensures
+
+pub returns-in-Page : goal.returns-in-Page
+returns-in-Page c = step-at c.args.step _ c.args.self.now c.page.new.self c.page.result c.in-Page.is (sym c.refusal.ensures ∙ c.in_default.is) c.page.ensures
