@@ -222,7 +222,8 @@ impl ZoneStore {
 
     /// The zones as they are, as a value that is shared until the next edit: constant time where there
     /// was no edit since the last call, else linear in the records, which are copied. Counts no look.
-    /// The first accepted edit after it drops the store's share.
+    /// The first accepted edit after it drops the store's share, which is linear in the records where no
+    /// one else has the value.
     ///
     /// The only error is an allocation failure (or 2^63 that share the value); then nothing changes.
     pub fn share_zones(&mut self) -> Result<Arc<Zones>, AllocError>
