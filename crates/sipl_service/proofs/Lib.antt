@@ -1,5 +1,8 @@
 pub mod Marked
 pub mod Committing
+pub mod Gaps
+pub mod Joined
+pub mod Numbered
 pub mod Ours
 pub mod Entries
 pub mod Keys

@@ -1,46 +1,72 @@
--- When a journal is the union of receipts.
-use Rattle.std.specs.Prelude.{◌≡◌, ◌≢◌, ◌<◌, ℕ, Bool, true, false, List, ◌∷◌, ◌++◌, length, slice_get, Some, nat_eq}
+-- When the events of pages are the union of receipts.
+use Rattle.std.specs.Prelude.{◌≡◌, ◌≢◌, ◌<◌, ◌-◌, ℕ, Bool, true, false, List, [], ◌∷◌, ◌++◌, slice_get, Option, None, Some, nat_eq, nat_lt, if◌then◌else◌}
 use Rattle.std.specs.List.{All, AllPairs, list_any}
+use Rattle.sipl_book.specs.Machine.{IsLegal, replay}
+use Rattle.sipl_book.specs.Pages.{AreInOrder, PageState, events_in}
 use Rattle.sipl_book.specs.declared.event.Event.{Event}
+use Rattle.sipl_service.specs.Gaps.{IsGap}
 use Rattle.sipl_service.specs.declared.receipt.Receipt.{Receipt}
 use Rattle.sipl_service.specs.declared.fault.ClaimFault.{ClaimFault}
-use Rattle.sipl_service.specs.declared.fault.ClaimFault.TheVariants.{NotOurs, Doubled, Unclaimed, Memory}
+use Rattle.sipl_service.specs.declared.fault.ClaimFault.TheVariants.{Gap, NotOurs, Doubled, Unclaimed, Memory}
 
--- the journal has the receipt's event at its number
-abbrev pub IsOurs : List Event → Receipt → Type 0
-IsOurs journal receipt = slice_get journal receipt.number ≡ Some receipt.event
+-- the number of the first event of all pages; 0 where there is no page
+abbrev pub first_in : List PageState → ℕ
+first_in [] = 0
+first_in (page ∷ pages) = page.first
+
+-- the event of a number, where these events are numbered one by one from the first number on
+abbrev pub event_in : ℕ → List Event → ℕ → Option Event
+event_in first events n = if nat_lt n first then None else slice_get events (n - first)
+
+-- the event of a number: those of all pages are numbered one by one
+abbrev pub event_at : List PageState → ℕ → Option Event
+event_at pages n = event_in (first_in pages) (events_in pages) n
+
+-- the event of the receipt's number is the receipt's
+abbrev pub IsOurs : List PageState → Receipt → Type 0
+IsOurs pages receipt = event_at pages receipt.number ≡ Some receipt.event
 
 -- whether one of the receipts has the number
 abbrev pub has_number : List Receipt → ℕ → Bool
 has_number receipts n = list_any (λ receipt. nat_eq receipt.number n) receipts
 
--- each receipt is the journal's, and no two have one number
-pub record IsPart (journal : List Event) (receipts : List Receipt) : Type 0 where
-  pub ours : All (IsOurs journal) receipts
+-- each receipt is the pages', and no two have one number
+pub record IsPart (pages : List PageState) (receipts : List Receipt) : Type 0 where
+  pub ours : All (IsOurs pages) receipts
   pub apart : AllPairs (λ a b. a.number ≢ b.number) receipts
 
--- the journal is the union of the receipts: each of its events is that of just one of them
-pub record IsUnion (journal : List Event) (receipts : List Receipt) : Type 0 where
-  pub part : IsPart journal receipts
-  pub whole : (n : ℕ) → n < length journal → has_number receipts n ≡ true
+-- the events of the pages are the union of the receipts: each is that of just one of them
+pub record IsUnion (pages : List PageState) (receipts : List Receipt) : Type 0 where
+  pub part : IsPart pages receipts
+  pub whole : (n : ℕ) → event_at pages n ≢ None → has_number receipts n ≡ true
 
--- a receipt, with those before it, which are part of the journal
-pub record IsFirst (journal : List Event) (receipts before : List Receipt) (receipt : Receipt)
+-- a receipt, with those before it, which are part of the pages' events
+pub record IsFirst (pages : List PageState) (receipts before : List Receipt) (receipt : Receipt)
     : Type 0 where
   pub after : List Receipt
   pub split : receipts ≡ before ++ receipt ∷ after
-  pub part : IsPart journal before
+  pub part : IsPart pages before
 
--- why the journal is not the union: the first receipt whose event the journal does not have at its
--- number, or whose number an earlier one has; or else the least number that none has
-abbrev pub IsCause : List Event → List Receipt → ClaimFault → Type 0
-IsCause journal receipts (NotOurs n) =
-    (before : List Receipt) × (receipt : Receipt) × IsFirst journal receipts before receipt
-    × (receipt.number ≡ n) × (slice_get journal n ≢ Some receipt.event)
-IsCause journal receipts (Doubled n) =
-    (before : List Receipt) × (receipt : Receipt) × IsFirst journal receipts before receipt
-    × (receipt.number ≡ n) × IsOurs journal receipt × (has_number before n ≡ true)
-IsCause journal receipts (Unclaimed n) =
-    IsPart journal receipts × (n < length journal) × (has_number receipts n ≡ false)
-    × ((k : ℕ) → k < n → has_number receipts k ≡ true)
-IsCause journal receipts Memory = Unit {0}
+-- why a claim is refused: the first page that does not follow the one before it; where all do, the first
+-- receipt whose number has not its event, or whose number an earlier one has; or else the least number
+-- of an event that none has
+abbrev pub IsCause : List PageState → List Receipt → ClaimFault → Type 0
+IsCause pages receipts (Gap place) = IsGap None pages place
+IsCause pages receipts (NotOurs n) =
+    AreInOrder None pages
+    × ((before : List Receipt) × (receipt : Receipt) × IsFirst pages receipts before receipt
+    × (receipt.number ≡ n) × (event_at pages n ≢ Some receipt.event))
+IsCause pages receipts (Doubled n) =
+    AreInOrder None pages
+    × ((before : List Receipt) × (receipt : Receipt) × IsFirst pages receipts before receipt
+    × (receipt.number ≡ n) × IsOurs pages receipt × (has_number before n ≡ true))
+IsCause pages receipts (Unclaimed n) =
+    AreInOrder None pages × IsPart pages receipts × (event_at pages n ≢ None)
+    × (has_number receipts n ≡ false)
+    × ((k : ℕ) → k < n → event_at pages k ≢ None → has_number receipts k ≡ true)
+IsCause pages receipts Memory = AreInOrder None pages
+
+-- a page's events are legal from its base and lead to its result
+pub record HoldsOut (page : PageState) : Type 0 where
+  pub legal : IsLegal page.client page.held page.events page.base
+  pub replayed : replay page.events page.base ≡ page.result

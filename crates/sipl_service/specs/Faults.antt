@@ -11,7 +11,7 @@ use Rattle.sipl_service.specs.declared.fault.ClaimFault.TheVariants as claim
 -- the fault's code in replies
 abbrev pub service_code : ServiceFault → List ℕ
 service_code (Contended key) = codes "L1"
-service_code (PassAhead events front) = codes "L2"
+service_code (PassAhead next front) = codes "L2"
 service_code Stopped = codes "L6"
 service_code OtherBook = codes "L7"
 service_code (Book fault) = book_code fault
@@ -22,6 +22,7 @@ abbrev pub claim_code : ClaimFault → List ℕ
 claim_code (claim.Unclaimed number) = codes "L3"
 claim_code (claim.NotOurs number) = codes "L4"
 claim_code (claim.Doubled number) = codes "L5"
+claim_code (claim.Gap place) = codes "L8"
 claim_code claim.Memory = codes "Memory"
 
 -- the fault of a call that the book refuses; one failed allocation is as another

@@ -2,6 +2,7 @@ pub mod Faults
 pub mod Marks
 pub mod Passes
 pub mod Refusals
+pub mod Gaps
 pub mod Claims
 pub mod Telling
 pub mod Answering

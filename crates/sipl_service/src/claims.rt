@@ -1,73 +1,113 @@
-ghost use Rattle.std.specs.Prelude.{◌≡◌, ◌≢◌, ◌<◌, ◌⊎◌, ℕ, MatchBool, true, false, length, slice_get, slice_set, slice_index_or, Some, IfSome, IfNone, IfErr, OnOk, vec_len};
+ghost use Rattle.std.specs.Prelude.{◌≡◌, ◌≢◌, ◌-◌, ◌^◌, ◌<◌, ◌≤◌, ◌⊎◌, ℕ, MatchBool, true, false, length, map, slice_set, slice_index_or, None, Some, IfSome, IfNone, IfOk, IfErr, OnOk, vec_len};
+ghost use Rattle.std.specs.List.{All};
+ghost use Rattle.sipl_book.specs.Machine.{IsLegal, empty_state};
+ghost use Rattle.sipl_book.specs.Pages.{AreInOrder, events_in};
 ghost use Rattle.sipl_service.specs.Passes.{receipts_of};
-ghost use Rattle.sipl_service.specs.Claims.{IsCause, IsOurs, IsUnion};
+ghost use Rattle.sipl_service.specs.Claims.{HoldsOut, IsCause, IsUnion, event_in, first_in};
 
 use crate::fault::ClaimFault;
+use crate::gap::first_gap;
 use crate::pass::Pass;
 use crate::receipt::Receipt;
-use sipl_book::Event;
-use sipl_records::Sequence;
-use std::alloc::Global;
+use sipl_book::{Event, Page};
+use std::alloc::{AllocError, Global};
 
-/// What is left of a service that was closed.
-#[derive(Drop)]
-pub struct Closing {
-    /// All events, in their order.
-    pub journal: Sequence<Event>,
-}
-
-/// Whether the journal is the union of the passes' receipts: it has the event of each receipt at its
-/// number, and each event is that of just one receipt. Linear in the events and their parts.
+/// Whether the pages of a closed service, in their order, follow one another from the empty state, and
+/// their events are the union of the passes' receipts: they have the event of each receipt at its
+/// number, and each event is that of just one receipt. Linear in the events and their parts, and in what
+/// `Page::follows` compares.
 ///
-/// The fault is the first one: going through the receipts in order, one whose number has no such
-/// event (L4), or one whose number an earlier one has (L5); then the least number that no receipt
-/// has (L3).
-pub fn claim(alloc: Global, closing: &Closing, passes: &[Pass]) -> Result<(), ClaimFault>
-    ensures union { OnOk result (IsUnion closing.now.journal (receipts_of passes.now)) }
+/// The fault is the first one: the least place of a page that does not follow the one before it (L8);
+/// going through the receipts in order, one whose number has no such event (L4), or one whose number an
+/// earlier one has (L5); then the least number that no receipt has (L3).
+pub fn claim(alloc: Global, pages: &[Page], passes: &[Pass]) -> Result<(), ClaimFault>
+    ensures union { OnOk result
+        (AreInOrder None pages.now × IsUnion pages.now (receipts_of passes.now)) }
     ensures exact { IfErr result (λ fault. fault ≢ ClaimFault.Memory
-        → IsUnion closing.now.journal (receipts_of passes.now) → ⊥) }
+        → AreInOrder None pages.now → IsUnion pages.now (receipts_of passes.now) → ⊥) }
     ensures cause { IfErr result
-        (λ fault. IsCause closing.now.journal (receipts_of passes.now) fault) }
+        (λ fault. IsCause pages.now (receipts_of passes.now) fault) }
+    ensures legal { OnOk result (All (λ page.
+        IsLegal page.client page.held (events_in pages.now) empty_state) pages.now) }
 {
-    let journal = closing.journal.as_slice();
+    if let Some(place) = first_gap(pages) {
+        return Err(ClaimFault::Gap(place));
+    }
+    let Ok(events) = join(alloc, pages) else {
+        return Err(ClaimFault::Memory);
+    };
     let mut marks = Vec::new(alloc);
-    if marks.resize(journal.len(), false).is_err() {
+    if marks.resize(events.len(), false).is_err() {
         return Err(ClaimFault::Memory);
     }
+    let first = first_number(pages);
     for pass in passes {
         let receipts = pass.receipts();
         for receipt in receipts {
-            match mark(&mut marks, journal, receipt) {
+            match mark(&mut marks, first, &events, receipt) {
                 Ok(()) => {}
                 Err(fault) => return Err(fault),
             }
         }
     }
     match first_free(marks.as_slice()) {
-        Some(number) => Err(ClaimFault::Unclaimed(number)),
+        Some(place) => Err(ClaimFault::Unclaimed(first + place as u64)),
         None => Ok(()),
     }
 }
 
-// Marks the receipt's number, where the journal has its event there and the number is free.
-fn mark(marks: &mut Vec<bool>, journal: &[Event], receipt: &Receipt) -> Result<(), ClaimFault>
-    requires { vec_len marks.old ≡ length journal.now }
-    ensures len { vec_len marks.new ≡ vec_len marks.old }
-    ensures ours { OnOk result (IsOurs journal.now receipt.now) }
-    ensures free { OnOk result
-        (slice_index_or marks.old.items receipt.now.number false ≡ false) }
-    ensures marked { OnOk result
-        (marks.new.items ≡ slice_set marks.old.items receipt.now.number true) }
-    ensures cause { IfErr result (λ fault.
-        ((fault ≡ ClaimFault.NotOurs receipt.now.number)
-        × (slice_get journal.now receipt.now.number ≢ Some receipt.now.event))
-        ⊎ ((fault ≡ ClaimFault.Doubled receipt.now.number) × IsOurs journal.now receipt.now
-        × (slice_index_or marks.old.items receipt.now.number false ≡ true))) }
+// The number of the first event of all pages; 0 where there is no page.
+fn first_number(pages: &[Page]) -> u64
+    ensures first { result ≡ first_in pages.now }
+    ensures limit { result ≤ 2 ^ 52 }
 {
-    if !is_ours(journal, receipt) {
+    match pages.first() {
+        Some(page) => page.first(),
+        None => 0,
+    }
+}
+
+// The events of all pages, in their order. The only error is an allocation failure.
+fn join<'a>(alloc: Global, pages: &'a [Page]) -> Result<Vec<&'a Event>, AllocError>
+    ensures events { IfOk result (λ events. map (λ event. event.now) events.items ≡ events_in pages.now) }
+    ensures pages { OnOk result (All HoldsOut pages.now) }
+{
+    let mut joined = Vec::new(alloc);
+    for page in pages {
+        let events = page.events();
+        for event in events {
+            joined.push(event)?;
+        }
+    }
+    Ok(joined)
+}
+
+// Marks the place of the receipt's number, where the event of that number is the receipt's and the place
+// is free.
+fn mark(
+    marks: &mut Vec<bool>,
+    first: u64,
+    events: &[&Event],
+    receipt: &Receipt,
+) -> Result<(), ClaimFault>
+    requires { vec_len marks.old ≡ length events.now }
+    ensures len { vec_len marks.new ≡ vec_len marks.old }
+    ensures ours { OnOk result (event_in first (map (λ event. event.now) events.now) receipt.now.number
+        ≡ Some receipt.now.event) }
+    ensures free { OnOk result
+        (slice_index_or marks.old.items (receipt.now.number - first) false ≡ false) }
+    ensures marked { OnOk result
+        (marks.new.items ≡ slice_set marks.old.items (receipt.now.number - first) true) }
+    ensures cause { IfErr result (λ fault.
+        let here = event_in first (map (λ event. event.now) events.now) receipt.now.number in
+        ((fault ≡ ClaimFault.NotOurs receipt.now.number) × (here ≢ Some receipt.now.event))
+        ⊎ ((fault ≡ ClaimFault.Doubled receipt.now.number) × (here ≡ Some receipt.now.event)
+        × (slice_index_or marks.old.items (receipt.now.number - first) false ≡ true))) }
+{
+    if !is_ours(first, events, receipt) {
         return Err(ClaimFault::NotOurs(receipt.number));
     }
-    let place = receipt.number as usize;
+    let place = (receipt.number - first) as usize;
     if marks[place] {
         return Err(ClaimFault::Doubled(receipt.number));
     }
@@ -75,20 +115,21 @@ fn mark(marks: &mut Vec<bool>, journal: &[Event], receipt: &Receipt) -> Result<(
     Ok(())
 }
 
-// Whether the journal has the receipt's event at its number.
-fn is_ours(journal: &[Event], receipt: &Receipt) -> bool
-    ensures ours { MatchBool result (IsOurs journal.now receipt.now)
-        (slice_get journal.now receipt.now.number ≢ Some receipt.now.event) }
-    ensures within { result ≡ true → receipt.now.number < length journal.now }
+// Whether the event of the receipt's number is the receipt's.
+fn is_ours(first: u64, events: &[&Event], receipt: &Receipt) -> bool
+    ensures ours { let here = event_in first (map (λ event. event.now) events.now) receipt.now.number in
+        MatchBool result (here ≡ Some receipt.now.event) (here ≢ Some receipt.now.event) }
+    ensures first { result ≡ true → first ≤ receipt.now.number }
+    ensures within { result ≡ true → receipt.now.number - first < length events.now }
 {
-    if receipt.number >= journal.len() as u64 {
+    if receipt.number < first || receipt.number - first >= events.len() as u64 {
         return false;
     }
-    journal[receipt.number as usize] == receipt.event
+    *events[(receipt.number - first) as usize] == receipt.event
 }
 
 // The least place that is not marked.
-fn first_free(marks: &[bool]) -> Option<u64>
+fn first_free(marks: &[bool]) -> Option<usize>
     ensures free { IfSome result (λ n. (n < length marks.now)
         × (slice_index_or marks.now n false ≡ false)
         × ((k : ℕ) → k < n → slice_index_or marks.now k false ≡ true)) }
@@ -97,7 +138,7 @@ fn first_free(marks: &[bool]) -> Option<u64>
 {
     for place in 0..marks.len() {
         if !marks[place] {
-            return Some(place as u64);
+            return Some(place);
         }
     }
     None

@@ -14,9 +14,9 @@ pub enum ServiceFault {
     #[error("a record set changed in each try")]
     Contended(Key),
     /// L2: the pass has seen an event that the service has not: it is another service's. The number
-    /// of the service's events, and the pass's front.
-    #[error("the pass has seen {front} events of {events}")]
-    PassAhead { events: u64, front: u64 },
+    /// of the service's next event, and the pass's front.
+    #[error("the pass has seen the events before {front}, and the next one is {next}")]
+    PassAhead { next: u64, front: u64 },
     /// L6: the service was stopped, or the gate stopped the lookup.
     #[error("the service is stopped")]
     Stopped,
@@ -83,18 +83,21 @@ impl<T: Drop> From<AllocFailed<T>> for ServiceFault {
     }
 }
 
-/// Why a journal is not the union of the receipts of some passes.
+/// Why the events of some pages are not the union of the receipts of some passes.
 #[derive(Clone, Copy, Debug, PartialEq, Eq, Hash, Error)]
 pub enum ClaimFault {
     /// L3: no receipt has the number of this event, the least such number.
     #[error("no receipt has event {0}")]
     Unclaimed(u64),
-    /// L4: a receipt has this number, and the journal has no such event, or another one there.
-    #[error("the journal has another event {0}, or none")]
+    /// L4: a receipt has this number, and the pages have no such event, or another one there.
+    #[error("the pages have another event {0}, or none")]
     NotOurs(u64),
     /// L5: an earlier receipt has this number too.
     #[error("two receipts have event {0}")]
     Doubled(u64),
+    /// L8: the page at this place, from 0, does not follow the one before it; the least such place.
+    #[error("page {0} does not follow the one before it")]
+    Gap(usize),
     /// An allocation failed.
     #[error("out of memory")]
     Memory,
@@ -109,6 +112,7 @@ impl ClaimFault {
             ClaimFault::Unclaimed(_) => "L3",
             ClaimFault::NotOurs(_) => "L4",
             ClaimFault::Doubled(_) => "L5",
+            ClaimFault::Gap(_) => "L8",
             ClaimFault::Memory => "Memory",
         }
     }

@@ -1,9 +1,10 @@
 //! A locator that threads share: a book under a lock (RFC 3263, 4).
 //!
 //! A caller has a pass. Each answer that it receives, and each change that it makes, is an event of
-//! the book's journal, and the pass has the receipt for it. After the service was closed, `claim`
-//! shows of the journal and all passes that the receipts are the journal: each event is one that a
-//! caller was told of, and is what it was told.
+//! the book's journal, and the pass has the receipt for it. The journal is handed out page by page, the
+//! last page as the service is closed. Then `claim` shows of all pages and all passes that the pages
+//! follow one another, and that the receipts are their events: each event is one that a caller was told
+//! of, and is what it was told.
 //!
 //! Calls that take a runtime may wait for the lock. None of them holds it while a gate is called.
 #![tactic(auto)]
@@ -12,6 +13,7 @@ mod answered;
 mod asked;
 mod claims;
 mod fault;
+mod gap;
 mod gate;
 mod lookups;
 mod marks;
@@ -24,7 +26,7 @@ mod steps;
 mod told;
 mod versions;
 
-pub use claims::{Closing, claim};
+pub use claims::claim;
 pub use fault::{ClaimFault, ServiceFault};
 pub use gate::{Gate, Go, OpenGate, Who};
 pub use pass::Pass;

@@ -1,9 +1,8 @@
-ghost use Rattle.std.specs.Prelude.{◌≡◌, ◌≤◌, ◌^◌, [], IfOk, IfErr, OnOk};
-ghost use Rattle.sipl_book.specs.Machine.{IsLegal, empty_state};
+ghost use Rattle.std.specs.Prelude.{◌≡◌, ◌≤◌, ◌-◌, ◌^◌, ◌⊎◌, [], IfOk, IfErr, OnOk};
+ghost use Rattle.sipl_book.specs.Pages.{IsPage};
 ghost use Rattle.sipl_service.specs.Marks.{key_edited};
 ghost use Rattle.sipl_service.specs.Passes.{GetsReceipt};
 
-use crate::claims::Closing;
 use crate::fault::ServiceFault;
 use crate::pass::Pass;
 use crate::receipt::Receipt;
@@ -12,7 +11,7 @@ use crate::steps;
 use crate::steps::NewEdit;
 use crate::versions::Versions;
 use crossbeam_utils::CachePadded;
-use sipl_book::{Book, Done, Edit, Event, Limits};
+use sipl_book::{Book, BookFault, Done, Edit, Event, Limits, Page};
 use sipl_choice::{Abilities, Endpoint};
 use sipl_outages::Held;
 use sipl_records::Key;
@@ -79,6 +78,7 @@ impl Service {
         requires holds { limits.now.holds ≤ 4096 }
         requires first { 1 ≤ limits.now.next }
         requires last { limits.now.next ≤ 2 ^ 52 }
+        requires page { limits.now.first ≤ 2 ^ 52 - 2 ^ 20 }
         requires once { 1 ≤ tries }
         requires most { tries ≤ 16 }
         ensures { IfOk result
@@ -226,12 +226,32 @@ impl Service {
         self.woken.notify_all();
     }
 
-    /// Takes the journal out, which is legal from the empty state. Does not allocate.
+    /// Hands the events since the last page out, and begins an empty journal at the state as it is, as
+    /// `Book::turn_page` does. The numbers of events go on. Where an edit was made since the last page,
+    /// the records are copied with the lock held.
+    ///
+    /// The fault is the first one: the service was stopped (L6), no number is left for another page (B6).
+    /// Then nothing changes.
+    pub fn turn_page<R: Wait>(&self, rt: &R) -> Result<Page, ServiceFault>
+        ensures page { IfOk result (λ page. IsPage page) }
+        ensures refused { IfErr result (λ fault. (fault ≡ ServiceFault.Stopped)
+            ⊎ (fault ≡ ServiceFault.Book BookFault.PagesSpent) ⊎ (fault ≡ ServiceFault.Memory)) }
+    {
+        let mut shared = self.lock(rt);
+        if shared.is_stopped {
+            return Err(ServiceFault::Stopped);
+        }
+        Ok(shared.book.turn_page()?)
+    }
+
+    /// Takes the events since the last page out, for the service's client and policy on held endpoints.
+    /// Does not allocate.
     ///
     /// The fault is a book for another client or policy (L7); the service is returned with it.
-    pub fn close(self) -> Result<Closing, (ServiceFault, Service)>
-        ensures legal { IfOk result
-            (λ closing. IsLegal self.client self.held closing.journal empty_state) }
+    pub fn close(self) -> Result<Page, (ServiceFault, Service)>
+        ensures page { IfOk result (λ page. IsPage page) }
+        ensures client { IfOk result (λ page. page.client ≡ self.client) }
+        ensures held { IfOk result (λ page. page.held ≡ self.held) }
         ensures refused { IfErr result (λ refused. refused.1 ≡ self) }
     {
         let shared = self.shared.into_inner().into_inner();
@@ -247,9 +267,7 @@ impl Service {
             };
             return Err((ServiceFault::OtherBook, service));
         }
-        Ok(Closing {
-            journal: shared.book.into_journal(),
-        })
+        Ok(shared.book.into_page())
     }
 }
 

@@ -35,12 +35,12 @@ pub(crate) fn next_number(book: &Book, pass: &Pass) -> Result<u64, ServiceFault>
     ensures ahead { IfErr result
         (λ fault. unless_ahead pass.now book.now None ≡ Some fault) }
 {
-    let events = book.journal().len() as u64;
+    let next = book.next_event();
     let front = pass.front();
-    if front > events {
-        return Err(ServiceFault::PassAhead { events, front });
+    if front > next {
+        return Err(ServiceFault::PassAhead { next, front });
     }
-    Ok(events)
+    Ok(next)
 }
 
 // Whether the book is for a client of these abilities, and for this policy on held endpoints.
@@ -110,7 +110,7 @@ pub(crate) fn change(
     pass.receipts.reserve(1)?;
     let NewEdit { edit, receipt } = Box::into_inner(new);
     let done = make_change(book, &mut pass.receipts, edit, receipt)?;
-    pass.front = book.journal().len() as u64;
+    pass.front = book.next_event();
     Ok(done)
 }
 
@@ -154,7 +154,7 @@ pub(crate) fn hold(
     let number = book.hold(endpoint, ms)?;
     let event = Event::Hold(*endpoint, ms);
     pass.receipts.push_reserved(Receipt { number, event });
-    pass.front = book.journal().len() as u64;
+    pass.front = book.next_event();
     Ok(number)
 }
 
@@ -178,7 +178,7 @@ pub(crate) fn release(
     let number = book.release(endpoint)?;
     let event = Event::Release(*endpoint);
     pass.receipts.push_reserved(Receipt { number, event });
-    pass.front = book.journal().len() as u64;
+    pass.front = book.next_event();
     Ok(number)
 }
 
@@ -199,7 +199,7 @@ pub(crate) fn advance(book: &mut Book, pass: &mut Pass, to: u64) -> Result<u64, 
     let number = book.advance(to)?;
     let event = Event::Advance(to);
     pass.receipts.push_reserved(Receipt { number, event });
-    pass.front = book.journal().len() as u64;
+    pass.front = book.next_event();
     Ok(number)
 }
 
@@ -251,7 +251,7 @@ pub(crate) fn hand(
     Ok(Answered {
         told,
         receipt,
-        front: book.journal().len() as u64,
+        front: book.next_event(),
         released: None,
     })
 }
@@ -379,7 +379,7 @@ pub(crate) fn commit(
                 number,
                 event: Event::Answer(copies.receipt, draws, answers.receipt),
             },
-            front: book.journal().len() as u64,
+            front: book.next_event(),
             released: committed.released,
         }),
         Err(uncommitted) => Err(fault_of(alloc, uncommitted)),

@@ -4,7 +4,7 @@ use Rattle.sipl_service.proofs.Marked.{IsMarked}
 use Rattle.sipl_service.proofs.claims.claim.Given as goal
 
 abbrev pub invariant-loop-pass : goal.invariant-loop-pass
-invariant-loop-pass l = IsMarked l.journal (receipts_of (take l.pass-index l.passes)) l.marks.items
+invariant-loop-pass l = IsMarked l.pages (receipts_of (take l.pass-index l.passes)) l.marks.items
 
 abbrev pub invariant-loop-receipt : goal.invariant-loop-receipt
-invariant-loop-receipt l = IsMarked l.journal (receipts_of (take l.pass-index l.passes) ++ take l.receipt-index l.receipts) l.marks.items
+invariant-loop-receipt l = IsMarked l.pages (receipts_of (take l.pass-index l.passes) ++ take l.receipt-index l.receipts) l.marks.items
