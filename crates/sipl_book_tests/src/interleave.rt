@@ -6,6 +6,7 @@ mod counts;
 mod examples;
 mod numbers;
 mod orders;
+mod pages;
 mod script;
 mod wildcards;
 

@@ -123,7 +123,7 @@ fn is_address(rt: &impl Abort, answer: &Answer, address: u32) {
         ..ENDPOINT
     };
     let is_so = match answer {
-        Answer::Targets(targets) => targets.as_slice() == &[expected],
+        Answer::Targets(targets) => targets.as_slice() == [expected].as_slice(),
         Answer::None(_) => false,
     };
     assert!(rt; is_so, "another answer");

@@ -31,6 +31,7 @@ pub(super) enum Line {
     Settle(usize),
     Abandon(usize),
     Forget(&'static str),
+    Page,
 }
 
 // The reply to a step.
@@ -49,6 +50,8 @@ pub(super) enum Shown {
     Settled,
     Abandoned,
     Forgotten,
+    // The number of the page's first event, and how many events it has.
+    Paged(u64, u64),
     // B2: the set at this place is outdated, which is that of this key.
     Stale(usize, &'static str, Kind),
     // The finding is returned, with the fault of this code.
@@ -85,6 +88,7 @@ fn step(rt: &impl Abort, alloc: Global, line: Line) -> Step {
         Line::Settle(worker) => Step::Settle(worker),
         Line::Abandon(worker) => Step::Abandon(worker),
         Line::Forget(uri) => Step::Forget(question_of(rt, alloc, uri)),
+        Line::Page => Step::Page,
     }
 }
 
@@ -176,6 +180,9 @@ fn is_shown(rt: &impl Abort, alloc: Global, reply: &Reply, shown: Shown) -> bool
         | (Reply::Settled, Shown::Settled)
         | (Reply::Abandoned, Shown::Abandoned)
         | (Reply::Forgotten, Shown::Forgotten) => true,
+        (Reply::Paged(page), Shown::Paged(first, count)) => {
+            page.first == first && page.count == count
+        }
         (Reply::Answered(handed), Shown::Targets(targets)) => are_targets(&handed.answer, targets),
         (Reply::Answered(handed), Shown::None(reason)) => is_reason(&handed.answer, reason),
         (Reply::Read(item), Shown::Read(owner, kind, len)) => {

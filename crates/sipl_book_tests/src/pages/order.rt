@@ -1,7 +1,10 @@
 //! Tests of what pages have, and of which page follows which.
-use super::{ADDRESS, ENDPOINT, Scenario, add, find, is_event, load, play};
-use crate::book::abilities;
-use sipl_book::{Book, Event, Limits, Page, State};
+ghost use Rattle.std.specs.Prelude.{◌≤◌, ◌-◌, ◌^◌};
+
+use super::{ADDRESS, ENDPOINT, OTHER_ADDRESS, Scenario, add, find, is_event, load, play};
+use crate::book::{record, zone};
+use sipl_book::{Book, Edit, Event, Limits, Page, State};
+use sipl_choice::{Abilities, Families, Transport};
 use sipl_outages::Held;
 use std::alloc::Global;
 use std::process::Abort;
@@ -183,4 +186,102 @@ pub(super) fn order(rt: &impl Abort, alloc: Global, book: &mut Book) {
 #[test]
 fn each_page_follows_the_one_before_it_alone(rt: HostRuntime) {
     play(&rt, rt.alloc(), 8, 0, Scenario::Order);
+}
+
+// A book: the policy, the address families of its client, its record, and the number of its first event.
+#[derive(Clone, Copy)]
+struct Form {
+    held: Held,
+    families: Families,
+    record: &'static [u8],
+    first: u64,
+}
+
+const PLAIN: Form = Form {
+    held: Held::Out,
+    families: Families::V4,
+    record: ADDRESS,
+    first: 0,
+};
+
+fn client(rt: &impl Abort, alloc: Global, families: Families) -> Abilities {
+    let preference = Vec::from_slice(alloc, &[Transport::Udp]).expect(rt, "out of memory");
+    Abilities::new(preference, families).expect(rt, "abilities")
+}
+
+// The first page of a book.
+fn first_of(rt: &impl Abort, alloc: Global, form: Form) -> Page
+    requires { form.first ≤ 2 ^ 52 - 2 ^ 20 }
+{
+    let mut book = book_of(rt, alloc, form);
+    page_of(rt, alloc, &mut book, form.record)
+}
+
+// The second page of a book, taken as the book ends.
+fn last_of(rt: &impl Abort, alloc: Global, form: Form) -> Page
+    requires { form.first ≤ 2 ^ 52 - 2 ^ 20 }
+{
+    let mut book = book_of(rt, alloc, form);
+    drop(page_of(rt, alloc, &mut book, form.record));
+    book.into_page()
+}
+
+fn book_of(rt: &impl Abort, alloc: Global, form: Form) -> Book
+    requires { form.first ≤ 2 ^ 52 - 2 ^ 20 }
+{
+    let limits = Limits {
+        first: form.first,
+        ..Limits::greatest()
+    };
+    let abilities = client(rt, alloc, form.families);
+    Book::new(alloc, abilities, &limits, form.held)
+}
+
+// A page with a zone of this record.
+fn page_of(rt: &impl Abort, alloc: Global, book: &mut Book, text: &[u8]) -> Page {
+    is_made(rt, book, Edit::Load(zone(rt, alloc, b"")));
+    is_made(rt, book, Edit::Add(record(rt, alloc, text)));
+    page(rt, book)
+}
+
+fn is_made(rt: &impl Abort, book: &mut Book, edit: Edit) {
+    assert!(rt; book.change(edit).is_ok(), "the edit is refused");
+}
+
+// Whether the last page of a book of one form follows the first page of one of another form.
+fn follows_form(rt: &impl Abort, alloc: Global, form: Form, before: Form) -> bool
+    requires form { form.first ≤ 2 ^ 52 - 2 ^ 20 }
+    requires before { before.first ≤ 2 ^ 52 - 2 ^ 20 }
+{
+    let pages = [first_of(rt, alloc, before), last_of(rt, alloc, form)];
+    is_in_order(&pages)
+}
+
+// Whether the second page follows the first one.
+fn is_in_order(pages: &[Page]) -> bool {
+    match pages {
+        [before, page] => page.follows(before),
+        _ => false,
+    }
+}
+
+fn is_followed(rt: &impl Abort, alloc: Global, form: Form, expected: bool)
+    requires { form.first ≤ 2 ^ 52 - 2 ^ 20 }
+{
+    let forth = follows_form(rt, alloc, form, PLAIN);
+    let back = follows_form(rt, alloc, PLAIN, form);
+    assert_eq!(rt; (forth, back), (expected, expected));
+}
+
+#[test]
+fn no_page_follows_one_of_another_policy_client_state_or_number(rt: HostRuntime) {
+    let alloc = rt.alloc();
+    is_followed(&rt, alloc, PLAIN, true);
+    let held = Held::Last;
+    is_followed(&rt, alloc, Form { held, ..PLAIN }, false);
+    let families = Families::V6;
+    is_followed(&rt, alloc, Form { families, ..PLAIN }, false);
+    let record = OTHER_ADDRESS;
+    is_followed(&rt, alloc, Form { record, ..PLAIN }, false);
+    is_followed(&rt, alloc, Form { first: 1, ..PLAIN }, false);
 }
