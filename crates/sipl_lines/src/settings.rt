@@ -30,7 +30,8 @@ pub struct Settings {
     pub records: usize,
     /// The maximum number of kept results: 0 to 65,536, which is the default.
     pub entries: usize,
-    /// The maximum number of events in the journal: 1 to 1,048,576, which is the default.
+    /// The maximum number of events in the journal since the last page: 1 to 1,048,576, which is the
+    /// default.
     pub journal: usize,
     /// The maximum number of held endpoints: 0 to 4,096, which is the default.
     pub holds: usize,

@@ -12,10 +12,10 @@ use Rattle.sipl_plans.specs.declared.layout.Layout.{Layout}
 use Rattle.sipl_plans.specs.declared.answer.Answer.{Answer as Targets}
 use Rattle.sipl_choice.specs.Abilities.{Client}
 use Rattle.sipl_book.specs.Book.{BookState, answer_now}
-use Rattle.sipl_book.specs.Calls.{after_check, after_commit, after_comparison, commit_refusal, is_stale}
+use Rattle.sipl_book.specs.Calls.{after_check, after_commit, after_comparison, commit_refusal, is_full, is_stale}
 use Rattle.sipl_book.specs.declared.event.Event.TheVariants.{Answer}
 use Rattle.sipl_book.specs.declared.fault.BookFault.TheVariants.{JournalFull, Stale}
-use Rattle.sipl_book.proofs.Public.{current-fresh, full, no_place, space}
+use Rattle.sipl_book.proofs.Public.{current-fresh, no_place, space}
 
 -- what a sound finding draws is the answer, where no set is stale
 answer-fresh : (found : Found) (words : List ℕ) (book : BookState) → IsSound found → found.client ≡ book.client
@@ -32,7 +32,7 @@ pub journal-committed : (found : Found) (words : List ℕ) (old new : BookState)
     → new.journal ≡ old.journal ++ Answer found.question words (draw found.layout old.board.holds words old.held) ∷ []
 journal-committed found words old new sound client none is =
     let has = space old (option_map Stale (position (is_stale old.store) found.items)) none in
-    let checked : after_check found old ≡ after_comparison found old = cond-false (full old) old (after_comparison found old) has.0 in
+    let checked : after_check found old ≡ after_comparison found old = cond-false (is_full old) old (after_comparison found old) has.0 in
     ap (λ (b : BookState). b.journal) (is ∙ ap (after_commit found words) checked)
     ∙ ap (λ (answer : Targets). old.journal ++ Answer found.question words answer ∷ []) (answer-fresh found words old sound client (no_place (position (is_stale old.store) found.items) has.1))
 
@@ -43,12 +43,12 @@ position-within p (item ∷ items) n some = (position-Some p (item ∷ items) n 
 
 -- the place of a stale set is one of the evidence
 pub stale-within : (found : Found) (book : BookState) (place : ℕ) → commit_refusal is_stale found book ≡ Some (Stale place) → place < length found.items
-stale-within found book place some = by (full book) refl
+stale-within found book place some = by (is_full book) refl
   where
     at : (found_at : Option ℕ) → position (is_stale book.store) found.items ≡ found_at → option_map Stale found_at ≡ Some (Stale place) → place < length found.items
     at None is mapped = let never : None ≡ Some (Stale place) = mapped in cc
     at (Some n) is mapped = let same : n ≡ place = cc in subst (λ m. m < length found.items) same (position-within (is_stale book.store) found.items n is)
 
-    by : (b : Bool) → full book ≡ b → place < length found.items
-    by true is = let never : Some JournalFull ≡ Some (Stale place) = sym (cond-true (full book) (Some JournalFull) (option_map Stale (position (is_stale book.store) found.items)) is) ∙ some in cc
-    by false is = at (position (is_stale book.store) found.items) refl (sym (cond-false (full book) (Some JournalFull) (option_map Stale (position (is_stale book.store) found.items)) is) ∙ some)
+    by : (b : Bool) → is_full book ≡ b → place < length found.items
+    by true is = let never : Some JournalFull ≡ Some (Stale place) = sym (cond-true (is_full book) (Some JournalFull) (option_map Stale (position (is_stale book.store) found.items)) is) ∙ some in cc
+    by false is = at (position (is_stale book.store) found.items) refl (sym (cond-false (is_full book) (Some JournalFull) (option_map Stale (position (is_stale book.store) found.items)) is) ∙ some)

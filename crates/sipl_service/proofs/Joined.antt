@@ -1,5 +1,5 @@
 -- The events of pages that follow one another.
-use Rattle.std.proofs.Common.{◌≡◌, ◌<◌, ◌+◌, ℕ, zero, suc, List, [], ◌∷◌, ◌++◌, length, take, get_or, Option, None, Some, refl, sym, ap, subst, ◌∙◌, arith, append-nil, take_all}
+use Rattle.std.proofs.Common.{◌≡◌, ◌<◌, ◌≤◌, ◌+◌, ℕ, zero, suc, List, [], ◌∷◌, ◌++◌, length, take, get_or, Option, None, Some, refl, sym, ap, subst, ◌∙◌, arith, append-nil, take_all}
 use Rattle.std.specs.List.{All}
 use Rattle.std.proofs.lemmas.List.{take_more}
 use Rattle.std.proofs.lemmas.List.Elements.{All-head, All-push, All-tail}
@@ -34,13 +34,13 @@ later-legal : (client : Client) (held : Held) (before : PageState) → before.cl
     → IsLegal client held (events_in pages) before.result
 later-legal client held before same_client same_held [] all order = tt
 later-legal client held before same_client same_held (page ∷ pages) all order =
-    let out = All-head {P = HoldsOut} page pages all in
+    let out : HoldsOut page = All-head HoldsOut page pages all in
     let own_client : page.client ≡ client = order.0.client ∙ same_client in
     let own_held : page.held ≡ held = order.0.held ∙ same_held in
     legal-append client held page.events (events_in pages) before.result
     (own-legal client held before.result page own_client own_held order.0.base out)
     (subst (IsLegal client held (events_in pages)) (sym (own-replayed before.result page order.0.base out))
-    (later-legal client held page own_client own_held pages (All-tail {P = HoldsOut} page pages all) order.1))
+    (later-legal client held page own_client own_held pages (All-tail HoldsOut page pages all) order.1))
 
 -- pages that follow one are for its client and policy
 alike : (before : PageState) (pages : List PageState) → AreInOrder (Some before) pages → (k : ℕ) (d : PageState) → k < length pages
@@ -54,11 +54,11 @@ alike before (page ∷ pages) order (suc k) d within =
 first-legal : (first : PageState) (pages : List PageState) → All HoldsOut (first ∷ pages) → AreInOrder None (first ∷ pages)
     → IsLegal first.client first.held (events_in (first ∷ pages)) empty_state
 first-legal first pages all order =
-    let out = All-head {P = HoldsOut} first pages all in
+    let out : HoldsOut first = All-head HoldsOut first pages all in
     legal-append first.client first.held first.events (events_in pages) empty_state
     (own-legal first.client first.held empty_state first refl refl order.0 out)
     (subst (IsLegal first.client first.held (events_in pages)) (sym (own-replayed empty_state first order.0 out))
-    (later-legal first.client first.held first refl refl pages (All-tail {P = HoldsOut} first pages all) order.1))
+    (later-legal first.client first.held first refl refl pages (All-tail HoldsOut first pages all) order.1))
 
 -- the events of pages in order are legal from the empty state, for the client and policy of each
 pub joined-legal : (pages : List PageState) → All HoldsOut pages → AreInOrder None pages
