@@ -1,10 +1,10 @@
 // Calls of a service.
 use crate::call::{Call, Outcome, outcome_of, refused};
 use crate::values::{Asked, SETS, abilities, draws, is_answer, question_of, zone};
-use sipl_book::{Edit, Limits};
+use sipl_book::{Edit, Extent, Limits, Page};
 use sipl_masterfile::ZoneText;
 use sipl_outages::Held;
-use sipl_service::{Closing, OpenGate, Pass, Service, claim};
+use sipl_service::{OpenGate, Pass, Service, claim};
 use sipl_srv::Draws;
 use sipl_uri::Question;
 use std::alloc::Global;
@@ -52,15 +52,35 @@ impl Call for Lookup {
     }
 }
 
+// The service has one event, whose records no page has yet.
+#[derive(Drop)]
+struct TurnPage {
+    service: Box<Service>,
+}
+
+// Whether a page has the one event.
+fn has_the_event(page: &Page) -> bool {
+    page.extent() == Extent { first: 0, count: 1 }
+}
+
+impl Call for TurnPage {
+    fn make<R: Wait>(&mut self, rt: &R, _alloc: Global) -> Option<bool> {
+        match self.service.turn_page(rt) {
+            Ok(page) => Some(has_the_event(&page)),
+            Err(fault) => refused(fault.code(), true),
+        }
+    }
+}
+
 #[derive(Drop)]
 struct Claim {
-    closing: Closing,
+    pages: [Page; 2],
     passes: Vec<Pass>,
 }
 
 impl Call for Claim {
     fn make<R: Wait>(&mut self, _rt: &R, alloc: Global) -> Option<bool> {
-        match claim(alloc, &self.closing, &self.passes) {
+        match claim(alloc, &self.pages, &self.passes) {
             Ok(()) => Some(true),
             Err(fault) => refused(fault.code(), true),
         }
@@ -109,23 +129,32 @@ fn new_lookup<R: Wait>(rt: &R, alloc: Global, asked: Asked) -> anyhow::Result<Lo
     })
 }
 
-// The journal of a service. Closing does not allocate.
-fn close(service: Box<Service>) -> anyhow::Result<Closing> {
+fn new_turn<R: Wait>(rt: &R, alloc: Global) -> anyhow::Result<TurnPage> {
+    let service = service(alloc)?;
+    let mut pass = service.pass();
+    load_zone(rt, alloc, &service, &mut pass)?;
+    Ok(TurnPage { service })
+}
+
+// The last page of a service. Closing does not allocate.
+fn close(service: Box<Service>) -> anyhow::Result<Page> {
     match Box::into_inner(service).close() {
-        Ok(closing) => Ok(closing),
+        Ok(page) => Ok(page),
         Err(_) => anyhow::bail!("the service is not closed"),
     }
 }
 
-// The journal of a service, and its passes.
+// The pages of a service, and its passes.
 fn new_claim<R: Wait>(rt: &R, alloc: Global) -> anyhow::Result<Claim> {
     let service = service(alloc)?;
     let mut pass = service.pass();
     load_zone(rt, alloc, &service, &mut pass)?;
+    let turned = service.turn_page(rt)?;
+    service.advance(rt, &mut pass, 1)?;
     let mut passes = Vec::new(alloc);
     passes.push(pass)?;
     Ok(Claim {
-        closing: close(service)?,
+        pages: [turned, close(service)?],
         passes,
     })
 }
@@ -137,6 +166,11 @@ pub(crate) fn edit_call<R: Wait>(rt: &R, alloc: Global) -> anyhow::Result<Outcom
 
 pub(crate) fn lookup_call<R: Wait>(rt: &R, alloc: Global, asked: Asked) -> anyhow::Result<Outcome> {
     let mut call = new_lookup(rt, alloc, asked)?;
+    Ok(outcome_of(rt, alloc, &mut call))
+}
+
+pub(crate) fn turn_call<R: Wait>(rt: &R, alloc: Global) -> anyhow::Result<Outcome> {
+    let mut call = new_turn(rt, alloc)?;
     Ok(outcome_of(rt, alloc, &mut call))
 }
 

@@ -241,7 +241,10 @@ impl Service {
         if shared.is_stopped {
             return Err(ServiceFault::Stopped);
         }
-        Ok(shared.book.turn_page()?)
+        let page = shared.book.turn_page()?;
+        // Tells that it is a page.
+        let _next = page.next();
+        Ok(page)
     }
 
     /// Takes the events since the last page out, for the service's client and policy on held endpoints.

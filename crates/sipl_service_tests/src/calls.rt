@@ -2,10 +2,10 @@
 use crate::gates::{Closed, Editing, Turns};
 use crate::values::{
     ADDRESS_11, BOB, OVER_TCP, SERVER_1, SERVER_2, SERVER_11, close, draws, events, fails, find,
-    hold, is_claimed, is_no_claim, load_zone, new_service, outdate, question, record, targets, tcp,
+    has_events, hold, is_claimed, is_no_claim, load_zone, new_service, outdate, question, record, targets, tcp,
 };
-use sipl_book::Edit;
-use sipl_service::{ClaimFault, Closing, Pass, Service, ServiceFault, Told};
+use sipl_book::{Edit, Page};
+use sipl_service::{ClaimFault, Pass, Service, ServiceFault, Told};
 use std::alloc::Global;
 use std::process::Abort;
 use std::sync::atomic::Ordering;
@@ -81,7 +81,7 @@ fn pass_of_another<R: Wait + Abort>(rt: &R, alloc: Global) -> Pass {
 // An L2 of a service without events, for a pass with front 1.
 fn is_ahead(rt: &impl Abort, told: Result<Told, ServiceFault>) {
     let expected = match told {
-        Err(ServiceFault::PassAhead { events, front }) => events == 0 && front == 1,
+        Err(ServiceFault::PassAhead { next, front }) => next == 0 && front == 1,
         _ => false,
     };
     assert!(rt; expected, "an answer, or another fault");
@@ -95,10 +95,10 @@ fn a_pass_that_has_seen_more_is_refused(rt: HostRuntime) {
 }
 
 // The claims of a journal of one hold with its own pass, and with that of another service as well.
-fn claims(rt: &impl Abort, alloc: Global, closing: &Closing, passes: &[Pass; 2]) {
-    assert_eq!(rt; closing.journal.len(), 1);
-    is_claimed(rt, alloc, closing, &passes[..1]);
-    is_no_claim(rt, alloc, closing, passes, ClaimFault::Doubled(0));
+fn claims(rt: &impl Abort, alloc: Global, pages: &[Page; 1], passes: &[Pass; 2]) {
+    has_events(rt, &pages[0], 1);
+    is_claimed(rt, alloc, pages, &passes[..1]);
+    is_no_claim(rt, alloc, pages, passes, ClaimFault::Doubled(0));
 }
 
 #[test]
@@ -107,7 +107,7 @@ fn two_receipts_of_one_event_are_no_claim(rt: HostRuntime) {
     let mut pass = service.pass();
     hold(&rt, &service, &mut pass);
     let passes = [pass, pass_of_another(&rt, rt.alloc())];
-    claims(&rt, rt.alloc(), &close(&rt, service), &passes);
+    claims(&rt, rt.alloc(), &[close(&rt, service)], &passes);
 }
 
 // A lookup is stopped by its gate, and another one is answered.
@@ -139,6 +139,7 @@ fn stopped<R: Wait + Abort>(rt: &R, alloc: Global, service: &Service, pass: &mut
     is_stopped(rt, service.release(rt, pass, &tcp(SERVER_1)));
     is_stopped(rt, service.advance(rt, pass, 1));
     is_stopped(rt, service.repair(rt).map(|_| 0));
+    is_stopped(rt, service.turn_page(rt).map(|_| 0));
     let question = question(rt, alloc, BOB);
     is_stopped(rt, service.deps(rt, &question).map(|_| 0));
 }

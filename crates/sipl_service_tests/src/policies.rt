@@ -4,8 +4,9 @@ use crate::values::{
     BOB, OVER_TCP, SERVER_1, SERVER_2, close, find, hold, is_claimed, is_no_claim, is_tcp,
     load_zone, new_service_by,
 };
+use sipl_book::Page;
 use sipl_outages::Held;
-use sipl_service::{ClaimFault, Closing, Pass, Service, ServiceFault, Told};
+use sipl_service::{ClaimFault, Pass, Service, ServiceFault, Told};
 use std::alloc::Global;
 use std::process::Abort;
 use std::sync::Wait;
@@ -14,10 +15,10 @@ use std::test::*;
 // The words by which server1 comes first, which is the server that is held.
 const WORDS: &[u32] = &[1, 0];
 
-// A journal, and the pass that has its receipts.
+// A page, and the pass that has its receipts.
 #[derive(Drop)]
 struct Ended {
-    closing: Closing,
+    pages: [Page; 1],
     passes: [Pass; 1],
 }
 
@@ -72,7 +73,7 @@ fn finds_held<R: Wait + Abort>(
 
 fn end(rt: &impl Abort, service: Service, pass: Pass) -> Ended {
     Ended {
-        closing: close(rt, service),
+        pages: [close(rt, service)],
         passes: [pass],
     }
 }
@@ -95,7 +96,7 @@ fn held<R: Wait + Abort>(rt: &R, alloc: Global, held: Held, numbers: &[u32]) -> 
 }
 
 fn is_claimed_by(rt: &impl Abort, alloc: Global, ended: &Ended, other: &Ended) {
-    is_claimed(rt, alloc, &ended.closing, &other.passes);
+    is_claimed(rt, alloc, &ended.pages, &other.passes);
 }
 
 // The first answer that differs is not in the journal.
@@ -103,7 +104,7 @@ fn is_not_claimed_by(rt: &impl Abort, alloc: Global, ended: &Ended, other: &Ende
     is_no_claim(
         rt,
         alloc,
-        &ended.closing,
+        &ended.pages,
         &other.passes,
         ClaimFault::NotOurs(3),
     );

@@ -40,8 +40,8 @@ fn answered<R: Wait>(rt: &R, alloc: Global) -> anyhow::Result<Answer> {
 }
 
 fn closes(alloc: Global, service: Service, passes: Vec<Pass>) -> anyhow::Result<()> {
-    if let Ok(closing) = service.close() {
-        claim(alloc, &closing, passes.as_slice())?;
+    if let Ok(page) = service.close() {
+        claim(alloc, &[page], passes.as_slice())?;
     }
     Ok(())
 }

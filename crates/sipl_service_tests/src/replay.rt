@@ -1,22 +1,25 @@
-// Callers and repair workers in threads of their own, by a policy on held endpoints that is drawn. What each
-// caller is told is drawn anew from its parts, and the journal is replayed: each answer in it is that of the
-// plain program on the records and the holds at its place.
+// Callers and repair workers in threads of their own, by a policy on held endpoints that is drawn; one step of
+// a caller in fifty turns the page. What each caller is told is drawn anew from its parts, and the events of
+// all pages are replayed: each answer among them is that of the plain program on the records and the holds at
+// its place.
 use crate::told::is_drawn_anew;
-use crate::values::{close, is_claimed, load_zone, new_service_by, question, record, tcp};
+use crate::values::{
+    close, is_claimed, load_zone, new_service_by, question, record, tcp, turn_page,
+};
 use rand_core::utils::NextWord;
 use rand_pcg::Pcg32;
-use sipl_book::{Edit, Event};
+use sipl_book::{Edit, Event, Page};
 use sipl_choice::{Abilities, Endpoint};
 use sipl_outages::{Board, Held};
 use sipl_plans::{Answer, plan_of};
 use sipl_records::Address;
-use sipl_service::{Closing, OpenGate, Pass, Service};
+use sipl_service::{OpenGate, Pass, Service};
 use sipl_srv::Draws;
 use sipl_uri::Question;
 use sipl_zonestore::{Changed, StoreFault, ZoneStore};
 use std::alloc::Global;
 use std::process::Abort;
-use std::sync::Wait;
+use std::sync::{Mutex, Wait};
 use std::test::*;
 use std::thread;
 use std::thread::Threads;
@@ -118,26 +121,34 @@ fn call<R: Wait + Abort>(
     }
 }
 
+fn keep(rt: &impl Abort, pages: &mut Vec<Page>, page: Page) {
+    pages.push(page).expect(rt, "out of memory");
+}
+
+// Turns the page, with the pages locked, so that they are in their order.
+fn turn<R: Wait + Abort>(rt: &R, service: &Service, pages: &Mutex<Vec<Page>>) {
+    let mut pages = pages.lock(rt);
+    let page = turn_page(rt, service);
+    keep(rt, &mut pages, page);
+}
+
 fn calls<R: Wait + Abort>(
     rt: &R,
     alloc: Global,
     service: &Service,
+    pages: &Mutex<Vec<Page>>,
     pass: &mut Pass,
     seed: u64,
     caller: u64,
 ) {
     let mut chance = Pcg32::new(seed, caller);
     for number in 0..CALLS {
+        if chance.next_word() % 50 == 0 {
+            turn(rt, service, pages);
+        }
         let kind = chance.next_word();
-        call(
-            rt,
-            alloc,
-            service,
-            pass,
-            kind,
-            chance.next_word(),
-            number / 4,
-        );
+        let word = chance.next_word();
+        call(rt, alloc, service, pass, kind, word, number / 4);
     }
 }
 
@@ -146,12 +157,13 @@ fn all_calls<R: Threads + Wait + Abort + Sync>(
     rt: &R,
     alloc: Global,
     service: &Service,
+    pages: &Mutex<Vec<Page>>,
     passes: &mut [Pass],
     seed: u64,
 ) {
     thread::scope(thread::scope_env(), rt, |scope| {
         for (caller, pass) in passes.iter_mut().enumerate() {
-            let _ = scope.spawn(move || calls(rt, alloc, service, pass, seed, caller as u64));
+            let _ = scope.spawn(move || calls(rt, alloc, service, pages, pass, seed, caller as u64));
         }
     });
     service.stop(rt);
@@ -180,19 +192,21 @@ fn policy(seed: u64) -> Held {
     }
 }
 
-// Makes the calls, and closes the service. Its journal is claimed with the passes.
-fn closed<R: Threads + Wait + Abort + Sync>(rt: &R, alloc: Global, seed: u64) -> Closing {
+// Makes the calls, and closes the service. Its pages are claimed with the passes.
+fn closed<R: Threads + Wait + Abort + Sync>(rt: &R, alloc: Global, seed: u64) -> Vec<Page> {
     let service = new_service_by(rt, alloc, 16, policy(seed));
+    let pages = Mutex::new(Vec::new(alloc));
     let mut passes = passes(rt, alloc, &service);
     load(rt, alloc, &service, &mut passes);
     thread::join(
         rt,
         || service.run_workers(rt, 2, &OpenGate),
-        || all_calls(rt, alloc, &service, &mut passes, seed),
+        || all_calls(rt, alloc, &service, &pages, &mut passes, seed),
     );
-    let closing = close(rt, service);
-    is_claimed(rt, alloc, &closing, &passes);
-    closing
+    let mut pages = pages.into_inner();
+    keep(rt, &mut pages, close(rt, service));
+    is_claimed(rt, alloc, &pages, &passes);
+    pages
 }
 
 // ---- the replay
@@ -332,38 +346,62 @@ fn is_legal(
     }
 }
 
-// How many events are legal, up to the first that is not.
+// How many events of a page are legal, up to the first that is not.
 fn legal(
     rt: &impl Abort,
     alloc: Global,
+    store: &mut ZoneStore,
+    board: &mut Board,
     asker: Asker,
-    journal: &[Event],
+    events: &[Event],
     seen: &mut Seen,
 ) -> usize {
-    let mut store = ZoneStore::with(alloc, 1, 1_048_576);
-    let mut board = Board::with(alloc, 4_096);
-    for (number, event) in journal.iter().enumerate() {
-        if !is_legal(rt, alloc, &mut store, &mut board, asker, event, seen) {
-            return number;
+    for (place, event) in events.iter().enumerate() {
+        if !is_legal(rt, alloc, store, board, asker, event, seen) {
+            return place;
         }
     }
-    journal.len()
+    events.len()
 }
 
-fn are_legal(rt: &impl Abort, alloc: Global, asker: Asker, journal: &[Event], seen: &mut Seen) {
-    assert!(rt; journal.len() > 8_000, "few calls were accepted");
-    assert_eq!(rt; legal(rt, alloc, asker, journal, seen), journal.len());
+// How many events of all pages are legal, and how many there are.
+fn legal_in(
+    rt: &impl Abort,
+    alloc: Global,
+    asker: Asker,
+    pages: &[Page],
+    seen: &mut Seen,
+) -> (usize, usize) {
+    let mut store = ZoneStore::with(alloc, 1, 1_048_576);
+    let mut board = Board::with(alloc, 4_096);
+    let mut counts = (0_usize, 0_usize);
+    for page in pages {
+        let events = page.events();
+        let count = legal(rt, alloc, &mut store, &mut board, asker, events, seen);
+        counts = (
+            counts.0.saturating_add(count),
+            counts.1.saturating_add(events.len()),
+        );
+    }
+    counts
 }
 
-// Makes the calls of a seed, and replays their journal.
+fn are_legal(rt: &impl Abort, alloc: Global, asker: Asker, pages: &[Page], seen: &mut Seen) {
+    assert!(rt; pages.len() > 100, "few pages were turned");
+    let (legal, all) = legal_in(rt, alloc, asker, pages, seen);
+    assert!(rt; all > 8_000, "few calls were accepted");
+    assert_eq!(rt; legal, all);
+}
+
+// Makes the calls of a seed, and replays their events.
 fn replay<R: Threads + Wait + Abort + Sync>(rt: &R, alloc: Global, seed: u64, seen: &mut Seen) {
-    let closing = closed(rt, alloc, seed);
+    let pages = closed(rt, alloc, seed);
     let service = new_service_by(rt, alloc, 1, policy(seed));
     let asker = Asker {
         abilities: service.abilities(),
         held: service.held(),
     };
-    are_legal(rt, alloc, asker, closing.journal.as_slice(), seen);
+    are_legal(rt, alloc, asker, pages.as_slice(), seen);
 }
 
 fn are_seen(rt: &impl Abort, seen: Seen) {

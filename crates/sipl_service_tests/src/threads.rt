@@ -1,13 +1,14 @@
 // Calls of several threads.
 use crate::gates::{Turns, Waiting, comes};
 use crate::values::{
-    BOB, OVER_TCP, SERVER_1, SERVER_2, add, close, draws, events, find, is_claimed, is_no_claim,
-    load_zone, new_service, outdate, question, targets,
+    BOB, OVER_TCP, SERVER_1, SERVER_2, add, close, draws, events, find, has_events, is_claimed,
+    is_no_claim, load_zone, new_service, outdate, question, targets,
 };
+use sipl_book::Page;
 use sipl_choice::Transport;
 use sipl_plans::Answer;
 use sipl_records::Address;
-use sipl_service::{ClaimFault, Closing, Pass, Service};
+use sipl_service::{ClaimFault, Pass, Service};
 use std::alloc::Global;
 use std::process::Abort;
 use std::sync::Wait;
@@ -56,7 +57,7 @@ fn finds<R: Wait + Abort>(rt: &R, alloc: Global, service: &Service, mut pass: Pa
 }
 
 // The journal of two callers in threads of their own, and their passes.
-fn two_callers<R: Threads + Wait + Abort + Sync>(
+pub(crate) fn two_callers<R: Threads + Wait + Abort + Sync>(
     rt: &R,
     alloc: Global,
     service: &Service,
@@ -72,7 +73,7 @@ fn two_callers<R: Threads + Wait + Abort + Sync>(
 }
 
 // The number of the first event of a pass.
-fn first_number(rt: &impl Abort, pass: &Pass) -> u64 {
+pub(crate) fn first_number(rt: &impl Abort, pass: &Pass) -> u64 {
     match pass.receipts().first() {
         Some(receipt) => receipt.number,
         None => panic!(rt; "no receipt"),
@@ -81,20 +82,20 @@ fn first_number(rt: &impl Abort, pass: &Pass) -> u64 {
 
 // The claims of a journal of four events with a pass of another service and the two that have its
 // receipts: with these two; with one of them missing; with the other service's first.
-fn claims(rt: &impl Abort, alloc: Global, closing: &Closing, passes: &[Pass; 3]) {
-    assert_eq!(rt; closing.journal.len(), 4);
+fn claims(rt: &impl Abort, alloc: Global, pages: &[Page; 1], passes: &[Pass; 3]) {
+    has_events(rt, &pages[0], 4);
     let number = first_number(rt, &passes[2]);
     let all = &passes[..];
-    is_claimed(rt, alloc, closing, &all[1..]);
+    is_claimed(rt, alloc, pages, &all[1..]);
     is_no_claim(
         rt,
         alloc,
-        closing,
+        pages,
         &all[1..2],
         ClaimFault::Unclaimed(number),
     );
-    is_no_claim(rt, alloc, closing, &all[2..], ClaimFault::Unclaimed(0));
-    is_no_claim(rt, alloc, closing, all, ClaimFault::NotOurs(0));
+    is_no_claim(rt, alloc, pages, &all[2..], ClaimFault::Unclaimed(0));
+    is_no_claim(rt, alloc, pages, all, ClaimFault::NotOurs(0));
 }
 
 fn advance<R: Wait + Abort>(rt: &R, service: &Service, pass: &mut Pass) {
@@ -115,8 +116,8 @@ fn the_receipts_of_two_threads_are_the_journal(rt: HostRuntime) {
     let service = new_service(&rt, rt.alloc(), 4);
     let (first, second) = two_callers(&rt, rt.alloc(), &service);
     let other = pass_of_another(&rt, rt.alloc());
-    let closing = close(&rt, service);
-    claims(&rt, rt.alloc(), &closing, &[other, first, second]);
+    let pages = [close(&rt, service)];
+    claims(&rt, rt.alloc(), &pages, &[other, first, second]);
 }
 
 fn held<R: Wait + Abort + Clock>(rt: &R, alloc: Global, service: &Service, gate: &Waiting<R>) {

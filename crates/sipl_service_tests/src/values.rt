@@ -2,14 +2,14 @@
 // need to write its calls.
 ghost use Rattle.std.specs.Prelude.{◌≤◌};
 
-use sipl_book::{Done, Edit, Limits};
+use sipl_book::{Done, Edit, Limits, Page};
 use sipl_choice::{Abilities, Endpoint, Families, Transport};
 use sipl_masterfile::{ZoneText, read_record, read_zone};
 use sipl_names::Name;
 use sipl_outages::Held;
 use sipl_plans::Answer;
 use sipl_records::{Address, Record};
-use sipl_service::{ClaimFault, Closing, OpenGate, Pass, Service, ServiceFault, Told, claim};
+use sipl_service::{ClaimFault, OpenGate, Pass, Service, ServiceFault, Told, claim};
 use sipl_srv::Draws;
 use sipl_uri::{Question, Uri};
 use std::alloc::Global;
@@ -195,30 +195,42 @@ pub(crate) fn fails(rt: &impl Abort, told: Result<Told, ServiceFault>, code: &st
     assert!(rt; code_of(&told) == Some(code), "an answer, or another fault");
 }
 
-pub(crate) fn close(rt: &impl Abort, service: Service) -> Closing {
+pub(crate) fn turn_page<R: Wait + Abort>(rt: &R, service: &Service) -> Page {
+    match service.turn_page(rt) {
+        Ok(page) => page,
+        Err(_) => panic!(rt; "no page"),
+    }
+}
+
+pub(crate) fn close(rt: &impl Abort, service: Service) -> Page {
     match service.close() {
-        Ok(closing) => closing,
+        Ok(page) => page,
         Err(_) => panic!(rt; "not closed"),
     }
 }
 
-// The number of events of a service, which is closed.
+// The number of events of a service of one page, which is closed.
 pub(crate) fn events(rt: &impl Abort, service: Service) -> usize {
-    close(rt, service).journal.len()
+    close(rt, service).events().len()
 }
 
-// The journal is claimed with the passes.
-pub(crate) fn is_claimed(rt: &impl Abort, alloc: Global, closing: &Closing, passes: &[Pass]) {
-    assert!(rt; claim(alloc, closing, passes).is_ok(), "not claimed");
+// The pages are claimed with the passes.
+pub(crate) fn is_claimed(rt: &impl Abort, alloc: Global, pages: &[Page], passes: &[Pass]) {
+    assert!(rt; claim(alloc, pages, passes).is_ok(), "not claimed");
 }
 
-// The claim of a journal with the passes is refused so.
+// The claim of the pages with the passes is refused so.
 pub(crate) fn is_no_claim(
     rt: &impl Abort,
     alloc: Global,
-    closing: &Closing,
+    pages: &[Page],
     passes: &[Pass],
     fault: ClaimFault,
 ) {
-    assert_eq!(rt; claim(alloc, closing, passes).err(), Some(fault));
+    assert_eq!(rt; claim(alloc, pages, passes).err(), Some(fault));
+}
+
+// How many events a page has.
+pub(crate) fn has_events(rt: &impl Abort, page: &Page, count: usize) {
+    assert_eq!(rt; page.events().len(), count);
 }
