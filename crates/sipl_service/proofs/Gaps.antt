@@ -1,5 +1,5 @@
 -- Whether pages follow one another, seen from a place on.
-use Rattle.std.proofs.Common.{◌≡◌, ◌<◌, ◌≤◌, ◌+◌, ℕ, zero, suc, List, [], ◌∷◌, length, drop, get_or, Option, None, Some, refl, sym, ap, subst, ◌∙◌, zero-add, add-zero, arith}
+use Rattle.std.proofs.Common.{◌≡◌, ◌<◌, ◌≤◌, ◌+◌, ℕ, zero, suc, List, [], ◌∷◌, length, drop, get_or, Option, None, Some, sym, ap, subst, ◌∙◌, zero-add, add-zero, arith}
 use Rattle.std.proofs.lemmas.List.{drop_all, drop_more}
 use Rattle.sipl_book.specs.Pages.{AreInOrder, Follows, PageState}
 use Rattle.sipl_service.specs.Gaps.{IsGap}

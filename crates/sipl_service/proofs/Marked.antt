@@ -152,9 +152,13 @@ module _ (pages : List PageState) (passes : List PassState) (i : ℕ) (marks : L
       → ((k : ℕ) → k < place → slice_index_or marks k false ≡ true) → IsCause pages (receipts_of passes) (Unclaimed (first + place))
   is_unclaimed first place from order within free full =
       let inside : place < length (events_in pages) = omega (arith, h.len) in
-      subst (λ f. IsCause pages (receipts_of passes) (Unclaimed (f + place))) (sym from)
-      (order, marked-all.part, has_event (first_in pages) (events_in pages) place inside, sym (marked-all.marked place inside) ∙ free,
-      λ k less has. let above = numbered (first_in pages) (events_in pages) k has in sym (mark-of k has) ∙ full (k - first_in pages) (omega (arith, less, above.0)))
+      subst (λ f. IsCause pages (receipts_of passes) (Unclaimed (f + place))) (sym from) (
+        order,
+        marked-all.part,
+        has_event (first_in pages) (events_in pages) place inside,
+        sym (marked-all.marked place inside) ∙ free,
+        λ k less has. let above = numbered (first_in pages) (events_in pages) k has in sym (mark-of k has) ∙ full (k - first_in pages) (omega (arith, less, above.0)),
+      )
 
 -- where a receipt has the number, it stands at a place
 has_at : (receipts : List Receipt) (n : ℕ) → has_number receipts n ≡ true → (k : ℕ) × (k < length receipts) × ((d : Receipt) → (get_or receipts k d).number ≡ n)

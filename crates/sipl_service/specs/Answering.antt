@@ -13,13 +13,13 @@ use Rattle.sipl_service.specs.declared.answered.Answers.{Answers}
 use Rattle.sipl_service.specs.declared.asked.Asked.{Asked}
 use Rattle.sipl_service.specs.declared.steps.Prepared.{Prepared}
 
--- what a call records in a book that has so many events: an answer to what is asked, its receipt, and the
--- front of a caller who has seen it
-pub record Records (request : Asked) (events : ℕ) (answered : Answered) : Type 0 where
+-- what a call records in a book whose next event has this number: an answer to what is asked, its
+-- receipt, and the front of a caller who has seen it
+pub record Records (request : Asked) (next : ℕ) (answered : Answered) : Type 0 where
   pub asked : IsAnswerTo request answered.told
-  pub number : answered.told.number ≡ events
-  pub receipt : answered.receipt ≡ receipt_of events (event_of answered.told)
-  pub front : answered.front ≡ events + 1
+  pub number : answered.told.number ≡ next
+  pub receipt : answered.receipt ≡ receipt_of next (event_of answered.told)
+  pub front : answered.front ≡ next + 1
 
 -- what a layout draws for these holds, random words and this policy on held endpoints, three times
 pub record AreDrawn (layout : Layout) (holds : Holds) (words : List ℕ) (held : Held)

@@ -67,6 +67,6 @@ IsCause pages receipts (Unclaimed n) =
 IsCause pages receipts Memory = AreInOrder None pages
 
 -- a page's events are legal from its base and lead to its result
-pub record HoldsOut (page : PageState) : Type 0 where
+pub record IsReplayed (page : PageState) : Type 0 where
   pub legal : IsLegal page.client page.held page.events page.base
   pub replayed : replay page.events page.base ≡ page.result

@@ -3,7 +3,7 @@ ghost use Rattle.std.specs.List.{All};
 ghost use Rattle.sipl_book.specs.Machine.{IsLegal, empty_state};
 ghost use Rattle.sipl_book.specs.Pages.{AreInOrder, events_in};
 ghost use Rattle.sipl_service.specs.Passes.{receipts_of};
-ghost use Rattle.sipl_service.specs.Claims.{HoldsOut, IsCause, IsUnion, event_in, first_in};
+ghost use Rattle.sipl_service.specs.Claims.{IsReplayed, IsCause, IsUnion, event_in, first_in};
 
 use crate::fault::ClaimFault;
 use crate::gap::first_gap;
@@ -69,8 +69,9 @@ fn first_number(pages: &[Page]) -> u64
 
 // The events of all pages, in their order. The only error is an allocation failure.
 fn join<'a>(alloc: Global, pages: &'a [Page]) -> Result<Vec<&'a Event>, AllocError>
-    ensures events { IfOk result (λ events. map (λ event. event.now) events.items ≡ events_in pages.now) }
-    ensures pages { OnOk result (All HoldsOut pages.now) }
+    ensures events { IfOk result (λ events.
+        map (λ event. event.now) events.items ≡ events_in pages.now) }
+    ensures pages { OnOk result (All IsReplayed pages.now) }
 {
     let mut joined = Vec::new(alloc);
     for page in pages {
@@ -92,8 +93,8 @@ fn mark(
 ) -> Result<(), ClaimFault>
     requires { vec_len marks.old ≡ length events.now }
     ensures len { vec_len marks.new ≡ vec_len marks.old }
-    ensures ours { OnOk result (event_in first (map (λ event. event.now) events.now) receipt.now.number
-        ≡ Some receipt.now.event) }
+    ensures ours { OnOk result (event_in first (map (λ event. event.now) events.now)
+        receipt.now.number ≡ Some receipt.now.event) }
     ensures free { OnOk result
         (slice_index_or marks.old.items (receipt.now.number - first) false ≡ false) }
     ensures marked { OnOk result

@@ -2,7 +2,8 @@
 use crate::gates::{Closed, Editing, Turns};
 use crate::values::{
     ADDRESS_11, BOB, OVER_TCP, SERVER_1, SERVER_2, SERVER_11, close, draws, events, fails, find,
-    has_events, hold, is_claimed, is_no_claim, load_zone, new_service, outdate, question, record, targets, tcp,
+    has_events, hold, is_claimed, is_no_claim, load_zone, new_service, outdate, question, record,
+    targets, tcp,
 };
 use sipl_book::{Edit, Page};
 use sipl_service::{ClaimFault, Pass, Service, ServiceFault, Told};

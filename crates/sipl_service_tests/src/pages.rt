@@ -23,7 +23,13 @@ fn claims(rt: &impl Abort, alloc: Global, pages: &[Page; 2], passes: &[Pass; 2])
     has_events(rt, &pages[1], 0);
     is_claimed(rt, alloc, pages, passes);
     let number = first_number(rt, &passes[1]);
-    is_no_claim(rt, alloc, pages, &passes[..1], ClaimFault::Unclaimed(number));
+    is_no_claim(
+        rt,
+        alloc,
+        pages,
+        &passes[..1],
+        ClaimFault::Unclaimed(number),
+    );
     is_no_claim(rt, alloc, pages, &passes[1..], ClaimFault::Unclaimed(0));
     is_no_claim(rt, alloc, &pages[1..], passes, ClaimFault::Gap(0));
     is_no_claim(rt, alloc, &pages[..0], passes, ClaimFault::NotOurs(0));
@@ -69,7 +75,13 @@ fn pages_in_the_wrong_order_are_no_claim(rt: HostRuntime) {
 #[test]
 fn pages_in_their_order_are_gone_through(rt: HostRuntime) {
     let (first, last) = two_pages(&rt, new_service(&rt, rt.alloc(), 1), 1);
-    is_no_claim(&rt, rt.alloc(), &[first, last], &[], ClaimFault::Unclaimed(0));
+    is_no_claim(
+        &rt,
+        rt.alloc(),
+        &[first, last],
+        &[],
+        ClaimFault::Unclaimed(0),
+    );
 }
 
 #[test]
@@ -83,7 +95,13 @@ fn a_page_twice_is_no_claim(rt: HostRuntime) {
 fn a_page_of_a_service_with_the_same_calls_follows(rt: HostRuntime) {
     let (first, _) = two_pages(&rt, new_service(&rt, rt.alloc(), 1), 1);
     let (_, last) = two_pages(&rt, new_service(&rt, rt.alloc(), 1), 1);
-    is_no_claim(&rt, rt.alloc(), &[first, last], &[], ClaimFault::Unclaimed(0));
+    is_no_claim(
+        &rt,
+        rt.alloc(),
+        &[first, last],
+        &[],
+        ClaimFault::Unclaimed(0),
+    );
 }
 
 #[test]

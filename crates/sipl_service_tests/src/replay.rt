@@ -163,7 +163,15 @@ fn all_calls<R: Threads + Wait + Abort + Sync>(
 ) {
     thread::scope(thread::scope_env(), rt, |scope| {
         for (caller, pass) in passes.iter_mut().enumerate() {
-            let _ = scope.spawn(move || calls(rt, alloc, service, pages, pass, seed, caller as u64));
+            let _ = scope.spawn(move || calls(
+                rt,
+                alloc,
+                service,
+                pages,
+                pass,
+                seed,
+                caller as u64,
+            ));
         }
     });
     service.stop(rt);

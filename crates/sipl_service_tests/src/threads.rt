@@ -87,13 +87,7 @@ fn claims(rt: &impl Abort, alloc: Global, pages: &[Page; 1], passes: &[Pass; 3])
     let number = first_number(rt, &passes[2]);
     let all = &passes[..];
     is_claimed(rt, alloc, pages, &all[1..]);
-    is_no_claim(
-        rt,
-        alloc,
-        pages,
-        &all[1..2],
-        ClaimFault::Unclaimed(number),
-    );
+    is_no_claim(rt, alloc, pages, &all[1..2], ClaimFault::Unclaimed(number));
     is_no_claim(rt, alloc, pages, &all[2..], ClaimFault::Unclaimed(0));
     is_no_claim(rt, alloc, pages, all, ClaimFault::NotOurs(0));
 }

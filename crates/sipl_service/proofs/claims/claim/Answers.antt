@@ -1,8 +1,7 @@
-use Rattle.std.proofs.Common.{List, map, sym, ap, subst, take, ◌∙◌, arith}
+use Rattle.std.proofs.Common.{map, sym, ap, subst, take, ◌∙◌, arith}
 use Rattle.std.specs.Borrow.{Bor}
 use Rattle.sipl_book.specs.declared.event.Event.{Event}
 use Rattle.sipl_service.specs.Passes.{receipts_of}
-use Rattle.sipl_service.specs.Claims.{IsCause}
 use Rattle.sipl_service.proofs.Gaps.{no_gap}
 use Rattle.sipl_service.proofs.Joined.{joined-legal}
 use Rattle.sipl_service.proofs.Marked.{IsMarked, refutes, first-at, is_cause, is_unclaimed, is_union, marked-in}
@@ -39,10 +38,11 @@ pub returns-in-Some-first_free-clause-exact : goal.returns-in-Some-first_free-cl
 returns-in-Some-first_free-clause-exact c = λ ample. refutes _ _ _ ample (returns-in-Some-first_free-clause-cause c)
 
 pub returns-clause-union : goal.returns-clause-union
-returns-clause-union c =
-    (c.in_default.ensures.none,
-    is_union c.args.pages.now c.args.passes.now c.loop-pass.pass-index c.as_slice.result.now (omega (arith, c.loop-pass-test.false))
-    (subst (IsMarked c.args.pages.now (receipts_of (take c.loop-pass.pass-index c.args.passes.now))) (sym c.as_slice.ensures.value) c.loop-pass.invariant) c.in-None.ensures.none)
+returns-clause-union c = (
+  c.in_default.ensures.none,
+  is_union c.args.pages.now c.args.passes.now c.loop-pass.pass-index c.as_slice.result.now (omega (arith, c.loop-pass-test.false))
+      (subst (IsMarked c.args.pages.now (receipts_of (take c.loop-pass.pass-index c.args.passes.now))) (sym c.as_slice.ensures.value) c.loop-pass.invariant) c.in-None.ensures.none,
+)
 
 pub returns-clause-legal : goal.returns-clause-legal
 returns-clause-legal c = joined-legal c.args.pages.now c.in-Ok.ensures.pages c.in_default.ensures.none

@@ -1,5 +1,5 @@
-use Rattle.std.proofs.Common.{sym, subst, ◌∙◌, arith, ap}
-use Rattle.sipl_service.proofs.Joined.{held-out-next, joined-next}
+use Rattle.std.proofs.Common.{arith}
+use Rattle.sipl_service.proofs.Joined.{replayed-next, joined-next}
 use Rattle.sipl_service.proofs.claims.join.Goals as goal
 
 pub loop-page-preserved : goal.loop-page-preserved
@@ -8,6 +8,6 @@ loop-page-preserved c =
     record {
       events = joined-next c.args.pages.now c.loop-page.page-index page c.loop-page-test.true c.page-item.is c.events-events.result.now c.loop-event.event-index _
           c.events-events.ensures.events (omega (arith, c.loop-event-test.false)) c.loop-event.invariant;
-      pages = held-out-next c.args.pages.now c.loop-page.page-index page c.loop-page-test.true c.page-item.is c.loop-page.invariant.pages
+      pages = replayed-next c.args.pages.now c.loop-page.page-index page c.loop-page-test.true c.page-item.is c.loop-page.invariant.pages
           (record { legal = c.events-events.ensures.legal; replayed = c.events-events.ensures.replayed });
     }
