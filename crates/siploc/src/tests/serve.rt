@@ -120,8 +120,7 @@ fn count_lines(text: &[u8], word: &[u8]) -> usize {
     lines.filter(|line| line.starts_with(word)).count()
 }
 
-// What a server replies to a client that holds an endpoint and turns pages, 400 lines long: how many
-// holds are accepted, and how many pages.
+// How many holds, and how many pages, a server accepts of a client that sends 400 lines of them.
 fn turn_pages<H>(host: &H, alloc: Global, port: u16) -> io::Result<(usize, usize)>
 where
     H: Net<Listener = TcpListener, Stream = TcpStream> + Clock,
@@ -129,33 +128,62 @@ where
     let mut input = Vec::new(alloc);
     push_pages(&mut input, 40)?;
     let replies = ask(host, alloc, port, &input)?;
-    Ok((count_lines(&replies, b"ok hold"), count_lines(&replies, b"ok page ")))
+    Ok((
+        count_lines(&replies, b"ok hold"),
+        count_lines(&replies, b"ok page "),
+    ))
 }
 
-// Two clients turn pages beside a third that asks. Their pages are claimed with the passes of all three.
+// Whether the server has the replies to a client that asks.
+fn is_answered<H>(host: &H, alloc: Global, port: u16) -> bool
+where
+    H: Net<Listener = TcpListener, Stream = TcpStream> + Clock,
+{
+    match ask(host, alloc, port, LINES) {
+        Ok(replies) => replies.as_slice() == REPLIES,
+        Err(_) => false,
+    }
+}
+
+// What two clients that turn pages have accepted, side by side.
+fn turn_pages_twice<H>(
+    host: &H,
+    alloc: Global,
+    port: u16,
+) -> (Option<(usize, usize)>, Option<(usize, usize)>)
+where
+    H: Net<Listener = TcpListener, Stream = TcpStream> + Clock + Threads + Wait + Sync,
+{
+    thread::join(
+        host,
+        || turn_pages(host, alloc, port).ok(),
+        || turn_pages(host, alloc, port).ok(),
+    )
+}
+
+// Whether a client beside these is answered, and how many events there were.
+fn answer_beside<H>(host: &H, alloc: Global, port: u16) -> (bool, Option<Option<u64>>)
+where
+    H: Net<Listener = TcpListener, Stream = TcpStream> + Clock + Threads + Wait + Sync + Abort,
+{
+    thread::join(
+        host,
+        || is_answered(host, alloc, port),
+        || serve_sessions(host, alloc, port, 3).ok(),
+    )
+}
+
+// The pages that two clients turn beside a third are claimed with the passes of all.
 #[test]
 fn pages_of_clients_beside_others_are_claimed(rt: HostRuntime) -> Result<(), Fail> {
     let port = free_port(&rt)?;
-    let ((one, other), (replies, events)) = thread::join(
+    let (turned, served) = thread::join(
         &rt,
-        || {
-            thread::join(
-                &rt,
-                || turn_pages(&rt, rt.alloc(), port),
-                || turn_pages(&rt, rt.alloc(), port),
-            )
-        },
-        || {
-            thread::join(
-                &rt,
-                || ask(&rt, rt.alloc(), port, LINES),
-                || serve_sessions(&rt, rt.alloc(), port, 3),
-            )
-        },
+        || turn_pages_twice(&rt, rt.alloc(), port),
+        || answer_beside(&rt, rt.alloc(), port),
     );
-    assert_eq!(rt; (one?, other?), ((360, 40), (360, 40)));
-    assert_eq!(rt; replies?.as_slice(), REPLIES);
-    assert_eq!(rt; events?, Some(722));
+    assert_eq!(rt; turned, (Some((360, 40)), Some((360, 40))));
+    assert_eq!(rt; served, (true, Some(Some(722))));
     Ok(())
 }
 
