@@ -3,9 +3,7 @@
 // holds as they are, by the book's policy on held endpoints. A page in fifty lines has the number of the
 // first event since the last one, and how many there were.
 use super::comparison::{Numbers, URIS, plain_answer, zone};
-use super::shares::{
-    Shares, are_held, are_mixed, are_paged, count, count_answer, count_entries,
-};
+use super::shares::{Shares, are_held, are_mixed, are_paged, count, count_answer, count_entries};
 use super::streams::{new_book, replies_at};
 use itoa::Buffer;
 use sipl_book::Book;
