@@ -21,8 +21,9 @@ use std::thread::Threads;
 fn claims(rt: &impl Abort, alloc: Global, pages: &[Page; 2], passes: &[Pass; 2]) {
     has_events(rt, &pages[0], 4);
     has_events(rt, &pages[1], 0);
-    is_claimed(rt, alloc, pages, passes);
     let number = first_number(rt, &passes[1]);
+    let (pages, passes) = (&pages[..], &passes[..]);
+    is_claimed(rt, alloc, pages, passes);
     is_no_claim(
         rt,
         alloc,
