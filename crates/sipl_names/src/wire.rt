@@ -22,18 +22,6 @@ pub(crate) fn split_label(wire: &[u8]) -> Option<(&[u8], &[u8])>
     Some(rest.split_at(*len as usize))
 }
 
-// Drops the first octets, in place: the others move one by one, which takes no room beside them.
-pub(crate) fn drop_front(wire: &mut Vec<u8>, count: usize)
-    requires { count ≤ vec_len wire.old }
-    ensures { wire.new.items ≡ drop count wire.old.items }
-{
-    let left = wire.len() - count;
-    for place in 0..left {
-        wire[place] = wire[place + count];
-    }
-    wire.truncate(left);
-}
-
 // Whether the octets can be a label.
 pub(crate) fn check_label(label: &[u8]) -> Result<(), InvalidName>
     ensures { MatchResult result
