@@ -1,7 +1,7 @@
 // Octets in memory that copies share.
 ghost use Rattle.std.specs.Prelude.{◌≡◌, ◌≤◌, length, drop, IfOk};
 
-use std::alloc::AllocError;
+use std::alloc::{AllocError, Global};
 use std::marker::Model;
 use std::sync::ArcSlice;
 
@@ -24,11 +24,11 @@ impl Model for LongOctets {
 }
 
 impl LongOctets {
-    // The octets of a `Vec`.
-    pub(crate) fn from_vec(octets: Vec<u8>) -> Result<Self, AllocError>
-        ensures { IfOk result (λ long. long ≡ octets.items) }
+    // A copy of these octets.
+    pub(crate) fn from_slice(alloc: Global, octets: &[u8]) -> Result<Self, AllocError>
+        ensures { IfOk result (λ long. long ≡ octets.now) }
     {
-        let octets = ArcSlice::from_vec(octets)?;
+        let octets = ArcSlice::from_slice(alloc, octets)?;
         Ok(LongOctets { octets, start: 0 })
     }
 

@@ -16,7 +16,7 @@ use crate::fault::{InvalidName, NameFault};
 use crate::print::{reserve_text, write_text};
 use crate::shared::SharedOctets;
 use crate::text::read_labels;
-use crate::wire::{checked_wire_len, push_labels, split_label};
+use crate::wire::{WireBuf, checked_wire_len, push_labels, split_label};
 use std::alloc::{AllocError, Global};
 use std::hash::{Hash, Hasher};
 use std::marker::Model;
@@ -76,7 +76,7 @@ impl Name {
         } else {
             origin.wire.as_slice().len()
         };
-        let mut wire = Vec::with_capacity(alloc, text.len() + 1 + origin_len)?;
+        let mut wire = WireBuf::with_capacity(alloc, text.len() + 1 + origin_len)?;
         let is_absolute = read_labels(&mut wire, text)?;
         if !is_absolute {
             wire.extend_from_slice(origin.wire.as_slice())?;
@@ -84,7 +84,7 @@ impl Name {
         if wire.len() >= MAX_NAME_LEN {
             return Err(NameFault::Invalid(InvalidName::NameTooLong));
         }
-        let wire = SharedOctets::from_vec(wire)?;
+        let wire = SharedOctets::from_slice(alloc, wire.as_slice())?;
         Ok(Name { wire })
     }
 
@@ -105,10 +105,10 @@ impl Name {
         if len >= MAX_NAME_LEN {
             return Err(NameFault::Invalid(InvalidName::NameTooLong));
         }
-        let mut wire = Vec::with_capacity(alloc, len)?;
+        let mut wire = WireBuf::with_capacity(alloc, len)?;
         push_labels(&mut wire, labels);
         wire.extend_from_slice(self.wire.as_slice())?;
-        let wire = SharedOctets::from_vec(wire)?;
+        let wire = SharedOctets::from_slice(alloc, wire.as_slice())?;
         Ok(Name { wire })
     }
 
@@ -203,10 +203,10 @@ impl Name {
         let Some((_, rest)) = split_label(self.wire.as_slice()) else {
             return Ok(Name::root(alloc));
         };
-        let mut wire = Vec::with_capacity(alloc, rest.len() + 2)?;
+        let mut wire = WireBuf::with_capacity(alloc, rest.len() + 2)?;
         wire.extend_from_slice(b"\x01*")?;
         wire.extend_from_slice(rest)?;
-        let wire = SharedOctets::from_vec(wire)?;
+        let wire = SharedOctets::from_slice(alloc, wire.as_slice())?;
         Ok(Name { wire })
     }
 

@@ -38,17 +38,17 @@ impl SharedOctets {
         }
     }
 
-    // The octets of a `Vec`.
-    pub(crate) fn from_vec(octets: Vec<u8>) -> Result<Self, AllocError>
-        ensures { IfOk result (λ shared. shared ≡ octets.items) }
+    // A copy of these octets.
+    pub(crate) fn from_slice(alloc: Global, octets: &[u8]) -> Result<Self, AllocError>
+        ensures { IfOk result (λ shared. shared ≡ octets.now) }
     {
         if octets.len() <= MAX_SHORT_LEN {
-            let short = ShortOctets::from_slice(octets.as_slice());
+            let short = ShortOctets::from_slice(octets);
             return Ok(SharedOctets {
                 kept: Kept::Short(short),
             });
         }
-        let long = LongOctets::from_vec(octets)?;
+        let long = LongOctets::from_slice(alloc, octets)?;
         Ok(SharedOctets {
             kept: Kept::Long(long),
         })

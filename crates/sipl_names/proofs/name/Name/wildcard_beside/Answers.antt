@@ -9,7 +9,7 @@ made : (c : In_ok-wire-2) → IsNameWire c.in_ok-wire-2.wire × (labels_of_wire 
 made c =
     let wildcard =
     wildcard_wire _ _ _ _ _ c.as_slice.ensures.value c.self.invariant c.in-Some.ensures.labels c.in-Some.ensures.rest
-    (c.in_ok-wire-2.ensures ∙ c.in_ok-extend_from_slice-2.ensures.items ∙ ap (λ w. w ++ c.in-Some.rest.now) (c.in_ok-extend_from_slice.ensures.items ∙ ap (λ w. w ++ 1 ∷ 42 ∷ []) c.in_ok-wire.ensures.items)) in
+    (c.in_ok-wire-2.ensures ∙ c.as_slice-2.ensures ∙ c.in_ok-extend_from_slice-2.ensures.ok ∙ ap (λ w. w ++ c.in-Some.rest.now) (c.in_ok-extend_from_slice.ensures.ok ∙ ap (λ w. w ++ 1 ∷ 42 ∷ []) c.in_ok-wire.ensures.items)) in
     (wildcard.0, wildcard.1 ∙ ap wildcard_beside c.self.view_is)
 
 pub invariant_of-result : goal.invariant_of-result
