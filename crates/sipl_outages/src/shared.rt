@@ -159,6 +159,21 @@ impl SharedBoard {
         })
     }
 
+    /// A copy, which shares the board. Does not allocate: the only error is that 2^63 others share it.
+    pub fn dup(&self, alloc: Global) -> Result<Self, AllocError>
+        ensures { IfOk result (λ copy. copy ≡ self.now) }
+    {
+        match &self.kept {
+            Kept::Empty(board) => {
+                let copy = board.dup(alloc)?;
+                Ok(SharedBoard {
+                    kept: Kept::Empty(copy),
+                })
+            }
+            Kept::Shared(board) => SharedBoard::of(board),
+        }
+    }
+
     /// The board.
     pub fn get(&self) -> &Board
         ensures { result.now ≡ self.now }
