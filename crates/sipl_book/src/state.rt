@@ -1,4 +1,4 @@
-ghost use Rattle.std.specs.Prelude.{◌≡◌, IfSome, IfNone};
+ghost use Rattle.std.specs.Prelude.{◌≡◌, IfOk, IfSome, IfNone};
 ghost use Rattle.std.specs.Arc.{arc_value};
 ghost use Rattle.std.specs.Bool.{Decides};
 ghost use Rattle.std.specs.Cmp.{partial_equiv_from_equiv};
@@ -11,6 +11,7 @@ use sipl_names::Name;
 use sipl_outages::{Board, SharedBoard};
 use sipl_records::Record;
 use sipl_zonestore::Zones;
+use std::alloc::{AllocError, Global};
 use std::marker::Model;
 use std::sync::Arc;
 
@@ -66,6 +67,21 @@ impl State {
         State {
             parts: Parts::Shared(zones, board),
         }
+    }
+
+    /// A copy, which shares the zones and the holds where they are shared; else it is linear in both. The
+    /// only error is an allocation failure (or 2^63 that share them).
+    pub fn dup(&self, alloc: Global) -> Result<Self, AllocError>
+        ensures { IfOk result (λ copy. copy ≡ self.now) }
+    {
+        let parts = match &self.parts {
+            Parts::Empty => Parts::Empty,
+            Parts::Own(zones, board) => Parts::Own(zones.dup(alloc)?, board.dup(alloc)?),
+            Parts::Shared(zones, board) => {
+                Parts::Shared(Arc::try_clone(zones)?, board.dup(alloc)?)
+            }
+        };
+        Ok(State { parts })
     }
 
     /// The apexes of the loaded zones, in the order of addition.
