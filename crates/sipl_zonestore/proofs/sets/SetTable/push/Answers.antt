@@ -7,7 +7,8 @@ use Rattle.sipl_records.specs.Sets.{same_key}
 use Rattle.sipl_zonestore.specs.Content.{pushed}
 use Rattle.sipl_zonestore.specs.SetTable.{OwnerTable, content_of, has_no_data, no_sets, set_at, with_set}
 use Rattle.sipl_zonestore.specs.declared.owner_sets.OwnerSets.{OwnerSets}
-use Rattle.sipl_zonestore.proofs.SetTables.{Becomes, OnErr-map, becomes-found, becomes-new, carried-pushed, content-updated, data-found, data-updated, data-with_set, filled-push, is_empty-push, set_value-same}
+use Rattle.sipl_zonestore.proofs.Contents.{carried-pushed, is_empty-push}
+use Rattle.sipl_zonestore.proofs.SetTables.{Becomes, OnErr-map, becomes-found, becomes-new, content-updated, data-found, data-updated, data-with_set, filled-push, set_value-same}
 use Rattle.sipl_zonestore.proofs.sets.SetTable.push.Goals as goal
 
 pub invariant_of-self : goal.invariant_of-self
