@@ -82,6 +82,19 @@ impl ZoneText {
         self.repeated
     }
 
+    /// Shares the records of another zone, where it has equal ones, so that its own are dropped. Linear
+    /// in the records. Does not allocate.
+    pub fn share_records(&mut self, other: &ZoneText)
+        ensures { self.new ≡ self.old }
+    {
+        if *self.records != *other.records {
+            return;
+        }
+        if let Ok(records) = Arc::try_clone(&other.records) {
+            self.records = records;
+        }
+    }
+
     /// A copy, which shares the records. The only error is an allocation failure (or 2^63 that share
     /// them). Linear in the length of the apex.
     pub fn dup(&self, alloc: Global) -> Result<Self, AllocError>
