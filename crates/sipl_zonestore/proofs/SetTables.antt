@@ -20,7 +20,7 @@ use Rattle.sipl_zonestore.specs.Numbers.{number_of, is_empty}
 use Rattle.sipl_zonestore.specs.Content.{Content, no_content, carried, pushed, without}
 use Rattle.sipl_zonestore.specs.SetTable.{OwnerTable, HaveData, content_of, has_no_data, held, no_sets, numbers_of, set_at, with_set}
 use Rattle.sipl_zonestore.specs.declared.owner_sets.OwnerSets.{OwnerSets}
-use Rattle.sipl_zonestore.proofs.Contents.{carried-none, is_empty-push}
+use Rattle.sipl_zonestore.proofs.Contents.{carried_none, is_empty-push}
 
 -- a set without a length is empty
 pub length-empty : (values : List Data) → (length values == 0) ≡ is_empty values
@@ -199,7 +199,7 @@ all_empty sets none kind = at kind where
 -- so that the owner may be removed
 pub becomes-gone : (f g : Content → Content) (es : OwnerTable) (name : Labels) (kind : Kind) (sets : OwnerSets) → same_kind kind Exists ≡ false → ((set : Content) → carried (g set).number (g set).values ≡ f (carried set.number set.values)) → Some sets ≡ lookup (same_name name) es → has_no_data (with_set kind (g (set_at kind sets)) sets) ≡ true → Becomes f es name kind None
 becomes-gone f g es name kind sets of_records is found none other =
-    carried-none (set_at other (with_set kind (g (set_at kind sets)) sets)).number (set_at other (with_set kind (g (set_at kind sets)) sets)).values (all_empty (with_set kind (g (set_at kind sets)) sets) none other)
+    carried_none (set_at other (with_set kind (g (set_at kind sets)) sets)).number (set_at other (with_set kind (g (set_at kind sets)) sets)).values (all_empty (with_set kind (g (set_at kind sets)) sets) none other)
     ∙ becomes-found f g es name kind sets of_records is found other
 
 -- an owner has data where one of its sets does

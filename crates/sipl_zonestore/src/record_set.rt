@@ -32,6 +32,7 @@ impl RecordSet {
     }
 
     // The number, 0 where the set is empty, and the data.
+    #[tactic(auto, using(crate::proofs::Contents::carried_twice))]
     pub(crate) fn get(&self) -> (u64, &[Data])
         ensures number { result.0 ≡ (carried self.now.number self.now.values).number }
         ensures values { result.1.now ≡ self.now.values }
@@ -43,12 +44,8 @@ impl RecordSet {
     }
 
     // Appends a datum to the set, which gets this number.
-    pub(crate) fn push(
-        &mut self,
-        alloc: Global,
-        number: u64,
-        value: Data,
-    ) -> Result<(), AllocError>
+    #[tactic(auto, using(crate::proofs::Contents::carried_pushed))]
+    pub(crate) fn push(&mut self, alloc: Global, number: u64, value: Data) -> Result<(), AllocError>
         ensures pushed { OnOk result (self.new ≡ pushed number value self.old) }
         ensures unchanged { OnErr result (self.new ≡ self.old) }
     {
@@ -62,6 +59,7 @@ impl RecordSet {
     }
 
     // Removes a datum from the set.
+    #[tactic(auto, using(crate::proofs::Contents::carried_without, crate::proofs::Contents::carried_none))]
     pub(crate) fn remove(&mut self, value: &Data)
         ensures { self.new ≡ without value.now self.old }
     {

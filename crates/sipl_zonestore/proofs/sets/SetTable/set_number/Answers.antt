@@ -5,7 +5,7 @@ use Rattle.sipl_records.specs.Sets.{same_key}
 use Rattle.sipl_zonestore.specs.Numbers.{is_empty}
 use Rattle.sipl_zonestore.specs.Content.{Content, renumbered}
 use Rattle.sipl_zonestore.specs.SetTable.{OwnerTable, content_of, has_no_data, set_at}
-use Rattle.sipl_zonestore.proofs.Contents.{renumbered-carried}
+use Rattle.sipl_zonestore.proofs.Contents.{renumbered_carried}
 use Rattle.sipl_zonestore.proofs.SetTables.{becomes-found, content-is, content-none, content-stays, content-updated, data-found, data-same, data-updated, length-empty, set_at-with_set, Becomes}
 use Rattle.sipl_zonestore.proofs.sets.SetTable.set_number.Goals as goal
 
@@ -38,4 +38,4 @@ returns-clause-numbered c =
     subst (λ (owners : OwnerTable). (key : Key) → content_of new key ≡ (if same_key (record { name = c.args.owner.now; kind = c.args.kind }) key then renumbered c.args.number (content_of owners key) else content_of owners key)) c.self.view_is
     (content-updated (renumbered c.args.number) c.self.inside.owners.entries new c.args.owner.now c.args.kind (Some written)
     ((c.get_mut.follows.holds written).3 (subst IsSome c.in-Some.ensures.value refl)).0
-    (subst (λ sets. Becomes (renumbered c.args.number) c.self.inside.owners.entries c.args.owner.now c.args.kind (Some sets)) (sym c.set_number.ensures) (becomes-found (renumbered c.args.number) (renumbered c.args.number) c.self.inside.owners.entries c.args.owner.now c.args.kind c.in-Some.sets.now c.requires (renumbered-carried c.args.number) c.in-Some.ensures.value)))
+    (subst (λ sets. Becomes (renumbered c.args.number) c.self.inside.owners.entries c.args.owner.now c.args.kind (Some sets)) (sym c.set_number.ensures) (becomes-found (renumbered c.args.number) (renumbered c.args.number) c.self.inside.owners.entries c.args.owner.now c.args.kind c.in-Some.sets.now c.requires (renumbered_carried c.args.number) c.in-Some.ensures.value)))
