@@ -17,7 +17,7 @@ ghost use Rattle.sipl_book.specs.Machine.{IsLegal, replay};
 
 use crate::cache::Cache;
 use crate::checks::reserve_event;
-use crate::edit::Edit;
+use crate::edit::{Edit, change_event};
 use crate::entry::Entry;
 use crate::event::Event;
 use crate::fault::BookFault;
@@ -54,6 +54,8 @@ pub struct Book {
     pub(crate) first: u64,
     pub(crate) base: State,
     pub(crate) journal: Vec<Event>,
+    // The place of the last load in the journal, if it has one.
+    pub(crate) last_load: usize,
     pub(crate) cache: Cache,
     pub(crate) max_events: usize,
 }
@@ -96,6 +98,7 @@ impl Book {
             first: limits.first,
             base: State::empty(),
             journal: Vec::new(alloc),
+            last_load: 0,
             cache: Cache::new(alloc, limits.entries),
             max_events: limits.journal,
         }
@@ -108,7 +111,8 @@ impl Book {
 
     /// Edits the zones. The entries whose evidence has the key of a set that changed are outdated
     /// then, and are marked in their order, but for those that are leased. The existence of a name is
-    /// a set too (RFC 4592, 2.2.3), but is not counted among those that changed. The cost is that of
+    /// a set too (RFC 4592, 2.2.3), but is not counted among those that changed. The event of a load
+    /// shares its records with that of the last load, where they are equal. The cost is that of
     /// the edit, a search for each entry that depends on a changed set, and a sort of their ids.
     ///
     /// The fault is the first one: a full journal (B3), a fault of the zones (S1 to S9).
@@ -118,7 +122,10 @@ impl Book {
         reserve_event(&mut self.journal, self.max_events)?;
         let changed = edit.apply(&mut self.store)?;
         self.cache.outdate(changed.keys.as_slice());
-        let number = record_event(&mut self.journal, self.first, Event::Change(edit));
+        let event = change_event(edit, self.journal.get(self.last_load));
+        let place = self.journal.len();
+        self.last_load = if event.is_load() { place } else { self.last_load };
+        let number = record_event(&mut self.journal, self.first, event);
         Ok(Done {
             number,
             changed: changed.sets as u64,
