@@ -133,8 +133,8 @@ fn targets_among(
     if targets.is_empty() {
         return Ok(Answer::None(Reason::AllHeld));
     }
-    let targets = SharedSequence::from_vec(targets)?;
-    Ok(Answer::Targets(targets))
+    let shared = SharedSequence::from_vec(targets)?;
+    Ok(Answer::Targets(shared))
 }
 
 // The endpoints that are not held. Mostly none is held, and then none is looked up.
