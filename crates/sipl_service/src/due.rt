@@ -1,7 +1,6 @@
 // The receipts that wait with numbers below the end of some events.
-ghost use Rattle.std.specs.Prelude.{◌≡◌, ◌≢◌, ◌<◌, ◌≤◌, ◌+◌, ◌-◌, ◌⊎◌, length, map, false, true, slice_set, slice_index_or, Some, IfErr, OnOk, vec_len};
-ghost use Rattle.sipl_book.specs.Pages.{events_in};
-ghost use Rattle.sipl_service.specs.Claims.{IsUnion, event_in, first_in};
+ghost use Rattle.std.specs.Prelude.{◌≡◌, ◌≢◌, ◌<◌, ◌≤◌, ◌-◌, ◌⊎◌, length, map, false, true, slice_set, slice_index_or, Some, IfErr, OnOk, vec_len};
+ghost use Rattle.sipl_service.specs.Claims.{IsUnion, event_in};
 ghost use Rattle.sipl_service.specs.Ledgers.{IsNoUnionAfter};
 ghost use Rattle.sipl_service.specs.Receipts.{all_receipts, due, later};
 
@@ -12,19 +11,18 @@ use crate::receipts::Receipts;
 use sipl_book::{Event, Page};
 use std::alloc::Global;
 
-// Whether the events of the pages are the union of the receipts that wait with numbers below their end,
+// Whether the events of the pages are the union of the receipts that wait with numbers below the end,
 // where those with numbers below the next were claimed.
 pub(crate) fn check(
     alloc: Global,
     next: u64,
+    end: u64,
     pages: &[Page],
     waiting: &[Receipts],
 ) -> Result<(), ClaimFault>
-    ensures union { OnOk result (IsUnion pages.now
-        (due (first_in pages.now + length (events_in pages.now)) (all_receipts waiting.now))) }
+    ensures union { OnOk result (IsUnion pages.now (due end (all_receipts waiting.now))) }
     ensures cause { IfErr result (λ fault. fault ≢ ClaimFault.Memory
-        → IsNoUnionAfter next pages.now
-        (due (first_in pages.now + length (events_in pages.now)) (all_receipts waiting.now)) fault) }
+        → IsNoUnionAfter next pages.now (due end (all_receipts waiting.now)) fault) }
 {
     let Ok(events) = join(alloc, pages) else {
         return Err(ClaimFault::Memory);
@@ -34,7 +32,6 @@ pub(crate) fn check(
         return Err(ClaimFault::Memory);
     }
     let first = first_number(pages);
-    let end = first + events.len() as u64;
     for handed in waiting {
         let count = handed.count_due(end);
         for place in 0..count {

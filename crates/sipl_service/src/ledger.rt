@@ -1,8 +1,9 @@
 //! Claims that go on page by page.
 ghost use Rattle.std.specs.Prelude.{◌≡◌, ◌≢◌, [], IfErr, OnErr, OnOk};
 ghost use Rattle.std.specs.Bool.{Decides};
+ghost use Rattle.std.specs.Option.{option_copied};
 ghost use Rattle.sipl_book.specs.Pages.{IsPage};
-ghost use Rattle.sipl_service.specs.Ledgers.{Accepts, FollowsLast, IsRefusal, last_of, new_ledger, next_after, with_added, with_claimed};
+ghost use Rattle.sipl_service.specs.Ledgers.{Accepts, FollowsLast, GoesOnAfter, IsRefusal, last_of, new_ledger, next_after, with_added, with_claimed};
 ghost use Rattle.sipl_service.specs.Receipts.{all_receipts};
 
 use crate::due::{check, let_go};
@@ -116,6 +117,7 @@ impl Ledger {
         match check(
             self.alloc,
             self.next(),
+            page.next(),
             slice::from_ref(page),
             self.waiting.as_slice(),
         ) {
@@ -170,12 +172,25 @@ fn follows(last: Option<&Last>, page: &Page) -> bool
     }
 }
 
-// Whether the page goes on where the last one ended.
+// Whether the page goes on where the last one ended, for the same client and policy.
 fn goes_on(last: &Last, page: &Page) -> bool
     ensures { Decides result (GoesOnAfter last.now page.now) }
 {
-    page.first() == last.next
-        && page.abilities() == &last.abilities
-        && page.held() == last.held
-        && *page.base() == last.result
+    is_for_client_of(last, page) && begins_after(last, page)
+}
+
+// Whether the page is for the client and policy of the last one.
+fn is_for_client_of(last: &Last, page: &Page) -> bool
+    ensures { Decides result
+        ((page.now.client ≡ last.now.abilities) × (page.now.held ≡ last.now.held)) }
+{
+    *page.abilities() == last.abilities && page.held() == last.held
+}
+
+// Whether the page's first number is the next one, and its base the last one's result.
+fn begins_after(last: &Last, page: &Page) -> bool
+    ensures { Decides result
+        ((page.now.first ≡ last.now.next) × (page.now.base ≡ last.now.result)) }
+{
+    page.first() == last.next && *page.base() == last.result
 }
