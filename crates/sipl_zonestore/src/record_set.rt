@@ -9,6 +9,7 @@ use std::alloc::{AllocError, Global};
 use std::marker::Model;
 
 // A record set. Most sets of an owner are empty, so one that is not has memory of its own.
+#[derive(Drop)]
 pub(crate) struct RecordSet {
     kept: Option<Box<NumberedSet>>,
 }
@@ -87,16 +88,6 @@ impl RecordSet {
         match &self.kept {
             Some(set) => set.is_empty(),
             None => true,
-        }
-    }
-}
-
-// By hand, so that the proofs above see one call, and not a case for each set of an owner.
-impl Drop for RecordSet {
-    fn drop(self) {
-        let RecordSet { kept } = self;
-        if let Some(set) = kept {
-            drop(set);
         }
     }
 }
