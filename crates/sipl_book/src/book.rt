@@ -124,12 +124,7 @@ impl Book {
         let changed = edit.apply(&mut self.store)?;
         self.cache.outdate(changed.keys.as_slice());
         let event = change_event(edit, self.journal.get(self.last_load));
-        let place = self.journal.len();
-        self.last_load = if event.is_load() {
-            place
-        } else {
-            self.last_load
-        };
+        self.last_load = event.last_load(self.journal.len(), self.last_load);
         let number = record_event(&mut self.journal, self.first, event);
         Ok(Done {
             number,

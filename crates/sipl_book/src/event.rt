@@ -23,9 +23,12 @@ pub enum Event {
 }
 
 impl Event {
-    // Whether a zone was loaded.
-    pub(crate) fn is_load(&self) -> bool {
-        matches!(self, Event::Change(Edit::Load(_)))
+    // The place of the last load once this event has a place after it.
+    pub(crate) fn last_load(&self, place: usize, before: usize) -> usize {
+        match self {
+            Event::Change(Edit::Load(_)) => place,
+            _ => before,
+        }
     }
 
     /// A copy. The only error is an allocation failure. Linear in the records of an edit and in the

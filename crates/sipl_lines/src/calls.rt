@@ -23,6 +23,7 @@ const MAX_TARGETS: usize = 2_048;
 
 // `call invite|other BASE URI DRAWS`: opens a call to a URI's targets for these random words, and
 // appends its first step, or why there is none.
+#[tactic(auto, using(crate::proofs::Askable::asked_octets))]
 pub(crate) fn open_call<D: Desk>(
     alloc: Global,
     desk: &mut D,
@@ -122,12 +123,13 @@ fn start(
 }
 
 // A copy of the first targets, in a vector that has space for them.
+#[tactic(auto, using(std::proofs::lemmas::List::take_min))]
 fn first_targets(targets: &[Endpoint], mut copy: Vec<Endpoint>) -> Vec<Endpoint>
     requires empty { copy.items ≡ [] }
     requires capacity { 2048 ≤ vec_capacity copy }
     ensures { result.items ≡ take 2048 targets.now }
 {
-    let len = targets.len().min(MAX_TARGETS);
+    let len = MAX_TARGETS.min(targets.len());
     copy.extend_from_slice(&targets[..len]).unwrap();
     copy.shrink_to_fit();
     copy

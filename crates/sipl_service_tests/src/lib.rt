@@ -10,6 +10,8 @@ mod existence;
 #[cfg(test)]
 mod gates;
 #[cfg(test)]
+mod ledgers;
+#[cfg(test)]
 mod pages;
 #[cfg(test)]
 mod policies;

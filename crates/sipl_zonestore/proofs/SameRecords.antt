@@ -40,7 +40,7 @@ none_outside apex (r ∷ text) all = elim (cases_Bool (is_within r.owner apex)) 
 loaded : (apex : Labels) (others last text : List Record) → last ≡ text → list_any (λ r. is_within r.owner apex) others ≡ false → list_all (λ r. is_within r.owner apex) text ≡ true → records_outside apex (others ++ last) ++ text ≡ others ++ last
 loaded apex others last text same none all =
     let kept : records_outside apex (others ++ last) ≡ others = outside apex others last none ∙ ap (λ rs. others ++ records_outside apex rs) same ∙ ap (λ rs. others ++ rs) (none_outside apex text all) ∙ append-nil others in
-    λ i. kept i ++ same (~ i)
+    ap (λ rs. rs ++ text) kept ∙ ap (λ rs. others ++ rs) (sym same)
 
 pub when_loaded : (apex : Labels) (records others last text : List Record) (n : ℕ) (has : Bool) → others ≡ take n records → last ≡ drop n records → last ≡ text → has ≡ list_any (λ r. is_within r.owner apex) others → list_all (λ r. is_within r.owner apex) text ≡ true → OnTrue (not has) (records_outside apex records ++ text ≡ records)
 when_loaded apex records others last text n true front back same none all = tt

@@ -111,7 +111,8 @@ impl SetTable {
         };
         sets.remove(kind, value);
         if sets.is_empty() {
-            self.owners.swap_remove(owner);
+            let removed = self.owners.swap_remove(owner);
+            drop(removed);
         }
     }
 
