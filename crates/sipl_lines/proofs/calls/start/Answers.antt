@@ -1,7 +1,13 @@
-use Rattle.std.proofs.Common.{◌++◌, rules, ap, ◌∙◌}
+use Rattle.std.proofs.Common.{◌++◌, List, length, rules, ap, ◌∙◌, arith}
+use Rattle.std.proofs.lemmas.List.{length-take}
+use Rattle.sipl_choice.specs.declared.endpoint.Endpoint.{Endpoint}
 use Rattle.sipl_lines.specs.Calls.{steps_text}
 use Rattle.sipl_lines.proofs.Calling.{opened}
 use Rattle.sipl_lines.proofs.calls.start.Goals as goal
+
+pub start-requires-clause-targets : goal.start-requires-clause-targets
+start-requires-clause-targets c =
+    omega (arith, ap (λ (targets : List Endpoint). length targets) c.first_targets.ensures, length-take 2048 c.args.targets.now)
 
 pub returns-in-Ok-clause-done : goal.returns-in-Ok-clause-done
 returns-in-Ok-clause-done c =
