@@ -1,0 +1,161 @@
+//! The desk of a daemon's session.
+ghost use Rattle.std.specs.Prelude.{◌≡◌, [], IfOk};
+
+use crate::daemon::Daemon;
+use crate::fault::DeskFault;
+use crate::settings::Clocks;
+use sipl_book::{Done, Edit, Extent, Handed};
+use sipl_choice::Endpoint;
+use sipl_evidence::Evidence;
+use sipl_lines::{Desk, ServiceDesk};
+use sipl_service::Pass;
+use sipl_srv::Draws;
+use sipl_uri::Question;
+use std::alloc::Global;
+use std::marker::Model;
+use std::sync::Wait;
+
+/// The daemon's service, as the desk of one session with a pass of its own.
+#[derive(Drop)]
+pub(crate) struct SessionDesk<'a, R: Wait> {
+    rt: &'a R,
+    daemon: &'a Daemon,
+    pass: Pass,
+}
+
+impl<'a, R: Wait> Model for SessionDesk<'a, R> {
+    ghost use Rattle.sipl_lines.specs.ServiceDesk.{CallerState};
+    ghost use Rattle.std.specs.Prelude.{[]};
+
+    ghost Value = { CallerState };
+
+    ghost view = { λ desk. record {
+      client = desk.daemon.now.service.client;
+      held = desk.daemon.now.service.held;
+      pass = desk.pass;
+      pages = [];
+    } };
+}
+
+impl<'a, R: Wait> SessionDesk<'a, R> {
+    /// The desk of a session that has had no line.
+    pub(crate) fn new(rt: &'a R, daemon: &'a Daemon) -> Self {
+        SessionDesk {
+            rt,
+            daemon,
+            pass: daemon.service.pass(),
+        }
+    }
+
+    /// The pass, with the receipts that were not handed over.
+    pub(crate) fn into_pass(self) -> Pass {
+        self.pass
+    }
+}
+
+impl<'a, R: Wait> Desk for SessionDesk<'a, R> {
+    ghost use Rattle.sipl_daemon.specs.SessionDesk.{session_rules};
+
+    type Fault = DeskFault;
+
+    ghost rules = { session_rules };
+
+    fn find(
+        &mut self,
+        _alloc: Global,
+        question: Question,
+        draws: &Draws,
+    ) -> Result<Handed, DeskFault> {
+        let (rt, daemon) = (self.rt, self.daemon);
+        match daemon.lookup(rt, &mut self.pass, &question, draws) {
+            Ok(told) => {
+                daemon.count_event(rt, told.number());
+                daemon.counts.count_answer(told.answer());
+                Ok(Handed {
+                    number: told.number(),
+                    answer: told.into_answer(),
+                })
+            }
+            Err(fault) => Err(DeskFault::Service(fault)),
+        }
+    }
+
+    fn change(&mut self, edit: Edit) -> Result<Done, DeskFault> {
+        let (rt, daemon) = (self.rt, self.daemon);
+        match daemon.service.edit(rt, &mut self.pass, edit) {
+            Ok(done) => {
+                daemon.count_event(rt, done.number);
+                Ok(done)
+            }
+            Err(fault) => Err(DeskFault::Service(fault)),
+        }
+    }
+
+    fn hold(&mut self, endpoint: &Endpoint, ms: u64) -> Result<u64, DeskFault> {
+        let (rt, daemon) = (self.rt, self.daemon);
+        match daemon.service.hold(rt, &mut self.pass, endpoint, ms) {
+            Ok(number) => {
+                daemon.count_event(rt, number);
+                Ok(number)
+            }
+            Err(fault) => Err(DeskFault::Service(fault)),
+        }
+    }
+
+    fn release(&mut self, endpoint: &Endpoint) -> Result<u64, DeskFault> {
+        let (rt, daemon) = (self.rt, self.daemon);
+        match daemon.service.release(rt, &mut self.pass, endpoint) {
+            Ok(number) => {
+                daemon.count_event(rt, number);
+                Ok(number)
+            }
+            Err(fault) => Err(DeskFault::Service(fault)),
+        }
+    }
+
+    fn advance(&mut self, to: u64) -> Result<u64, DeskFault> {
+        let (rt, daemon) = (self.rt, self.daemon);
+        if daemon.clock == Clocks::Host {
+            return Err(DeskFault::HostTime);
+        }
+        match daemon.service.advance(rt, &mut self.pass, to) {
+            Ok(number) => {
+                daemon.count_event(rt, number);
+                Ok(number)
+            }
+            Err(fault) => Err(DeskFault::Service(fault)),
+        }
+    }
+
+    fn now(&self) -> u64 {
+        self.daemon.service.now(self.rt)
+    }
+
+    fn deps(&mut self, _alloc: Global, question: Question) -> Result<Evidence, DeskFault> {
+        match self.daemon.service.deps(self.rt, &question) {
+            Ok(evidence) => Ok(evidence),
+            Err(fault) => Err(DeskFault::Service(fault)),
+        }
+    }
+
+    fn repair(&mut self, _alloc: Global) -> Result<(), DeskFault> {
+        match self.daemon.service.repair(self.rt) {
+            Ok(()) => Ok(()),
+            Err(fault) => Err(DeskFault::Service(fault)),
+        }
+    }
+
+    fn page(&mut self) -> Result<Extent, DeskFault> {
+        match self.daemon.pages.turn(self.rt, &self.daemon.service) {
+            Ok(extent) => Ok(extent),
+            Err(fault) => Err(DeskFault::Service(fault)),
+        }
+    }
+
+    fn write_fault(fault: DeskFault, out: &mut Vec<u8>) {
+        match fault {
+            DeskFault::HostTime => out.extend_from_slice(b"err D1\n").unwrap(),
+            DeskFault::Service(fault) => ServiceDesk::<'a, R>::write_fault(fault, out),
+        }
+    }
+}

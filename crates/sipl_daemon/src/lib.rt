@@ -1,0 +1,25 @@
+//! The daemon: sessions without end over TCP and Unix sockets, at one service, until it is told to stop.
+#![tactic(auto)]
+
+mod address;
+mod clients;
+mod control;
+mod counts;
+mod daemon;
+mod desk;
+mod fault;
+mod listener;
+mod pages;
+mod program;
+mod server;
+mod session;
+mod settings;
+mod stop;
+mod stream;
+mod tell;
+
+pub use address::Address;
+pub use fault::DeskFault;
+pub use program::start;
+pub use server::Host;
+pub use settings::{Clocks, DaemonSettings};

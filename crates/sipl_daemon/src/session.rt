@@ -1,0 +1,53 @@
+use crate::clients::Client;
+use crate::daemon::Daemon;
+use crate::desk::SessionDesk;
+use crate::stop::Stop;
+use crate::stream::Stream;
+use sipl_lines::{Tapped, serve};
+use std::io;
+use std::io::{ErrorKind, Read};
+use std::sync::Wait;
+use std::time::Duration;
+
+// For how many milliseconds a client may take no reply.
+const WRITE: u64 = 30_000;
+
+// A client's stream as a reader, which fails once the daemon is to stop: so a line whose end has not come
+// is not carried out.
+#[derive(Drop)]
+struct Input<'a> {
+    stream: &'a Stream,
+    stop: &'a Stop,
+}
+
+impl Read for Input<'_> {
+    fn read(&mut self, buf: &mut [u8]) -> io::Result<usize> {
+        let mut stream = self.stream;
+        let read = stream.read(buf);
+        if self.stop.is_asked() {
+            return Err(io::Error::from(ErrorKind::ConnectionAborted));
+        }
+        read
+    }
+}
+
+/// Serves a client's session, keeps its receipts, and frees its place. A fault ends only this session.
+pub(crate) fn serve_client<R: Wait>(rt: &R, daemon: &Daemon, client: Client) {
+    let Client { stream, place } = client;
+    let mut desk = SessionDesk::new(rt, daemon);
+    let idle = daemon.idle.map(Duration::from_secs);
+    if stream
+        .set_timeouts(idle, Some(Duration::from_millis(WRITE)))
+        .is_ok()
+    {
+        let mut reader = Tapped::new(Input {
+            stream: &stream,
+            stop: &daemon.stop,
+        });
+        let mut writer = Tapped::new(&*stream);
+        let _ = serve(daemon.alloc, &mut reader, &mut writer, &mut desk);
+    }
+    drop(stream);
+    let _ = daemon.pages.keep(rt, desk.into_pass());
+    daemon.clients.leave(rt, place);
+}
