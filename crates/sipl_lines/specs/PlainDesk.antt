@@ -176,6 +176,7 @@ plain_rules =
           EndsSo (Ok (sets_read question before), before) before (sets_listed outcome) after;
       Repairs = λ before outcome after. EndsSo (Ok tt, before) before outcome after;
       Pages = λ before outcome after. EndsSo (page_ending before) before outcome after;
+      Pauses = λ before after. after ≡ before;
       IsTime = λ plain now. now ≡ plain.holds.now;
       fault_text = book_code;
     }
