@@ -55,6 +55,7 @@ session_rules =
       Repairs = λ old outcome new. new ≡ old;
       Pages = λ old outcome new.
           IfOk outcome (λ extent. (page : PageState) × IsPage page × (extent ≡ extent_of page)) × (new ≡ old);
+      Pauses = λ old new. new ≡ old;
       IsTime = λ caller now. Unit {0};
       fault_text = desk_text;
     }

@@ -152,6 +152,8 @@ impl<'a, R: Wait> Desk for SessionDesk<'a, R> {
         }
     }
 
+    fn pause(&mut self) {}
+
     fn write_fault(fault: DeskFault, out: &mut Vec<u8>) {
         match fault {
             DeskFault::HostTime => out.extend_from_slice(b"err D1\n").unwrap(),
