@@ -23,7 +23,8 @@ impl Book {
     ///
     /// The fault is that the next number is over 2^52 - 2^20 (B6).
     pub fn turn_page(&mut self) -> Result<Page, BookFault>
-        ensures { IsTurned self.old self.new result }
+        ensures turned { IsTurned self.old self.new result }
+        ensures is_page { IfOk result (λ page. IsPage page) }
     {
         let next = self.next_event();
         if next > MAX_FIRST {

@@ -11,7 +11,7 @@ use sipl_names::Name;
 use sipl_outages::Board;
 use sipl_records::Record;
 use sipl_zonestore::Zones;
-use std::alloc::AllocError;
+use std::alloc::{AllocError, Global};
 use std::marker::Model;
 use std::sync::Arc;
 
@@ -75,6 +75,21 @@ impl State {
             parts: Parts::Shared(zones, board),
         };
         Ok((state, other))
+    }
+
+    /// A copy, which shares the zones and the holds where they are shared; else it is linear in both. The
+    /// only error is an allocation failure (or 2^63 that share them).
+    pub fn dup(&self, alloc: Global) -> Result<Self, AllocError>
+        ensures { IfOk result (λ copy. copy ≡ self.now) }
+    {
+        let parts = match &self.parts {
+            Parts::Empty => Parts::Empty,
+            Parts::Own(zones, board) => Parts::Own(zones.dup(alloc)?, board.dup(alloc)?),
+            Parts::Shared(zones, board) => {
+                Parts::Shared(Arc::try_clone(zones)?, Arc::try_clone(board)?)
+            }
+        };
+        Ok(State { parts })
     }
 
     /// The apexes of the loaded zones, in the order of addition.
