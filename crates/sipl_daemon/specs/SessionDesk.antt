@@ -1,5 +1,5 @@
 -- What the desk of a daemon's session does: the calls are those of the service, with the session's pass.
-use Rattle.std.specs.Prelude.{◌≡◌, ◌⊎◌, Result, Ok, Err, IfOk, OnErr, codes}
+use Rattle.std.specs.Prelude.{◌≡◌, ◌⊎◌, [], Result, Ok, Err, IfOk, OnErr, codes}
 use Rattle.std.specs.Result.{result_map_both}
 use Rattle.sipl_names.specs.Labels.{Octets}
 use Rattle.sipl_outages.specs.Holds.{BoardEvent}
@@ -35,6 +35,11 @@ MovesBoard (Advance to) old outcome new =
 MovesBoard (Hold endpoint ms) old outcome new = MakesEvent (Hold endpoint ms) old new outcome
 MovesBoard (Release endpoint) old outcome new = MakesEvent (Release endpoint) old new outcome
 
+-- the pass has no receipts left, or all that it had; its front is as it was
+abbrev pub HandsOver : CallerState → CallerState → Type 0
+HandsOver old new =
+    (new ≡ old) ⊎ (new ≡ record old { pass = record { receipts = []; front = old.pass.front } })
+
 -- what a refusal says of a fault
 abbrev pub desk_text : DeskFault → Octets
 desk_text HostTime = codes "D1"
@@ -55,7 +60,7 @@ session_rules =
       Repairs = λ old outcome new. new ≡ old;
       Pages = λ old outcome new.
           IfOk outcome (λ extent. (page : PageState) × IsPage page × (extent ≡ extent_of page)) × (new ≡ old);
-      Pauses = λ old new. new ≡ old;
+      Pauses = λ old new. HandsOver old new;
       IsTime = λ caller now. Unit {0};
       fault_text = desk_text;
     }

@@ -98,6 +98,8 @@ fn write_stats<H: Host>(host: &H, daemon: &Daemon, reply: &mut String) -> Result
     write_count(reply, "NoTransport", &counts.no_transport)?;
     write_count(reply, "AllHeld", &counts.all_held)?;
     writeln!(reply, "clients {}", daemon.clients.count(host))?;
+    writeln!(reply, "pages {}", daemon.pages.claimed())?;
+    writeln!(reply, "waiting {}", daemon.pages.waiting(host))?;
     let octets = resident(host, daemon.alloc).unwrap_or(0);
     writeln!(reply, "resident {octets}")?;
     reply.push_str("ok stats\n")

@@ -8,13 +8,16 @@ use crate::pages::Pages;
 use crate::settings::{Clocks, DaemonSettings};
 use crate::stop::Stop;
 use crate::stream::Stream;
+use crate::time::HostTime;
 use sipl_book::{BookFault, Done, Edit};
 use sipl_choice::Endpoint;
 use sipl_service::{ClaimFault, OpenGate, Pass, Service, ServiceFault, Told};
 use sipl_srv::Draws;
 use sipl_uri::Question;
-use std::alloc::{AllocError, Global};
+use std::alloc::Global;
+use std::io;
 use std::sync::{Arc, Mutex, Wait};
+use std::time::Clock;
 
 // How many control connections there may be at a time.
 const MAX_CONTROLS: usize = 8;
@@ -36,7 +39,10 @@ pub(crate) struct Daemon {
     pub(crate) clients: Clients,
     pub(crate) controls: Clients,
     pub(crate) counts: Counts,
-    pub(crate) clock: Clocks,
+    // The time of the host, if that is the book's.
+    time: Option<HostTime>,
+    // The pass of the moves of the clock.
+    mover: Mutex<Pass>,
     // For how many seconds a client may send nothing.
     pub(crate) idle: Option<u64>,
     // The connections that asked for the stop, which stay open until the process ends.
@@ -45,23 +51,31 @@ pub(crate) struct Daemon {
 
 impl Daemon {
     // A daemon with these settings, over a service without zones, holds or events.
-    pub(crate) fn new(
+    pub(crate) fn new<R: Clock>(
+        rt: &R,
         alloc: Global,
         settings: &DaemonSettings,
         stop: Arc<Stop, Global>,
-    ) -> Result<Daemon, AllocError> {
+    ) -> io::Result<Daemon> {
         let own = &settings.service;
         let limits = own.limits();
         let tries = own.tries as u64;
+        let time = match settings.clock {
+            Clocks::Host => Some(HostTime::new(rt, 0)?),
+            Clocks::Lines => None,
+        };
+        let service = Service::new(alloc, own.abilities.dup(alloc)?, &limits, tries, own.held)?;
+        let mover = Mutex::new(service.pass());
         Ok(Daemon {
             alloc,
-            service: Service::new(alloc, own.abilities.dup(alloc)?, &limits, tries, own.held)?,
+            service,
             pages: Pages::new(alloc, own.journal as u64),
             stop,
             clients: Clients::new(alloc, settings.clients)?,
             controls: Clients::new(alloc, MAX_CONTROLS)?,
             counts: Counts::new(),
-            clock: settings.clock,
+            time,
+            mover,
             idle: settings.idle,
             open: Mutex::new(Vec::new(alloc)),
         })
@@ -72,6 +86,50 @@ impl Daemon {
         let _ = self.open.lock(rt).push(stream);
     }
 
+    // Moves the book's time to that of the host, if it is the host's and an endpoint may be held. A move that
+    // is refused is made later.
+    pub(crate) fn move_clock<R: Wait + Clock>(&self, rt: &R) {
+        let Some(time) = &self.time else {
+            return;
+        };
+        let now = time.now(rt);
+        let mut mover = self.mover.lock(rt);
+        if time.may_be_held(self.service.now(rt)) {
+            self.advance(rt, &mut mover, now);
+        }
+    }
+
+    // Moves the book's time to that of the host, if it is the host's.
+    pub(crate) fn set_clock<R: Wait + Clock>(&self, rt: &R) {
+        if let Some(time) = &self.time {
+            let now = time.now(rt);
+            self.advance(rt, &mut self.mover.lock(rt), now);
+        }
+    }
+
+    // Moves the book's time, unless it is at this time or after it.
+    fn advance<R: Wait>(&self, rt: &R, mover: &mut Pass, now: u64) {
+        if now <= self.service.now(rt) {
+            return;
+        }
+        if let Ok(number) = self.service.advance(rt, mover, now) {
+            self.count_event(rt, number);
+        }
+        self.pages.hand_over(rt, &self.stop, mover);
+    }
+
+    // Whether the time is the host's.
+    pub(crate) fn has_host_time(&self) -> bool {
+        self.time.is_some()
+    }
+
+    // Notes a hold for some milliseconds from now.
+    pub(crate) fn note_hold<R: Wait>(&self, rt: &R, ms: u64) {
+        if let Some(time) = &self.time {
+            time.note_end(self.service.now(rt).saturating_add(ms));
+        }
+    }
+
     // Closes the service, and claims the events of all pages. Returns how many there were.
     pub(crate) fn close(self) -> Result<u64, CloseFault> {
         let last = match self.service.close() {
@@ -80,7 +138,7 @@ impl Daemon {
         };
         // The first event has the number 0.
         let events = last.next();
-        match self.pages.claim(last) {
+        match self.pages.close(last) {
             Ok(()) => Ok(events),
             Err(fault) => Err(CloseFault::Claim(fault)),
         }

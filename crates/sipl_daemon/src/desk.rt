@@ -3,7 +3,6 @@ ghost use Rattle.std.specs.Prelude.{◌≡◌, [], IfOk};
 
 use crate::daemon::Daemon;
 use crate::fault::DeskFault;
-use crate::settings::Clocks;
 use sipl_book::{Done, Edit, Extent, Handed};
 use sipl_choice::Endpoint;
 use sipl_evidence::Evidence;
@@ -14,16 +13,17 @@ use sipl_uri::Question;
 use std::alloc::Global;
 use std::marker::Model;
 use std::sync::Wait;
+use std::time::Clock;
 
 /// The daemon's service, as the desk of one session with a pass of its own.
 #[derive(Drop)]
-pub(crate) struct SessionDesk<'a, R: Wait> {
+pub(crate) struct SessionDesk<'a, R: Wait + Clock> {
     rt: &'a R,
     daemon: &'a Daemon,
     pass: Pass,
 }
 
-impl<'a, R: Wait> Model for SessionDesk<'a, R> {
+impl<'a, R: Wait + Clock> Model for SessionDesk<'a, R> {
     ghost use Rattle.sipl_lines.specs.ServiceDesk.{CallerState};
     ghost use Rattle.std.specs.Prelude.{[]};
 
@@ -37,7 +37,7 @@ impl<'a, R: Wait> Model for SessionDesk<'a, R> {
     } };
 }
 
-impl<'a, R: Wait> SessionDesk<'a, R> {
+impl<'a, R: Wait + Clock> SessionDesk<'a, R> {
     /// The desk of a session that has had no line.
     pub(crate) fn new(rt: &'a R, daemon: &'a Daemon) -> Self {
         SessionDesk {
@@ -47,13 +47,16 @@ impl<'a, R: Wait> SessionDesk<'a, R> {
         }
     }
 
-    /// The pass, with the receipts that were not handed over.
-    pub(crate) fn into_pass(self) -> Pass {
-        self.pass
+    /// Hands over the receipts that the pass has.
+    pub(crate) fn end(mut self) {
+        let daemon = self.daemon;
+        daemon
+            .pages
+            .hand_over(self.rt, &daemon.stop, &mut self.pass);
     }
 }
 
-impl<'a, R: Wait> Desk for SessionDesk<'a, R> {
+impl<'a, R: Wait + Clock> Desk for SessionDesk<'a, R> {
     ghost use Rattle.sipl_daemon.specs.SessionDesk.{session_rules};
 
     type Fault = DeskFault;
@@ -93,8 +96,10 @@ impl<'a, R: Wait> Desk for SessionDesk<'a, R> {
 
     fn hold(&mut self, endpoint: &Endpoint, ms: u64) -> Result<u64, DeskFault> {
         let (rt, daemon) = (self.rt, self.daemon);
+        daemon.set_clock(rt);
         match daemon.service.hold(rt, &mut self.pass, endpoint, ms) {
             Ok(number) => {
+                daemon.note_hold(rt, ms);
                 daemon.count_event(rt, number);
                 Ok(number)
             }
@@ -104,6 +109,7 @@ impl<'a, R: Wait> Desk for SessionDesk<'a, R> {
 
     fn release(&mut self, endpoint: &Endpoint) -> Result<u64, DeskFault> {
         let (rt, daemon) = (self.rt, self.daemon);
+        daemon.set_clock(rt);
         match daemon.service.release(rt, &mut self.pass, endpoint) {
             Ok(number) => {
                 daemon.count_event(rt, number);
@@ -115,7 +121,7 @@ impl<'a, R: Wait> Desk for SessionDesk<'a, R> {
 
     fn advance(&mut self, to: u64) -> Result<u64, DeskFault> {
         let (rt, daemon) = (self.rt, self.daemon);
-        if daemon.clock == Clocks::Host {
+        if daemon.has_host_time() {
             return Err(DeskFault::HostTime);
         }
         match daemon.service.advance(rt, &mut self.pass, to) {
@@ -128,6 +134,7 @@ impl<'a, R: Wait> Desk for SessionDesk<'a, R> {
     }
 
     fn now(&self) -> u64 {
+        self.daemon.set_clock(self.rt);
         self.daemon.service.now(self.rt)
     }
 
@@ -152,7 +159,12 @@ impl<'a, R: Wait> Desk for SessionDesk<'a, R> {
         }
     }
 
-    fn pause(&mut self) {}
+    fn pause(&mut self) {
+        let daemon = self.daemon;
+        daemon
+            .pages
+            .hand_over(self.rt, &daemon.stop, &mut self.pass);
+    }
 
     fn write_fault(fault: DeskFault, out: &mut Vec<u8>) {
         match fault {

@@ -17,6 +17,7 @@ mod settings;
 mod stop;
 mod stream;
 mod tell;
+mod time;
 
 pub use address::Address;
 pub use fault::DeskFault;

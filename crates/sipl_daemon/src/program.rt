@@ -183,7 +183,7 @@ where
     let alloc = rt.alloc();
     let workers = settings.service.workers as u64;
     let stop = Arc::new(alloc, Stop::new())?;
-    let daemon = Daemon::new(alloc, &settings, Arc::try_clone(&stop)?)?;
+    let daemon = Daemon::new(host, alloc, &settings, Arc::try_clone(&stop)?)?;
     let ends_with_input = settings.ends_with_input;
     let (listeners, control) = listen_all(host, alloc, settings)?;
     for listener in &listeners {

@@ -36,6 +36,9 @@ where
 // How long a refused accept is waited out, in milliseconds.
 const REFUSED: u64 = 50;
 
+// How often the clock is moved while an endpoint is held, in milliseconds.
+const TICK: u64 = 100;
+
 // How long a session may write its last replies, in milliseconds.
 const GRACE: u64 = 1_000;
 
@@ -50,6 +53,15 @@ pub(crate) fn serve_all<H: Host>(
 ) {
     thread::scope(thread::scope_env(), host, |scope| {
         let _ = scope.spawn(move || daemon.service.run_workers(host, workers, &OpenGate));
+        if scope
+            .spawn(move || daemon.pages.run(host, &daemon.stop))
+            .is_err()
+        {
+            daemon.stop.ask(host);
+        }
+        if scope.spawn(move || run_clock(host, daemon)).is_err() {
+            daemon.stop.ask(host);
+        }
         for listener in listeners {
             if scope
                 .spawn(move || accept_clients(host, daemon, listener))
@@ -77,6 +89,17 @@ pub(crate) fn serve_all<H: Host>(
         daemon.controls.end(host, Duration::from_millis(0));
         daemon.service.stop(host);
     });
+}
+
+// Moves the clock until the daemon is to stop.
+fn run_clock<H: Host>(host: &H, daemon: &Daemon) {
+    for _ in host.forever() {
+        if daemon.stop.is_asked() {
+            break;
+        }
+        daemon.move_clock(host);
+        daemon.stop.pause(host, Duration::from_millis(TICK));
+    }
 }
 
 // Accepts clients until the daemon is to stop, and serves each in a thread. Returns when their sessions

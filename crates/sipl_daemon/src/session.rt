@@ -7,7 +7,7 @@ use sipl_lines::{Tapped, serve};
 use std::io;
 use std::io::{ErrorKind, Read};
 use std::sync::Wait;
-use std::time::Duration;
+use std::time::{Clock, Duration};
 
 // For how many milliseconds a client may take no reply.
 const WRITE: u64 = 30_000;
@@ -32,7 +32,7 @@ impl Read for Input<'_> {
 }
 
 /// Serves a client's session, keeps its receipts, and frees its place. A fault ends only this session.
-pub(crate) fn serve_client<R: Wait>(rt: &R, daemon: &Daemon, client: Client) {
+pub(crate) fn serve_client<R: Wait + Clock>(rt: &R, daemon: &Daemon, client: Client) {
     let Client { stream, place } = client;
     let mut desk = SessionDesk::new(rt, daemon);
     let idle = daemon.idle.map(Duration::from_secs);
@@ -48,6 +48,6 @@ pub(crate) fn serve_client<R: Wait>(rt: &R, daemon: &Daemon, client: Client) {
         let _ = serve(daemon.alloc, &mut reader, &mut writer, &mut desk);
     }
     drop(stream);
-    let _ = daemon.pages.keep(rt, desk.into_pass());
+    desk.end();
     daemon.clients.leave(rt, place);
 }
