@@ -25,7 +25,7 @@ pub(crate) struct Pages {
     // The number of the event at which the page is turned.
     due: AtomicU64,
     // The pages that were turned and not claimed, in their order.
-    turned: Mutex<VecDeque<Page>>,
+    turned: Mutex<VecDeque<Turned>>,
     // Wakes the thread that claims.
     woken: Condvar,
     // The receipts that were handed over since the last claim.
@@ -34,11 +34,26 @@ pub(crate) struct Pages {
     claimed: AtomicU64,
 }
 
-// What was claimed, and the page that is to be claimed next.
+/// Where the changes after a state begin in their file: its number, and the place after it.
+#[derive(Clone, Copy)]
+pub(crate) struct Mark {
+    pub(crate) number: u64,
+    pub(crate) begin: u64,
+}
+
+// A page that was turned, and the mark of the state after it, if that is to be written.
+#[derive(Drop)]
+struct Turned {
+    page: Page,
+    mark: Option<Mark>,
+}
+
+// What was claimed, the page that is to be claimed next, and the holds after what was claimed.
 #[derive(Drop)]
 struct Claims {
     ledger: Ledger,
-    page: Option<Page>,
+    next: Option<Turned>,
+    holds: Holds,
 }
 
 // What became of a try to claim the next page.
@@ -64,7 +79,8 @@ impl Pages {
             handed: Mutex::new(Vec::new(alloc)),
             claims: Mutex::new(Claims {
                 ledger: Ledger::new(alloc),
-                page: None,
+                next: None,
+                holds: Holds::new(alloc),
             }),
             claimed: AtomicU64::new(0),
         }
@@ -81,36 +97,36 @@ impl Pages {
     }
 
     /// Turns the page, if the event of this number is in its last eighth.
-    pub(crate) fn turn_if_due<R: Wait>(&self, rt: &R, service: &Service, number: u64) {
+    pub(crate) fn turn_if_due<R: Wait>(&self, rt: &R, source: &Source, number: u64) {
         if number < self.due.load(Ordering::SeqCst) {
             return;
         }
         let mut turned = self.turned.lock(rt);
         // Another thread may have turned it.
         if number >= self.due.load(Ordering::SeqCst) {
-            let _ = self.push_page(rt, service, &mut turned);
+            let _ = self.push_page(rt, source, &mut turned);
         }
     }
 
     /// Turns the page.
-    pub(crate) fn turn<R: Wait>(&self, rt: &R, service: &Service) -> Result<Extent, ServiceFault> {
+    pub(crate) fn turn<R: Wait>(&self, rt: &R, source: &Source) -> Result<Extent, ServiceFault> {
         let mut turned = self.turned.lock(rt);
-        self.push_page(rt, service, &mut turned)
+        self.push_page(rt, source, &mut turned)
     }
 
     // Turns the page and keeps it. Space for it comes first, so that it is not lost.
     fn push_page<R: Wait>(
         &self,
         rt: &R,
-        service: &Service,
-        turned: &mut VecDeque<Page>,
+        source: &Source,
+        turned: &mut VecDeque<Turned>,
     ) -> Result<Extent, ServiceFault> {
         turned.reserve(1)?;
-        let page = service.turn_page(rt)?;
-        let extent = page.extent();
-        self.due
-            .store(due_after(page.next(), self.journal), Ordering::SeqCst);
-        let _ = turned.push_back(page);
+        let next = source.turn_page(rt)?;
+        let extent = next.page.extent();
+        let due = due_after(next.page.next(), self.journal);
+        self.due.store(due, Ordering::SeqCst);
+        let _ = turned.push_back(next);
         self.woken.notify_all();
         Ok(extent)
     }
