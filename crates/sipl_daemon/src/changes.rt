@@ -1,12 +1,12 @@
 //! The changes since the last state, in a file: each is there before its reply is sent.
+use crate::source::Mark;
 use std::alloc::{AllocError, Global};
 use std::fs::{File, OpenOptions};
 use std::io::{ErrorKind, Read, Write};
-use std::mem;
 use std::os::unix::fs::OpenOptionsExt;
 use std::rt::Files;
 use std::sync::{Mutex, MutexGuard, Wait};
-use std::{fs, io};
+use std::{fs, io, mem};
 
 // A state is written where the file of changes is longer than this, and longer than the state.
 const MIN_LEN: u64 = 1 << 20;
@@ -106,9 +106,7 @@ impl Changes {
         let skipped = usize::try_from(begin.saturating_sub(written.start)).unwrap_or(usize::MAX);
         let rest = all.as_slice().get(skipped..).unwrap_or(&[]);
         let head = format!(in self.alloc; "# page {mark}\n")?;
-        let new = format!(in self.alloc; "{}.new", self.path)?;
         replace(rt, self.alloc, self.path.as_str(), &[head.as_bytes(), rest])?;
-        drop(new);
         written.file = open_to_append(rt, self.path.as_str())?;
         written.start = begin.saturating_sub(head.len() as u64);
         Ok(())
@@ -149,6 +147,16 @@ impl Pending {
         self.base
     }
 
+    /// The number of the last mark.
+    pub(crate) fn mark(&self) -> u64 {
+        self.mark
+    }
+
+    /// How long the state is that was written.
+    pub(crate) fn set_state_len(&mut self, len: u64) {
+        self.state_len = len;
+    }
+
     /// Whether a state is to be written.
     pub(crate) fn is_long(&self) -> bool {
         let len = self.end.saturating_sub(self.begin);
@@ -156,14 +164,17 @@ impl Pending {
     }
 
     /// Appends a mark, at a time of the book. Returns its number, and the place after it.
-    pub(crate) fn push_mark(&mut self, now: u64) -> Result<(u64, u64), AllocError> {
+    pub(crate) fn push_mark(&mut self, now: u64) -> Result<Mark, AllocError> {
         let mark = self.mark.saturating_add(1);
         let text = format!(in self.alloc; "# page {mark}\n")?;
         self.text.reserve(text.len())?;
         self.begin = self.push(text.as_bytes());
         self.mark = mark;
         self.base = now;
-        Ok((mark, self.begin))
+        Ok(Mark {
+            number: mark,
+            begin: self.begin,
+        })
     }
 
     // The octets that are not in the file, and the place after them.

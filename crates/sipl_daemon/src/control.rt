@@ -70,7 +70,7 @@ fn obey<H: Host>(
 ) -> Result<Go, AllocError> {
     match line {
         "stats" => write_stats(host, daemon, reply)?,
-        "now" => writeln!(reply, "ok now {}", daemon.service.now(host))?,
+        "now" => writeln!(reply, "ok now {}", daemon.source.service.now(host))?,
         "page" => turn_page(host, daemon, reply)?,
         "stop" => {
             reply.push_str("ok stop\n")?;
@@ -83,7 +83,7 @@ fn obey<H: Host>(
 }
 
 fn turn_page<H: Host>(host: &H, daemon: &Daemon, reply: &mut String) -> Result<(), AllocError> {
-    match daemon.pages.turn(host, &daemon.service) {
+    match daemon.pages.turn(host, &daemon.source) {
         Ok(extent) => writeln!(reply, "ok page {} {}", extent.first, extent.count),
         Err(fault) => writeln!(reply, "err {}", fault.code()),
     }

@@ -1,13 +1,17 @@
-ghost use Rattle.std.specs.Prelude.{◌≡◌, IfOk};
+ghost use Rattle.std.specs.Prelude.{◌≡◌, ◌≤◌, ◌^◌, IfOk, OnOk};
 ghost use Rattle.sipl_service.specs.Passes.{GetsReceipt};
 ghost use Rattle.sipl_service.specs.Telling.{IsToldFor, event_of};
 
+use crate::changes::Changes;
 use crate::clients::Clients;
 use crate::counts::Counts;
 use crate::pages::Pages;
 use crate::settings::{Clocks, DaemonSettings};
+use crate::source::Source;
+use crate::state::end_state;
 use crate::stop::Stop;
 use crate::stream::Stream;
+use crate::text::{clock_text, edit_text, hold_text, release_text};
 use crate::time::HostTime;
 use sipl_book::{BookFault, Done, Edit};
 use sipl_choice::Endpoint;
@@ -15,7 +19,10 @@ use sipl_service::{ClaimFault, OpenGate, Pass, Service, ServiceFault, Told};
 use sipl_srv::Draws;
 use sipl_uri::Question;
 use std::alloc::Global;
+use std::fs::File;
 use std::io;
+use std::rt::Files;
+use std::sync::atomic::{AtomicU64, Ordering};
 use std::sync::{Arc, Mutex, Wait};
 use std::time::Clock;
 
@@ -27,13 +34,16 @@ const MAX_CONTROLS: usize = 8;
 pub(crate) enum CloseFault {
     Close(ServiceFault),
     Claim(ClaimFault),
+    State(io::Error),
 }
 
 /// What the threads of a daemon share.
 #[derive(Drop)]
 pub(crate) struct Daemon {
     pub(crate) alloc: Global,
-    pub(crate) service: Service,
+    pub(crate) source: Source,
+    // The path of the state.
+    pub(crate) state: Option<String>,
     pub(crate) pages: Pages,
     pub(crate) stop: Arc<Stop, Global>,
     pub(crate) clients: Clients,
@@ -68,7 +78,11 @@ impl Daemon {
         let mover = Mutex::new(service.pass());
         Ok(Daemon {
             alloc,
-            service,
+            source: Source {
+                service,
+                changes: None,
+            },
+            state: None,
             pages: Pages::new(alloc, own.journal as u64),
             stop,
             clients: Clients::new(alloc, settings.clients)?,
@@ -94,8 +108,8 @@ impl Daemon {
         };
         let now = time.now(rt);
         let mut mover = self.mover.lock(rt);
-        if time.may_be_held(self.service.now(rt)) {
-            self.advance(rt, &mut mover, now);
+        if time.may_be_held(self.source.service.now(rt)) {
+            self.move_to(rt, &mut mover, now);
         }
     }
 
@@ -103,16 +117,16 @@ impl Daemon {
     pub(crate) fn set_clock<R: Wait + Clock>(&self, rt: &R) {
         if let Some(time) = &self.time {
             let now = time.now(rt);
-            self.advance(rt, &mut self.mover.lock(rt), now);
+            self.move_to(rt, &mut self.mover.lock(rt), now);
         }
     }
 
     // Moves the book's time, unless it is at this time or after it.
-    fn advance<R: Wait>(&self, rt: &R, mover: &mut Pass, now: u64) {
-        if now <= self.service.now(rt) {
+    fn move_to<R: Wait>(&self, rt: &R, mover: &mut Pass, now: u64) {
+        if now <= self.source.service.now(rt) {
             return;
         }
-        if let Ok(number) = self.service.advance(rt, mover, now) {
+        if let Ok(number) = self.advance(rt, mover, now, &AtomicU64::new(0)) {
             self.count_event(rt, number);
         }
         self.pages.hand_over(rt, &self.stop, mover);
@@ -126,21 +140,140 @@ impl Daemon {
     // Notes a hold for some milliseconds from now.
     pub(crate) fn note_hold<R: Wait>(&self, rt: &R, ms: u64) {
         if let Some(time) = &self.time {
-            time.note_end(self.service.now(rt).saturating_add(ms));
+            time.note_end(self.source.service.now(rt).saturating_add(ms));
         }
     }
 
-    // Closes the service, and claims the events of all pages. Returns how many there were.
-    pub(crate) fn close(self) -> Result<u64, CloseFault> {
-        let last = match self.service.close() {
+    // Goes on from a state that was read: the changes after it are in a file, and the time of the host goes
+    // on from that of the book.
+    pub(crate) fn go_on<R: Wait + Clock>(
+        &mut self,
+        rt: &R,
+        path: String,
+        changes: Changes,
+    ) -> io::Result<()> {
+        if self.time.is_some() {
+            let now = self.source.service.now(rt);
+            let time = HostTime::new(rt, now)?;
+            time.note_end(1 << 52);
+            self.time = Some(time);
+        }
+        self.state = Some(path);
+        self.source.changes = Some(changes);
+        Ok(())
+    }
+
+    // Edits the zones. The change is in the file of changes when its reply is sent: `place` is where it ends.
+    pub(crate) fn edit<R: Wait>(
+        &self,
+        rt: &R,
+        pass: &mut Pass,
+        edit: Edit,
+        place: &AtomicU64,
+    ) -> Result<Done, ServiceFault>
+        ensures { GetsReceipt (λ done. done.number) (λ done. Event.Change edit)
+            pass.old pass.new result }
+    {
+        let Some(changes) = &self.source.changes else {
+            return self.source.service.edit(rt, pass, edit);
+        };
+        let text = edit_text(self.alloc, &edit)?;
+        let mut pending = changes.lock(rt);
+        pending.reserve(text.len())?;
+        let done = self.source.service.edit(rt, pass, edit)?;
+        place.fetch_max(pending.push(&text), Ordering::SeqCst);
+        Ok(done)
+    }
+
+    // Holds an endpoint, as `edit` makes an edit.
+    pub(crate) fn hold<R: Wait>(
+        &self,
+        rt: &R,
+        pass: &mut Pass,
+        endpoint: &Endpoint,
+        ms: u64,
+        place: &AtomicU64,
+    ) -> Result<u64, ServiceFault>
+        ensures { GetsReceipt (λ number. number) (λ number. Event.Hold endpoint.now ms)
+            pass.old pass.new result }
+    {
+        let Some(changes) = &self.source.changes else {
+            return self.source.service.hold(rt, pass, endpoint, ms);
+        };
+        let text = hold_text(self.alloc, endpoint, ms)?;
+        let mut pending = changes.lock(rt);
+        pending.reserve(text.len())?;
+        let number = self.source.service.hold(rt, pass, endpoint, ms)?;
+        place.fetch_max(pending.push(&text), Ordering::SeqCst);
+        Ok(number)
+    }
+
+    // Ends the hold of an endpoint, as `edit` makes an edit.
+    pub(crate) fn release<R: Wait>(
+        &self,
+        rt: &R,
+        pass: &mut Pass,
+        endpoint: &Endpoint,
+        place: &AtomicU64,
+    ) -> Result<u64, ServiceFault>
+        ensures { GetsReceipt (λ number. number) (λ number. Event.Release endpoint.now)
+            pass.old pass.new result }
+    {
+        let Some(changes) = &self.source.changes else {
+            return self.source.service.release(rt, pass, endpoint);
+        };
+        let text = release_text(self.alloc, endpoint)?;
+        let mut pending = changes.lock(rt);
+        pending.reserve(text.len())?;
+        let number = self.source.service.release(rt, pass, endpoint)?;
+        place.fetch_max(pending.push(&text), Ordering::SeqCst);
+        Ok(number)
+    }
+
+    // Sets the time, as `edit` makes an edit. In the file it is counted from the last mark.
+    pub(crate) fn advance<R: Wait>(
+        &self,
+        rt: &R,
+        pass: &mut Pass,
+        to: u64,
+        place: &AtomicU64,
+    ) -> Result<u64, ServiceFault>
+        ensures receipt { GetsReceipt (λ number. number) (λ number. Event.Advance to)
+            pass.old pass.new result }
+        ensures limit { OnOk result (to ≤ 2 ^ 52) }
+    {
+        let Some(changes) = &self.source.changes else {
+            return self.source.service.advance(rt, pass, to);
+        };
+        let mut pending = changes.lock(rt);
+        let text = clock_text(self.alloc, to.saturating_sub(pending.base()))?;
+        pending.reserve(text.len())?;
+        let number = self.source.service.advance(rt, pass, to)?;
+        place.fetch_max(pending.push(&text), Ordering::SeqCst);
+        Ok(number)
+    }
+
+    // Closes the service, claims the events of all pages, and writes the state. Returns how many events there
+    // were.
+    pub(crate) fn close<R: Files<File = File> + Wait>(self, rt: &R) -> Result<u64, CloseFault> {
+        let alloc = self.alloc;
+        let Source { service, changes } = self.source;
+        let last = match service.close() {
             Ok(last) => last,
             Err((fault, _service)) => return Err(CloseFault::Close(fault)),
         };
         // The first event has the number 0.
         let events = last.next();
-        match self.pages.close(last) {
+        let claims = match self.pages.close(&last) {
+            Ok(claims) => claims,
+            Err(fault) => return Err(CloseFault::Claim(fault)),
+        };
+        let (Some(changes), Some(path)) = (changes, self.state) else {
+            return Ok(events);
+        };
+        match end_state(rt, alloc, &changes, path.as_str(), &last, &claims.holds) {
             Ok(()) => Ok(events),
-            Err(fault) => Err(CloseFault::Claim(fault)),
+            Err(error) => Err(CloseFault::State(error)),
         }
     }
 
@@ -153,20 +286,26 @@ impl Daemon {
         draws: &Draws,
     ) -> Result<Told, ServiceFault>
         ensures receipt { GetsReceipt (λ told. told.number) event_of pass.old pass.new result }
-        ensures told { IfOk result (λ told. IsToldFor question.now self.now.service.client
-            self.now.service.held draws.now told) }
+        ensures told { IfOk result (λ told. IsToldFor question.now self.now.source.service.client
+            self.now.source.service.held draws.now told) }
     {
-        match self.service.lookup(rt, pass, question, draws, &OpenGate) {
+        match self
+            .source
+            .service
+            .lookup(rt, pass, question, draws, &OpenGate)
+        {
             Err(ServiceFault::Book(BookFault::JournalFull)) => {}
             told => return told,
         }
-        let _ = self.pages.turn(rt, &self.service);
-        self.service.lookup(rt, pass, question, draws, &OpenGate)
+        let _ = self.pages.turn(rt, &self.source);
+        self.source
+            .service
+            .lookup(rt, pass, question, draws, &OpenGate)
     }
 
     // Counts an event, and turns the page if it is nearly full.
     pub(crate) fn count_event<R: Wait>(&self, rt: &R, number: u64) {
         self.counts.count_event(number);
-        self.pages.turn_if_due(rt, &self.service, number);
+        self.pages.turn_if_due(rt, &self.source, number);
     }
 }

@@ -13,6 +13,7 @@ use sipl_uri::Question;
 use std::alloc::Global;
 use std::marker::Model;
 use std::sync::Wait;
+use std::sync::atomic::AtomicU64;
 use std::time::Clock;
 
 /// The daemon's service, as the desk of one session with a pass of its own.
@@ -21,6 +22,10 @@ pub(crate) struct SessionDesk<'a, R: Wait + Clock> {
     rt: &'a R,
     daemon: &'a Daemon,
     pass: Pass,
+    // Where the last change of the session ends in the file of changes.
+    place: &'a AtomicU64,
+    // Whether the lines are those of a state, which set the time.
+    is_restoring: bool,
 }
 
 impl<'a, R: Wait + Clock> Model for SessionDesk<'a, R> {
@@ -30,20 +35,41 @@ impl<'a, R: Wait + Clock> Model for SessionDesk<'a, R> {
     ghost Value = { CallerState };
 
     ghost view = { λ desk. record {
-      client = desk.daemon.now.service.client;
-      held = desk.daemon.now.service.held;
+      client = desk.daemon.now.source.service.client;
+      held = desk.daemon.now.source.service.held;
       pass = desk.pass;
       pages = [];
     } };
 }
 
 impl<'a, R: Wait + Clock> SessionDesk<'a, R> {
-    /// The desk of a session that has had no line.
-    pub(crate) fn new(rt: &'a R, daemon: &'a Daemon) -> Self {
+    /// The desk of a session that has had no line. `place` is where its last change ends in the file of
+    /// changes.
+    pub(crate) fn new(rt: &'a R, daemon: &'a Daemon, place: &'a AtomicU64) -> Self {
         SessionDesk {
             rt,
             daemon,
-            pass: daemon.service.pass(),
+            pass: daemon.source.service.pass(),
+            place,
+            is_restoring: false,
+        }
+    }
+
+    /// The same for the lines of a state, which set the time.
+    pub(crate) fn restoring(rt: &'a R, daemon: &'a Daemon, place: &'a AtomicU64) -> Self {
+        SessionDesk {
+            rt,
+            daemon,
+            pass: daemon.source.service.pass(),
+            place,
+            is_restoring: true,
+        }
+    }
+
+    // Moves the book's time to that of the host, if it is the host's.
+    fn set_clock(&self) {
+        if !self.is_restoring {
+            self.daemon.set_clock(self.rt);
         }
     }
 
@@ -85,7 +111,7 @@ impl<'a, R: Wait + Clock> Desk for SessionDesk<'a, R> {
 
     fn change(&mut self, edit: Edit) -> Result<Done, DeskFault> {
         let (rt, daemon) = (self.rt, self.daemon);
-        match daemon.service.edit(rt, &mut self.pass, edit) {
+        match daemon.edit(rt, &mut self.pass, edit, self.place) {
             Ok(done) => {
                 daemon.count_event(rt, done.number);
                 Ok(done)
@@ -96,8 +122,8 @@ impl<'a, R: Wait + Clock> Desk for SessionDesk<'a, R> {
 
     fn hold(&mut self, endpoint: &Endpoint, ms: u64) -> Result<u64, DeskFault> {
         let (rt, daemon) = (self.rt, self.daemon);
-        daemon.set_clock(rt);
-        match daemon.service.hold(rt, &mut self.pass, endpoint, ms) {
+        self.set_clock();
+        match daemon.hold(rt, &mut self.pass, endpoint, ms, self.place) {
             Ok(number) => {
                 daemon.note_hold(rt, ms);
                 daemon.count_event(rt, number);
@@ -109,8 +135,8 @@ impl<'a, R: Wait + Clock> Desk for SessionDesk<'a, R> {
 
     fn release(&mut self, endpoint: &Endpoint) -> Result<u64, DeskFault> {
         let (rt, daemon) = (self.rt, self.daemon);
-        daemon.set_clock(rt);
-        match daemon.service.release(rt, &mut self.pass, endpoint) {
+        self.set_clock();
+        match daemon.release(rt, &mut self.pass, endpoint, self.place) {
             Ok(number) => {
                 daemon.count_event(rt, number);
                 Ok(number)
@@ -121,10 +147,10 @@ impl<'a, R: Wait + Clock> Desk for SessionDesk<'a, R> {
 
     fn advance(&mut self, to: u64) -> Result<u64, DeskFault> {
         let (rt, daemon) = (self.rt, self.daemon);
-        if daemon.has_host_time() {
+        if daemon.has_host_time() && !self.is_restoring {
             return Err(DeskFault::HostTime);
         }
-        match daemon.service.advance(rt, &mut self.pass, to) {
+        match daemon.advance(rt, &mut self.pass, to, self.place) {
             Ok(number) => {
                 daemon.count_event(rt, number);
                 Ok(number)
@@ -134,26 +160,26 @@ impl<'a, R: Wait + Clock> Desk for SessionDesk<'a, R> {
     }
 
     fn now(&self) -> u64 {
-        self.daemon.set_clock(self.rt);
-        self.daemon.service.now(self.rt)
+        self.set_clock();
+        self.daemon.source.service.now(self.rt)
     }
 
     fn deps(&mut self, _alloc: Global, question: Question) -> Result<Evidence, DeskFault> {
-        match self.daemon.service.deps(self.rt, &question) {
+        match self.daemon.source.service.deps(self.rt, &question) {
             Ok(evidence) => Ok(evidence),
             Err(fault) => Err(DeskFault::Service(fault)),
         }
     }
 
     fn repair(&mut self, _alloc: Global) -> Result<(), DeskFault> {
-        match self.daemon.service.repair(self.rt) {
+        match self.daemon.source.service.repair(self.rt) {
             Ok(()) => Ok(()),
             Err(fault) => Err(DeskFault::Service(fault)),
         }
     }
 
     fn page(&mut self) -> Result<Extent, DeskFault> {
-        match self.daemon.pages.turn(self.rt, &self.daemon.service) {
+        match self.daemon.pages.turn(self.rt, &self.daemon.source) {
             Ok(extent) => Ok(extent),
             Err(fault) => Err(DeskFault::Service(fault)),
         }

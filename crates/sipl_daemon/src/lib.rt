@@ -2,21 +2,28 @@
 #![tactic(auto)]
 
 mod address;
+mod changes;
+mod claimer;
+mod claims;
 mod clients;
 mod control;
 mod counts;
 mod daemon;
 mod desk;
 mod fault;
+mod holds;
 mod listener;
 mod pages;
 mod program;
 mod server;
 mod session;
 mod settings;
+mod source;
+mod state;
 mod stop;
 mod stream;
 mod tell;
+mod text;
 mod time;
 
 pub use address::Address;

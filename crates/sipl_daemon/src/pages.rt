@@ -1,17 +1,16 @@
 //! The journal of the daemon's service, which rolls: pages are turned before they are full, and each is
 //! claimed when the receipts of its events are in.
+use crate::claims::{Claimed, Claims};
+use crate::source::{Source, Turned};
 use crate::stop::Stop;
 use sipl_book::{Extent, Page};
-use sipl_service::{ClaimFault, Ledger, Pass, Receipts, Service, ServiceFault};
+use sipl_service::{ClaimFault, Pass, Receipts, ServiceFault};
 use std::alloc::Global;
 use std::collections::VecDeque;
 use std::mem;
 use std::sync::atomic::{AtomicU64, Ordering};
 use std::sync::{Condvar, CondvarTimeouts, Mutex, Wait};
 use std::time::{Clock, Duration};
-
-// How long a claim waits for receipts that are on their way, in milliseconds.
-const PATIENCE: u64 = 20;
 
 // How often the thread that claims looks whether the daemon is to stop, in milliseconds.
 const LOOK: u64 = 100;
@@ -34,39 +33,6 @@ pub(crate) struct Pages {
     claimed: AtomicU64,
 }
 
-/// Where the changes after a state begin in their file: its number, and the place after it.
-#[derive(Clone, Copy)]
-pub(crate) struct Mark {
-    pub(crate) number: u64,
-    pub(crate) begin: u64,
-}
-
-// A page that was turned, and the mark of the state after it, if that is to be written.
-#[derive(Drop)]
-struct Turned {
-    page: Page,
-    mark: Option<Mark>,
-}
-
-// What was claimed, the page that is to be claimed next, and the holds after what was claimed.
-#[derive(Drop)]
-struct Claims {
-    ledger: Ledger,
-    next: Option<Turned>,
-    holds: Holds,
-}
-
-// What became of a try to claim the next page.
-#[derive(Clone, Copy, PartialEq, Eq)]
-enum Claimed {
-    // It is claimed.
-    Page,
-    // Receipts of it are on their way, or an allocation failed.
-    NotYet,
-    // No page waits.
-    Nothing,
-}
-
 impl Pages {
     /// No page, of a service whose pages have so many events at most.
     pub(crate) fn new(alloc: Global, journal: u64) -> Pages {
@@ -77,11 +43,7 @@ impl Pages {
             turned: Mutex::new(VecDeque::new(alloc)),
             woken: Condvar::new(),
             handed: Mutex::new(Vec::new(alloc)),
-            claims: Mutex::new(Claims {
-                ledger: Ledger::new(alloc),
-                next: None,
-                holds: Holds::new(alloc),
-            }),
+            claims: Mutex::new(Claims::new(alloc)),
             claimed: AtomicU64::new(0),
         }
     }
@@ -142,25 +104,8 @@ impl Pages {
         }
     }
 
-    /// Claims pages until the daemon is to stop. A fault stops it: then the journal is not what callers
-    /// were told.
-    pub(crate) fn run<R: Wait + Clock>(&self, rt: &R, stop: &Stop) {
-        for _ in rt.forever() {
-            if stop.is_asked() {
-                return;
-            }
-            match self.claim_next(rt) {
-                Ok(Claimed::Page) => {}
-                Ok(Claimed::NotYet) => stop.pause(rt, Duration::from_millis(PATIENCE)),
-                Ok(Claimed::Nothing) => self.wait_for_page(rt),
-                Err(_) => stop.ask(rt),
-            }
-        }
-        unreachable!()
-    }
-
-    // Waits until a page is turned, for a tenth of a second at most.
-    fn wait_for_page<R: Wait + Clock>(&self, rt: &R) {
+    /// Waits until a page is turned, for a tenth of a second at most.
+    pub(crate) fn wait_for_page<R: Wait + Clock>(&self, rt: &R) {
         let turned = self.turned.lock(rt);
         let longest = Duration::from_millis(LOOK);
         let _turned = self
@@ -168,19 +113,26 @@ impl Pages {
             .wait_timeout_while(rt, turned, longest, |turned| turned.is_empty());
     }
 
-    // Tries to claim the next page.
-    fn claim_next<R: Wait>(&self, rt: &R) -> Result<Claimed, ClaimFault> {
-        let mut claims = self.claims.lock(rt);
-        if claims.page.is_none() {
-            claims.page = self.turned.lock(rt).pop_front();
+    /// Tries to claim the next page.
+    pub(crate) fn claim_next<R: Wait>(
+        &self,
+        rt: &R,
+        claims: &mut Claims,
+    ) -> Result<Claimed, ClaimFault> {
+        if !claims.has_page() {
+            claims.put(self.turned.lock(rt).pop_front());
         }
-        let handed = self.take_handed(rt);
-        claims.add(handed)?;
+        claims.add(self.take_handed(rt))?;
         let claimed = claims.claim()?;
-        if claimed == Claimed::Page {
+        if let Claimed::Page(_) = &claimed {
             self.claimed.fetch_add(1, Ordering::SeqCst);
         }
         Ok(claimed)
+    }
+
+    /// What was claimed. The thread that claims has it for as long as it runs.
+    pub(crate) fn claims(&self) -> &Mutex<Claims> {
+        &self.claims
     }
 
     // The receipts that were handed over since the last call.
@@ -190,7 +142,8 @@ impl Pages {
     }
 
     /// Claims all pages that were turned, and then the last one, when all receipts were handed over.
-    pub(crate) fn close(self, last: Page) -> Result<(), ClaimFault> {
+    /// Returns what was claimed.
+    pub(crate) fn close(self, last: &Page) -> Result<Claims, ClaimFault> {
         let Pages {
             turned,
             handed,
@@ -199,44 +152,9 @@ impl Pages {
         } = self;
         let mut claims = claims.into_inner();
         claims.add(handed.into_inner())?;
-        claims.claim_all(turned.into_inner(), last)
-    }
-}
-
-impl Claims {
-    // Adds receipts.
-    fn add(&mut self, handed: Vec<Receipts>) -> Result<(), ClaimFault> {
-        for receipts in handed {
-            if self.ledger.add(receipts).is_err() {
-                return Err(ClaimFault::Memory);
-            }
-        }
-        Ok(())
-    }
-
-    // Tries to claim the page, if there is one, and drops it then.
-    fn claim(&mut self) -> Result<Claimed, ClaimFault> {
-        let Some(page) = &self.page else {
-            return Ok(Claimed::Nothing);
-        };
-        match self.ledger.claim(page) {
-            Ok(()) => {}
-            Err(ClaimFault::Unclaimed(_) | ClaimFault::Memory) => return Ok(Claimed::NotYet),
-            Err(fault) => return Err(fault),
-        }
-        self.page = None;
-        Ok(Claimed::Page)
-    }
-
-    // Claims the page, if there is one, then those that were turned, and then the last one.
-    fn claim_all(mut self, turned: VecDeque<Page>, last: Page) -> Result<(), ClaimFault> {
-        if let Some(page) = self.page.take() {
-            self.ledger.claim(&page)?;
-        }
-        for page in turned {
-            self.ledger.claim(&page)?;
-        }
-        self.ledger.claim(&last)
+        claims.claim_all(turned.into_inner())?;
+        claims.claim_page(last)?;
+        Ok(claims)
     }
 }
 

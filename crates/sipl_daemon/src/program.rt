@@ -4,6 +4,7 @@ use crate::daemon::{CloseFault, Daemon};
 use crate::listener::Listener;
 use crate::server::{Host, serve_all};
 use crate::settings::DaemonSettings;
+use crate::state::{StateFault, restore};
 use crate::stop::Stop;
 use crate::tell::tell;
 use sipl_lines::SettingsFault;
@@ -46,6 +47,8 @@ enum Fault {
     Listen(Address, io::Error),
     // Standard output or a connection failed.
     Stream(io::Error),
+    // The state of this path can't be read.
+    State(String, StateFault),
     Close(CloseFault),
     Memory,
 }
@@ -118,9 +121,21 @@ fn report<R: Eprint>(rt: &R, fault: &Fault) {
         Fault::Settings(fault) => eprintln!(rt; "siplocd: settings {}", fault.code()),
         Fault::Listen(address, error) => eprintln!(rt; "siplocd: listen {address}: {error}"),
         Fault::Stream(error) => eprintln!(rt; "siplocd: {error}"),
+        Fault::State(path, fault) => return report_state(rt, path.as_str(), fault),
+        Fault::Close(CloseFault::State(error)) => eprintln!(rt; "siplocd: state: {error}"),
         Fault::Close(CloseFault::Close(fault)) => eprintln!(rt; "siplocd: close {}", fault.code()),
         Fault::Close(CloseFault::Claim(fault)) => eprintln!(rt; "siplocd: claim {}", fault.code()),
         Fault::Memory => eprintln!(rt; "siplocd: out of memory"),
+    };
+}
+
+// Writes why a state can't be read.
+fn report_state<R: Eprint>(rt: &R, path: &str, fault: &StateFault) {
+    let _ = match fault {
+        StateFault::File(error) => eprintln!(rt; "siplocd: state {path}: {error}"),
+        StateFault::State(line) => eprintln!(rt; "siplocd: state {path}: line {line}"),
+        StateFault::Changes(line) => eprintln!(rt; "siplocd: state {path}.log: line {line}"),
+        StateFault::NoMark => eprintln!(rt; "siplocd: state {path}.log: not of this state"),
     };
 }
 
@@ -183,7 +198,14 @@ where
     let alloc = rt.alloc();
     let workers = settings.service.workers as u64;
     let stop = Arc::new(alloc, Stop::new())?;
-    let daemon = Daemon::new(host, alloc, &settings, Arc::try_clone(&stop)?)?;
+    let mut daemon = Daemon::new(host, alloc, &settings, Arc::try_clone(&stop)?)?;
+    if let Some(path) = &settings.state {
+        let path = String::from_str(alloc, path.as_str())?;
+        match restore(host, &daemon, path.as_str()) {
+            Ok(changes) => daemon.go_on(host, path, changes)?,
+            Err(fault) => return Err(Fault::State(path, fault)),
+        }
+    }
     let ends_with_input = settings.ends_with_input;
     let (listeners, control) = listen_all(host, alloc, settings)?;
     for listener in &listeners {
@@ -204,7 +226,7 @@ where
     if let Some(listener) = &control {
         listener.remove(host);
     }
-    let events = daemon.close()?;
+    let events = daemon.close(host)?;
     println!(rt; "closed {events}")?;
     Ok(())
 }

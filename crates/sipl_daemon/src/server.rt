@@ -1,3 +1,4 @@
+use crate::claimer::claim_pages;
 use crate::clients::{Client, Clients};
 use crate::control::serve_control;
 use crate::daemon::Daemon;
@@ -52,11 +53,8 @@ pub(crate) fn serve_all<H: Host>(
     workers: u64,
 ) {
     thread::scope(thread::scope_env(), host, |scope| {
-        let _ = scope.spawn(move || daemon.service.run_workers(host, workers, &OpenGate));
-        if scope
-            .spawn(move || daemon.pages.run(host, &daemon.stop))
-            .is_err()
-        {
+        let _ = scope.spawn(move || daemon.source.service.run_workers(host, workers, &OpenGate));
+        if scope.spawn(move || claim_pages(host, daemon)).is_err() {
             daemon.stop.ask(host);
         }
         if scope.spawn(move || run_clock(host, daemon)).is_err() {
@@ -87,7 +85,7 @@ pub(crate) fn serve_all<H: Host>(
         }
         daemon.clients.end(host, Duration::from_millis(GRACE));
         daemon.controls.end(host, Duration::from_millis(0));
-        daemon.service.stop(host);
+        daemon.source.service.stop(host);
     });
 }
 

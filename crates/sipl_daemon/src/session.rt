@@ -5,8 +5,9 @@ use crate::stop::Stop;
 use crate::stream::Stream;
 use sipl_lines::{Tapped, serve};
 use std::io;
-use std::io::{ErrorKind, Read};
+use std::io::{ErrorKind, Read, Write};
 use std::sync::Wait;
+use std::sync::atomic::{AtomicU64, Ordering};
 use std::time::{Clock, Duration};
 
 // For how many milliseconds a client may take no reply.
@@ -31,10 +32,37 @@ impl Read for Input<'_> {
     }
 }
 
+// A client's stream as a writer: a reply is sent once the changes before it are in their file.
+#[derive(Drop)]
+struct Output<'a, R> {
+    rt: &'a R,
+    daemon: &'a Daemon,
+    stream: &'a Stream,
+    place: &'a AtomicU64,
+}
+
+impl<R: Wait> Write for Output<'_, R> {
+    fn write(&mut self, buf: &[u8]) -> io::Result<usize> {
+        if let Some(changes) = &self.daemon.source.changes {
+            if let Err(error) = changes.sync(self.rt, self.place.load(Ordering::SeqCst)) {
+                self.daemon.stop.ask(self.rt);
+                return Err(error);
+            }
+        }
+        let mut stream = self.stream;
+        stream.write(buf)
+    }
+
+    fn flush(&mut self) -> io::Result<()> {
+        Ok(())
+    }
+}
+
 /// Serves a client's session, keeps its receipts, and frees its place. A fault ends only this session.
 pub(crate) fn serve_client<R: Wait + Clock>(rt: &R, daemon: &Daemon, client: Client) {
     let Client { stream, place } = client;
-    let mut desk = SessionDesk::new(rt, daemon);
+    let changed = AtomicU64::new(0);
+    let mut desk = SessionDesk::new(rt, daemon, &changed);
     let idle = daemon.idle.map(Duration::from_secs);
     if stream
         .set_timeouts(idle, Some(Duration::from_millis(WRITE)))
@@ -44,7 +72,12 @@ pub(crate) fn serve_client<R: Wait + Clock>(rt: &R, daemon: &Daemon, client: Cli
             stream: &stream,
             stop: &daemon.stop,
         });
-        let mut writer = Tapped::new(&*stream);
+        let mut writer = Tapped::new(Output {
+            rt,
+            daemon,
+            stream: &stream,
+            place: &changed,
+        });
         let _ = serve(daemon.alloc, &mut reader, &mut writer, &mut desk);
     }
     drop(stream);

@@ -6,13 +6,15 @@ use crate::holds::Holds;
 use crate::server::Host;
 use crate::text::{hold_text, write_zone};
 use memchr::memchr;
-use sipl_book::State;
+use sipl_book::{Page, State};
 use sipl_lines::{Tapped, serve};
 use sipl_records::{next_field, read_number};
 use std::alloc::{AllocError, Global};
 use std::fs::File;
 use std::io::ErrorKind;
 use std::rt::Files;
+use std::sync::Wait;
+use std::sync::atomic::AtomicU64;
 use std::{fs, io};
 
 /// Why a state can't be read.
@@ -51,7 +53,11 @@ pub(crate) fn restore<H: Host>(
     let log = format!(in alloc; "{path}.log")?;
     let changes = read_file(host, alloc, log.as_str())?;
     let (head, rest) = split_line(&state);
-    let mark = if state.is_empty() { Some(0) } else { mark_of(head) };
+    let mark = if state.is_empty() {
+        Some(0)
+    } else {
+        mark_of(head)
+    };
     let Some(mark) = mark else {
         return Err(StateFault::State(1));
     };
@@ -101,6 +107,21 @@ pub(crate) fn write_state<R: Files<File = File>>(
     Ok(text.len() as u64)
 }
 
+/// Writes the last state, after which there are no changes.
+pub(crate) fn end_state<R: Files<File = File> + Wait>(
+    rt: &R,
+    alloc: Global,
+    changes: &Changes,
+    path: &str,
+    last: &Page,
+    holds: &Holds,
+) -> io::Result<()> {
+    let mark = changes.lock(rt).push_mark(holds.now)?;
+    changes.sync(rt, mark.begin)?;
+    write_state(rt, alloc, path, mark.number, last.result(), holds)?;
+    changes.trim(rt, mark.number, mark.begin)
+}
+
 // What the changes of a text came to: how many octets and lines those that were made have, the last mark, and
 // whether the next one was refused.
 #[derive(Drop)]
@@ -113,7 +134,8 @@ struct Made {
 
 // Makes the changes of a text, one after another, up to one that is not whole.
 fn make_lines<H: Host>(host: &H, daemon: &Daemon, text: &[u8]) -> Made {
-    let mut desk = SessionDesk::restoring(host, daemon);
+    let place = AtomicU64::new(0);
+    let mut desk = SessionDesk::restoring(host, daemon, &place);
     let mut made = Made {
         octets: 0,
         lines: 0,
