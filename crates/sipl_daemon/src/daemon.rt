@@ -4,6 +4,7 @@ ghost use Rattle.sipl_service.specs.Telling.{IsToldFor, event_of};
 
 use crate::clients::Clients;
 use crate::counts::Counts;
+use crate::descriptors::max_clients;
 use crate::pages::Pages;
 use crate::settings::{Clocks, DaemonSettings};
 use crate::stop::Stop;
@@ -16,6 +17,7 @@ use sipl_srv::Draws;
 use sipl_uri::Question;
 use std::alloc::Global;
 use std::io;
+use std::rt::Files;
 use std::sync::{Arc, Mutex, Wait};
 use std::time::Clock;
 
@@ -51,7 +53,7 @@ pub(crate) struct Daemon {
 
 impl Daemon {
     // A daemon with these settings, over a service without zones, holds or events.
-    pub(crate) fn new<R: Clock>(
+    pub(crate) fn new<R: Clock + Files>(
         rt: &R,
         alloc: Global,
         settings: &DaemonSettings,
@@ -71,7 +73,7 @@ impl Daemon {
             service,
             pages: Pages::new(alloc, own.journal as u64),
             stop,
-            clients: Clients::new(alloc, settings.clients)?,
+            clients: Clients::new(alloc, max_clients(rt, alloc, settings.clients))?,
             controls: Clients::new(alloc, MAX_CONTROLS)?,
             counts: Counts::new(),
             time,

@@ -6,6 +6,7 @@ mod clients;
 mod control;
 mod counts;
 mod daemon;
+mod descriptors;
 mod desk;
 mod fault;
 mod listener;
@@ -20,7 +21,7 @@ mod tell;
 mod time;
 
 pub use address::Address;
-pub use fault::DeskFault;
+pub use fault::{ConnectionFault, DeskFault};
 pub use program::start;
 pub use server::Host;
 pub use settings::{Clocks, DaemonSettings};
