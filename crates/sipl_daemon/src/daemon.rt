@@ -5,6 +5,7 @@ ghost use Rattle.sipl_service.specs.Telling.{IsToldFor, event_of};
 use crate::changes::Changes;
 use crate::clients::Clients;
 use crate::counts::Counts;
+use crate::descriptors::max_clients;
 use crate::pages::Pages;
 use crate::settings::{Clocks, DaemonSettings};
 use crate::source::Source;
@@ -61,7 +62,7 @@ pub(crate) struct Daemon {
 
 impl Daemon {
     // A daemon with these settings, over a service without zones, holds or events.
-    pub(crate) fn new<R: Clock>(
+    pub(crate) fn new<R: Clock + Files>(
         rt: &R,
         alloc: Global,
         settings: &DaemonSettings,
@@ -85,7 +86,7 @@ impl Daemon {
             state: None,
             pages: Pages::new(alloc, own.journal as u64),
             stop,
-            clients: Clients::new(alloc, settings.clients)?,
+            clients: Clients::new(alloc, max_clients(rt, alloc, settings.clients))?,
             controls: Clients::new(alloc, MAX_CONTROLS)?,
             counts: Counts::new(),
             time,

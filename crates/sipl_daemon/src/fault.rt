@@ -22,6 +22,23 @@ impl DeskFault {
     }
 }
 
+/// Why a connection has no session.
+#[derive(Clone, Copy, Debug, PartialEq, Eq, Error)]
+pub enum ConnectionFault {
+    /// As many clients are connected as there may be at a time.
+    #[error("as many clients are connected as there may be")]
+    Busy,
+}
+
+impl ConnectionFault {
+    /// The error's code, which is sent before the connection is closed.
+    pub fn code(self) -> &'static str {
+        match self {
+            ConnectionFault::Busy => "Busy",
+        }
+    }
+}
+
 impl From<ServiceFault> for DeskFault {
     fn from(fault: ServiceFault) -> DeskFault {
         DeskFault::Service(fault)

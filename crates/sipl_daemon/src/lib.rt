@@ -9,6 +9,7 @@ mod clients;
 mod control;
 mod counts;
 mod daemon;
+mod descriptors;
 mod desk;
 mod fault;
 mod holds;
@@ -27,7 +28,7 @@ mod text;
 mod time;
 
 pub use address::Address;
-pub use fault::DeskFault;
+pub use fault::{ConnectionFault, DeskFault};
 pub use program::start;
 pub use server::Host;
 pub use settings::{Clocks, DaemonSettings};

@@ -2,10 +2,12 @@ use crate::claimer::claim_pages;
 use crate::clients::{Client, Clients};
 use crate::control::serve_control;
 use crate::daemon::Daemon;
+use crate::fault::ConnectionFault;
 use crate::listener::Listener;
 use crate::session::serve_client;
 use crate::stream::Stream;
 use sipl_service::OpenGate;
+use std::alloc::Global;
 use std::fs::File;
 use std::io::Write;
 use std::net::{Net, TcpListener, TcpStream};
@@ -144,14 +146,17 @@ fn next_client<H: Host>(
     let stream = Arc::new(daemon.alloc, stream).ok()?;
     let client = clients.enter(host, &stream);
     if client.is_none() {
-        refuse(&stream);
+        refuse(daemon.alloc, &stream);
     }
     client
 }
 
-fn refuse(stream: &Stream) {
-    let mut output = stream;
-    let _ = output.write_all(b"err Busy\n");
+// Tells a client that there is no place.
+fn refuse(alloc: Global, stream: &Stream) {
+    if let Ok(text) = format!(in alloc; "err {}\n", ConnectionFault::Busy.code()) {
+        let mut output = stream;
+        let _ = output.write_all(text.as_bytes());
+    }
 }
 
 // Accepts control connections until the daemon is to stop, and serves each in a thread. Returns when they
