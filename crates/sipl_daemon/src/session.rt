@@ -13,6 +13,9 @@ use std::time::{Clock, Duration};
 // For how many milliseconds a client may take no reply.
 const WRITE: u64 = 30_000;
 
+// The same for one that has just taken so long.
+const LATE: u64 = 1_000;
+
 // A client's stream as a reader, which fails once the daemon is to stop: so a line whose end has not come
 // is not carried out.
 #[derive(Drop)]
@@ -39,18 +42,46 @@ struct Output<'a, R> {
     daemon: &'a Daemon,
     stream: &'a Stream,
     place: &'a AtomicU64,
+    // Whether the last write has waited for as long as it may, and sent a part.
+    is_late: bool,
+}
+
+impl<R: Wait> Output<'_, R> {
+    // Waits until the session's changes are in their file.
+    fn sync(&self) -> io::Result<()> {
+        let Some(changes) = &self.daemon.source.changes else {
+            return Ok(());
+        };
+        let synced = changes.sync(self.rt, self.place.load(Ordering::SeqCst));
+        if synced.is_err() {
+            self.daemon.stop.ask(self.rt);
+        }
+        synced
+    }
+
+    // Sets how long the next write may wait.
+    fn set_late(&mut self, is_late: bool) -> io::Result<()> {
+        if is_late == self.is_late {
+            return Ok(());
+        }
+        self.is_late = is_late;
+        set_timeouts(self.daemon, self.stream, if is_late { LATE } else { WRITE })
+    }
+}
+
+// Sets how long a client may send nothing, and for how many milliseconds it may take no reply.
+fn set_timeouts(daemon: &Daemon, stream: &Stream, write: u64) -> io::Result<()> {
+    let idle = daemon.idle.map(Duration::from_secs);
+    stream.set_timeouts(idle, Some(Duration::from_millis(write)))
 }
 
 impl<R: Wait> Write for Output<'_, R> {
     fn write(&mut self, buf: &[u8]) -> io::Result<usize> {
-        if let Some(changes) = &self.daemon.source.changes {
-            if let Err(error) = changes.sync(self.rt, self.place.load(Ordering::SeqCst)) {
-                self.daemon.stop.ask(self.rt);
-                return Err(error);
-            }
-        }
+        self.sync()?;
         let mut stream = self.stream;
-        stream.write(buf)
+        let count = stream.write(buf)?;
+        self.set_late(count < buf.len())?;
+        Ok(count)
     }
 
     fn flush(&mut self) -> io::Result<()> {
@@ -63,11 +94,7 @@ pub(crate) fn serve_client<R: Wait + Clock>(rt: &R, daemon: &Daemon, client: Cli
     let Client { stream, place } = client;
     let changed = AtomicU64::new(0);
     let mut desk = SessionDesk::new(rt, daemon, &changed);
-    let idle = daemon.idle.map(Duration::from_secs);
-    if stream
-        .set_timeouts(idle, Some(Duration::from_millis(WRITE)))
-        .is_ok()
-    {
+    if set_timeouts(daemon, &stream, WRITE).is_ok() {
         let mut reader = Tapped::new(Input {
             stream: &stream,
             stop: &daemon.stop,
@@ -77,6 +104,7 @@ pub(crate) fn serve_client<R: Wait + Clock>(rt: &R, daemon: &Daemon, client: Cli
             daemon,
             stream: &stream,
             place: &changed,
+            is_late: false,
         });
         let _ = serve(daemon.alloc, &mut reader, &mut writer, &mut desk);
     }
