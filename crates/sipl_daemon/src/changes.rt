@@ -147,11 +147,6 @@ impl Pending {
         self.base
     }
 
-    /// The number of the last mark.
-    pub(crate) fn mark(&self) -> u64 {
-        self.mark
-    }
-
     /// How long the state is that was written.
     pub(crate) fn set_state_len(&mut self, len: u64) {
         self.state_len = len;
