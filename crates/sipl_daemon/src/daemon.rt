@@ -101,33 +101,37 @@ impl Daemon {
         let _ = self.open.lock(rt).push(stream);
     }
 
-    // Moves the book's time to that of the host, if it is the host's and an endpoint may be held. A move that
-    // is refused is made later.
+    // Moves the book's time to that of the host, if it is the host's and an endpoint may be held. The move
+    // is not among the changes: the next one has the time. A move that is refused is made later.
     pub(crate) fn move_clock<R: Wait + Clock>(&self, rt: &R) {
         let Some(time) = &self.time else {
             return;
         };
         let now = time.now(rt);
         let mut mover = self.mover.lock(rt);
-        if time.may_be_held(self.source.service.now(rt)) {
-            self.move_to(rt, &mut mover, now);
+        let before = self.source.service.now(rt);
+        if before < now && time.may_be_held(before) {
+            let moved = self.source.service.advance(rt, &mut mover, now);
+            self.end_move(rt, &mut mover, moved);
         }
     }
 
     // Moves the book's time to that of the host, if it is the host's.
     pub(crate) fn set_clock<R: Wait + Clock>(&self, rt: &R) {
-        if let Some(time) = &self.time {
-            let now = time.now(rt);
-            self.move_to(rt, &mut self.mover.lock(rt), now);
+        let Some(time) = &self.time else {
+            return;
+        };
+        let now = time.now(rt);
+        let mut mover = self.mover.lock(rt);
+        if self.source.service.now(rt) < now {
+            let moved = self.advance(rt, &mut mover, now, &AtomicU64::new(0));
+            self.end_move(rt, &mut mover, moved);
         }
     }
 
-    // Moves the book's time, unless it is at this time or after it.
-    fn move_to<R: Wait>(&self, rt: &R, mover: &mut Pass, now: u64) {
-        if now <= self.source.service.now(rt) {
-            return;
-        }
-        if let Ok(number) = self.advance(rt, mover, now, &AtomicU64::new(0)) {
+    // Counts a move that was made, and hands its receipt over.
+    fn end_move<R: Wait>(&self, rt: &R, mover: &mut Pass, moved: Result<u64, ServiceFault>) {
+        if let Ok(number) = moved {
             self.count_event(rt, number);
         }
         self.pages.hand_over(rt, &self.stop, mover);
@@ -153,10 +157,9 @@ impl Daemon {
         path: String,
         changes: Changes,
     ) -> io::Result<()> {
-        if self.time.is_some() {
-            let now = self.source.service.now(rt);
-            let time = HostTime::new(rt, now)?;
-            time.note_end(1 << 52);
+        if let Some(before) = &self.time {
+            let time = HostTime::new(rt, self.source.service.now(rt))?;
+            time.note_end(before.end());
             self.time = Some(time);
         }
         self.state = Some(path);

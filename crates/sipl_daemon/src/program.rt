@@ -196,39 +196,89 @@ where
     H: Host,
 {
     let alloc = rt.alloc();
-    let workers = settings.service.workers as u64;
     let stop = Arc::new(alloc, Stop::new())?;
-    let mut daemon = Daemon::new(host, alloc, &settings, Arc::try_clone(&stop)?)?;
-    if let Some(path) = &settings.state {
-        let path = String::from_str(alloc, path.as_str())?;
-        match restore(host, &daemon, path.as_str()) {
-            Ok(changes) => daemon.go_on(host, path, changes)?,
-            Err(fault) => return Err(Fault::State(path, fault)),
-        }
-    }
-    let ends_with_input = settings.ends_with_input;
-    let (listeners, control) = listen_all(host, alloc, settings)?;
-    for listener in &listeners {
-        println!(rt; "ready {}", listener.address())?;
-    }
-    if let Some(listener) = &control {
-        println!(rt; "ready {}", listener.address())?;
-    }
-    if ends_with_input {
-        // No scope has this thread: nothing can end a read of standard input, and the process is not to
-        // wait for it.
-        let _watching = thread::spawn(host, move || watch(&rt, alloc, &stop));
-    }
-    serve_all(host, &daemon, &listeners, control.as_ref(), workers);
-    for listener in &listeners {
-        listener.remove(host);
-    }
-    if let Some(listener) = &control {
-        listener.remove(host);
-    }
-    let events = daemon.close(host)?;
+    let daemon = begin(host, alloc, &settings, Arc::try_clone(&stop)?)?;
+    serve_daemon(rt, host, &daemon, settings, stop)?;
+    let events = Box::into_inner(daemon).close(host)?;
     println!(rt; "closed {events}")?;
     Ok(())
+}
+
+// A daemon that goes on from its state, if it has one.
+fn begin<H: Host>(
+    host: &H,
+    alloc: Global,
+    settings: &DaemonSettings,
+    stop: Arc<Stop, Global>,
+) -> Result<Box<Daemon>, Fault> {
+    let mut daemon = Box::new(alloc, Daemon::new(host, alloc, settings, stop)?)?;
+    if let Some(path) = &settings.state {
+        go_on(host, alloc, &mut daemon, path.as_str())?;
+    }
+    Ok(daemon)
+}
+
+// Goes on from the state of a path.
+fn go_on<H: Host>(host: &H, alloc: Global, daemon: &mut Daemon, path: &str) -> Result<(), Fault> {
+    let path = String::from_str(alloc, path)?;
+    match restore(host, daemon, path.as_str()) {
+        Ok(changes) => Ok(daemon.go_on(host, path, changes)?),
+        Err(fault) => Err(Fault::State(path, fault)),
+    }
+}
+
+// Serves at the addresses of the settings until the daemon is to stop.
+fn serve_daemon<R, H>(
+    rt: R,
+    host: &H,
+    daemon: &Daemon,
+    settings: DaemonSettings,
+    stop: Arc<Stop, Global>,
+) -> Result<(), Fault>
+where
+    R: Input + Print + AllocGlobal + Wait + Copy + Send + 'static,
+    H: Host,
+{
+    let workers = settings.service.workers as u64;
+    let ends_with_input = settings.ends_with_input;
+    let (listeners, control) = listen_all(host, rt.alloc(), settings)?;
+    print_ready(&rt, &listeners, control.as_ref())?;
+    if ends_with_input {
+        watch_input(rt, host, stop);
+    }
+    serve_all(host, daemon, &listeners, control.as_ref(), workers);
+    for listener in &listeners {
+        listener.remove(host);
+    }
+    if let Some(listener) = &control {
+        listener.remove(host);
+    }
+    Ok(())
+}
+
+// Prints the addresses, that of control lines last.
+fn print_ready<R: Print>(
+    rt: &R,
+    listeners: &[Listener],
+    control: Option<&Listener>,
+) -> io::Result<()> {
+    for listener in listeners {
+        println!(rt; "ready {}", listener.address())?;
+    }
+    if let Some(listener) = control {
+        println!(rt; "ready {}", listener.address())?;
+    }
+    Ok(())
+}
+
+// Asks for a stop at the end of standard input. No scope has the thread: nothing can end a read of standard
+// input, and the process is not to wait for it.
+fn watch_input<R, H>(rt: R, host: &H, stop: Arc<Stop, Global>)
+where
+    R: Input + AllocGlobal + Wait + Copy + Send + 'static,
+    H: Host,
+{
+    let _watching = thread::spawn(host, move || watch(&rt, rt.alloc(), &stop));
 }
 
 // Listens at all addresses, and at the control address, if there is one.

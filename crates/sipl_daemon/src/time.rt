@@ -37,8 +37,13 @@ impl HostTime {
         self.end.fetch_max(end, Ordering::SeqCst);
     }
 
+    /// The latest end of a hold.
+    pub(crate) fn end(&self) -> u64 {
+        self.end.load(Ordering::SeqCst)
+    }
+
     /// Whether a hold may last at a time.
     pub(crate) fn may_be_held(&self, now: u64) -> bool {
-        now < self.end.load(Ordering::SeqCst)
+        now < self.end()
     }
 }
