@@ -30,7 +30,7 @@ enum Go {
 pub(crate) fn serve_control<H: Host>(host: &H, daemon: &Daemon, client: Client) {
     let Client { stream, place } = client;
     let patience = Some(Duration::from_secs(PATIENCE));
-    if stream.set_timeouts(patience, patience).is_ok() {
+    if !daemon.stop.is_asked() && stream.set_timeouts(patience, patience).is_ok() {
         if let Ok(Go::Stop) = serve_lines(host, daemon, &stream) {
             daemon.controls.leave(host, place);
             daemon.keep_open(host, stream);

@@ -157,7 +157,7 @@ impl Daemon {
         path: String,
         changes: Changes,
     ) -> io::Result<()> {
-        if let Some(before) = &self.time {
+        if let Some(before) = self.time.take() {
             let time = HostTime::new(rt, self.source.service.now(rt))?;
             time.note_end(before.end());
             self.time = Some(time);

@@ -24,14 +24,23 @@ struct Input<'a> {
     stop: &'a Stop,
 }
 
-impl Read for Input<'_> {
-    fn read(&mut self, buf: &mut [u8]) -> io::Result<usize> {
-        let mut stream = self.stream;
-        let read = stream.read(buf);
+impl Input<'_> {
+    fn check(&self) -> io::Result<()> {
         if self.stop.is_asked() {
             return Err(io::Error::from(ErrorKind::ConnectionAborted));
         }
-        read
+        Ok(())
+    }
+}
+
+impl Read for Input<'_> {
+    fn read(&mut self, buf: &mut [u8]) -> io::Result<usize> {
+        // A client that came while the others were ended is ended here.
+        self.check()?;
+        let mut stream = self.stream;
+        let count = stream.read(buf)?;
+        self.check()?;
+        Ok(count)
     }
 }
 
