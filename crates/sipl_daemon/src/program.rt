@@ -45,7 +45,9 @@ enum Fault {
     Settings(SettingsFault),
     // It cannot listen there.
     Listen(Address, io::Error),
-    // Standard output or a connection failed.
+    // Nobody is there to be told, or the connection failed.
+    Tell(String, io::Error),
+    // Standard output failed, or the clock.
     Stream(io::Error),
     // The state of this path can't be read.
     State(String, StateFault),
@@ -120,6 +122,7 @@ fn report<R: Eprint>(rt: &R, fault: &Fault) {
         }
         Fault::Settings(fault) => eprintln!(rt; "siplocd: settings {}", fault.code()),
         Fault::Listen(address, error) => eprintln!(rt; "siplocd: listen {address}: {error}"),
+        Fault::Tell(address, error) => eprintln!(rt; "siplocd: tell {address}: {error}"),
         Fault::Stream(error) => eprintln!(rt; "siplocd: {error}"),
         Fault::State(path, fault) => return report_state(rt, path.as_str(), fault),
         Fault::Close(CloseFault::State(error)) => eprintln!(rt; "siplocd: state: {error}"),
@@ -180,7 +183,12 @@ where
     match call {
         Call::Help => print!(rt; "{HELP}")?,
         Call::Version => println!(rt; "{VERSION}")?,
-        Call::Tell(address, line) => return Ok(tell(&rt, host, address.as_str(), line.as_str())?),
+        Call::Tell(address, line) => {
+            return match tell(&rt, host, address.as_str(), line.as_str()) {
+                Ok(is_accepted) => Ok(is_accepted),
+                Err(error) => Err(Fault::Tell(address, error)),
+            };
+        }
         Call::Serve(text) => {
             let settings = DaemonSettings::from_toml(rt.alloc(), text.as_str())?;
             serve(rt, host, settings)?;
