@@ -34,7 +34,12 @@ const SERVER_2: &[&[u8]] = &[b"server2.example.com. A 192.0.2.2"];
 const LOADED: [Set; 4] = [(1, POINTERS), (2, SERVICES), (3, SERVER_1), (4, SERVER_2)];
 
 // A set that grows takes the next number, and the others keep theirs.
-const EDITED: [Set; 4] = [(1, POINTERS), (2, SERVICES), (5, SERVER_1_LATER), (4, SERVER_2)];
+const EDITED: [Set; 4] = [
+    (1, POINTERS),
+    (2, SERVICES),
+    (5, SERVER_1_LATER),
+    (4, SERVER_2),
+];
 
 fn is_set(rt: &impl Abort, alloc: Global, item: &Item, set: &Set) -> bool {
     if item.number() != set.0 || item.content().len() != set.1.len() {
@@ -70,7 +75,10 @@ fn before_and_after<R: Wait + Abort>(rt: &R, alloc: Global, service: &Service) {
     load_zone(rt, alloc, service, &mut pass);
     assert!(rt; has(rt, alloc, service, &LOADED), "other sets of the zone");
     add(rt, alloc, service, &mut pass, ADDRESS_11);
-    assert!(rt; has(rt, alloc, service, &EDITED), "other sets after the edit");
+    assert!(rt;
+        has(rt, alloc, service, &EDITED),
+        "other sets after the edit"
+    );
 }
 
 #[test]
