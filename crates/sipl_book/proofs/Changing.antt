@@ -179,7 +179,8 @@ made-change edit old store changed number journal good edited space number_is jo
       held = refl;
       max_entries = refl;
       max_events = refl;
-      consistent = consistent-changed edit old store changed journal _ _ good edited space journal_is refl;
+      consistent = consistent-changed edit old store changed journal (map (after_change changed.keys) old.entries)
+          (after_marks old.queue (dependents changed.keys old.entries)) good edited space journal_is refl;
     }
 
 -- ---- an edit that is refused
