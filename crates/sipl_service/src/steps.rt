@@ -1,15 +1,15 @@
 // What a call does to the book that the lock lends it, and to the caller's pass. What was allocated
 // before the lock was taken is passed in.
-ghost use Rattle.std.specs.Prelude.{◌≡◌, ◌≢◌, ◌⊎◌, ℕ, ◌+◌, ◌^◌, ◌<◌, ◌≤◌, ◌++◌, [], ◌∷◌, length, false, vec_len, vec_capacity, Some, None, Ok, IfOk, IfErr, OnOk, OnErr};
+ghost use Rattle.std.specs.Prelude.{◌≡◌, ◌≢◌, ◌⊎◌, ℕ, ◌+◌, ◌^◌, ◌<◌, ◌≤◌, ◌++◌, [], ◌∷◌, length, false, true, vec_len, vec_capacity, Some, None, Ok, IfOk, IfErr, OnOk, OnErr};
 ghost use Rattle.sipl_outages.specs.Holds.{BoardEvent, no_holds};
 ghost use Rattle.sipl_outages.specs.Holds.BoardEvent.{Hold, Release, Advance};
 ghost use Rattle.sipl_plans.specs.Findings.{IsSound};
 ghost use Rattle.sipl_book.specs.Book.{answer_now, next_event};
-ghost use Rattle.sipl_book.specs.Calls.{IsChanged, MovesBoard, after_check, after_commit, board_refusal, change_refusal, recorded, store_with_looks};
+ghost use Rattle.sipl_book.specs.Calls.{CommitsAnswer, IsChanged, IsHanded, MovesBoard, after_check, board_refusal, change_refusal, is_full, recorded, store_with_looks};
 ghost use Rattle.sipl_book.specs.Entries.{has_current_entry};
 ghost use Rattle.sipl_service.specs.Answering.{AreDrawn, IsPreparedFor, Records};
 ghost use Rattle.sipl_service.specs.Passes.{GetsReceipt, receipt_of};
-ghost use Rattle.sipl_service.specs.Refusals.{change_fault, contended, is_for, unless_ahead, unless_other};
+ghost use Rattle.sipl_service.specs.Refusals.{answer_fault, change_fault, commit_fault, contended, hand_fault, is_for, unless_ahead, unless_other};
 ghost use Rattle.sipl_service.specs.Telling.{event_of, IsAnswerTo};
 
 use crate::answered::{Answered, Answers};
@@ -79,6 +79,9 @@ fn next_answer(
     ensures front { OnOk result (pass.now.front ≤ next_event book.now) }
     ensures same { OnOk result (book.now.client ≡ abilities.now) }
     ensures held { OnOk result (book.now.held ≡ held) }
+    ensures accepted { OnOk result (answer_fault pass.now abilities.now held book.now None ≡ None) }
+    ensures refused { IfErr result
+        (λ fault. answer_fault pass.now abilities.now held book.now None ≡ Some fault) }
 {
     let number = next_number(book, pass)?;
     check_client(book, abilities, held)?;
@@ -235,11 +238,13 @@ pub(crate) fn hand(
     requires receipt { copies.receipt ≡ asked.question }
     ensures front { OnOk result (pass.now.front ≤ next_event book.old) }
     ensures answered { IfOk result (λ answered. Records asked (next_event book.old) answered) }
-    ensures journal { IfOk result
-        (λ answered. book.new ≡ recorded (event_of answered.told) book.old) }
-    ensures answer { IfOk result
-        (λ answered. answered.told.answer ≡ answer_now book.old asked.question asked.draws) }
+    ensures handed { IfOk result (λ answered. IsHanded asked.question asked.draws book.old book.new
+        (Ok (record { number = answered.told.number; answer = answered.told.answer }))) }
     ensures store { book.new.store ≡ book.old.store }
+    ensures refused { IfErr result (λ fault. fault ≢ ServiceFault.Memory
+        → hand_fault pass.now asked book.old ≡ Some fault) }
+    ensures memory { IfErr result (λ fault. fault ≡ ServiceFault.Memory
+        → hand_fault pass.now asked book.old ≡ None) }
     ensures unchanged { OnErr result (book.new ≡ book.old) }
 {
     let number = next_answer(book, pass, &asked.abilities, asked.held)?;
@@ -266,9 +271,11 @@ fn record(
     requires event { copies.event ≡ told.now.question }
     requires receipt { copies.receipt ≡ told.now.question }
     requires answer { told.now.answer ≡ answer_now book.old told.now.question told.now.words }
+    requires space { is_full book.old ≡ false }
     ensures journal { OnOk result (book.new ≡ recorded (event_of told.now) book.old) }
     ensures receipt { IfOk result
         (λ receipt. receipt ≡ receipt_of (next_event book.old) (event_of told.now)) }
+    ensures memory { IfErr result (λ fault. fault ≡ ServiceFault.Memory) }
     ensures unchanged { OnErr result (book.new ≡ book.old) }
 {
     let Copies { event, receipt } = copies;
@@ -288,9 +295,12 @@ fn tell_entry(alloc: Global, book: &Book, number: u64, asked: Asked) -> Result<T
     ensures asked { IfOk result (λ told. IsAnswerTo asked told) }
     ensures answer { IfOk result
         (λ told. told.answer ≡ answer_now book.now asked.question asked.draws) }
+    ensures current { OnOk result (has_current_entry book.now.entries asked.question ≡ true) }
     ensures refused { IfErr result (λ fault. fault ≢ ServiceFault.Memory
         → (fault ≡ ServiceFault.Book BookFault.NotCurrent)
         × (has_current_entry book.now.entries asked.question ≡ false)) }
+    ensures memory { IfErr result (λ fault. fault ≡ ServiceFault.Memory
+        → has_current_entry book.now.entries asked.question ≡ true) }
 {
     let Some(entry) = book.entry(&asked.question) else {
         return Err(ServiceFault::Book(BookFault::NotCurrent));
@@ -348,8 +358,10 @@ pub(crate) fn commit(
     ensures journal { IfOk result
         (λ answered. book.new.journal ≡ book.old.journal ++ event_of answered.told ∷ []) }
     ensures store { book.new.store ≡ store_with_looks book.new.store.looks book.old.store }
-    ensures committed { OnOk result
-        (book.new ≡ after_commit finding prepared.asked.draws (after_check finding book.old)) }
+    ensures committed { IfOk result (λ answered. CommitsAnswer finding prepared.asked.draws
+        book.old book.new (Ok (record { number = answered.told.number; released = answered.released }))) }
+    ensures refused { IfErr result (λ fault. fault ≢ ServiceFault.Memory
+        → commit_fault pass.now prepared.asked finding book.old ≡ Some fault) }
     ensures unchanged { OnErr result (book.new.journal ≡ book.old.journal) }
     ensures looked { OnErr result
         ((book.new ≡ book.old) ⊎ (book.new ≡ after_check finding book.old)) }
@@ -409,8 +421,8 @@ fn drawn_again(
 fn fault_of(alloc: Global, uncommitted: Uncommitted) -> ServiceFault
     requires within { (place : ℕ) → uncommitted.fault ≡ BookFault.Stale place
         → place < length uncommitted.finding.items }
-    ensures { result ≢ ServiceFault.Memory
-        → result ≡ contended uncommitted.finding.items uncommitted.fault }
+    ensures { result ≢ ServiceFault.Memory → (uncommitted.fault ≢ BookFault.Memory)
+        × (result ≡ contended uncommitted.finding.items uncommitted.fault) }
 {
     let Uncommitted { fault, finding } = uncommitted;
     let BookFault::Stale(place) = fault else {
