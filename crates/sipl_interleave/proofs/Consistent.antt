@@ -1,9 +1,11 @@
 -- What always holds of a book holds after its calls.
 use Rattle.std.proofs.Common.{◌≡◌, ℕ, ◌^◌, ◌-◌, ◌≤◌, ltb, false, List, [], ◌∷◌, ◌++◌, Option, Some, None, option_map, Ok, inl, inr, refl, sym, subst, ◌∙◌, arith}
+use Rattle.std.specs.List.{IsDistinct}
 use Rattle.std.proofs.lemmas.Bool.{cases_Bool, cond-true, leb-false, ltb-false}
 use Rattle.sipl_records.specs.Sets.{is_existence, set_of}
 use Rattle.sipl_records.specs.declared.record.Key.{Key}
 use Rattle.sipl_choice.specs.Abilities.{Client}
+use Rattle.sipl_choice.specs.Endpoints.{same_endpoint}
 use Rattle.sipl_outages.specs.Board.{IsConsistent as IsConsistentBoard}
 use Rattle.sipl_outages.specs.Holds.{BoardEvent, after as after_hold}
 use Rattle.sipl_outages.specs.declared.fault.BoardFault.{BoardFault}
@@ -28,6 +30,11 @@ no_sets key = elim (cases_Bool (is_existence key)) [
   | inr other ↦ (rw other refl, rw other refl)
 ]
 
+-- no endpoint is held
+none_held : IsDistinct same_endpoint []
+unfolding IsDistinct
+none_held = tt
+
 -- the limits that a new book may have
 pub record AreLimits (limits : Limits) : Type 0 where
   pub records : limits.records ≤ 1048576
@@ -44,7 +51,7 @@ consistent-new client held limits within =
       legal = tt;
       replayed = refl;
       store = store;
-      board = record { distinct = tt; lasting = refl; within = omega arith; limit = within.holds; time = omega arith };
+      board = record { distinct = none_held; lasting = refl; within = omega arith; limit = within.holds; time = omega arith };
       entries = λ k d below. absurd (omega arith);
       questions = λ i j d before below. absurd (omega arith);
       ids = λ i j d before below. absurd (omega arith);
