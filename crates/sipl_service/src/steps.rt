@@ -227,6 +227,13 @@ impl Copies {
 }
 
 // The answer of the current entry of a question, of which there are copies.
+#[tactic(auto, using(
+    crate::proofs::Causes::fault_before,
+    crate::proofs::Causes::fault_is_known,
+    crate::proofs::Causes::fault_full,
+    crate::proofs::Causes::fault_not_current,
+    crate::proofs::Causes::fault_none,
+))]
 pub(crate) fn hand(
     alloc: Global,
     book: &mut Book,
@@ -343,6 +350,7 @@ impl Prepared {
 
 // The answer of a finding, where the sets that it read are as they were. L1 with the key of the first
 // that is not.
+#[tactic(auto, using(crate::proofs::Causes::fault_before))]
 pub(crate) fn commit(
     alloc: Global,
     book: &mut Book,

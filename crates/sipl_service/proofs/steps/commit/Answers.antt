@@ -4,6 +4,7 @@ use Rattle.sipl_book.specs.Book.{BookState}
 use Rattle.sipl_book.specs.declared.event.Event.{Event}
 use Rattle.sipl_book.specs.declared.event.Event.TheVariants.{Answer}
 use Rattle.sipl_service.specs.Telling.{event_of}
+use Rattle.sipl_service.proofs.Causes.{fault_of_commit}
 use Rattle.sipl_service.proofs.Committing.{journal-committed}
 use Rattle.sipl_service.proofs.steps.commit.Goals as goal
 
@@ -19,3 +20,9 @@ returns-in-Ok-clause-journal c =
     (λ i. Answer (sym c.requires.prepared.question i) words (drawn i)) ∙ ap event_of (sym c.drawn-told.ensures) in
     journal-committed found words old c.commit_answer.new.self c.requires.sound client c.in-Ok.ensures.accepted c.in-Ok.ensures.after
     ∙ ap (λ (e : Event). old.journal ++ e ∷ []) event
+
+pub returns-in-Err-clause-refused : goal.returns-in-Err-clause-refused
+returns-in-Err-clause-refused c = λ known.
+    let is = c.fault_of.ensures known in
+    fault_of_commit c.args.pass.now c.args.prepared.asked c.args.finding c.args.book.now c.in-Err.uncommitted c.fault_of.result
+    c.in_ok-number.ensures.accepted (c.in-Err.ensures.refused is.0) c.in-Err.ensures.finding is.1
