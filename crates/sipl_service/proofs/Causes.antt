@@ -56,10 +56,6 @@ module _ (pass : PassState) (asked : Asked) (book : BookState) (none : answer_fa
   fault_not_current space missing =
       fault_after pass asked.abilities asked.held book _ none ∙ ap (option_map Book) (cond-false _ _ _ space ∙ cond-false _ _ _ missing)
 
-  pub fault_none : is_full book ≡ false → has_current_entry book.entries asked.question ≡ true → hand_fault pass asked book ≡ None
-  fault_none space current =
-      fault_after pass asked.abilities asked.held book _ none ∙ ap (option_map Book) (cond-false _ _ _ space ∙ cond-true _ _ _ current)
-
 -- a commit that the book refuses
 pub fault_of_commit : (pass : PassState) (asked : Asked) (found : Found) (book : BookState) (uncommitted : Uncommitted) (fault : ServiceFault)
     → answer_fault pass asked.abilities asked.held book None ≡ None → commit_refusal is_stale found book ≡ Some uncommitted.fault → uncommitted.finding ≡ found
