@@ -7,9 +7,9 @@ ghost use Rattle.sipl_lines.specs.PlainDesk.{PlainState, plain_rules};
 ghost use Rattle.sipl_lines.specs.Replies.{Serves};
 ghost use Rattle.sipl_lines.specs.Session.{MayReply, SessionState, new_session, session_protocol};
 
-/// At a book an item has one reply, and leaves one state: two replies to one item from one state, of
-/// which neither ends with `err Memory`, are equal. So are the states after them, but that one may have
-/// lost the lines of the zone that is being taken, which have no reply yet.
+/// At a book an item has one reply, and leaves one state: two replies to one item from one state,
+/// of which neither ends with `err Memory`, are equal. So are the states after them, but that one
+/// may have lost the lines of the zone that is being taken, which have no reply yet.
 pub fn items_have_one_reply()
     ensures text { (item : Item) (before a b : SessionState PlainState) (t u : Octets)
         → MayReply plain_rules before item t a → MayReply plain_rules before item u b

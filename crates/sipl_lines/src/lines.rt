@@ -137,6 +137,7 @@ impl Pending {
     }
 
     // Processes the octets that are left, and then the end of the input.
+    #[tactic(auto, using(crate::proofs::Replies::first_none))]
     fn finish<D, C: Conversation<D>>(
         &self,
         alloc: Global,
@@ -160,13 +161,12 @@ impl Pending {
 }
 
 // Counts a line, and after each 1,024 has a pause. Returns how many lines there were since.
+#[tactic(auto, using(crate::proofs::Replies::waits_none, crate::proofs::Replies::waits_once))]
 fn count_line<D, C: Conversation<D>>(lines: u32, desk: &mut D, conversation: &C) -> u32
-    requires { lines < 1024 }
-    ensures waits { Waits C.protocol
+    ensures { Waits C.protocol
         (C.state desk.old conversation.now) (C.state desk.new conversation.now) }
-    ensures few { result < 1024 }
 {
-    if lines + 1 < LINES_BETWEEN_PAUSES {
+    if lines < LINES_BETWEEN_PAUSES - 1 {
         return lines + 1;
     }
     conversation.pause(desk);

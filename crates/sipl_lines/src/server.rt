@@ -78,8 +78,8 @@ impl From<AllocError> for ServeFault {
 ///
 /// After each read the replies to all complete lines are written and flushed before the next read.
 /// Once the session has ended it reads no more. An error of the reader or the writer is a fault at
-/// once; what the desk has accepted stays. Before each read, and after each 1,024 lines of what it gave,
-/// the desk has a pause.
+/// once; what the desk has accepted stays. The desk has a pause before each read, and after each
+/// 1,024 lines that a read gave.
 pub fn serve<R: Read, W: Write, D: Desk>(
     alloc: Global,
     reader: &mut Tapped<R>,
