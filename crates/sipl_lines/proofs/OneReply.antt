@@ -58,7 +58,7 @@ use Rattle.sipl_lines.specs.Session.{SessionState, with_desk, with_gathering, At
 abbrev HasOne : {S : Type 0} → (S → Octets → S → Type 0) → Type 0
 HasOne {S} Acts = (before : S) (t u : Octets) (a b : S) → Acts before t a → Acts before u b → (EndsInMemory t → ⊥) → (EndsInMemory u → ⊥) → (t ≡ u) × (a ≡ b)
 
-keeps : {S : Type 0} (reply : Octets) → HasOne {S} (Keeps reply)
+keeps : {S : Type 0} (reply : Octets) → HasOne {S = S} (Keeps reply)
 keeps reply before t u a b kept kept' well well' = (kept.0 ∙ sym kept'.0, kept.1 ∙ sym kept'.1)
 
 -- of two facts of a case the same one is known
@@ -292,17 +292,17 @@ calls_uri kind base (Ok question) (Ok words) before t u a b done done' well well
 abbrev pub State : Type 0
 State = SessionState PlainState
 
-on_desk : (Acts : PlainState → Octets → PlainState → Type 0) → HasOne Acts → HasOne {State} (AtDesk Acts)
+on_desk : (Acts : PlainState → Octets → PlainState → Type 0) → HasOne Acts → HasOne {S = State} (AtDesk Acts)
 on_desk Acts one before t u a b done done' well well' =
     let told = one before.desk t u a.desk b.desk done.0 done'.0 well well' in
     (told.0, done.1 ∙ ap (λ desk. with_desk desk before) told.1 ∙ sym done'.1)
 
-on_call : (Acts : CallDesk PlainState → Octets → CallDesk PlainState → Type 0) → HasOne Acts → HasOne {State} (AtCall Acts)
+on_call : (Acts : CallDesk PlainState → Octets → CallDesk PlainState → Type 0) → HasOne Acts → HasOne {S = State} (AtCall Acts)
 on_call Acts one before t u a b done done' well well' =
     let told = one (with_call before.desk before.call) t u (with_call a.desk a.call) (with_call b.desk b.call) done.0 done'.0 well well' in
     (told.0, done.1 ∙ ap (λ at. record before { desk = at.desk; call = at.call }) told.1 ∙ sym done'.1)
 
-gathers : (gathering : Gathering) → HasOne {State} (Gathers plain_rules gathering)
+gathers : (gathering : Gathering) → HasOne {S = State} (Gathers plain_rules gathering)
 gathers gathering before t u a b done done' well well' =
     split (gathering.left == 0)
     (λ loaded loaded'. on_desk (LoadsGathered plain_rules gathering.gathered) (loads_gathered gathering.gathered) (with_gathering None before) t u a b loaded loaded' well well')
@@ -436,7 +436,7 @@ end_gathers gathering before t u a b (inl done) (inl done') well well' = gathers
 end_gathers gathering before t u a b (inl done) (inr failed) well well' = absurd (well' ([], failed.0.0.0))
 end_gathers gathering before t u a b (inr failed) done well well' = absurd (well ([], failed.0.0.0))
 
-ends : (gathering : Option Gathering) → HasOne {State} (TakesEnd plain_rules gathering)
+ends : (gathering : Option Gathering) → HasOne {S = State} (TakesEnd plain_rules gathering)
 ends None before t u a b kept kept' well well' = (kept.0 ∙ sym kept'.0, kept.1 ∙ sym kept'.1)
 ends (Some gathering) before t u a b done done' well well' = end_gathers gathering before t u a b (forget_cause done) (forget_cause done') well well'
 

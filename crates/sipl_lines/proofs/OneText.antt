@@ -39,12 +39,14 @@ reply_of s item text u first =
 -- ---- parts of a text
 
 ends_inside : (text reply replies : Octets) → text ≡ reply ++ replies → (TellsMemory text → ⊥) → EndsInMemory reply → ⊥
-ends_inside text reply replies is well ends =
-    well (ends.0, replies, is ∙ ap (λ r. r ++ replies) ends.1 ∙ append_assoc ends.0 (refusal_line (codes "Memory")) replies)
+ends_inside text reply replies is well ends = well (ends.0, replies, is ∙ ap (λ r. r ++ replies) ends.1)
 
 tells_inside : (text reply replies : Octets) → text ≡ reply ++ replies → (TellsMemory text → ⊥) → TellsMemory replies → ⊥
 tells_inside text reply replies is well tells =
-    well (reply ++ tells.0, tells.1, is ∙ ap (λ r. reply ++ r) tells.2 ∙ sym (append_assoc reply tells.0 (refusal_line (codes "Memory") ++ tells.1)))
+    let memory : Octets = refusal_line (codes "Memory") in
+    let whole : text ≡ ((reply ++ tells.0) ++ memory) ++ tells.1 =
+    is ∙ ap (λ r. reply ++ r) tells.2 ∙ sym (append_assoc reply (tells.0 ++ memory) tells.1) ∙ ap (λ r. r ++ tells.1) (sym (append_assoc reply tells.0 memory)) in
+    well (reply ++ tells.0, tells.1, whole)
 
 -- ---- the lines of a zone that are lost: the reply to the last of them is `err Memory`
 
