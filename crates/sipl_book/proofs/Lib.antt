@@ -25,6 +25,7 @@ mod Settling
 mod Legal
 mod Locating
 mod Finding
+mod Fixed
 mod Repairing
 mod SameEvent
 mod Unrefused

@@ -8,10 +8,11 @@ ghost use Rattle.sipl_book.specs.Honesty.{AreCurrent, IsHonest};
 
 use crate::book::{Book, record_event};
 use crate::checks::{first_renumbered, first_stale};
+use crate::entry::fixed_answer;
 use crate::event::Event;
 use crate::fault::BookFault;
 use crate::outcome::{Handed, Recorded, Uncommitted};
-use sipl_outages::{Board, Held};
+use sipl_outages::{Held, ShareableBoard};
 use sipl_plans::{Answer, Finding, draw};
 use sipl_srv::Draws;
 use sipl_uri::Question;
@@ -163,7 +164,8 @@ impl Book {
             return Err(Uncommitted { fault, finding });
         };
         let id = self.next_event();
-        match self.cache.commit(finding, id) {
+        let fixed = fixed_answer(self.alloc, finding.layout(), &answer, self.board.get());
+        match self.cache.commit(finding, id, fixed) {
             Ok(released) => {
                 let event = Event::Answer(question, *draws, answer);
                 let number = record_event(&mut self.journal, self.first, event);
@@ -188,7 +190,7 @@ impl Drawn {
         alloc: Global,
         finding: &Finding,
         draws: &Draws,
-        board: &Board,
+        board: &ShareableBoard,
         held: Held,
     ) -> Result<Self, AllocError>
         ensures question { IfOk result (λ drawn. drawn.question ≡ finding.now.question) }
@@ -198,7 +200,7 @@ impl Drawn {
         ensures copy { IfOk result (λ drawn. drawn.copy ≡ drawn.answer) }
     {
         let question = finding.question().dup(alloc)?;
-        let answer = draw(alloc, finding.layout(), draws, board, held)?;
+        let answer = draw(alloc, finding.layout(), draws, board.get(), held)?;
         let copy = answer.dup(alloc)?;
         Ok(Drawn {
             question,

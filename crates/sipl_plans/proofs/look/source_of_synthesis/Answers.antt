@@ -16,7 +16,7 @@ loop-encloser-init c =
     let same : c.in_ok-encloser.encloser ≡ name = c.in_ok-encloser.ensures.value in
     let valid : IsName name = subst IsName same c.in_ok-encloser.ensures.limits in
     let absent : exists_in c.args.records.now name ≡ false = sym c.exists.ensures ∙ c.if-exists.false in (
-      c.in_ok-wildcard.ensures.value ∙ sym same,
+      c.in_ok-below.ensures.value ∙ sym same,
       λ next. all-enclosers c.args.records.now next name valid absent ∙ ap (λ e. result_of (set_of c.args.records.now) (at_encloser (length e) e next)) (sym same),
     )
 
@@ -28,7 +28,7 @@ returns-then-exists-2 c = λ next.
     let exists : exists_in c.args.records.now parent ≡ true = sym c.exists-in-loop-encloser.ensures ∙ c.if-exists-2.true in
     c.loop-encloser.invariant.1 (λ encloser. next (wildcard_at encloser))
     ∙ encloser-parent c.args.records.now (λ encloser. next (wildcard_at encloser)) name parent is exists
-    ∙ ap (λ w. result_of (set_of c.args.records.now) (next w)) (sym (c.to_wildcard.ensures.value ∙ ap wildcard_beside c.loop-encloser.invariant.0 ∙ beside-parent name parent is))
+    ∙ ap (λ w. result_of (set_of c.args.records.now) (next w)) (sym (c.in_ok-wildcard.ensures.value ∙ ap wildcard_beside c.loop-encloser.invariant.0 ∙ beside-parent name parent is))
 
 pub loop-encloser-smaller : goal.loop-encloser-smaller
 loop-encloser-smaller c =
@@ -40,8 +40,8 @@ loop-encloser-preserved c =
     let parent = c.pop_label.new.self in
     let is : parent_of name ≡ Some parent = c.loop-encloser-test.ensures.popped refl in
     let absent : exists_in c.args.records.now parent ≡ false = sym c.exists-in-loop-encloser.ensures ∙ c.if-exists-2.false in
-    let same : parent_of c.loop-encloser.wildcard ≡ Some parent = ap parent_of c.loop-encloser.invariant.0 ∙ is in (
-      dropped-parent c.loop-encloser.wildcard parent c.pop_label-in-loop-encloser.new.self c.pop_label-in-loop-encloser.result same c.pop_label-in-loop-encloser.ensures.popped c.pop_label-in-loop-encloser.ensures.root,
+    let same : parent_of c.loop-encloser.below ≡ Some parent = ap parent_of c.loop-encloser.invariant.0 ∙ is in (
+      dropped-parent c.loop-encloser.below parent c.pop_label-in-loop-encloser.new.self c.pop_label-in-loop-encloser.result same c.pop_label-in-loop-encloser.ensures.popped c.pop_label-in-loop-encloser.ensures.root,
       λ next. c.loop-encloser.invariant.1 next ∙ encloser-above c.args.records.now next name parent is absent,
     )
 
