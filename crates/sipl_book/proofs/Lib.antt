@@ -25,7 +25,6 @@ mod Settling
 mod Legal
 mod Locating
 mod Finding
-mod Fixed
 mod Repairing
 mod SameEvent
 mod Unrefused

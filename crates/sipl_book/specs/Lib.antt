@@ -5,7 +5,6 @@ pub mod Book
 pub mod BookFields
 pub mod Calls
 pub mod BookFault
-pub mod EntryFields
 pub mod EntryTable
 pub mod Questions
 pub mod Repairs

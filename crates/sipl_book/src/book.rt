@@ -7,6 +7,7 @@ ghost use Rattle.sipl_zonestore.specs.Consistent.{IsConsistent as IsConsistentSt
 ghost use Rattle.sipl_outages.specs.Holds.BoardEvent.{Hold, Release, Advance};
 ghost use Rattle.sipl_plans.specs.Plan.{draw};
 ghost use Rattle.sipl_plans.specs.Runs.{IsSet};
+ghost use Rattle.sipl_plans.specs.Servers.{HasFewServers};
 ghost use Rattle.sipl_book.specs.Book.{HasRoute, IsGoodEntry, answer_now, new_book, next_event, state_of};
 ghost use Rattle.sipl_book.specs.Calls.{IsChanged, MovesBoard, IsHanded, IsForgotten, after_look, answer_event, is_full, recorded, unless_full};
 ghost use Rattle.sipl_book.specs.Lookups.{IsFound};
@@ -27,7 +28,7 @@ use crate::state::State;
 use sipl_choice::{Abilities, Endpoint};
 use sipl_evidence::dup_data;
 use sipl_outages::{Board, Held, ShareableBoard, SharedBoard};
-use sipl_plans::Answer;
+use sipl_plans::{Answer, Layout, draw};
 use sipl_records::{Data, Key, Sequence};
 use sipl_srv::Draws;
 use sipl_uri::Question;
@@ -124,7 +125,11 @@ impl Book {
         self.cache.outdate(changed.keys.as_slice());
         let event = change_event(edit, self.journal.get(self.last_load));
         let place = self.journal.len();
-        self.last_load = if event.is_load() { place } else { self.last_load };
+        self.last_load = if event.is_load() {
+            place
+        } else {
+            self.last_load
+        };
         let number = record_event(&mut self.journal, self.first, event);
         Ok(Done {
             number,
@@ -206,13 +211,13 @@ impl Book {
         if self.journal.len() >= self.max_events {
             return Err(BookFault::JournalFull);
         }
-        let entry = match self.cache.get(question) {
-            Some(entry) if entry.is_current() => entry,
+        let layout = match self.cache.get(question) {
+            Some(entry) if entry.is_current() => entry.layout(),
             _ => return Err(BookFault::NotCurrent),
         };
         reserve_event(&mut self.journal, self.max_events)?;
         let question = question.dup(self.alloc)?;
-        let (event, answer) = prepare(self.alloc, question, entry, draws, &self.board, self.held)?;
+        let (event, answer) = prepare(self.alloc, question, layout, draws, &self.board, self.held)?;
         let number = record_event(&mut self.journal, self.first, event);
         Ok(Handed { number, answer })
     }
@@ -251,11 +256,11 @@ impl Book {
         ensures { IsFound question draws.now self.old self.new result }
     {
         reserve_event(&mut self.journal, self.max_events)?;
-        let entry = match self.cache.get(&question) {
-            Some(entry) if entry.is_current() => entry,
+        let layout = match self.cache.get(&question) {
+            Some(entry) if entry.is_current() => entry.layout(),
             _ => return self.find_anew(question, draws),
         };
-        let (event, answer) = prepare(self.alloc, question, entry, draws, &self.board, self.held)?;
+        let (event, answer) = prepare(self.alloc, question, layout, draws, &self.board, self.held)?;
         let number = record_event(&mut self.journal, self.first, event);
         Ok(Handed { number, answer })
     }
@@ -396,22 +401,23 @@ pub(crate) fn record_event(journal: &mut Vec<Event>, first: u64, event: Event) -
     number
 }
 
-// The event of an answer, and the answer: that of an entry for these random words, these holds and
+// The event of an answer, and the answer: that of a layout for these random words, these holds and
 // this policy on them.
 fn prepare(
     alloc: Global,
     question: Question,
-    entry: &Entry,
+    layout: &Layout,
     draws: &Draws,
     board: &ShareableBoard,
     held: Held,
 ) -> Result<(Event, Answer), AllocError>
-    ensures event { IfOk result (λ prepared. prepared.0 ≡ Event.Answer question draws.now
-        (draw entry.now.found.layout board.now.holds draws.now held)) }
+    requires { HasFewServers layout.now }
+    ensures event { IfOk result (λ prepared. prepared.0
+        ≡ Event.Answer question draws.now (draw layout.now board.now.holds draws.now held)) }
     ensures answer { IfOk result
-        (λ prepared. prepared.1 ≡ draw entry.now.found.layout board.now.holds draws.now held) }
+        (λ prepared. prepared.1 ≡ draw layout.now board.now.holds draws.now held) }
 {
-    let answer = entry.draw(alloc, draws, board.get(), held)?;
+    let answer = draw(alloc, layout, draws, board.get(), held)?;
     let event = Event::Answer(question, *draws, answer.dup(alloc)?);
     Ok((event, answer))
 }

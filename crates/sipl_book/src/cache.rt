@@ -1,11 +1,10 @@
 //! The entries of a book, and the queue of those that are to be looked up again.
-ghost use Rattle.std.specs.Prelude.{◌≡◌, ◌≢◌, ◌≤◌, ◌<◌, ◌==◌, false, true, [], length, map, filter, not, is_some, option_map, None, Some, Ok, IfOk, IfErr, IfSome, IsTrue, OnOk, OnErr, vec_capacity};
+ghost use Rattle.std.specs.Prelude.{◌≡◌, ◌≢◌, ◌≤◌, ◌<◌, ◌==◌, false, true, [], length, map, filter, not, is_some, option_map, None, Some, Ok, IfOk, IfErr, IsTrue, OnOk, OnErr, vec_capacity};
 ghost use Rattle.std.specs.List.{All, AllPairs, count_by};
 ghost use Rattle.std.specs.Option.{option_copied};
 ghost use Rattle.sipl_repair.specs.QueueState.{after_lease, after_settle, first_of, is_leased};
 ghost use Rattle.sipl_book.specs.Cache.{InOrder, new_cache};
 ghost use Rattle.sipl_book.specs.Entries.{after_change, committed, entry_of, renewed};
-ghost use Rattle.sipl_book.specs.EntryFields.{IsFixed};
 ghost use Rattle.sipl_book.specs.Indexed.{needs};
 ghost use Rattle.sipl_book.specs.Repairs.{IsQueueOf, after_failure, after_marks, after_removal, after_renewal, after_return, dependents, entry_with, is_leased_for, is_outdated, without};
 
@@ -13,7 +12,7 @@ use crate::entry::Entry;
 use crate::fault::BookFault;
 use crate::indexed::Indexed;
 use crate::outdating::{mark_all, outdate_dependents};
-use sipl_plans::{Answer, Finding, MAX_SETS};
+use sipl_plans::{Finding, MAX_SETS};
 use sipl_records::Key;
 use sipl_repair::{Lease, Queue, QueueFault};
 use sipl_uri::Question;
@@ -136,11 +135,9 @@ impl Cache {
         &mut self,
         finding: Finding,
         number: u64,
-        fixed: Option<Answer>,
     ) -> Result<Option<Finding>, Finding>
         requires order { InOrder self.old.entries }
         requires last { All (λ e. e.id < number) self.old.entries }
-        requires fixed { IfSome fixed (IsFixed finding.layout) }
         ensures ok { OnOk result (self.new ≡ record self.old {
           entries = committed finding number self.old.max_entries self.old.entries;
           queue = after_renewal self.old.queue (entry_of self.old.entries finding.question);
@@ -150,13 +147,13 @@ impl Cache {
     {
         let id = match self.entries.entries().get(finding.question()) {
             Some(entry) => entry.id(),
-            None => return self.add(finding, number, fixed),
+            None => return self.add(finding, number),
         };
         let pairs = finding.evidence().len();
         let Ok(()) = self.entries.reserve(self.queue.leased_len(), pairs) else {
             return Err(finding);
         };
-        let replaced = self.entries.renew(finding, id, fixed);
+        let replaced = self.entries.renew(finding, id);
         unqueue(&mut self.queue, id);
         Ok(replaced)
     }
@@ -164,15 +161,9 @@ impl Cache {
     // Adds a current entry for a question that has none, unless there are as many as may be: then the
     // finding is returned. The only error is an allocation failure: the finding is returned, and nothing
     // changes.
-    fn add(
-        &mut self,
-        finding: Finding,
-        number: u64,
-        fixed: Option<Answer>,
-    ) -> Result<Option<Finding>, Finding>
+    fn add(&mut self, finding: Finding, number: u64) -> Result<Option<Finding>, Finding>
         requires order { InOrder self.old.entries }
         requires last { All (λ e. e.id < number) self.old.entries }
-        requires fixed { IfSome fixed (IsFixed finding.layout) }
         requires new { entry_of self.old.entries finding.question ≡ None }
         ensures ok { OnOk result (self.new ≡ record self.old {
           entries = committed finding number self.old.max_entries self.old.entries;
@@ -194,7 +185,7 @@ impl Cache {
         let Ok(()) = self.entries.reserve(self.queue.leased_len(), pairs) else {
             return Err(finding);
         };
-        match self.entries.add(finding, number, fixed) {
+        match self.entries.add(finding, number) {
             Ok(()) => Ok(None),
             Err(finding) => Err(finding),
         }
@@ -276,7 +267,7 @@ impl Cache {
           queue = after_settle self.old.queue lease;
         } }
     {
-        self.entries.renew(finding, lease.id(), None);
+        self.entries.renew(finding, lease.id());
         self.queue.settle(lease);
     }
 

@@ -8,7 +8,6 @@ ghost use Rattle.sipl_book.specs.Honesty.{AreCurrent, IsHonest};
 
 use crate::book::{Book, record_event};
 use crate::checks::{first_renumbered, first_stale};
-use crate::entry::fixed_answer;
 use crate::event::Event;
 use crate::fault::BookFault;
 use crate::outcome::{Handed, Recorded, Uncommitted};
@@ -164,8 +163,7 @@ impl Book {
             return Err(Uncommitted { fault, finding });
         };
         let id = self.next_event();
-        let fixed = fixed_answer(self.alloc, finding.layout(), &answer, self.board.get());
-        match self.cache.commit(finding, id, fixed) {
+        match self.cache.commit(finding, id) {
             Ok(released) => {
                 let event = Event::Answer(question, *draws, answer);
                 let number = record_event(&mut self.journal, self.first, event);

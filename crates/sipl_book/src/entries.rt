@@ -1,16 +1,15 @@
 //! The entries of a book, by their questions.
-ghost use Rattle.std.specs.Prelude.{◌≡◌, ◌≢◌, [], ◌∷◌, ◌++◌, length, map, option_map, None, true, IfErr, IfSome, OnOk, OnErr};
+ghost use Rattle.std.specs.Prelude.{◌≡◌, ◌≢◌, [], ◌∷◌, ◌++◌, length, map, option_map, None, true, IfErr, OnOk, OnErr};
 ghost use Rattle.std.specs.List.{AllPairs, count_by};
 ghost use Rattle.std.specs.Option.{option_copied};
 ghost use Rattle.sipl_book.specs.Cache.{InOrder};
 ghost use Rattle.sipl_book.specs.Entries.{entry_of, renewed};
-ghost use Rattle.sipl_book.specs.EntryFields.{IsFixed};
 ghost use Rattle.sipl_book.specs.Indexed.{has, needs, touched};
 ghost use Rattle.sipl_book.specs.Repairs.{entry_with, is_outdated, without};
 
 use crate::entry::Entry;
 use indexmap::IndexMap;
-use sipl_plans::{Answer, Finding};
+use sipl_plans::Finding;
 use sipl_records::Key;
 use sipl_uri::Question;
 use std::alloc::Global;
@@ -56,18 +55,11 @@ impl Entries {
         self.table.get(question)
     }
 
-    /// Adds a current entry with this id, and its answer where that is fixed, for a question that has
-    /// none. Constant time but for hashing.
+    /// Adds a current entry with this id for a question that has none. Constant time but for hashing.
     /// The only error is an allocation failure: the finding is returned, and the entries are
     /// unchanged.
-    pub(crate) fn add(
-        &mut self,
-        finding: Finding,
-        id: u64,
-        fixed: Option<Answer>,
-    ) -> Result<(), Finding>
+    pub(crate) fn add(&mut self, finding: Finding, id: u64) -> Result<(), Finding>
         requires new { entry_of self.old finding.question ≡ None }
-        requires fixed { IfSome fixed (IsFixed finding.layout) }
         ensures ok { OnOk result (self.new
             ≡ self.old ++ record { id = id; is_current = true; found = finding } ∷ []) }
         ensures err { OnErr result (self.new ≡ self.old) }
@@ -76,7 +68,7 @@ impl Entries {
         let Ok(question) = finding.question().dup(self.alloc) else {
             return Err(finding);
         };
-        match self.table.insert(question, Entry::new(id, finding, fixed)) {
+        match self.table.insert(question, Entry::new(id, finding)) {
             Ok(_) => Ok(()),
             Err(failed) => Err(failed.value.1.into_finding()),
         }
@@ -142,13 +134,12 @@ impl Entries {
     /// Gives a finding to the entry of its question, which is current then, and returns the finding
     /// that it replaces. Without such an entry nothing changes. Constant time but for hashing. Does not
     /// allocate.
-    pub(crate) fn renew(&mut self, finding: Finding, fixed: Option<Answer>) -> Option<Finding>
-        requires { IfSome fixed (IsFixed finding.layout) }
+    pub(crate) fn renew(&mut self, finding: Finding) -> Option<Finding>
         ensures questions { AllPairs (λ a b. a.found.question ≢ b.found.question) self.old }
         ensures after { self.new ≡ map (renewed finding) self.old }
     {
         match self.table.get_mut(finding.question()) {
-            Some(entry) => Some(entry.renew(finding, fixed)),
+            Some(entry) => Some(entry.renew(finding)),
             None => None,
         }
     }

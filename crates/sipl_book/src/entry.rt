@@ -1,19 +1,15 @@
-ghost use Rattle.std.specs.Prelude.{◌≡◌, true, [], ◌∷◌, IfOk, IfSome};
+ghost use Rattle.std.specs.Prelude.{◌≡◌, true, [], ◌∷◌, IfOk};
 ghost use Rattle.std.specs.Arc.{arc_value};
 ghost use Rattle.sipl_plans.specs.Findings.{IsSound};
-ghost use Rattle.sipl_plans.specs.Plan.{draw};
 ghost use Rattle.sipl_plans.specs.Servers.{HasFewServers};
 ghost use Rattle.sipl_book.specs.Entries.{after_change, depends_on};
-ghost use Rattle.sipl_book.specs.EntryFields.{IsFixed, WasDrawn};
 ghost use Rattle.sipl_book.specs.Indexed.{needs};
 
 use sipl_evidence::Evidence;
-use sipl_outages::{Board, Held};
-use sipl_plans::{Answer, Finding, Layout, draw};
+use sipl_plans::{Finding, Layout};
 use sipl_records::Key;
-use sipl_srv::Draws;
 use sipl_uri::Question;
-use std::alloc::{AllocError, Global};
+use std::alloc::AllocError;
 use std::marker::Model;
 use std::mem;
 use std::sync::Arc;
@@ -25,32 +21,25 @@ pub struct Entry {
     id: u64,
     is_current: bool,
     finding: Finding,
-    // The answer where nothing is held, if it is known to be the same for all random words.
-    fixed: Option<Answer>,
 }
 
 impl Model for Entry {
     ghost use Rattle.sipl_book.specs.Entries.{EntryState};
-    ghost use Rattle.sipl_book.specs.EntryFields.{IsValidEntry, entry_in};
 
     ghost Value = { EntryState };
 
-    ghost view = { entry_in };
-
-    ghost invariant = { IsValidEntry };
+    ghost view = { λ e. record { id = e.id; is_current = e.is_current; found = e.finding } };
 }
 
 impl Entry {
-    // A current entry that the event of this number made, with its answer where that is fixed.
-    pub(crate) fn new(id: u64, finding: Finding, fixed: Option<Answer>) -> Self
-        requires { IfSome fixed (IsFixed finding.layout) }
+    // A current entry that the event of this number made.
+    pub(crate) fn new(id: u64, finding: Finding) -> Self
         ensures { result ≡ record { id = id; is_current = true; found = finding } }
     {
         Entry {
             id,
             is_current: true,
             finding,
-            fixed,
         }
     }
 
@@ -61,14 +50,11 @@ impl Entry {
         self.finding
     }
 
-    // Replaces the finding, and its answer where that is fixed, and returns the old finding. The entry
-    // is current.
-    pub(crate) fn renew(&mut self, finding: Finding, fixed: Option<Answer>) -> Finding
-        requires { IfSome fixed (IsFixed finding.layout) }
+    // Replaces the finding, and returns the old one. The entry is current.
+    pub(crate) fn renew(&mut self, finding: Finding) -> Finding
         ensures { self.new ≡ record { id = self.old.id; is_current = true; found = finding } }
     {
         self.is_current = true;
-        self.fixed = fixed;
         mem::replace(&mut self.finding, finding)
     }
 
@@ -126,24 +112,6 @@ impl Entry {
         self.finding.layout()
     }
 
-    /// The answer of the route for these random words and holds, by a policy on held endpoints. Does
-    /// not allocate where nothing is held and there is one server, whose answer is kept at a commit.
-    pub fn draw(
-        &self,
-        alloc: Global,
-        draws: &Draws,
-        board: &Board,
-        held: Held,
-    ) -> Result<Answer, AllocError>
-        ensures { IfOk result (λ answer. answer
-            ≡ draw self.now.found.layout board.now.holds draws.now held) }
-    {
-        match &self.fixed {
-            Some(answer) if board.is_empty() => answer.dup(alloc),
-            _ => draw(alloc, self.finding.layout(), draws, board, held),
-        }
-    }
-
     /// The record sets that the route looks at, in the order of reading: at most 80,648.
     pub fn evidence(&self) -> &Evidence
         ensures evidence { result.now ≡ self.now.found.items }
@@ -158,24 +126,5 @@ impl Entry {
         ensures { IfOk result (λ shared. arc_value shared ≡ self.now.found.items) }
     {
         self.finding.share_evidence()
-    }
-}
-
-// An answer that was drawn of a layout for the holds of a board, where it is fixed: nothing is held,
-// and there is one server, for which no random word counts.
-pub(crate) fn fixed_answer(
-    alloc: Global,
-    layout: &Layout,
-    answer: &Answer,
-    board: &Board,
-) -> Option<Answer>
-    requires { WasDrawn layout.now board.now.holds answer.now }
-    ensures { IfSome result (IsFixed layout.now) }
-{
-    match layout {
-        Layout::Servers(_, servers) if servers.len() == 1 && board.is_empty() => {
-            answer.dup(alloc).ok()
-        }
-        _ => None,
     }
 }

@@ -1,15 +1,14 @@
 //! The entries of a book, with the index of the current ones by the record sets that they depend on.
-ghost use Rattle.std.specs.Prelude.{◌≡◌, ◌≢◌, ℕ, ◌+◌, ◌*◌, ◌≤◌, ◌<◌, [], ◌∷◌, ◌++◌, length, map, nat_eq, option_map, None, Some, true, IfErr, IfSome, OnOk, OnErr, vec_capacity};
+ghost use Rattle.std.specs.Prelude.{◌≡◌, ◌≢◌, ℕ, ◌+◌, ◌*◌, ◌≤◌, ◌<◌, [], ◌∷◌, ◌++◌, length, map, nat_eq, option_map, None, Some, true, IfErr, OnOk, OnErr, vec_capacity};
 ghost use Rattle.std.specs.List.{All, AllPairs, count_by, list_any};
 ghost use Rattle.sipl_book.specs.Cache.{InOrder};
 ghost use Rattle.sipl_book.specs.Entries.{entry_of, renewed};
-ghost use Rattle.sipl_book.specs.EntryFields.{IsFixed};
 ghost use Rattle.sipl_book.specs.Indexed.{has, needs, touched};
 ghost use Rattle.sipl_book.specs.Repairs.{without};
 
 use crate::entries::Entries;
 use sipl_evidence::Dependents;
-use sipl_plans::{Answer, Finding, MAX_SETS};
+use sipl_plans::{Finding, MAX_SETS};
 use sipl_records::Key;
 use sipl_uri::Question;
 use std::alloc::{AllocError, Global};
@@ -70,16 +69,10 @@ impl Indexed {
     /// Adds a current entry with this id, which is after those of all entries, for a question that
     /// has none. Linear in the evidence. The only error is an allocation failure: the finding is
     /// returned, and the entries are unchanged.
-    pub(crate) fn add(
-        &mut self,
-        finding: Finding,
-        id: u64,
-        fixed: Option<Answer>,
-    ) -> Result<(), Finding>
+    pub(crate) fn add(&mut self, finding: Finding, id: u64) -> Result<(), Finding>
         requires new { entry_of self.old.entries finding.question ≡ None }
         requires last { All (λ e. e.id < id) self.old.entries }
         requires room { length finding.items ≤ self.old.room }
-        requires fixed { IfSome fixed (IsFixed finding.layout) }
         ensures ok { OnOk result (self.new.entries
             ≡ self.old.entries ++ record { id = id; is_current = true; found = finding } ∷ []) }
         ensures err { OnErr result (self.new.entries ≡ self.old.entries) }
@@ -87,7 +80,7 @@ impl Indexed {
         ensures room { self.new.room + length finding.items ≡ self.old.room }
     {
         self.dependents.add(id, finding.evidence());
-        let added = self.entries.add(finding, id, fixed);
+        let added = self.entries.add(finding, id);
         if added.is_err() {
             self.dependents.remove(id);
         }
@@ -96,24 +89,18 @@ impl Indexed {
 
     /// Gives a finding to the entry of its question, which has this id and is current then, and returns
     /// the finding that it replaces. Linear in the evidence. Does not allocate.
-    pub(crate) fn renew(
-        &mut self,
-        finding: Finding,
-        own_id: u64,
-        fixed: Option<Answer>,
-    ) -> Option<Finding>
+    pub(crate) fn renew(&mut self, finding: Finding, own_id: u64) -> Option<Finding>
         requires order { InOrder self.old.entries }
         requires own { option_map (λ e. e.id) (entry_of self.old.entries finding.question)
             ≡ Some own_id }
         requires room { length finding.items ≤ self.old.room }
-        requires fixed { IfSome fixed (IsFixed finding.layout) }
         ensures questions { AllPairs (λ a b. a.found.question ≢ b.found.question) self.old.entries }
         ensures after { self.new.entries ≡ map (renewed finding) self.old.entries }
         ensures room { self.new.room + length finding.items ≡ self.old.room }
     {
         self.dependents.remove(own_id);
         self.dependents.add(own_id, finding.evidence());
-        self.entries.renew(finding, fixed)
+        self.entries.renew(finding)
     }
 
     /// Removes the entry of a question, and returns its id. Linear in the number of entries. Does not

@@ -23,6 +23,7 @@ const MAX_TARGETS: usize = 2_048;
 
 // `call invite|other BASE URI DRAWS`: opens a call to a URI's targets for these random words, and
 // appends its first step, or why there is none.
+#[tactic(auto, using(crate::proofs::Askable::asked_octets))]
 pub(crate) fn open_call<D: Desk>(
     alloc: Global,
     desk: &mut D,

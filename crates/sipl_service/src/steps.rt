@@ -307,7 +307,7 @@ fn tell_entry(
         return Err(ServiceFault::Book(BookFault::NotCurrent));
     }
     let evidence = entry.share_evidence()?;
-    Ok(Told::of(alloc, number, asked, entry, evidence, holds)?)
+    Ok(Told::of(alloc, number, asked, entry.layout(), evidence, holds)?)
 }
 
 // What a finding is committed with: what is asked, the evidence, which is shared with it, copies of the

@@ -17,9 +17,10 @@ module _ (c : goal.After-record_event-number) where
   current : c.in-Some.entry.now.is_current ≡ true
   current = sym c.is_current.ensures ∙ c.if-is_current.true
 
-  drawn : draw c.in-Some.entry.now.found.layout old.board.holds c.args.draws.now old.held ≡ answer_now old c.args.question c.args.draws.now
+  drawn : draw c.layout-layout.result.now old.board.holds c.args.draws.now old.held ≡ answer_now old c.args.question c.args.draws.now
   drawn =
-      current_answer old c.args.question c.args.draws.now c.in-Some.entry.now c.self.invariant (sym c.in-Some.ensures.entry) current
+      ap (λ layout. draw layout old.board.holds c.args.draws.now old.held) c.layout-layout.ensures.layout
+      ∙ current_answer old c.args.question c.args.draws.now c.in-Some.entry.now c.self.invariant (sym c.in-Some.ensures.entry) current
 
   journal : c.record_event-number.new.journal.items ≡ old.journal ++ answer_event old c.args.question c.args.draws.now ∷ []
   journal =
