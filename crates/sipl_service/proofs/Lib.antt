@@ -15,3 +15,4 @@ pub mod Runs
 pub mod Handed
 pub mod Refused
 pub mod Waiting
+pub mod Passing

@@ -1,7 +1,6 @@
 -- Why a page is not claimed.
 use Rattle.std.proofs.Common.{◌≡◌, ◌≢◌, ℕ, List, [], ◌∷◌, Option, refl, ap, subst, ◌∙◌}
 use Rattle.sipl_book.specs.Pages.{PageState, next_of}
-use Rattle.sipl_service.specs.Claims.{IsUnion}
 use Rattle.sipl_service.specs.Ledgers.{Accepts, FollowsLast, IsNoUnionAfter, IsRefusal, LedgerState, next_after}
 use Rattle.sipl_service.specs.Receipts.{due}
 use Rattle.sipl_service.specs.declared.fault.ClaimFault.{ClaimFault}
@@ -38,12 +37,3 @@ module _ (ledger : LedgerState) (page : PageState) (pages : List PageState) (las
       (subst (λ e. IsNoUnionAfter next (page ∷ []) (due e ledger.waiting) fault) past
       (subst (λ ps. IsNoUnionAfter next ps (due end ledger.waiting) fault) one
       (subst (λ ws. IsNoUnionAfter next pages (due end ws) fault) (same ∙ ap (λ (l : LedgerState). l.waiting) is) (cause ample)))))
-
-  pub accepted-at : IsUnion pages (due end seen) → Accepts ledger page
-  accepted-at union = record {
-    follows = subst (λ (l : LedgerState). FollowsLast l.last page) is follows;
-    union =
-        subst (λ e. IsUnion (page ∷ []) (due e ledger.waiting)) past
-        (subst (λ ps. IsUnion ps (due end ledger.waiting)) one
-        (subst (λ ws. IsUnion pages (due end ws)) (same ∙ ap (λ (l : LedgerState). l.waiting) is) union));
-  }

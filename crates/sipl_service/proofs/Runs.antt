@@ -255,13 +255,13 @@ is_claim pages ledger added before since h split empty =
     record {
       follow = h.follow;
       union = union_told pages added h.follow (λ n.
-      ap (with_number n) all ∙
-      ⊎_elim
-      (λ (old : n < next_after ledger.last). sym (due-below (next_after ledger.last) n before old))
-      (λ (new : next_after ledger.last ≤ n).
-      sym (later-past (next_after ledger.last) n before new) ∙ ap (with_number n) left.0 ∙ sym (due-past (next_after ledger.last) n before new))
-      (cases_lt n (next_after ledger.last))
-      ∙ h.each n);
+          ap (with_number n) all ∙
+          ⊎_elim
+          (λ (old : n < next_after ledger.last). sym (due-below (next_after ledger.last) n before old))
+          (λ (new : next_after ledger.last ≤ n).
+          sym (later-past (next_after ledger.last) n before new) ∙ ap (with_number n) left.0 ∙ sym (due-past (next_after ledger.last) n before new))
+          (cases_lt n (next_after ledger.last))
+          ∙ h.each n);
     }
 
 -- where nothing that waits came too late

@@ -1,5 +1,5 @@
 -- What holds after any calls of a ledger.
-use Rattle.std.specs.Prelude.{◌≡◌, ◌<◌, ◌≤◌, ◌×◌, ℕ, List, [], ◌∷◌, ◌++◌, None}
+use Rattle.std.specs.Prelude.{◌≡◌, ◌<◌, ◌≤◌, ℕ, List, [], ◌∷◌, ◌++◌, None}
 use Rattle.std.specs.List.{All}
 use Rattle.sipl_book.specs.Machine.{IsLegal, empty_state}
 use Rattle.sipl_book.specs.Pages.{AreInOrder, PageState, events_in, next_of}

@@ -1,5 +1,5 @@
 -- What a ledger has, and what its calls do.
-use Rattle.std.specs.Prelude.{◌≡◌, ◌≢◌, ◌<◌, ◌≤◌, ◌×◌, ◌⊎◌, ℕ, List, [], ◌∷◌, ◌++◌, Option, None, Some}
+use Rattle.std.specs.Prelude.{◌≡◌, ◌≢◌, ◌<◌, ◌≤◌, ◌⊎◌, ℕ, List, [], ◌∷◌, ◌++◌, Option, None, Some}
 use Rattle.sipl_book.specs.Pages.{Follows, IsPage, PageState, next_of}
 use Rattle.sipl_service.specs.Claims.{IsFirst, IsNoUnion, IsUnion}
 use Rattle.sipl_service.specs.Receipts.{due, later}

@@ -1,5 +1,5 @@
 //! Claims that go on page by page.
-ghost use Rattle.std.specs.Prelude.{◌≡◌, ◌≢◌, [], IfErr, OnErr, OnOk};
+ghost use Rattle.std.specs.Prelude.{◌≡◌, ◌≢◌, [], IfErr, IfOk, OnErr, OnOk};
 ghost use Rattle.std.specs.Bool.{Decides};
 ghost use Rattle.std.specs.Option.{option_copied};
 ghost use Rattle.sipl_book.specs.Pages.{IsPage};
@@ -109,7 +109,7 @@ impl Ledger {
         ensures cause { IfErr result (λ fault. IsRefusal self.old page.now fault) }
         ensures exact { IfErr result (λ fault. fault ≢ ClaimFault.Memory
             → Accepts self.old page.now → ⊥) }
-        ensures page { IsPage page.now }
+        ensures page { OnOk result (IsPage page.now) }
     {
         if !follows(self.last.as_ref(), page) {
             return Err(ClaimFault::Gap(page.first()));

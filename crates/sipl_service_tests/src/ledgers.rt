@@ -44,12 +44,7 @@ fn is_settled(rt: &impl Abort, ledger: &Ledger) {
 
 // The calls of two callers in turn, the second of which holds an endpoint for so many milliseconds. The pages
 // are turned after the second and the fourth call.
-fn pages<R: Wait + Abort>(
-    rt: &R,
-    service: Service,
-    passes: &mut [Pass; 2],
-    ms: u64,
-) -> [Page; 3] {
+fn pages<R: Wait + Abort>(rt: &R, service: Service, passes: &mut [Pass; 2], ms: u64) -> [Page; 3] {
     hold(rt, &service, &mut passes[0], 10);
     hold(rt, &service, &mut passes[1], ms);
     let one = turn_page(rt, &service);

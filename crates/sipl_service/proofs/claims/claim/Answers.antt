@@ -30,7 +30,7 @@ loop-receipt-preserved c =
 pub returns-in-Some-first_free-clause-cause : goal.returns-in-Some-first_free-clause-cause
 returns-in-Some-first_free-clause-cause c = (
   c.in_default.ensures.none,
-  is_unclaimed c.args.pages.now (receipts_of c.args.passes.now) c.as_slice.result.now 
+  is_unclaimed c.args.pages.now (receipts_of c.args.passes.now) c.as_slice.result.now
       (marked-all c.args.pages.now c.args.passes.now c.loop-pass.pass-index c.loop-pass.marks.items c.as_slice.result.now c.as_slice.ensures.value (omega (arith, c.loop-pass-test.false)) c.loop-pass.invariant) c.first_number-first.result c.in-Some-first_free.place c.first_number-first.ensures.first
       c.in-Some-first_free.ensures.free.0 c.in-Some-first_free.ensures.free.1 c.in-Some-first_free.ensures.free.2,
 )
@@ -41,7 +41,7 @@ returns-in-Some-first_free-clause-exact c = λ ample. refutes _ _ _ ample (retur
 pub returns-clause-union : goal.returns-clause-union
 returns-clause-union c = (
   c.in_default.ensures.none,
-  is_union c.args.pages.now (receipts_of c.args.passes.now) c.as_slice.result.now 
+  is_union c.args.pages.now (receipts_of c.args.passes.now) c.as_slice.result.now
       (marked-all c.args.pages.now c.args.passes.now c.loop-pass.pass-index c.loop-pass.marks.items c.as_slice.result.now c.as_slice.ensures.value (omega (arith, c.loop-pass-test.false)) c.loop-pass.invariant) c.in-None.ensures.none,
 )
 
