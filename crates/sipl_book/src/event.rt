@@ -23,6 +23,11 @@ pub enum Event {
 }
 
 impl Event {
+    // Whether a zone was loaded.
+    pub(crate) fn is_load(&self) -> bool {
+        matches!(self, Event::Change(Edit::Load(_)))
+    }
+
     /// A copy. The only error is an allocation failure. Linear in the records of an edit and in the
     /// targets of an answer.
     pub fn dup(&self, alloc: Global) -> Result<Self, AllocError>

@@ -88,10 +88,10 @@ impl SetTable {
         ensures unchanged { OnErr result (self.new ≡ self.old) }
     {
         if let Some(sets) = self.owners.get_mut(owner) {
-            return sets.push(kind, number, value);
+            return sets.push(alloc, kind, number, value);
         }
-        let mut sets = OwnerSets::new(alloc);
-        sets.push(kind, number, value)?;
+        let mut sets = OwnerSets::new();
+        sets.push(alloc, kind, number, value)?;
         let name = owner.dup(alloc)?;
         self.owners.insert(name, sets)?;
         Ok(())

@@ -5,7 +5,7 @@ use Rattle.sipl_records.specs.declared.data.Data.{Data}
 use Rattle.sipl_records.specs.Sets.{same_data}
 use Rattle.sipl_records.proofs.Public.{same_data_is}
 use Rattle.sipl_zonestore.specs.Content.{data_without}
-use Rattle.sipl_zonestore.proofs.record_set.RecordSet.remove.Goals as goal
+use Rattle.sipl_zonestore.proofs.numbered_set.NumberedSet.remove.Goals as goal
 
 pub returns : goal.returns
 returns c =

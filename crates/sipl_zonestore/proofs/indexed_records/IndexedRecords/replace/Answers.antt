@@ -16,7 +16,7 @@ use Rattle.sipl_zonestore.proofs.BareOwners.{bare-replaced}
 use Rattle.sipl_zonestore.proofs.ChangedKeys.{changed-no_existence, changed_sets-once}
 use Rattle.sipl_zonestore.proofs.Recorded.{replaced, refused, refused-replace}
 use Rattle.sipl_zonestore.proofs.Replacing.{IsReplacement, replaced-sets, numbered-none}
-use Rattle.sipl_zonestore.proofs.indexed_records.IndexedRecords.replace_within.Goals as goal
+use Rattle.sipl_zonestore.proofs.indexed_records.IndexedRecords.replace.Goals as goal
 
 pub returns-in_err-check_numbers : goal.returns-in_err-check_numbers
 returns-in_err-check_numbers c =
