@@ -92,6 +92,8 @@ impl Shared {
         ensures held { OnOk result (self.now.book.held ≡ held) }
         ensures refused { IfErr result (λ fault. unless_stopped self.now.is_stopped
             (unless_other abilities.now held self.now.book None) ≡ Some fault) }
+        ensures only { IfErr result
+            (λ fault. (fault ≡ ServiceFault.Stopped) ⊎ (fault ≡ ServiceFault.OtherBook)) }
     {
         if self.is_stopped {
             return Err(ServiceFault::Stopped);

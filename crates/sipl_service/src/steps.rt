@@ -60,6 +60,7 @@ pub(crate) fn check_client(
     ensures held { OnOk result (book.now.held ≡ held) }
     ensures other { IfErr result
         (λ fault. unless_other abilities.now held book.now None ≡ Some fault) }
+    ensures only { IfErr result (λ fault. fault ≡ ServiceFault.OtherBook) }
 {
     if !is_for(book, abilities, held) {
         return Err(ServiceFault::OtherBook);
