@@ -9,8 +9,7 @@ use Rattle.sipl_book.specs.declared.state.State.TheInside.{Inside}
 abbrev pub state_of_parts : Parts → State
 state_of_parts Empty = empty_state
 state_of_parts (Own zones board) = record { zones = zones; holds = board.holds }
-state_of_parts (Shared zones board) =
-    record { zones = arc_value zones; holds = (arc_value board).holds }
+state_of_parts (Shared zones board) = record { zones = arc_value zones; holds = board.holds }
 
 -- the state that the fields represent
 abbrev pub state_in : Inside → State

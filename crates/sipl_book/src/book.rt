@@ -18,7 +18,7 @@ ghost use Rattle.sipl_book.specs.Machine.{IsLegal, replay};
 
 use crate::cache::Cache;
 use crate::checks::reserve_event;
-use crate::edit::Edit;
+use crate::edit::{Edit, change_event};
 use crate::entry::Entry;
 use crate::event::Event;
 use crate::fault::BookFault;
@@ -27,7 +27,7 @@ use crate::outcome::{Done, Handed};
 use crate::state::State;
 use sipl_choice::{Abilities, Endpoint};
 use sipl_evidence::dup_data;
-use sipl_outages::{Board, Held};
+use sipl_outages::{Board, Held, ShareableBoard, SharedBoard};
 use sipl_plans::{Answer, Layout, draw};
 use sipl_records::{Data, Key, Sequence};
 use sipl_srv::Draws;
@@ -51,10 +51,12 @@ pub struct Book {
     pub(crate) abilities: Abilities,
     pub(crate) held: Held,
     pub(crate) store: ZoneStore,
-    pub(crate) board: Board,
+    pub(crate) board: ShareableBoard,
     pub(crate) first: u64,
     pub(crate) base: State,
     pub(crate) journal: Vec<Event>,
+    // The place of the last load in the journal, if it has one.
+    pub(crate) last_load: usize,
     pub(crate) cache: Cache,
     pub(crate) max_events: usize,
 }
@@ -93,10 +95,11 @@ impl Book {
             abilities,
             held,
             store: ZoneStore::with(alloc, limits.next, limits.records as u64),
-            board: Board::with(alloc, limits.holds),
+            board: ShareableBoard::new(alloc, Board::with(alloc, limits.holds)),
             first: limits.first,
             base: State::empty(),
             journal: Vec::new(alloc),
+            last_load: 0,
             cache: Cache::new(alloc, limits.entries),
             max_events: limits.journal,
         }
@@ -109,7 +112,8 @@ impl Book {
 
     /// Edits the zones. The entries whose evidence has the key of a set that changed are outdated
     /// then, and are marked in their order, but for those that are leased. The existence of a name is
-    /// a set too (RFC 4592, 2.2.3), but is not counted among those that changed. The cost is that of
+    /// a set too (RFC 4592, 2.2.3), but is not counted among those that changed. The event of a load
+    /// shares its records with that of the last load, where they are equal. The cost is that of
     /// the edit, a search for each entry that depends on a changed set, and a sort of their ids.
     ///
     /// The fault is the first one: a full journal (B3), a fault of the zones (S1 to S9).
@@ -119,7 +123,9 @@ impl Book {
         reserve_event(&mut self.journal, self.max_events)?;
         let changed = edit.apply(&mut self.store)?;
         self.cache.outdate(changed.keys.as_slice());
-        let number = record_event(&mut self.journal, self.first, Event::Change(edit));
+        let event = change_event(edit, self.journal.get(self.last_load));
+        self.last_load = event.last_load(self.journal.len(), self.last_load);
+        let number = record_event(&mut self.journal, self.first, event);
         Ok(Done {
             number,
             changed: changed.sets as u64,
@@ -339,7 +345,7 @@ impl Book {
     pub fn now(&self) -> u64
         ensures { result ≡ self.now.board.holds.now }
     {
-        self.board.now()
+        self.board.get().now()
     }
 
     /// The abilities of the client.
@@ -360,7 +366,20 @@ impl Book {
     pub fn board(&self) -> &Board
         ensures { result.now ≡ self.now.board }
     {
-        &self.board
+        self.board.get()
+    }
+
+    /// The held endpoints and the time, as a value that is shared until the next hold, release or move
+    /// of the clock: constant time where there was none since the last call, else linear in the held
+    /// endpoints, which are copied. Does not allocate where nothing is held.
+    ///
+    /// The only error is an allocation failure (or 2^63 that share the value); then nothing changes.
+    pub fn share_board(&mut self) -> Result<SharedBoard, AllocError>
+        ensures board { IfOk result (λ shared. shared ≡ self.old.board) }
+        ensures memory { OnErr result (self.old.board.holds.ends ≢ []) }
+        ensures unchanged { self.new ≡ self.old }
+    {
+        self.board.share()
     }
 }
 
@@ -384,7 +403,7 @@ fn prepare(
     question: Question,
     layout: &Layout,
     draws: &Draws,
-    board: &Board,
+    board: &ShareableBoard,
     held: Held,
 ) -> Result<(Event, Answer), AllocError>
     requires { HasFewServers layout.now }
@@ -393,7 +412,7 @@ fn prepare(
     ensures answer { IfOk result
         (λ prepared. prepared.1 ≡ draw layout.now board.now.holds draws.now held) }
 {
-    let answer = draw(alloc, layout, draws, board, held)?;
+    let answer = draw(alloc, layout, draws, board.get(), held)?;
     let event = Event::Answer(question, *draws, answer.dup(alloc)?);
     Ok((event, answer))
 }

@@ -11,7 +11,7 @@ use crate::checks::{first_renumbered, first_stale};
 use crate::event::Event;
 use crate::fault::BookFault;
 use crate::outcome::{Handed, Recorded, Uncommitted};
-use sipl_outages::{Board, Held};
+use sipl_outages::{Held, ShareableBoard};
 use sipl_plans::{Answer, Finding, draw};
 use sipl_srv::Draws;
 use sipl_uri::Question;
@@ -188,7 +188,7 @@ impl Drawn {
         alloc: Global,
         finding: &Finding,
         draws: &Draws,
-        board: &Board,
+        board: &ShareableBoard,
         held: Held,
     ) -> Result<Self, AllocError>
         ensures question { IfOk result (λ drawn. drawn.question ≡ finding.now.question) }
@@ -198,7 +198,7 @@ impl Drawn {
         ensures copy { IfOk result (λ drawn. drawn.copy ≡ drawn.answer) }
     {
         let question = finding.question().dup(alloc)?;
-        let answer = draw(alloc, finding.layout(), draws, board, held)?;
+        let answer = draw(alloc, finding.layout(), draws, board.get(), held)?;
         let copy = answer.dup(alloc)?;
         Ok(Drawn {
             question,

@@ -2,6 +2,7 @@ ghost use Rattle.std.specs.Prelude.{◌≡◌, IfOk};
 ghost use Rattle.sipl_zonestore.specs.Edited.{IsEdited};
 ghost use Rattle.sipl_book.specs.Machine.{zone_edit};
 
+use crate::event::Event;
 use sipl_masterfile::ZoneText;
 use sipl_names::Name;
 use sipl_records::Record;
@@ -45,4 +46,17 @@ impl Edit {
             Edit::Remove(record) => store.remove(record),
         }
     }
+}
+
+// The event of an edit. A zone shares the records of an earlier load where they are equal. Linear in the
+// records. Does not allocate.
+pub(crate) fn change_event(mut edit: Edit, earlier: Option<&Event>) -> Event
+    ensures { result ≡ Event.Change edit }
+{
+    if let Edit::Load(zone) = &mut edit {
+        if let Some(Event::Change(Edit::Load(loaded))) = earlier {
+            zone.share_records(loaded);
+        }
+    }
+    Event::Change(edit)
 }

@@ -23,6 +23,14 @@ pub enum Event {
 }
 
 impl Event {
+    // The place of the last load once this event has a place after it.
+    pub(crate) fn last_load(&self, place: usize, before: usize) -> usize {
+        match self {
+            Event::Change(Edit::Load(_)) => place,
+            _ => before,
+        }
+    }
+
     /// A copy. The only error is an allocation failure. Linear in the records of an edit and in the
     /// targets of an answer.
     pub fn dup(&self, alloc: Global) -> Result<Self, AllocError>

@@ -10,27 +10,28 @@ use crate::state::State;
 use sipl_records::Sequence;
 use std::alloc::AllocError;
 use std::mem;
-use std::sync::Arc;
 
 /// The greatest number of the first event of a page, so that no event has a number over 2^52.
 pub const MAX_FIRST: u64 = (1 << 52) - (1 << 20);
 
 impl Book {
     /// Hands the events out as a page, and begins an empty journal at the state as it is. The numbers of
-    /// events go on; entries, leases and looks stay. Where no edit was made since the last page its
-    /// records are shared with that one, and the cost is that of a copy of the holds; else linear in the
-    /// records, which are copied.
+    /// events go on; entries, leases and looks stay. The records are shared with the last page where no
+    /// edit was made since, and the holds where the board did not change; else linear in those, which
+    /// are copied.
     ///
     /// The fault is that the next number is over 2^52 - 2^20 (B6).
     pub fn turn_page(&mut self) -> Result<Page, BookFault>
-        ensures { IsTurned self.old self.new result }
+        ensures turned { IsTurned self.old self.new result }
+        ensures is_page { IfOk result (λ page. IsPage page) }
     {
         let next = self.next_event();
         if next > MAX_FIRST {
             return Err(BookFault::PagesSpent);
         }
         let abilities = self.abilities.dup(self.alloc)?;
-        let (result, base) = self.share_state()?;
+        let result = self.share_state()?;
+        let base = self.share_state()?;
         Ok(Page {
             first: mem::replace(&mut self.first, next),
             base: mem::replace(&mut self.base, base),
@@ -41,15 +42,15 @@ impl Book {
         })
     }
 
-    // The state as it is, twice. The only error is an allocation failure; then nothing changes.
-    fn share_state(&mut self) -> Result<(State, State), AllocError>
-        ensures first { IfOk result (λ states. states.0 ≡ state_of self.old) }
-        ensures second { IfOk result (λ states. states.1 ≡ state_of self.old) }
+    // The state as it is, which is shared until the next change. The only error is an allocation
+    // failure; then nothing changes.
+    fn share_state(&mut self) -> Result<State, AllocError>
+        ensures state { IfOk result (λ state. state ≡ state_of self.old) }
         ensures unchanged { self.new ≡ self.old }
     {
         let zones = self.store.share_zones()?;
-        let board = Arc::new(self.alloc, self.board.dup(self.alloc)?)?;
-        State::shared(zones, board)
+        let board = self.board.share()?;
+        Ok(State::shared(zones, board))
     }
 
     /// The journal as a page, as the only thing that is left of the book. Does not allocate. Linear in
@@ -62,7 +63,7 @@ impl Book {
             first: self.first,
             base: self.base,
             events: Sequence::from_vec(self.journal),
-            result: State::of(self.store.into_zones(), self.board),
+            result: State::of(self.store.into_zones(), self.board.into_board()),
             abilities: self.abilities,
             held: self.held,
         }

@@ -8,10 +8,10 @@ ghost use Rattle.sipl_book.specs.Machine.{empty_state};
 ghost use Rattle.sipl_book.specs.SameState.{same_state, same_state-equivalence};
 
 use sipl_names::Name;
-use sipl_outages::Board;
+use sipl_outages::{Board, SharedBoard};
 use sipl_records::Record;
 use sipl_zonestore::Zones;
-use std::alloc::AllocError;
+use std::alloc::{AllocError, Global};
 use std::marker::Model;
 use std::sync::Arc;
 
@@ -28,7 +28,7 @@ pub struct State {
 enum Parts {
     Empty,
     Own(Zones, Board),
-    Shared(Arc<Zones>, Arc<Board>),
+    Shared(Arc<Zones>, SharedBoard),
 }
 
 impl Model for State {
@@ -60,21 +60,28 @@ impl State {
         }
     }
 
-    // The state of these zones and holds twice, which share them. Does not allocate: the only error is
-    // that 2^63 others share them.
-    pub(crate) fn shared(zones: Arc<Zones>, board: Arc<Board>) -> Result<(Self, Self), AllocError>
-        ensures first { IfOk result (λ states. states.0
-            ≡ record { zones = arc_value zones; holds = (arc_value board).holds }) }
-        ensures second { IfOk result (λ states. states.1
-            ≡ record { zones = arc_value zones; holds = (arc_value board).holds }) }
+    // The state of these zones and holds, which others may share. Does not allocate.
+    pub(crate) fn shared(zones: Arc<Zones>, board: SharedBoard) -> Self
+        ensures { result ≡ record { zones = arc_value zones; holds = board.holds } }
     {
-        let other = State {
-            parts: Parts::Shared(Arc::try_clone(&zones)?, Arc::try_clone(&board)?),
-        };
-        let state = State {
+        State {
             parts: Parts::Shared(zones, board),
+        }
+    }
+
+    /// A copy, which shares the zones and the holds where they are shared; else it is linear in both. The
+    /// only error is an allocation failure (or 2^63 that share them).
+    pub fn dup(&self, alloc: Global) -> Result<Self, AllocError>
+        ensures { IfOk result (λ copy. copy ≡ self.now) }
+    {
+        let parts = match &self.parts {
+            Parts::Empty => Parts::Empty,
+            Parts::Own(zones, board) => Parts::Own(zones.dup(alloc)?, board.dup(alloc)?),
+            Parts::Shared(zones, board) => {
+                Parts::Shared(Arc::try_clone(zones)?, board.dup(alloc)?)
+            }
         };
-        Ok((state, other))
+        Ok(State { parts })
     }
 
     /// The apexes of the loaded zones, in the order of addition.
@@ -107,7 +114,7 @@ impl State {
         match &self.parts {
             Parts::Empty => None,
             Parts::Own(_, board) => Some(board),
-            Parts::Shared(_, board) => Some(board),
+            Parts::Shared(_, board) => Some(board.get()),
         }
     }
 

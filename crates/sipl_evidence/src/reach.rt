@@ -204,8 +204,8 @@ fn climb_from(
             return Ok(Climb::Lacking(name, more));
         };
         if !found.is_empty() {
-            name.to_wildcard();
-            return Ok(Climb::Wildcard(name));
+            let wildcard = name.wildcard_beside(alloc)?;
+            return Ok(Climb::Wildcard(wildcard));
         }
         name.pop_label();
         parent.pop_label();

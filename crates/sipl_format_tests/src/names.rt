@@ -1,4 +1,5 @@
 // Names: their text, their labels, and which are within which.
+mod copies;
 mod labels;
 
 use sipl_names::{InvalidName, MAX_NAME_TEXT_LEN, Name, NameFault, read_escape};

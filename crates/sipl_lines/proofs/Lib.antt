@@ -15,3 +15,4 @@ pub mod Calling
 pub mod Scripts
 pub mod Reading
 pub mod Asking
+pub mod Askable

@@ -1,5 +1,5 @@
 // What `call`, `got`, `broke` and `clock` do with a session's call, and their replies.
-ghost use Rattle.std.specs.Prelude.{◌≡◌, ◌+◌, ◌^◌, ◌≤◌, [], ◌∷◌, length, codes, Some, IsTrue, OnErr, vec_len, vec_capacity};
+ghost use Rattle.std.specs.Prelude.{◌≡◌, ◌+◌, ◌^◌, ◌≤◌, [], ◌∷◌, length, take, codes, Some, IsTrue, OnErr, vec_len, vec_capacity};
 ghost use Rattle.sipl_uri.specs.Uris.{has_scheme_and_octets, question_of};
 ghost use Rattle.sipl_failover.specs.FailoverRun.{Event};
 ghost use Rattle.sipl_failover.specs.Rules.{refusal_of};
@@ -23,6 +23,7 @@ const MAX_TARGETS: usize = 2_048;
 
 // `call invite|other BASE URI DRAWS`: opens a call to a URI's targets for these random words, and
 // appends its first step, or why there is none.
+#[tactic(auto, using(crate::proofs::Askable::asked_octets))]
 pub(crate) fn open_call<D: Desk>(
     alloc: Global,
     desk: &mut D,
@@ -49,8 +50,9 @@ pub(crate) fn open_call<D: Desk>(
     if is_open(call) {
         return write_refusal(out, "K4");
     }
+    let space = Vec::with_capacity(alloc, MAX_TARGETS)?;
     match desk.find(alloc, question, draws) {
-        Ok(handed) => open_to(call, kind, base, desk.now(), handed.answer, out),
+        Ok(handed) => open_to(call, kind, base, desk.now(), &handed.answer, space, out),
         Err(fault) => D::write_fault(fault, out),
     }
     Ok(())
@@ -66,44 +68,51 @@ fn is_open(call: &Option<Failover>) -> bool
     }
 }
 
-// Opens a call to the targets of an answer, and appends its first step, or why there are none.
+// Opens a call to the targets of an answer, which are copied into the space, and appends its first
+// step, or why there are none.
 fn open_to(
     call: &mut Option<Failover>,
     kind: Kind,
     base: u64,
     now: u64,
-    answer: Answer,
+    answer: &Answer,
+    space: Vec<Endpoint>,
     out: &mut Vec<u8>,
 )
     requires space { vec_len out.old + MAX_SHORT_REPLY_LEN ≤ vec_capacity out.old }
     requires time { now ≤ 2 ^ 52 }
-    ensures done { AppendsText (Opens kind base now answer)
+    requires empty { space.items ≡ [] }
+    requires capacity { 2048 ≤ vec_capacity space }
+    ensures done { AppendsText (Opens kind base now answer.now)
         call.old out.old.items call.new out.new.items }
     ensures capacity { vec_capacity out.old ≤ vec_capacity out.new }
 {
     match answer {
-        Answer::Targets(targets) => start(call, kind, base, now, targets.into_vec(), out),
-        Answer::None(reason) => write_answer(out, &Answer::None(reason)).unwrap(),
+        Answer::Targets(targets) => start(call, kind, base, now, targets.as_slice(), space, out),
+        Answer::None(_) => write_answer(out, answer).unwrap(),
     }
 }
 
-// Starts a call to these targets, and appends its first step, or the fault.
+// Starts a call to these targets, which are copied into the space, and appends its first step, or the
+// fault.
 fn start(
     call: &mut Option<Failover>,
     kind: Kind,
     base: u64,
     now: u64,
-    mut targets: Vec<Endpoint>,
+    targets: &[Endpoint],
+    space: Vec<Endpoint>,
     out: &mut Vec<u8>,
 )
     requires space { vec_len out.old + MAX_SHORT_REPLY_LEN ≤ vec_capacity out.old }
     requires time { now ≤ 2 ^ 52 }
-    ensures done { AppendsText (OpensOver kind base now targets.items)
+    requires empty { space.items ≡ [] }
+    requires capacity { 2048 ≤ vec_capacity space }
+    ensures done { AppendsText (OpensOver kind base now targets.now)
         call.old out.old.items call.new out.new.items }
     ensures capacity { vec_capacity out.old ≤ vec_capacity out.new }
 {
-    targets.truncate(MAX_TARGETS);
-    match Failover::start(targets, kind, base, now) {
+    match Failover::start(first_targets(targets, space), kind, base, now) {
         Ok((failover, steps)) => {
             write_steps(out, &failover, steps.as_slice());
             write_counts(out, b"ok call", &[]);
@@ -111,6 +120,19 @@ fn start(
         }
         Err(fault) => write_refusal(out, fault.code()).unwrap(),
     }
+}
+
+// A copy of the first targets, in a vector that has space for them.
+#[tactic(auto, using(std::proofs::lemmas::List::take_min))]
+fn first_targets(targets: &[Endpoint], mut copy: Vec<Endpoint>) -> Vec<Endpoint>
+    requires empty { copy.items ≡ [] }
+    requires capacity { 2048 ≤ vec_capacity copy }
+    ensures { result.items ≡ take 2048 targets.now }
+{
+    let len = MAX_TARGETS.min(targets.len());
+    copy.extend_from_slice(&targets[..len]).unwrap();
+    copy.shrink_to_fit();
+    copy
 }
 
 // `got ATTEMPT CODE [retry SECONDS]`: the response to an attempt of the call. Appends the steps

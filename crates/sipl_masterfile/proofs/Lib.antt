@@ -11,3 +11,4 @@ pub mod Joining
 pub mod Cutting
 pub mod PrintedEntries
 pub mod PrintedRecords
+pub mod SharedRecords

@@ -1,5 +1,6 @@
 -- The zone that is read of a text.
 use Rattle.std.specs.Prelude.{ℕ, List}
+use Rattle.std.specs.Arc.{arc_value}
 use Rattle.sipl_names.specs.Labels.{Labels}
 use Rattle.sipl_records.specs.declared.record.Record.{Record}
 use Rattle.sipl_masterfile.specs.Zones.{Zone, IsZone}
@@ -12,7 +13,7 @@ zone_with apex records outside repeated =
 
 -- what a `ZoneText` shows
 abbrev pub state_of : Inside → Zone
-state_of z = zone_with z.apex z.records.items z.outside z.repeated
+state_of z = zone_with z.apex (arc_value z.records).items z.outside z.repeated
 
 -- all owners are within the apex, no record is there twice, no alias has other data beside it, no
 -- set has over 32 records

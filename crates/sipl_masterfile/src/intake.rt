@@ -7,7 +7,7 @@ use crate::fault::ZoneCause;
 use crate::zone::ZoneText;
 use sipl_names::Name;
 use sipl_records::{MAX_SET_LEN, Record};
-use std::alloc::Global;
+use std::alloc::{AllocError, Global};
 use std::marker::Model;
 
 // A zone whose records are taken in one by one.
@@ -86,8 +86,8 @@ impl Intake {
     }
 
     // The zone of the records that were taken in.
-    pub(crate) fn into_zone(self) -> ZoneText
-        ensures { result ≡ self }
+    pub(crate) fn into_zone(self, alloc: Global) -> Result<ZoneText, AllocError>
+        ensures { IfOk result (λ zone. zone ≡ self) }
     {
         let Intake {
             apex,
@@ -95,6 +95,6 @@ impl Intake {
             outside,
             repeated,
         } = self;
-        ZoneText::new(apex, records.into_records(), outside, repeated)
+        ZoneText::new(alloc, apex, records.into_records(), outside, repeated)
     }
 }

@@ -120,10 +120,10 @@ impl Reading {
     }
 
     // The zone of the entries that were read.
-    pub(crate) fn into_zone(self) -> ZoneText
-        ensures { result ≡ self.zone }
+    pub(crate) fn into_zone(self, alloc: Global) -> Result<ZoneText, AllocError>
+        ensures { IfOk result (λ zone. zone ≡ self.zone) }
     {
         let Reading { zone, .. } = self;
-        zone.into_zone()
+        zone.into_zone(alloc)
     }
 }

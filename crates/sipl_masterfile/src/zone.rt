@@ -10,13 +10,14 @@ use sipl_names::Name;
 use sipl_records::Record;
 use std::alloc::{AllocError, Global};
 use std::marker::Model;
+use std::sync::Arc;
 
 /// A zone's records, read from its text (RFC 1035, 5.1): all owners are within the apex, no record
-/// is there twice, and no set has more than 32 records.
+/// is there twice, and no set has more than 32 records. Copies share the records.
 #[derive(Debug, Drop)]
 pub struct ZoneText {
     apex: Name,
-    records: Vec<Record>,
+    records: Arc<Vec<Record>>,
     outside: u64,
     repeated: u64,
 }
@@ -34,16 +35,22 @@ impl Model for ZoneText {
 
 impl ZoneText {
     // The zone of these records.
-    pub(crate) fn new(apex: Name, records: Vec<Record>, outside: u64, repeated: u64) -> Self
+    pub(crate) fn new(
+        alloc: Global,
+        apex: Name,
+        records: Vec<Record>,
+        outside: u64,
+        repeated: u64,
+    ) -> Result<Self, AllocError>
         requires { IsZone (zone_with apex records.items outside repeated) }
-        ensures { result ≡ zone_with apex records.items outside repeated }
+        ensures { IfOk result (λ zone. zone ≡ zone_with apex records.items outside repeated) }
     {
-        ZoneText {
+        Ok(ZoneText {
             apex,
-            records,
+            records: Arc::new(alloc, records)?,
             outside,
             repeated,
-        }
+        })
     }
 
     /// The zone's name.
@@ -75,13 +82,27 @@ impl ZoneText {
         self.repeated
     }
 
-    /// A copy. The only error is an allocation failure. Linear in the records.
+    /// Shares the records of another zone, where it has equal ones, so that its own are dropped. Linear
+    /// in the records. Does not allocate.
+    pub fn share_records(&mut self, other: &ZoneText)
+        ensures { self.new ≡ self.old }
+    {
+        if *self.records != *other.records {
+            return;
+        }
+        if let Ok(records) = Arc::try_clone(&other.records) {
+            self.records = records;
+        }
+    }
+
+    /// A copy, which shares the records. The only error is an allocation failure (or 2^63 that share
+    /// them). Linear in the length of the apex.
     pub fn dup(&self, alloc: Global) -> Result<Self, AllocError>
         ensures { IfOk result (λ copy. copy ≡ self.now) }
     {
         Ok(ZoneText {
             apex: self.apex.dup(alloc)?,
-            records: dup_records(alloc, &self.records)?,
+            records: Arc::try_clone(&self.records)?,
             outside: self.outside,
             repeated: self.repeated,
         })
@@ -95,7 +116,7 @@ impl PartialEq for ZoneText {
 
     fn eq(&self, other: &ZoneText) -> bool {
         self.apex == other.apex
-            && self.records == other.records
+            && *self.records == *other.records
             && self.outside == other.outside
             && self.repeated == other.repeated
     }
@@ -103,17 +124,6 @@ impl PartialEq for ZoneText {
 
 impl Eq for ZoneText {
     ghost laws = { same_zone-equivalence };
-}
-
-// A copy of the records.
-fn dup_records(alloc: Global, records: &[Record]) -> Result<Vec<Record>, AllocError>
-    ensures { IfOk result (λ copy. copy.items ≡ records.now) }
-{
-    let mut copy = Vec::with_capacity(alloc, records.len())?;
-    for record in records {
-        copy.push(record.dup(alloc)?)?;
-    }
-    Ok(copy)
 }
 
 /// Reads a zone's text (RFC 1035, 5.1), whose origin is at first the apex. The entries are records
@@ -130,5 +140,5 @@ pub fn read_zone(alloc: Global, text: &[u8], apex: &Name) -> Result<ZoneText, Zo
 {
     let mut reading = Reading::new(alloc, apex)?;
     reading.read_text(alloc, text)?;
-    Ok(reading.into_zone())
+    Ok(reading.into_zone(alloc)?)
 }

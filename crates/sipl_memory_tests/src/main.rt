@@ -17,7 +17,9 @@ use crate::book::{change_call, commit_call, find_call, lease_call};
 use crate::call::Outcome;
 use crate::existence::{add_names_call, outdate_call};
 use crate::plans::{draw_call, draw_held_last_call, give_call, load_call};
-use crate::service::{claim_call, edit_call, lookup_call, turn_call};
+use crate::service::{
+    add_to_ledger_call, claim_call, claim_page_call, edit_call, lookup_call, turn_call,
+};
 use crate::texts::{parse_call, read_zone_call};
 use crate::values::Asked;
 use std::alloc::Global;
@@ -47,6 +49,9 @@ fn named_call<R: Wait>(rt: &R, alloc: Global, name: &str) -> anyhow::Result<Outc
         "lookup_wildcard" => lookup_call(rt, alloc, Asked::Deep),
         "turn_page" => turn_call(rt, alloc),
         "claim" => claim_call(rt, alloc),
+        "add_to_ledger" => add_to_ledger_call(rt, alloc),
+        "claim_page" => claim_page_call(rt, alloc, false),
+        "claim_last_page" => claim_page_call(rt, alloc, true),
         _ => anyhow::bail!("no such call"),
     }
 }

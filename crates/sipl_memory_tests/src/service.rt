@@ -4,7 +4,7 @@ use crate::values::{Asked, SETS, abilities, draws, is_answer, question_of, zone}
 use sipl_book::{Edit, Extent, Limits, Page};
 use sipl_masterfile::ZoneText;
 use sipl_outages::Held;
-use sipl_service::{OpenGate, Pass, Service, claim};
+use sipl_service::{Ledger, OpenGate, Pass, Receipts, Service, claim};
 use sipl_srv::Draws;
 use sipl_uri::Question;
 use std::alloc::Global;
@@ -87,6 +87,45 @@ impl Call for Claim {
     }
 }
 
+// A ledger, and receipts that are added to it.
+#[derive(Drop)]
+struct AddToLedger {
+    ledger: Ledger,
+    receipts: Option<Receipts>,
+}
+
+impl Call for AddToLedger {
+    fn make<R: Wait>(&mut self, _rt: &R, _alloc: Global) -> Option<bool> {
+        match self.ledger.add(self.receipts.take()?) {
+            Ok(()) => Some(self.ledger.waiting().len() == 1),
+            Err(receipts) => {
+                let is_kept = receipts.len() == 2 && self.ledger.is_settled();
+                self.receipts = Some(receipts);
+                refused("Memory", is_kept)
+            }
+        }
+    }
+}
+
+// A ledger that has all receipts of a page.
+#[derive(Drop)]
+struct ClaimPage {
+    ledger: Ledger,
+    page: Page,
+}
+
+impl Call for ClaimPage {
+    fn make<R: Wait>(&mut self, _rt: &R, _alloc: Global) -> Option<bool> {
+        match self.ledger.claim(&self.page) {
+            Ok(()) => Some(self.ledger.next() == 2 && self.ledger.is_settled()),
+            Err(fault) => refused(
+                fault.code(),
+                self.ledger.next() == 0 && !self.ledger.is_settled(),
+            ),
+        }
+    }
+}
+
 fn service(alloc: Global) -> anyhow::Result<Box<Service>> {
     let service = Service::new(alloc, abilities(alloc)?, &Limits::greatest(), 4, Held::Out)?;
     Ok(Box::new(alloc, service)?)
@@ -159,6 +198,37 @@ fn new_claim<R: Wait>(rt: &R, alloc: Global) -> anyhow::Result<Claim> {
     })
 }
 
+// The page of two events of a service, which is turned or the last one, and the pass with their receipts.
+fn page_of_two<R: Wait>(rt: &R, alloc: Global, is_last: bool) -> anyhow::Result<(Page, Pass)> {
+    let service = service(alloc)?;
+    let mut pass = service.pass();
+    load_zone(rt, alloc, &service, &mut pass)?;
+    service.advance(rt, &mut pass, 1)?;
+    let page = if is_last {
+        close(service)?
+    } else {
+        service.turn_page(rt)?
+    };
+    Ok((page, pass))
+}
+
+fn new_add<R: Wait>(rt: &R, alloc: Global) -> anyhow::Result<AddToLedger> {
+    let (_, mut pass) = page_of_two(rt, alloc, true)?;
+    Ok(AddToLedger {
+        ledger: Ledger::new(alloc),
+        receipts: Some(pass.hand_over()),
+    })
+}
+
+fn new_claim_of_page<R: Wait>(rt: &R, alloc: Global, is_last: bool) -> anyhow::Result<ClaimPage> {
+    let (page, mut pass) = page_of_two(rt, alloc, is_last)?;
+    let mut ledger = Ledger::new(alloc);
+    if ledger.add(pass.hand_over()).is_err() {
+        anyhow::bail!("not added");
+    }
+    Ok(ClaimPage { ledger, page })
+}
+
 pub(crate) fn edit_call<R: Wait>(rt: &R, alloc: Global) -> anyhow::Result<Outcome> {
     let mut call = new_edit(alloc)?;
     Ok(outcome_of(rt, alloc, &mut call))
@@ -176,5 +246,19 @@ pub(crate) fn turn_call<R: Wait>(rt: &R, alloc: Global) -> anyhow::Result<Outcom
 
 pub(crate) fn claim_call<R: Wait>(rt: &R, alloc: Global) -> anyhow::Result<Outcome> {
     let mut call = new_claim(rt, alloc)?;
+    Ok(outcome_of(rt, alloc, &mut call))
+}
+
+pub(crate) fn add_to_ledger_call<R: Wait>(rt: &R, alloc: Global) -> anyhow::Result<Outcome> {
+    let mut call = new_add(rt, alloc)?;
+    Ok(outcome_of(rt, alloc, &mut call))
+}
+
+pub(crate) fn claim_page_call<R: Wait>(
+    rt: &R,
+    alloc: Global,
+    is_last: bool,
+) -> anyhow::Result<Outcome> {
+    let mut call = new_claim_of_page(rt, alloc, is_last)?;
     Ok(outcome_of(rt, alloc, &mut call))
 }

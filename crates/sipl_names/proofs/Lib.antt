@@ -2,6 +2,7 @@ pub mod Public
 mod SameName
 mod Lowercase
 mod Wires
+mod Buffers
 mod Within
 mod Counts
 mod Wildcards

@@ -7,3 +7,4 @@ pub mod NameText
 pub mod NamePrint
 pub mod Reading
 pub mod LabelSlices
+pub mod Shared

@@ -5,8 +5,11 @@
 mod escape;
 mod fault;
 pub mod laws;
+mod long;
 mod name;
 mod print;
+mod shared;
+mod short;
 mod text;
 mod wire;
 

@@ -1,4 +1,4 @@
-ghost use Rattle.std.specs.Prelude.{◌≡◌, ◌↔◌, ◌+◌, ◌≤◌, [], ◌++◌, Some, false, length, IsTrue, IsOk, IfOk, IfErr, IfSome, OnOk, OnErr, vec_len, vec_capacity};
+ghost use Rattle.std.specs.Prelude.{◌≡◌, ◌≢◌, ◌↔◌, ◌+◌, ◌≤◌, [], ◌++◌, Some, false, length, IsTrue, IsOk, IfOk, IfErr, IfSome, OnOk, OnErr, vec_len, vec_capacity};
 ghost use Rattle.std.specs.Option.{option_copied};
 ghost use Rattle.std.specs.Cmp.{partial_equiv_from_equiv};
 ghost use Rattle.std.specs.Cmp.Lexicographic.{lists_equiv, nat_list_eq_equiv};
@@ -14,8 +14,9 @@ ghost use lib.Pointwise.{pointwise_decides, bytes_decides};
 use crate::MAX_NAME_LEN;
 use crate::fault::{InvalidName, NameFault};
 use crate::print::{reserve_text, write_text};
+use crate::shared::SharedOctets;
 use crate::text::read_labels;
-use crate::wire::{checked_wire_len, drop_front, push_labels, split_label};
+use crate::wire::{WireBuf, checked_wire_len, push_labels, split_label};
 use std::alloc::{AllocError, Global};
 use std::hash::{Hash, Hasher};
 use std::marker::Model;
@@ -26,7 +27,7 @@ use std::marker::Model;
 #[derive(Debug, Drop)]
 pub struct Name {
     // The wire form, without the octet of the root: so the root does not allocate.
-    wire: Vec<u8>,
+    wire: SharedOctets,
 }
 
 impl Model for Name {
@@ -35,18 +36,18 @@ impl Model for Name {
 
     ghost Value = { Labels };
 
-    ghost view = { λ name. labels_of_wire name.wire.items };
+    ghost view = { λ name. labels_of_wire name.wire };
 
-    ghost invariant = { λ name. IsNameWire name.wire.items };
+    ghost invariant = { λ name. IsNameWire name.wire };
 }
 
 impl Name {
     /// The root, the name without labels. Does not allocate.
-    pub fn root(alloc: Global) -> Self
+    pub fn root(_alloc: Global) -> Self
         ensures { result ≡ [] }
     {
         Name {
-            wire: Vec::new(alloc),
+            wire: SharedOctets::none(),
         }
     }
 
@@ -73,16 +74,17 @@ impl Name {
         let origin_len = if text.ends_with(b".") {
             0
         } else {
-            origin.wire.len()
+            origin.wire.as_slice().len()
         };
-        let mut wire = Vec::with_capacity(alloc, text.len() + 1 + origin_len)?;
+        let mut wire = WireBuf::with_capacity(alloc, text.len() + 1 + origin_len)?;
         let is_absolute = read_labels(&mut wire, text)?;
         if !is_absolute {
-            wire.extend_from_slice(&origin.wire)?;
+            wire.extend_from_slice(origin.wire.as_slice())?;
         }
         if wire.len() >= MAX_NAME_LEN {
             return Err(NameFault::Invalid(InvalidName::NameTooLong));
         }
+        let wire = SharedOctets::from_slice(alloc, wire.as_slice())?;
         Ok(Name { wire })
     }
 
@@ -99,13 +101,14 @@ impl Name {
             → IsOk (prefixed_of (octets_of labels.now) self.now) }
         ensures limits { IfOk result IsName }
     {
-        let len = checked_wire_len(labels)?.saturating_add(self.wire.len());
+        let len = checked_wire_len(labels)?.saturating_add(self.wire.as_slice().len());
         if len >= MAX_NAME_LEN {
             return Err(NameFault::Invalid(InvalidName::NameTooLong));
         }
-        let mut wire = Vec::with_capacity(alloc, len)?;
+        let mut wire = WireBuf::with_capacity(alloc, len)?;
         push_labels(&mut wire, labels);
-        wire.extend_from_slice(&self.wire)?;
+        wire.extend_from_slice(self.wire.as_slice())?;
+        let wire = SharedOctets::from_slice(alloc, wire.as_slice())?;
         Ok(Name { wire })
     }
 
@@ -120,18 +123,18 @@ impl Name {
         ensures succeeds { vec_len out.old + length (text_of self.now) ≤ vec_capacity out.old
             → IsOk result }
     {
-        reserve_text(out, &self.wire)?;
-        write_text(out, &self.wire);
+        reserve_text(out, self.wire.as_slice())?;
+        write_text(out, self.wire.as_slice());
         Ok(())
     }
 
     /// A copy of the name.
-    pub fn dup(&self, alloc: Global) -> Result<Self, AllocError>
+    pub fn dup(&self, _alloc: Global) -> Result<Self, AllocError>
         ensures value { IfOk result (λ copy. copy ≡ self.now) }
         ensures limits { IfOk result IsName }
     {
         Ok(Name {
-            wire: Vec::from_slice(alloc, &self.wire)?,
+            wire: self.wire.dup()?,
         })
     }
 
@@ -140,14 +143,14 @@ impl Name {
         ensures value { result ≡ wire_length self.now }
         ensures limits { IsName self.now }
     {
-        self.wire.len() + 1
+        self.wire.as_slice().len() + 1
     }
 
     /// Whether the name is the root.
     pub fn is_root(&self) -> bool
         ensures { IsTrue result ↔ (self.now ≡ []) }
     {
-        self.wire.is_empty()
+        self.wire.as_slice().is_empty()
     }
 
     /// Whether the name is the apex or below it, label by label (RFC 1034, 3.1). Linear in the
@@ -171,12 +174,13 @@ impl Name {
     pub fn parent(&self, alloc: Global) -> Result<Option<Name>, AllocError>
         ensures value { IfOk result (λ parent. parent ≡ parent_of self.now) }
         ensures limits { IfOk result (λ parent. IfSome parent IsName) }
+        ensures memory { OnErr result (self.now ≢ []) }
     {
-        let Some((_, rest)) = split_label(&self.wire) else {
+        if self.is_root() {
             return Ok(None);
-        };
-        let wire = Vec::from_slice(alloc, rest)?;
-        Ok(Some(Name { wire }))
+        }
+        let mut parent = self.dup(alloc)?;
+        Ok(parent.pop_label().then_some(parent))
     }
 
     /// Drops the first label, so that the name is its parent (RFC 1034, 3.1). Returns false for the
@@ -186,34 +190,35 @@ impl Name {
         ensures root { result ≡ false → (self.old ≡ []) × (self.new ≡ []) }
         ensures limits { IsName self.new }
     {
-        let Some((label, _)) = split_label(&self.wire) else {
+        let Some((label, _)) = split_label(self.wire.as_slice()) else {
             return false;
         };
         let prefixed_len = label.len() + 1;
-        drop_front(&mut self.wire, prefixed_len);
+        self.wire.drop_front(prefixed_len);
         true
     }
 
-    /// Replaces the first label by an asterisk: the name is the wildcard domain name next below its
-    /// parent (RFC 4592, 2.1.1). The root stays. Does not allocate.
-    pub fn to_wildcard(&mut self)
-        ensures value { self.new ≡ wildcard_beside self.old }
-        ensures limits { IsName self.new }
+    /// The wildcard domain name next below the name's parent (RFC 4592, 2.1.1): its first label is
+    /// an asterisk. The root is its own.
+    pub fn wildcard_beside(&self, alloc: Global) -> Result<Name, AllocError>
+        ensures value { IfOk result (λ wildcard. wildcard ≡ wildcard_beside self.now) }
+        ensures limits { IfOk result IsName }
     {
-        let Some((label, _)) = split_label(&self.wire) else {
-            return;
+        let Some((_, rest)) = split_label(self.wire.as_slice()) else {
+            return Ok(Name::root(alloc));
         };
-        let surplus = label.len() - 1;
-        drop_front(&mut self.wire, surplus);
-        self.wire[0] = 1;
-        self.wire[1] = b'*';
+        let mut wire = WireBuf::with_capacity(alloc, rest.len() + 2)?;
+        wire.extend_from_slice(b"\x01*")?;
+        wire.extend_from_slice(rest)?;
+        let wire = SharedOctets::from_slice(alloc, wire.as_slice())?;
+        Ok(Name { wire })
     }
 
     /// Whether the name is a wildcard domain name: its first label is an asterisk (RFC 4592, 2.1.1).
     pub fn is_wildcard(&self) -> bool
         ensures { result ≡ is_wildcard self.now }
     {
-        let Some((label, _)) = split_label(&self.wire) else {
+        let Some((label, _)) = split_label(self.wire.as_slice()) else {
             return false;
         };
         label == b"*".as_slice()
@@ -239,7 +244,7 @@ impl PartialEq for Name {
     ghost laws = { partial_equiv_from_equiv (lists_equiv nat_list_eq_equiv) };
 
     fn eq(&self, other: &Name) -> bool {
-        self.wire == other.wire
+        self.wire.as_slice() == other.wire.as_slice()
     }
 }
 
@@ -253,7 +258,7 @@ impl Hash for Name {
     ghost respects_eq = { λ x y same. ap hash_writes ((pointwise_decides bytes_decides x y).0 same) };
 
     fn hash<H: Hasher>(&self, state: &mut H) {
-        state.write(&self.wire);
+        state.write(self.wire.as_slice());
         state.write_u8(0);
     }
 }

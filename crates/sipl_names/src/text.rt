@@ -1,12 +1,13 @@
 // A name's text in a master file (RFC 1035, 5.1).
-ghost use Rattle.std.specs.Prelude.{◌≡◌, ◌+◌, ◌-◌, ◌<◌, ◌≤◌, [], length, drop, None, Some, IfOk, IfErr, MatchOption, MatchResult, OnOk, slice_set, vec_len, vec_capacity};
+ghost use Rattle.std.specs.Prelude.{◌≡◌, ◌+◌, ◌-◌, ◌<◌, ◌≤◌, [], length, drop, None, Some, IfOk, IfErr, MatchOption, MatchResult, OnOk, slice_set};
 ghost use Rattle.sipl_names.specs.Labels.{label_fault};
 ghost use Rattle.sipl_names.specs.NameText.{symbols, labels_from};
 ghost use Rattle.sipl_names.specs.Reading.{Spells, BeginsWith, IsBadEscape};
+ghost use Rattle.smallvec.specs.SmallVec.{small_vec_len};
 
 use crate::escape::read_escape;
 use crate::fault::InvalidName;
-use crate::wire::check_label;
+use crate::wire::{WireBuf, check_label};
 
 // An octet of a label, or the dot that ends a label.
 #[derive(Clone, Copy)]
@@ -17,9 +18,9 @@ pub(crate) enum Token {
 
 // Appends the wire form of the labels of a text, in lower case, to an empty `wire` that has the
 // capacity for it, and returns whether the name is absolute: a dot ends the text.
-pub(crate) fn read_labels(wire: &mut Vec<u8>, text: &[u8]) -> Result<bool, InvalidName>
+pub(crate) fn read_labels(wire: &mut WireBuf, text: &[u8]) -> Result<bool, InvalidName>
     requires empty { wire.old.items ≡ [] }
-    requires reserved { length text.now + 1 ≤ vec_capacity wire.old }
+    requires reserved { length text.now + 1 ≤ wire.old.capacity }
     ensures read { IfOk result (λ is_absolute. Spells text.now wire.new.items is_absolute) }
     ensures refused { IfErr result (λ fault. labels_from [] (symbols 0 text.now) ≡ Err fault) }
 {
@@ -66,14 +67,14 @@ fn next_token(text: &[u8]) -> Result<Option<(Token, &[u8])>, InvalidName>
 }
 
 // Ends the label whose length belongs at `start`.
-fn end_label(wire: &mut Vec<u8>, start: usize) -> Result<(), InvalidName>
-    requires { start < vec_len wire.old }
+fn end_label(wire: &mut WireBuf, start: usize) -> Result<(), InvalidName>
+    requires { start < small_vec_len wire.old }
     ensures fault { MatchResult result
         (λ _. label_fault (drop (start + 1) wire.old.items) ≡ None)
         (λ fault. label_fault (drop (start + 1) wire.old.items) ≡ Some fault) }
     ensures length_written { OnOk result
-        (wire.new.items ≡ slice_set wire.old.items start (vec_len wire.old - (start + 1))) }
-    ensures capacity { vec_capacity wire.new ≡ vec_capacity wire.old }
+        (wire.new.items ≡ slice_set wire.old.items start (small_vec_len wire.old - (start + 1))) }
+    ensures capacity { wire.new.capacity ≡ wire.old.capacity }
 {
     check_label(&wire[start + 1..])?;
     wire[start] = (wire.len() - (start + 1)) as u8;

@@ -1,13 +1,18 @@
 // Wire forms of labels, without the octet of the root (RFC 1035, 3.1).
-ghost use Rattle.std.specs.Prelude.{◌≡◌, ◌+◌, ◌-◌, ◌^◌, ◌≤◌, [], ◌∷◌, ◌++◌, length, drop, map, min, None, Some, IfNone, IfSome, IfOk, IfErr, MatchResult, vec_len, vec_capacity};
+ghost use Rattle.std.specs.Prelude.{◌≡◌, ◌+◌, ◌-◌, ◌^◌, ◌≤◌, [], ◌∷◌, ◌++◌, length, drop, map, min, None, Some, IfNone, IfSome, IfOk, IfErr, MatchResult};
 ghost use Rattle.std.specs.List.{AllByRecursion};
 ghost use Rattle.std.specs.Str.{str_to_ascii_lowercase};
 ghost use Rattle.sipl_names.specs.Labels.{length_prefixed, wire_of, IsLabel, label_fault, first_label_fault};
 ghost use Rattle.sipl_names.specs.LabelSlices.{octets_of};
 ghost use Rattle.sipl_names.specs.Wire.{IsWire, labels_of_wire};
+ghost use Rattle.smallvec.specs.SmallVec.{small_vec_len};
 
 use crate::MAX_LABEL_LEN;
 use crate::fault::InvalidName;
+use smallvec::SmallVec;
+
+// Octets of a wire form that is being made. Up to 64 of them take no memory beside the value.
+pub(crate) type WireBuf = SmallVec<u8, 64>;
 
 // The first label, and the wire form of the others; None where there is no label.
 pub(crate) fn split_label(wire: &[u8]) -> Option<(&[u8], &[u8])>
@@ -20,18 +25,6 @@ pub(crate) fn split_label(wire: &[u8]) -> Option<(&[u8], &[u8])>
 {
     let (len, rest) = wire.split_first()?;
     Some(rest.split_at(*len as usize))
-}
-
-// Drops the first octets, in place: the others move one by one, which takes no room beside them.
-pub(crate) fn drop_front(wire: &mut Vec<u8>, count: usize)
-    requires { count ≤ vec_len wire.old }
-    ensures { wire.new.items ≡ drop count wire.old.items }
-{
-    let left = wire.len() - count;
-    for place in 0..left {
-        wire[place] = wire[place + count];
-    }
-    wire.truncate(left);
 }
 
 // Whether the octets can be a label.
@@ -67,10 +60,10 @@ pub(crate) fn checked_wire_len(labels: &[&[u8]]) -> Result<usize, InvalidName>
 }
 
 // Appends the wire form of these labels, in lower case, for which space is reserved.
-pub(crate) fn push_labels(wire: &mut Vec<u8>, labels: &[&[u8]])
+pub(crate) fn push_labels(wire: &mut WireBuf, labels: &[&[u8]])
     requires faultless { first_label_fault (octets_of labels.now) ≡ None }
-    requires reserved { vec_len wire.old + length (wire_of (octets_of labels.now))
-        ≤ vec_capacity wire.old }
+    requires reserved { small_vec_len wire.old + length (wire_of (octets_of labels.now))
+        ≤ wire.old.capacity }
     ensures wire { wire.new.items
         ≡ wire.old.items ++ wire_of (map str_to_ascii_lowercase (octets_of labels.now)) }
     ensures labels { AllByRecursion IsLabel (map str_to_ascii_lowercase (octets_of labels.now)) }
@@ -80,13 +73,13 @@ pub(crate) fn push_labels(wire: &mut Vec<u8>, labels: &[&[u8]])
     }
 }
 
-fn push_label(wire: &mut Vec<u8>, label: &[u8])
+fn push_label(wire: &mut WireBuf, label: &[u8])
     requires faultless { label_fault label.now ≡ None }
-    requires reserved { vec_len wire.old + length label.now + 1 ≤ vec_capacity wire.old }
+    requires reserved { small_vec_len wire.old + length label.now + 1 ≤ wire.old.capacity }
     ensures wire { wire.new.items
         ≡ wire.old.items ++ length_prefixed (str_to_ascii_lowercase label.now) }
-    ensures len { vec_len wire.new ≡ vec_len wire.old + length label.now + 1 }
-    ensures capacity { vec_capacity wire.new ≡ vec_capacity wire.old }
+    ensures len { small_vec_len wire.new ≡ small_vec_len wire.old + length label.now + 1 }
+    ensures capacity { wire.new.capacity ≡ wire.old.capacity }
     ensures label { IsLabel (str_to_ascii_lowercase label.now) }
 {
     wire.push_reserved(label.len() as u8);

@@ -3,3 +3,4 @@ pub mod BoardFault
 pub mod BoardView
 pub mod Events
 pub mod Holds
+pub mod SharedBoard

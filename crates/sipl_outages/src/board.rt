@@ -167,6 +167,18 @@ impl Board {
         Ok(())
     }
 
+    // A board without holds, at the same time and with the same maximum. Does not allocate.
+    pub(crate) fn without_holds(&self, alloc: Global) -> Self
+        ensures { result ≡ record {
+          holds = record { now = self.now.holds.now; ends = [] };
+          max_holds = self.now.max_holds;
+        } }
+    {
+        let mut board = Board::with(alloc, self.max_holds);
+        board.time = self.time;
+        board
+    }
+
     /// A copy. The only error is an allocation failure.
     pub fn dup(&self, alloc: Global) -> Result<Self, AllocError>
         ensures { IfOk result (λ copy. copy ≡ self.now) }

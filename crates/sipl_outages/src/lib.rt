@@ -9,7 +9,9 @@ mod board;
 mod fault;
 mod held;
 pub mod laws;
+mod shared;
 
 pub use board::{Board, MAX_HOLDS, MAX_TIME};
 pub use fault::BoardFault;
 pub use held::Held;
+pub use shared::{ShareableBoard, SharedBoard};

@@ -1,8 +1,8 @@
-ghost use Rattle.std.specs.Prelude.{◌≡◌, IfOk};
+ghost use Rattle.std.specs.Prelude.{◌≡◌, ◌≢◌, IfOk, OnErr};
 ghost use Rattle.sipl_plans.specs.Reasons.{reason_text};
 
+use crate::shared::SharedSequence;
 use sipl_choice::Endpoint;
-use sipl_records::Sequence;
 use std::alloc::{AllocError, Global};
 use std::fmt;
 
@@ -23,18 +23,20 @@ pub enum Reason {
 #[derive(Debug, PartialEq, Eq, Drop)]
 pub enum Answer {
     /// Where to send the request: each endpoint once, the one to try first before all others.
-    Targets(Sequence<Endpoint>),
+    Targets(SharedSequence<Endpoint>),
     /// Nowhere, and the reason.
     None(Reason),
 }
 
 impl Answer {
-    /// A copy. The only error is an allocation failure.
-    pub fn dup(&self, alloc: Global) -> Result<Self, AllocError>
-        ensures { IfOk result (λ copy. copy ≡ self.now) }
+    /// A copy, which shares the targets. Does not allocate: the only error is that 2^63 others share
+    /// them.
+    pub fn dup(&self, _alloc: Global) -> Result<Self, AllocError>
+        ensures value { IfOk result (λ copy. copy ≡ self.now) }
+        ensures memory { OnErr result ((reason : Reason) → self.now ≢ Answer.None reason) }
     {
         match self {
-            Answer::Targets(targets) => Ok(Answer::Targets(targets.dup(alloc)?)),
+            Answer::Targets(targets) => Ok(Answer::Targets(targets.dup()?)),
             Answer::None(reason) => Ok(Answer::None(*reason)),
         }
     }

@@ -7,6 +7,7 @@ ghost use Rattle.sipl_plans.specs.Plan.{arranged, draw, endpoints_of, targets_am
 ghost use Rattle.sipl_plans.specs.Servers.{HasFewServers, target_count};
 
 use crate::answer::{Answer, Reason};
+use crate::shared::SharedSequence;
 use crate::unique::unique_of;
 use sipl_choice::{Endpoint, Transport};
 use sipl_outages::{Board, Held};
@@ -39,7 +40,8 @@ pub enum Layout {
 impl Layout {
     /// A copy. The only error is an allocation failure.
     pub fn dup(&self, alloc: Global) -> Result<Self, AllocError>
-        ensures { IfOk result (λ copy. copy ≡ self.now) }
+        ensures value { IfOk result (λ copy. copy ≡ self.now) }
+        ensures memory { OnErr result ((reason : Reason) → self.now ≢ Layout.Refused reason) }
     {
         let (transport, servers) = match self {
             Layout::Refused(reason) => return Ok(Layout::Refused(*reason)),
@@ -132,7 +134,8 @@ fn targets_among(
     if targets.is_empty() {
         return Ok(Answer::None(Reason::AllHeld));
     }
-    Ok(Answer::Targets(Sequence::from_vec(targets)))
+    let shared = SharedSequence::from_vec(targets)?;
+    Ok(Answer::Targets(shared))
 }
 
 // The endpoints that are not held. Mostly none is held, and then none is looked up.
@@ -221,7 +224,7 @@ fn endpoints_in_order(
     ensures { IfOk result (λ endpoints. endpoints.items
         ≡ flat_map (endpoints_of transport) (filter_map (slice_get servers.now) order.now)) }
 {
-    let mut endpoints = Vec::new(alloc);
+    let mut endpoints = Vec::with_capacity(alloc, order.len())?;
     for place in order {
         let server = &servers[*place];
         for address in server.addresses.as_slice() {

@@ -10,6 +10,7 @@ mod plan;
 mod route;
 mod run;
 mod serving;
+mod shared;
 mod stage;
 mod unique;
 
@@ -18,3 +19,4 @@ pub use finding::Finding;
 pub use layout::{Layout, Source, draw};
 pub use plan::plan_of;
 pub use run::{MAX_SETS, Run, Unfinished};
+pub use shared::SharedSequence;

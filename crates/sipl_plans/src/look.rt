@@ -77,14 +77,14 @@ fn source_of_synthesis(
     if exists(records, name) {
         return Ok(None);
     }
-    let mut wildcard = name.dup(alloc)?;
+    let mut below = name.dup(alloc)?;
     let mut encloser = name.dup(alloc)?;
     while encloser.pop_label() {
         if exists(records, &encloser) {
-            wildcard.to_wildcard();
+            let wildcard = below.wildcard_beside(alloc)?;
             return Ok(Some(wildcard));
         }
-        wildcard.pop_label();
+        below.pop_label();
     }
     Ok(None)
 }

@@ -2,18 +2,21 @@ ghost use Rattle.std.specs.Prelude.{◌≡◌, IfOk};
 
 use std::alloc::{AllocError, Global};
 use std::marker::Model;
+use std::sync::Arc;
 
-/// A value in memory of its own, so that a type with such a field stays small. Contracts see
-/// the value. Two are equal where their values are.
+/// A value in memory that its copies share, so that a type with such a field stays small and a copy
+/// is a count. Contracts see the value. Two are equal where their values are.
 #[derive(Debug, Drop)]
 pub struct Boxed<T> {
-    inner: Box<T>,
+    inner: Arc<T>,
 }
 
 impl<T> Model for Boxed<T> {
+    ghost use Rattle.std.specs.Arc.{arc_value};
+
     ghost Value = { T };
 
-    ghost view = { λ boxed. boxed.inner.value };
+    ghost view = { λ boxed. arc_value boxed.inner };
 }
 
 impl<T: Drop> Boxed<T> {
@@ -22,7 +25,7 @@ impl<T: Drop> Boxed<T> {
         ensures { IfOk result (λ boxed. boxed ≡ value) }
     {
         Ok(Boxed {
-            inner: Box::new(alloc, value)?,
+            inner: Arc::new(alloc, value)?,
         })
     }
 }
@@ -33,6 +36,15 @@ impl<T> Boxed<T> {
         ensures { result.now ≡ self.now }
     {
         &self.inner
+    }
+
+    /// A copy, which shares the value. Does not allocate.
+    pub fn dup(&self) -> Result<Self, AllocError>
+        ensures { IfOk result (λ copy. copy ≡ self.now) }
+    {
+        Ok(Boxed {
+            inner: Arc::try_clone(&self.inner)?,
+        })
     }
 }
 

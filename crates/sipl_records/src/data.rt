@@ -102,10 +102,10 @@ impl Data {
             } => Data::Pointer {
                 order: *order,
                 preference: *preference,
-                flags: Boxed::new(alloc, flags.get().dup(alloc)?)?,
-                services: Boxed::new(alloc, services.get().dup(alloc)?)?,
-                regexp: Boxed::new(alloc, regexp.get().dup(alloc)?)?,
-                replacement: Boxed::new(alloc, replacement.get().dup(alloc)?)?,
+                flags: flags.dup()?,
+                services: services.dup()?,
+                regexp: regexp.dup()?,
+                replacement: replacement.dup()?,
             },
             Data::Bare => Data::Bare,
         })

@@ -9,3 +9,10 @@ pub mod Keys
 pub mod Marking
 pub mod Policies
 pub mod Free
+pub mod Numbers
+pub mod Placed
+pub mod Runs
+pub mod Handed
+pub mod Refused
+pub mod Waiting
+pub mod Passing

@@ -13,7 +13,7 @@ use Rattle.sipl_service.specs.declared.fault.ClaimFault.{ClaimFault}
 use Rattle.sipl_service.specs.declared.fault.ClaimFault.TheVariants.{Gap, NotOurs, Doubled, Unclaimed, Memory}
 use Rattle.sipl_service.specs.declared.receipt.Receipt.{Receipt}
 use Rattle.sipl_service.specs.Passes.{PassState, receipts_of}
-use Rattle.sipl_service.specs.Claims.{IsOurs, has_number, IsPart, IsUnion, IsFirst, IsCause, event_at, event_in, first_in}
+use Rattle.sipl_service.specs.Claims.{IsOurs, has_number, IsPart, IsUnion, IsFirst, IsCause, IsNoUnion, event_at, event_in, first_in}
 use Rattle.sipl_service.proofs.Gaps.{no_gap}
 use Rattle.sipl_service.proofs.Numbered.{has_event, numbered}
 
@@ -34,7 +34,7 @@ has_not (x ∷ receipts) n zero d none within = grind (arith, common_steps)
 has_not (x ∷ receipts) n (suc k) d none within = has_not receipts n k d (grind (arith, common_steps)) (omega arith)
 
 -- the number of an event of the pages is one of theirs
-within_pages : (pages : List PageState) (r : Receipt) → IsOurs pages r → (first_in pages ≤ r.number) × (r.number - first_in pages < length (events_in pages))
+pub within_pages : (pages : List PageState) (r : Receipt) → IsOurs pages r → (first_in pages ≤ r.number) × (r.number - first_in pages < length (events_in pages))
 within_pages pages r ours = numbered (first_in pages) (events_in pages) r.number (λ none. none-some r.event (sym none ∙ ours))
 
 pub marked-none : (pages : List PageState) (n : ℕ) → n ≡ length (events_in pages) → IsMarked pages [] (replicate n false)
@@ -103,20 +103,27 @@ module _ (pages : List PageState) (first : ℕ) (events : List Event) (from : fi
       (subst (λ l. IsMarked pages l (slice_set marks (r.number - first_in pages) true)) longer
       (marked-next pages (before ++ take j receipts) marks r h (sym (same_event r.number) ∙ ours) (ap (λ f. slice_index_or marks (r.number - f) false) (sym from) ∙ free)))
 
+  pub not_ours : (receipts before : List Receipt) (r : Receipt) → IsFirst pages receipts before r → event_in first events r.number ≢ Some r.event → IsNoUnion pages receipts (NotOurs r.number)
+  not_ours receipts before r at other = (before, r, at, refl, λ ours. other (same_event r.number ∙ ours))
+
+  pub is_twice : (receipts before : List Receipt) (marks : List Bool) (r : Receipt) → IsMarked pages before marks → IsFirst pages receipts before r
+      → event_in first events r.number ≡ Some r.event → slice_index_or marks (r.number - first) false ≡ true → IsNoUnion pages receipts (Doubled r.number)
+  is_twice receipts before marks r h at here marked =
+      let ours : IsOurs pages r = sym (same_event r.number) ∙ here in
+      let within = within_pages pages r ours in
+      let back : first_in pages + (r.number - first_in pages) ≡ r.number = omega (arith, within.0) in
+      let had : has_number before r.number ≡ true =
+      sym (ap (has_number before) back) ∙ sym (h.marked (r.number - first_in pages) within.1) ∙ ap (λ f. slice_index_or marks (r.number - f) false) (sym from) ∙ marked in
+      (before, r, at, refl, ours, had)
+
   pub is_cause : (receipts before : List Receipt) (marks : List Bool) (r : Receipt) (fault : ClaimFault) → AreInOrder None pages → IsMarked pages before marks
       → IsFirst pages receipts before r
       → ((fault ≡ NotOurs r.number) × (event_in first events r.number ≢ Some r.event))
       ⊎ ((fault ≡ Doubled r.number) × (event_in first events r.number ≡ Some r.event) × (slice_index_or marks (r.number - first) false ≡ true))
       → IsCause pages receipts fault
   is_cause receipts before marks r fault order h at why = elim why [
-    | inl other ↦ subst (IsCause pages receipts) (sym other.0) (order, (before, r, at, refl, λ ours. other.1 (same_event r.number ∙ ours)))
-    | inr twice ↦
-        let ours : IsOurs pages r = sym (same_event r.number) ∙ twice.1 in
-        let within = within_pages pages r ours in
-        let here : first_in pages + (r.number - first_in pages) ≡ r.number = omega (arith, within.0) in
-        let had : has_number before r.number ≡ true =
-        sym (ap (has_number before) here) ∙ sym (h.marked (r.number - first_in pages) within.1) ∙ ap (λ f. slice_index_or marks (r.number - f) false) (sym from) ∙ twice.2 in
-        subst (IsCause pages receipts) (sym twice.0) (order, (before, r, at, refl, ours, had))
+    | inl other ↦ subst (IsCause pages receipts) (sym other.0) (order, not_ours receipts before r at other.1)
+    | inr twice ↦ subst (IsCause pages receipts) (sym twice.0) (order, is_twice receipts before marks r h at twice.1 twice.2)
   ]
 
 pub marked-pass : (pages : List PageState) (passes : List PassState) (i j : ℕ) (p : PassState) (receipts : List Receipt) (marks : List Bool)
@@ -130,38 +137,38 @@ marked-pass pages passes i j p receipts marks within at same done h =
     subst (λ l. IsMarked pages l marks) whole h
 
 -- all passes have been gone through
-module _ (pages : List PageState) (passes : List PassState) (i : ℕ) (marks : List Bool) (done : length passes ≤ i) (h : IsMarked pages (receipts_of (take i passes)) marks) where
-  marked-all : IsMarked pages (receipts_of passes) marks
-  marked-all = subst (λ l. IsMarked pages (receipts_of l) marks) (take_all i passes done) h
+pub marked-all : (pages : List PageState) (passes : List PassState) (i : ℕ) (marks now : List Bool) → now ≡ marks → length passes ≤ i → IsMarked pages (receipts_of (take i passes)) marks → IsMarked pages (receipts_of passes) now
+marked-all pages passes i marks now is done h = subst (IsMarked pages (receipts_of passes)) (sym is) (subst (λ l. IsMarked pages (receipts_of l) marks) (take_all i passes done) h)
 
+-- all receipts have been gone through
+module _ (pages : List PageState) (receipts : List Receipt) (marks : List Bool) (h : IsMarked pages receipts marks) where
   -- the mark at the place of a number
-  mark-of : (n : ℕ) → event_at pages n ≢ None → slice_index_or marks (n - first_in pages) false ≡ has_number (receipts_of passes) n
+  mark-of : (n : ℕ) → event_at pages n ≢ None → slice_index_or marks (n - first_in pages) false ≡ has_number receipts n
   mark-of n has =
       let within = numbered (first_in pages) (events_in pages) n has in
       let here : first_in pages + (n - first_in pages) ≡ n = omega (arith, within.0) in
-      marked-all.marked (n - first_in pages) within.1 ∙ ap (has_number (receipts_of passes)) here
+      h.marked (n - first_in pages) within.1 ∙ ap (has_number receipts) here
 
-  pub is_union : ((k : ℕ) → k < length marks → slice_index_or marks k false ≡ true) → IsUnion pages (receipts_of passes)
+  pub is_union : ((k : ℕ) → k < length marks → slice_index_or marks k false ≡ true) → IsUnion pages receipts
   is_union full =
       record {
-        part = marked-all.part;
+        part = h.part;
         whole = λ n has. sym (mark-of n has) ∙ full (n - first_in pages) (rw h.len (numbered (first_in pages) (events_in pages) n has).1);
       }
 
-  pub is_unclaimed : (first place : ℕ) → first ≡ first_in pages → AreInOrder None pages → place < length marks → slice_index_or marks place false ≡ false
-      → ((k : ℕ) → k < place → slice_index_or marks k false ≡ true) → IsCause pages (receipts_of passes) (Unclaimed (first + place))
-  is_unclaimed first place from order within free full =
+  pub is_unclaimed : (first place : ℕ) → first ≡ first_in pages → place < length marks → slice_index_or marks place false ≡ false
+      → ((k : ℕ) → k < place → slice_index_or marks k false ≡ true) → IsNoUnion pages receipts (Unclaimed (first + place))
+  is_unclaimed first place from within free full =
       let inside : place < length (events_in pages) = omega (arith, h.len) in
-      subst (λ f. IsCause pages (receipts_of passes) (Unclaimed (f + place))) (sym from) (
-        order,
-        marked-all.part,
+      subst (λ f. IsNoUnion pages receipts (Unclaimed (f + place))) (sym from) (
+        h.part,
         has_event (first_in pages) (events_in pages) place inside,
-        sym (marked-all.marked place inside) ∙ free,
+        sym (h.marked place inside) ∙ free,
         λ k less has. let above = numbered (first_in pages) (events_in pages) k has in sym (mark-of k has) ∙ full (k - first_in pages) (omega (arith, less, above.0)),
       )
 
 -- where a receipt has the number, it stands at a place
-has_at : (receipts : List Receipt) (n : ℕ) → has_number receipts n ≡ true → (k : ℕ) × (k < length receipts) × ((d : Receipt) → (get_or receipts k d).number ≡ n)
+pub has_at : (receipts : List Receipt) (n : ℕ) → has_number receipts n ≡ true → (k : ℕ) × (k < length receipts) × ((d : Receipt) → (get_or receipts k d).number ≡ n)
 has_at [] n is = absurd (grind (arith, common_steps))
 has_at (x ∷ receipts) n is =
     ⊎_elim
@@ -169,19 +176,31 @@ has_at (x ∷ receipts) n is =
     (λ (apart : nat_eq x.number n ≡ false). let rest = has_at receipts n (grind (arith, common_steps)) in (suc rest.0, omega (arith, rest.1), λ d. rest.2 d))
     (cases_Bool (nat_eq x.number n))
 
--- no cause where all pages follow and their events are the union
-pub refutes : (pages : List PageState) (receipts : List Receipt) (fault : ClaimFault) → fault ≢ Memory → IsCause pages receipts fault → AreInOrder None pages → IsUnion pages receipts → ⊥
-refutes pages receipts (Gap place) ample gap order union = no_gap None pages place gap order
-refutes pages receipts (NotOurs n) ample (sorted, (before, r, first, number, not_ours)) order union =
+-- a receipt of events that are the union is theirs
+pub ours-at : (pages : List PageState) (receipts before : List Receipt) (r : Receipt) → IsFirst pages receipts before r → IsUnion pages receipts → IsOurs pages r
+ours-at pages receipts before r first union =
     let long : length receipts ≡ length before + suc (length first.after) = ap length first.split ∙ length-append before (r ∷ first.after) in
     let here : get_or receipts (length before) r ≡ r = ap (λ l. get_or l (length before) r) first.split ∙ get_or-append_seam before r first.after r in
-    let ours : IsOurs pages r = subst (IsOurs pages) here (union.part.ours (length before) r (omega (arith, long))) in
-    not_ours (subst (λ m. event_at pages m ≡ Some r.event) number ours)
-refutes pages receipts (Doubled n) ample (sorted, (before, r, first, number, ours, had)) order union =
+    subst (IsOurs pages) here (union.part.ours (length before) r (omega (arith, long)))
+
+-- none of these where the events are the union
+pub refutes-union : (pages : List PageState) (receipts : List Receipt) (fault : ClaimFault) → IsNoUnion pages receipts fault → IsUnion pages receipts → ⊥
+refutes-union pages receipts (Gap place) cause union = cause
+refutes-union pages receipts (NotOurs n) (before, r, first, number, not_ours) union =
+    not_ours (subst (λ m. event_at pages m ≡ Some r.event) number (ours-at pages receipts before r first union))
+refutes-union pages receipts (Doubled n) (before, r, first, number, ours, had) union =
     let long : length receipts ≡ length before + suc (length first.after) = ap length first.split ∙ length-append before (r ∷ first.after) in
     let here : get_or receipts (length before) r ≡ r = ap (λ l. get_or l (length before) r) first.split ∙ get_or-append_seam before r first.after r in
     let at = has_at before n had in
     let there : get_or receipts at.0 r ≡ get_or before at.0 r = ap (λ l. get_or l at.0 r) first.split ∙ get_or_append_left before (r ∷ first.after) r at.0 at.1 in
     union.part.apart at.0 (length before) r at.1 (omega (arith, long)) (ap (λ (q : Receipt). q.number) there ∙ at.2 r ∙ sym number ∙ ap (λ (q : Receipt). q.number) (sym here))
-refutes pages receipts (Unclaimed n) ample cause order union = absurd (true≢false (sym (union.whole n cause.2) ∙ cause.3))
+refutes-union pages receipts (Unclaimed n) cause union = absurd (true≢false (sym (union.whole n cause.1) ∙ cause.2))
+refutes-union pages receipts Memory cause union = cause
+
+-- no cause where all pages follow and their events are the union
+pub refutes : (pages : List PageState) (receipts : List Receipt) (fault : ClaimFault) → fault ≢ Memory → IsCause pages receipts fault → AreInOrder None pages → IsUnion pages receipts → ⊥
+refutes pages receipts (Gap place) ample gap order union = no_gap None pages place gap order
+refutes pages receipts (NotOurs n) ample cause order union = refutes-union pages receipts (NotOurs n) cause.1 union
+refutes pages receipts (Doubled n) ample cause order union = refutes-union pages receipts (Doubled n) cause.1 union
+refutes pages receipts (Unclaimed n) ample cause order union = refutes-union pages receipts (Unclaimed n) cause.1 union
 refutes pages receipts Memory ample cause order union = ample refl

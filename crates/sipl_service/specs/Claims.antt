@@ -47,24 +47,27 @@ pub record IsFirst (pages : List PageState) (receipts before : List Receipt) (re
   pub split : receipts ≡ before ++ receipt ∷ after
   pub part : IsPart pages before
 
--- why a claim is refused: the first page that does not follow the one before it; where all do, the first
--- receipt whose number has not its event, or whose number an earlier one has; or else the least number
--- of an event that none has
+-- why the events are not the union: the first receipt whose number has not its event, or whose number
+-- an earlier one has; or else the least number of an event that none has
+abbrev pub IsNoUnion : List PageState → List Receipt → ClaimFault → Type 0
+IsNoUnion pages receipts (NotOurs n) =
+    (before : List Receipt) × (receipt : Receipt) × IsFirst pages receipts before receipt
+    × (receipt.number ≡ n) × (event_at pages n ≢ Some receipt.event)
+IsNoUnion pages receipts (Doubled n) =
+    (before : List Receipt) × (receipt : Receipt) × IsFirst pages receipts before receipt
+    × (receipt.number ≡ n) × IsOurs pages receipt × (has_number before n ≡ true)
+IsNoUnion pages receipts (Unclaimed n) =
+    IsPart pages receipts × (event_at pages n ≢ None) × (has_number receipts n ≡ false)
+    × ((k : ℕ) → k < n → event_at pages k ≢ None → has_number receipts k ≡ true)
+IsNoUnion pages receipts (Gap place) = ⊥
+IsNoUnion pages receipts Memory = ⊥
+
+-- why a claim is refused: the first page that does not follow the one before it; where all do, why their
+-- events are not the union of the receipts
 abbrev pub IsCause : List PageState → List Receipt → ClaimFault → Type 0
 IsCause pages receipts (Gap place) = IsGap None pages place
-IsCause pages receipts (NotOurs n) =
-    AreInOrder None pages
-    × ((before : List Receipt) × (receipt : Receipt) × IsFirst pages receipts before receipt
-    × (receipt.number ≡ n) × (event_at pages n ≢ Some receipt.event))
-IsCause pages receipts (Doubled n) =
-    AreInOrder None pages
-    × ((before : List Receipt) × (receipt : Receipt) × IsFirst pages receipts before receipt
-    × (receipt.number ≡ n) × IsOurs pages receipt × (has_number before n ≡ true))
-IsCause pages receipts (Unclaimed n) =
-    AreInOrder None pages × IsPart pages receipts × (event_at pages n ≢ None)
-    × (has_number receipts n ≡ false)
-    × ((k : ℕ) → k < n → event_at pages k ≢ None → has_number receipts k ≡ true)
 IsCause pages receipts Memory = AreInOrder None pages
+IsCause pages receipts fault = AreInOrder None pages × IsNoUnion pages receipts fault
 
 -- a page's events are legal from its base and lead to its result
 pub record IsReplayed (page : PageState) : Type 0 where

@@ -1,9 +1,12 @@
 pub mod Faults
 pub mod Marks
+pub mod Receipts
 pub mod Passes
 pub mod Refusals
 pub mod Gaps
 pub mod Claims
+pub mod Ledgers
+pub mod Laws
 pub mod Telling
 pub mod Answering
 pub mod Told

@@ -1,14 +1,21 @@
 -- What a pass has, and what a call does to it.
-use Rattle.std.specs.Prelude.{◌≡◌, ◌≤◌, ℕ, ◌+◌, List, ◌++◌, ◌∷◌, [], flat_map, Result, IfOk, OnErr}
+use Rattle.std.specs.Prelude.{◌≡◌, ◌<◌, ◌≤◌, ℕ, ◌+◌, List, ◌++◌, ◌∷◌, [], flat_map, Result, IfOk, OnErr}
+use Rattle.std.specs.List.{All}
 use Rattle.sipl_book.specs.declared.event.Event.{Event}
 use Rattle.sipl_service.specs.declared.fault.ServiceFault.{ServiceFault}
+use Rattle.sipl_service.specs.Receipts.{IsAscending}
 use Rattle.sipl_service.specs.declared.receipt.Receipt.{Receipt}
 
--- the receipts of the calls, in their order, and one more than the greatest number of an event that
--- was seen
+-- the receipts of the calls since the last hand-over, in their order, and one more than the greatest
+-- number of an event that was seen
 pub record PassState : Type 0 where
   pub receipts : List Receipt
   pub front : ℕ
+
+-- the receipts are in the order of their numbers, which were seen
+pub record IsPass (pass : PassState) : Type 0 where
+  pub ascending : IsAscending pass.receipts
+  pub seen : All (λ receipt. receipt.number < pass.front) pass.receipts
 
 -- the receipt of an event with its number
 abbrev pub receipt_of : ℕ → Event → Receipt

@@ -31,7 +31,7 @@ pub fn claim(alloc: Global, pages: &[Page], passes: &[Pass]) -> Result<(), Claim
         IsLegal page.client page.held (events_in pages.now) empty_state) pages.now) }
 {
     if let Some(place) = first_gap(pages) {
-        return Err(ClaimFault::Gap(place));
+        return Err(ClaimFault::Gap(place as u64));
     }
     let Ok(events) = join(alloc, pages) else {
         return Err(ClaimFault::Memory);
@@ -57,7 +57,7 @@ pub fn claim(alloc: Global, pages: &[Page], passes: &[Pass]) -> Result<(), Claim
 }
 
 // The number of the first event of all pages; 0 where there is no page.
-fn first_number(pages: &[Page]) -> u64
+pub(crate) fn first_number(pages: &[Page]) -> u64
     ensures first { result ≡ first_in pages.now }
     ensures limit { result ≤ 2 ^ 52 }
 {
@@ -68,7 +68,7 @@ fn first_number(pages: &[Page]) -> u64
 }
 
 // The events of all pages, in their order. The only error is an allocation failure.
-fn join<'a>(alloc: Global, pages: &'a [Page]) -> Result<Vec<&'a Event>, AllocError>
+pub(crate) fn join<'a>(alloc: Global, pages: &'a [Page]) -> Result<Vec<&'a Event>, AllocError>
     ensures events { IfOk result (λ events.
         map (λ event. event.now) events.items ≡ events_in pages.now) }
     ensures pages { OnOk result (All IsReplayed pages.now) }
@@ -85,7 +85,7 @@ fn join<'a>(alloc: Global, pages: &'a [Page]) -> Result<Vec<&'a Event>, AllocErr
 
 // Marks the place of the receipt's number, where the event of that number is the receipt's and the place
 // is free.
-fn mark(
+pub(crate) fn mark(
     marks: &mut Vec<bool>,
     first: u64,
     events: &[&Event],
@@ -130,7 +130,7 @@ fn is_ours(first: u64, events: &[&Event], receipt: &Receipt) -> bool
 }
 
 // The least place that is not marked.
-fn first_free(marks: &[bool]) -> Option<usize>
+pub(crate) fn first_free(marks: &[bool]) -> Option<usize>
     ensures free { IfSome result (λ n. (n < length marks.now)
         × (slice_index_or marks.now n false ≡ false)
         × ((k : ℕ) → k < n → slice_index_or marks.now k false ≡ true)) }

@@ -83,7 +83,8 @@ impl<T: Drop> From<AllocFailed<T>> for ServiceFault {
     }
 }
 
-/// Why the events of some pages are not the union of the receipts of some passes.
+/// Why the events of some pages are not the union of the receipts of some passes, or a page is not
+/// claimed by a ledger.
 #[derive(Clone, Copy, Debug, PartialEq, Eq, Hash, Error)]
 pub enum ClaimFault {
     /// L3: no receipt has the number of this event, the least such number.
@@ -92,12 +93,13 @@ pub enum ClaimFault {
     /// L4: a receipt has this number, and the pages have no such event, or another one there.
     #[error("the pages have another event {0}, or none")]
     NotOurs(u64),
-    /// L5: an earlier receipt has this number too.
+    /// L5: an earlier receipt has this number too, or a ledger has claimed it.
     #[error("two receipts have event {0}")]
     Doubled(u64),
-    /// L8: the page at this place, from 0, does not follow the one before it; the least such place.
+    /// L8: the page at this place, from 0, does not follow the one before it; the least such place. Of a
+    /// ledger, the page with this first number does not follow what was claimed.
     #[error("page {0} does not follow the one before it")]
-    Gap(usize),
+    Gap(u64),
     /// An allocation failed.
     #[error("out of memory")]
     Memory,

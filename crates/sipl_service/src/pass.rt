@@ -1,16 +1,19 @@
 ghost use Rattle.std.specs.Prelude.{◌≡◌, [], max};
 
 use crate::receipt::Receipt;
+use crate::receipts::Receipts;
 use std::alloc::{AllocError, Global};
 use std::marker::Model;
+use std::mem;
 
-/// What a caller knows of a service: the receipts of its calls, in their order, and one more than the
-/// greatest number of an event that it has seen, its front. Each call of a pass has a number from the
+/// What a caller knows of a service: the receipts of its calls since it handed over, in their order, and
+/// one more than the greatest number of an event that it has seen, its front. Each call of a pass has a number from the
 /// front on: what a caller receives is never older than what it did, or saw, before.
 #[derive(Drop)]
 pub struct Pass {
     pub(crate) receipts: Vec<Receipt>,
     pub(crate) front: u64,
+    alloc: Global,
 }
 
 impl Model for Pass {
@@ -18,7 +21,12 @@ impl Model for Pass {
 
     ghost Value = { PassState };
 
+    ghost use Rattle.sipl_service.specs.Passes.{IsPass};
+
     ghost view = { λ pass. record { receipts = pass.receipts.items; front = pass.front } };
+
+    ghost invariant = { λ pass.
+        IsPass (record { receipts = pass.receipts.items; front = pass.front }) };
 }
 
 impl Pass {
@@ -29,10 +37,11 @@ impl Pass {
         Pass {
             receipts: Vec::new(alloc),
             front: 0,
+            alloc,
         }
     }
 
-    /// The receipts of the calls, in their order.
+    /// The receipts of the calls since the pass handed over, in their order.
     pub fn receipts(&self) -> &[Receipt]
         ensures { result.now ≡ self.now.receipts }
     {
@@ -44,6 +53,14 @@ impl Pass {
         ensures { result ≡ self.now.front }
     {
         self.front
+    }
+
+    /// Takes the receipts out, for a `Ledger`. The front stays. Does not allocate.
+    pub fn hand_over(&mut self) -> Receipts
+        ensures receipts { result ≡ self.old.receipts }
+        ensures front { self.new ≡ record { receipts = []; front = self.old.front } }
+    {
+        Receipts::from_vec(mem::replace(&mut self.receipts, Vec::new(self.alloc)))
     }
 
     // Reserves the space of one more receipt.

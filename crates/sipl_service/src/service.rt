@@ -230,21 +230,19 @@ impl Service {
     /// `Book::turn_page` does. The numbers of events go on. Where an edit was made since the last page,
     /// the records are copied with the lock held.
     ///
-    /// The fault is the first one: the service was stopped (L6), no number is left for another page (B6).
-    /// Then nothing changes.
+    /// The fault is the first one: the service was stopped (L6), the book is for another client or
+    /// policy (L7), no number is left for another page (B6). Then nothing changes.
     pub fn turn_page<R: Wait>(&self, rt: &R) -> Result<Page, ServiceFault>
         ensures page { IfOk result (λ page. IsPage page) }
+        ensures client { IfOk result (λ page. page.client ≡ self.now.client) }
+        ensures held { IfOk result (λ page. page.held ≡ self.now.held) }
         ensures refused { IfErr result (λ fault. (fault ≡ ServiceFault.Stopped)
-            ⊎ (fault ≡ ServiceFault.Book BookFault.PagesSpent) ⊎ (fault ≡ ServiceFault.Memory)) }
+            ⊎ ((fault ≡ ServiceFault.OtherBook) ⊎ ((fault ≡ ServiceFault.Book BookFault.PagesSpent)
+            ⊎ (fault ≡ ServiceFault.Memory)))) }
     {
         let mut shared = self.lock(rt);
-        if shared.is_stopped {
-            return Err(ServiceFault::Stopped);
-        }
-        let page = shared.book.turn_page()?;
-        // Tells that it is a page.
-        let _next = page.next();
-        Ok(page)
+        shared.check(&self.abilities, self.held)?;
+        shared.turn_page()
     }
 
     /// Takes the events since the last page out, for the service's client and policy on held endpoints.

@@ -1,10 +1,11 @@
 //! What is under the lock: a book, and where the versions of its record sets are.
-ghost use Rattle.std.specs.Prelude.{◌≡◌, ◌↔◌, [], None, Some, false, IfOk, IfErr, IfSome, OnOk, OnErr};
+ghost use Rattle.std.specs.Prelude.{◌≡◌, ◌↔◌, ◌⊎◌, [], None, Some, false, IfOk, IfErr, IfSome, OnOk, OnErr};
 ghost use Rattle.std.specs.Option.{option_copied};
 ghost use Rattle.sipl_records.specs.Sets.{is_existence, same_key};
 ghost use Rattle.sipl_records.specs.declared.record.Key.{Key};
 ghost use Rattle.sipl_zonestore.specs.Store.{number_in};
 ghost use Rattle.sipl_book.specs.Calls.{IsChanged};
+ghost use Rattle.sipl_book.specs.Pages.{IsPage, after_turn, page_of};
 ghost use Rattle.sipl_service.specs.Marks.{after_mark, key_edited, mark_of, marked_at};
 ghost use Rattle.sipl_service.specs.Passes.{GetsReceipt};
 ghost use Rattle.sipl_service.specs.Refusals.{unless_other, unless_stopped};
@@ -15,7 +16,7 @@ use crate::pass::Pass;
 use crate::steps;
 use crate::steps::NewEdit;
 use crate::versions::Versions;
-use sipl_book::{Book, Done, Event};
+use sipl_book::{Book, BookFault, Done, Event, Page};
 use sipl_choice::Abilities;
 use sipl_outages::Held;
 use sipl_records::Key;
@@ -71,6 +72,8 @@ impl Shared {
         ensures held { OnOk result (self.now.book.held ≡ held) }
         ensures refused { IfErr result (λ fault. unless_stopped self.now.is_stopped
             (unless_other abilities.now held self.now.book None) ≡ Some fault) }
+        ensures only { IfErr result
+            (λ fault. (fault ≡ ServiceFault.Stopped) ⊎ (fault ≡ ServiceFault.OtherBook)) }
     {
         if self.is_stopped {
             return Err(ServiceFault::Stopped);
@@ -128,5 +131,18 @@ impl Shared {
             self.marks.take_out_changed(&self.book, key);
         }
         Ok(done)
+    }
+
+    // Turns the page of the book.
+    pub fn turn_page(&mut self) -> Result<Page, ServiceFault>
+        ensures page { IfOk result (λ page. page ≡ page_of self.old.book) }
+        ensures is_page { IfOk result (λ page. IsPage page) }
+        ensures after { OnOk result (self.new.book ≡ after_turn self.old.book) }
+        ensures refused { IfErr result (λ fault. (fault ≡ ServiceFault.Book BookFault.PagesSpent)
+            ⊎ (fault ≡ ServiceFault.Memory)) }
+        ensures unchanged { OnErr result (self.new ≡ self.old) }
+        ensures stopped { self.new.is_stopped ≡ self.old.is_stopped }
+    {
+        Ok(self.book.turn_page()?)
     }
 }

@@ -21,7 +21,7 @@ use crate::told::Told;
 use sipl_book::{Book, BookFault, Done, Edit, Event, Uncommitted};
 use sipl_choice::{Abilities, Endpoint};
 use sipl_evidence::Evidence;
-use sipl_outages::{Board, Held};
+use sipl_outages::{Board, Held, SharedBoard};
 use sipl_plans::Finding;
 use sipl_srv::Draws;
 use sipl_uri::Question;
@@ -60,6 +60,7 @@ pub(crate) fn check_client(
     ensures held { OnOk result (book.now.held ≡ held) }
     ensures other { IfErr result
         (λ fault. unless_other abilities.now held book.now None ≡ Some fault) }
+    ensures only { IfErr result (λ fault. fault ≡ ServiceFault.OtherBook) }
 {
     if !is_for(book, abilities, held) {
         return Err(ServiceFault::OtherBook);
@@ -246,7 +247,8 @@ pub(crate) fn hand(
     if book.is_full() {
         return Err(ServiceFault::Book(BookFault::JournalFull));
     }
-    let told = tell_entry(alloc, book, number, asked)?;
+    let holds = book.share_board()?;
+    let told = tell_entry(alloc, book, number, asked, holds)?;
     let receipt = record(alloc, book, &told, copies)?;
     Ok(Answered {
         told,
@@ -280,10 +282,17 @@ fn record(
     })
 }
 
-// The answer of the current entry of a question. B1 where there is none.
-fn tell_entry(alloc: Global, book: &Book, number: u64, asked: Asked) -> Result<Told, ServiceFault>
+// The answer of the current entry of a question for these holds. B1 where there is none.
+fn tell_entry(
+    alloc: Global,
+    book: &Book,
+    number: u64,
+    asked: Asked,
+    holds: SharedBoard,
+) -> Result<Told, ServiceFault>
     requires client { book.now.client ≡ asked.abilities }
     requires held { book.now.held ≡ asked.held }
+    requires holds { holds ≡ book.now.board }
     ensures number { IfOk result (λ told. told.number ≡ number) }
     ensures asked { IfOk result (λ told. IsAnswerTo asked told) }
     ensures answer { IfOk result
@@ -299,7 +308,7 @@ fn tell_entry(alloc: Global, book: &Book, number: u64, asked: Asked) -> Result<T
         return Err(ServiceFault::Book(BookFault::NotCurrent));
     }
     let evidence = entry.share_evidence()?;
-    Ok(Told::of(alloc, number, asked, entry.layout(), evidence, book.board())?)
+    Ok(Told::of(alloc, number, asked, entry.layout(), evidence, holds)?)
 }
 
 // What a finding is committed with: what is asked, the evidence, which is shared with it, copies of the
@@ -361,7 +370,7 @@ pub(crate) fn commit(
         copies,
         answers,
     } = prepared;
-    let holds = book.board().dup(alloc)?;
+    let holds = book.share_board()?;
     let answers = drawn_again(
         alloc,
         &finding,

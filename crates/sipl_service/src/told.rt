@@ -8,7 +8,7 @@ ghost use Rattle.sipl_service.specs.Telling.{IsDecided, told_to};
 use crate::asked::Asked;
 use sipl_choice::Abilities;
 use sipl_evidence::Evidence;
-use sipl_outages::{Board, Held};
+use sipl_outages::{Board, Held, SharedBoard};
 use sipl_plans::{Answer, Layout, draw};
 use sipl_srv::Draws;
 use sipl_uri::Question;
@@ -28,7 +28,7 @@ pub struct Told {
     draws: Draws,
     answer: Answer,
     evidence: Arc<Evidence>,
-    holds: Board,
+    holds: SharedBoard,
 }
 
 impl Model for Told {
@@ -44,15 +44,15 @@ impl Model for Told {
 }
 
 impl Told {
-    // The answer of a layout, which this evidence decides, to what is asked; with the number of its
-    // event.
+    // The answer of a layout, which this evidence and these holds decide, to what is asked; with the
+    // number of its event.
     pub(crate) fn of(
         alloc: Global,
         number: u64,
         asked: Asked,
         layout: &Layout,
         evidence: Arc<Evidence>,
-        board: &Board,
+        holds: SharedBoard,
     ) -> Result<Self, AllocError>
         requires sound { IsSound (record {
           question = asked.question;
@@ -67,12 +67,11 @@ impl Told {
         ensures held { IfOk result (λ told. told.held ≡ asked.held) }
         ensures words { IfOk result (λ told. told.words ≡ asked.draws) }
         ensures answer { IfOk result
-            (λ told. told.answer ≡ draw layout.now board.now.holds asked.draws asked.held) }
+            (λ told. told.answer ≡ draw layout.now holds.holds asked.draws asked.held) }
         ensures evidence { IfOk result (λ told. told.items ≡ arc_value evidence) }
-        ensures board { IfOk result (λ told. told.board ≡ board.now) }
+        ensures board { IfOk result (λ told. told.board ≡ holds) }
     {
-        let answer = draw(alloc, layout, &asked.draws, board, asked.held)?;
-        let holds = board.dup(alloc)?;
+        let answer = draw(alloc, layout, &asked.draws, holds.get(), asked.held)?;
         Ok(Told::drawn(number, asked, answer, evidence, holds))
     }
 
@@ -83,7 +82,7 @@ impl Told {
         asked: Asked,
         answer: Answer,
         evidence: Arc<Evidence>,
-        holds: Board,
+        holds: SharedBoard,
     ) -> Self
         requires { IsDecided (told_to asked number answer (arc_value evidence) holds) }
         ensures { result ≡ told_to asked number answer (arc_value evidence) holds }
@@ -170,6 +169,6 @@ impl Told {
         ensures holds { result.now ≡ self.now.board }
         ensures decided { IsDecided self.now }
     {
-        &self.holds
+        self.holds.get()
     }
 }

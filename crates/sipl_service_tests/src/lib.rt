@@ -4,9 +4,13 @@
 #[cfg(test)]
 mod calls;
 #[cfg(test)]
+mod copies;
+#[cfg(test)]
 mod existence;
 #[cfg(test)]
 mod gates;
+#[cfg(test)]
+mod ledgers;
 #[cfg(test)]
 mod pages;
 #[cfg(test)]

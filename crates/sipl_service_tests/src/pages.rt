@@ -63,7 +63,7 @@ fn two_pages<R: Wait + Abort>(rt: &R, service: Service, ms: u64) -> (Page, Page)
 }
 
 // The page at the place does not follow.
-fn is_gap(rt: &impl Abort, alloc: Global, pages: &[Page; 2], place: usize) {
+fn is_gap(rt: &impl Abort, alloc: Global, pages: &[Page; 2], place: u64) {
     is_no_claim(rt, alloc, pages, &[], ClaimFault::Gap(place));
 }
 

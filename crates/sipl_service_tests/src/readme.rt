@@ -1,11 +1,12 @@
-// The README's example of threads: a zone is loaded by one caller, and asked for by another.
+// The README's examples of threads: a zone is loaded by one caller, and asked for by another; pages are
+// claimed one by one.
 use sipl_book::{Edit, Limits};
 use sipl_choice::{Abilities, Families, Transport};
 use sipl_masterfile::read_zone;
 use sipl_names::Name;
 use sipl_outages::Held;
 use sipl_plans::Answer;
-use sipl_service::{OpenGate, Pass, Service, Told, claim};
+use sipl_service::{Ledger, OpenGate, Pass, Service, Told, claim};
 use sipl_srv::Draws;
 use sipl_uri::Uri;
 use std::alloc::Global;
@@ -44,6 +45,39 @@ fn closes(alloc: Global, service: Service, passes: Vec<Pass>) -> anyhow::Result<
         claim(alloc, &[page], passes.as_slice())?;
     }
     Ok(())
+}
+
+fn claims_a_page<R: Wait>(
+    rt: &R,
+    service: &Service,
+    ledger: &mut Ledger,
+    passes: &mut [Pass],
+) -> anyhow::Result<()> {
+    let page = service.turn_page(rt)?;
+    for pass in passes {
+        if ledger.add(pass.hand_over()).is_err() {
+            anyhow::bail!("out of memory");
+        }
+    }
+    Ok(ledger.claim(&page)?)
+}
+
+// How many events are claimed of a service whose pages are turned twice.
+fn claimed<R: Wait>(rt: &R, alloc: Global) -> anyhow::Result<u64> {
+    let abilities = Abilities::new(vec![in alloc; Transport::Udp]?, Families::V4)?;
+    let service = Service::new(alloc, abilities, &Limits::greatest(), 4, Held::Out)?;
+    let mut ledger = Ledger::new(alloc);
+    let mut passes = [service.pass()];
+    loads(rt, alloc, &service, &mut passes[0])?;
+    claims_a_page(rt, &service, &mut ledger, &mut passes)?;
+    asks(rt, alloc, &service, &mut passes[0])?;
+    claims_a_page(rt, &service, &mut ledger, &mut passes)?;
+    Ok(ledger.next())
+}
+
+#[test]
+fn readme_example_of_a_long_service_claims_two_events(rt: HostRuntime) {
+    assert!(rt; matches!(claimed(&rt, rt.alloc()), Ok(2)));
 }
 
 #[test]

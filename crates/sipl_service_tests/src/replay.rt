@@ -1,7 +1,7 @@
 // Callers and repair workers in threads of their own, by a policy on held endpoints that is drawn; one step of
-// a caller in fifty turns the page. What each caller is told is drawn anew from its parts, and the events of
-// all pages are replayed: each answer among them is that of the plain program on the records and the holds at
-// its place.
+// a caller in fifty turns the page, and by one seed hands the receipts over, for a ledger that claims page by
+// page. What each caller is told is drawn anew from its parts, and the events of all pages are replayed: each
+// answer among them is that of the plain program on the records and the holds at its place.
 use crate::told::is_drawn_anew;
 use crate::values::{
     close, is_claimed, load_zone, new_service_by, question, record, tcp, turn_page,
@@ -13,7 +13,7 @@ use sipl_choice::{Abilities, Endpoint};
 use sipl_outages::{Board, Held};
 use sipl_plans::{Answer, plan_of};
 use sipl_records::Address;
-use sipl_service::{OpenGate, Pass, Service};
+use sipl_service::{ClaimFault, Ledger, OpenGate, Pass, Service};
 use sipl_srv::Draws;
 use sipl_uri::Question;
 use sipl_zonestore::{Changed, StoreFault, ZoneStore};
@@ -125,18 +125,63 @@ fn keep(rt: &impl Abort, pages: &mut Vec<Page>, page: Page) {
     pages.push(page).expect(rt, "out of memory");
 }
 
-// Turns the page, with the pages locked, so that they are in their order.
-fn turn<R: Wait + Abort>(rt: &R, service: &Service, pages: &Mutex<Vec<Page>>) {
-    let mut pages = pages.lock(rt);
+// The pages so far, and a ledger that claims them where all their receipts came.
+#[derive(Drop)]
+struct Claims {
+    pages: Vec<Page>,
+    ledger: Ledger,
+    claimed: usize,
+}
+
+impl Claims {
+    fn new(alloc: Global) -> Self {
+        Claims {
+            pages: Vec::new(alloc),
+            ledger: Ledger::new(alloc),
+            claimed: 0,
+        }
+    }
+
+    // Takes the receipts of a pass.
+    fn add(&mut self, rt: &impl Abort, pass: &mut Pass) {
+        assert!(rt; self.ledger.add(pass.hand_over()).is_ok(), "out of memory");
+    }
+
+    // Claims pages up to the first that lacks a receipt.
+    fn claim(&mut self, rt: &impl Abort) {
+        for page in &self.pages[self.claimed..] {
+            match self.ledger.claim(page) {
+                Ok(()) => self.claimed = self.claimed.saturating_add(1),
+                Err(ClaimFault::Unclaimed(_)) => return,
+                Err(_) => panic!(rt; "a receipt is of no event, or too many"),
+            }
+        }
+    }
+}
+
+// Turns the page, with the pages locked, so that they are in their order. Where it is a time to hand over, the
+// ledger takes the receipts of the caller, and claims what it can.
+fn turn<R: Wait + Abort>(
+    rt: &R,
+    service: &Service,
+    claims: &Mutex<Claims>,
+    pass: &mut Pass,
+    hands_over: bool,
+) {
+    let mut claims = claims.lock(rt);
     let page = turn_page(rt, service);
-    keep(rt, &mut pages, page);
+    keep(rt, &mut claims.pages, page);
+    if hands_over {
+        claims.add(rt, pass);
+        claims.claim(rt);
+    }
 }
 
 fn calls<R: Wait + Abort>(
     rt: &R,
     alloc: Global,
     service: &Service,
-    pages: &Mutex<Vec<Page>>,
+    claims: &Mutex<Claims>,
     pass: &mut Pass,
     seed: u64,
     caller: u64,
@@ -144,7 +189,7 @@ fn calls<R: Wait + Abort>(
     let mut chance = Pcg32::new(seed, caller);
     for number in 0..CALLS {
         if chance.next_word() % 50 == 0 {
-            turn(rt, service, pages);
+            turn(rt, service, claims, pass, is_rolling(seed));
         }
         let kind = chance.next_word();
         let word = chance.next_word();
@@ -157,7 +202,7 @@ fn all_calls<R: Threads + Wait + Abort + Sync>(
     rt: &R,
     alloc: Global,
     service: &Service,
-    pages: &Mutex<Vec<Page>>,
+    claims: &Mutex<Claims>,
     passes: &mut [Pass],
     seed: u64,
 ) {
@@ -167,7 +212,7 @@ fn all_calls<R: Threads + Wait + Abort + Sync>(
                 rt,
                 alloc,
                 service,
-                pages,
+                claims,
                 pass,
                 seed,
                 caller as u64,
@@ -200,21 +245,47 @@ fn policy(seed: u64) -> Held {
     }
 }
 
-// Makes the calls, and closes the service. Its pages are claimed with the passes.
+// Whether the callers of a seed hand their receipts over as pages are turned.
+fn is_rolling(seed: u64) -> bool {
+    seed % 2 == 1
+}
+
+// All is claimed: by the ledger, to which the last receipts are added, or at once.
+fn all_is_claimed(
+    rt: &impl Abort,
+    alloc: Global,
+    claims: &mut Claims,
+    passes: &mut [Pass],
+    seed: u64,
+) {
+    if !is_rolling(seed) {
+        is_claimed(rt, alloc, &claims.pages, passes);
+        return;
+    }
+    assert!(rt; claims.claimed > 0, "no page was claimed before the end");
+    for pass in passes {
+        claims.add(rt, pass);
+    }
+    claims.claim(rt);
+    assert_eq!(rt; claims.claimed, claims.pages.len());
+    assert!(rt; claims.ledger.is_settled(), "a receipt waits");
+}
+
+// Makes the calls, and closes the service. Its pages are claimed with the receipts of the callers.
 fn closed<R: Threads + Wait + Abort + Sync>(rt: &R, alloc: Global, seed: u64) -> Vec<Page> {
     let service = new_service_by(rt, alloc, 16, policy(seed));
-    let pages = Mutex::new(Vec::new(alloc));
+    let claims = Mutex::new(Claims::new(alloc));
     let mut passes = passes(rt, alloc, &service);
     load(rt, alloc, &service, &mut passes);
     thread::join(
         rt,
         || service.run_workers(rt, 2, &OpenGate),
-        || all_calls(rt, alloc, &service, &pages, &mut passes, seed),
+        || all_calls(rt, alloc, &service, &claims, &mut passes, seed),
     );
-    let mut pages = pages.into_inner();
-    keep(rt, &mut pages, close(rt, service));
-    is_claimed(rt, alloc, &pages, &passes);
-    pages
+    let mut claims = claims.into_inner();
+    keep(rt, &mut claims.pages, close(rt, service));
+    all_is_claimed(rt, alloc, &mut claims, &mut passes, seed);
+    claims.pages
 }
 
 // ---- the replay

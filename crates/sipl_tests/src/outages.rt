@@ -1,4 +1,6 @@
 //! Holds and the clock.
+mod shared;
+
 use sipl_choice::{Endpoint, Transport};
 use sipl_outages::{Board, BoardFault, MAX_HOLDS, MAX_TIME};
 use sipl_records::Address;

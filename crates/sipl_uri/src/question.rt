@@ -69,7 +69,9 @@ pub struct Question {
 impl Question {
     /// A copy of the question. The only error is an allocation failure.
     pub fn dup(&self, alloc: Global) -> Result<Self, AllocError>
-        ensures { IfOk result (λ copy. copy ≡ self.now) }
+        ensures value { IfOk result (λ copy. copy ≡ self.now) }
+        ensures memory { OnErr result
+            ((address : Address) → self.now.target ≢ Target.Numeric address) }
     {
         Ok(Question {
             secure: self.secure,

@@ -8,6 +8,7 @@ pub mod AncestorCounts
 pub mod ChangedNames
 pub mod NameTables
 pub mod Counts
+pub mod Contents
 pub mod SetTables
 pub mod BareOwners
 pub mod Comparing
@@ -17,6 +18,7 @@ pub mod TableSteps
 pub mod Numbering
 pub mod Replacing
 pub mod Recorded
+pub mod SameRecords
 pub mod Lookups
 pub mod Limits
 pub mod Consistency

@@ -20,11 +20,12 @@ use Rattle.sipl_zonestore.specs.SetTable.{OwnerTable, content_of, numbers_of, ke
 use Rattle.sipl_zonestore.specs.IndexedRecords.{IndexedState, IsReplaced}
 use Rattle.sipl_zonestore.proofs.ChangedKeys.{changed-add, changed-remove, set-inside, data_of-without, data_of-others, stays}
 use Rattle.sipl_zonestore.proofs.Elements.{chosen-first, chosen-second}
-use Rattle.sipl_zonestore.proofs.SetTables.{number_of-numbers_of, is_empty-push}
+use Rattle.sipl_zonestore.proofs.Contents.{is_empty-push}
+use Rattle.sipl_zonestore.proofs.SetTables.{number_of-numbers_of}
 use Rattle.sipl_zonestore.proofs.Replacing.{IsReplacement, empty-number, accepted-numbers, refused-numbers, replaced-number, filter-numbered}
 
 -- the number of a set that stays
-kept-number : (old new : List Record) (sets : OwnerTable) (key : Key) → HasSets sets old → data_of new key ≡ data_of old key → (content_of sets key).number ≡ (if is_empty (data_of new key) then 0 else number_of (numbers_of sets) key)
+pub kept-number : (old new : List Record) (sets : OwnerTable) (key : Key) → HasSets sets old → data_of new key ≡ data_of old key → (content_of sets key).number ≡ (if is_empty (data_of new key) then 0 else number_of (numbers_of sets) key)
 kept-number old new sets key has same = empty_case (is_empty (data_of new key)) refl where
   empty_case : (b : Bool) → is_empty (data_of new key) ≡ b → (content_of sets key).number ≡ (if b then 0 else number_of (numbers_of sets) key)
   empty_case true gone = empty-number sets key (ap is_empty (has key ∙ sym same) ∙ gone)

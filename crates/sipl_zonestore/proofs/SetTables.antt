@@ -20,10 +20,7 @@ use Rattle.sipl_zonestore.specs.Numbers.{number_of, is_empty}
 use Rattle.sipl_zonestore.specs.Content.{Content, no_content, carried, pushed, without}
 use Rattle.sipl_zonestore.specs.SetTable.{OwnerTable, HaveData, content_of, has_no_data, held, no_sets, numbers_of, set_at, with_set}
 use Rattle.sipl_zonestore.specs.declared.owner_sets.OwnerSets.{OwnerSets}
-
-pub is_empty-push : (values : List Data) (value : Data) → is_empty (values ++ value ∷ []) ≡ false
-is_empty-push [] value = refl
-is_empty-push (first ∷ values) value = refl
+use Rattle.sipl_zonestore.proofs.Contents.{carried_none, is_empty-push}
 
 -- a set without a length is empty
 pub length-empty : (values : List Data) → (length values == 0) ≡ is_empty values
@@ -171,16 +168,6 @@ becomes-new f g es name kind of_records is none other =
       nothing Pointer = refl
       nothing Exists = refl
 
--- what edits make of the content
-pub carried-pushed : (number : ℕ) (value : Data) (set : Content) → carried number (set.values ++ value ∷ []) ≡ pushed number value (carried set.number set.values)
-carried-pushed number value set = rw (is_empty-push set.values value) refl
-
-pub carried-without : (value : Data) (set : Content) → carried set.number (filter (λ other. not (same_data value other)) set.values) ≡ without value (carried set.number set.values)
-carried-without value set = by_case set.number set.values where
-  by_case : (number : ℕ) (values : List Data) → carried number (filter (λ other. not (same_data value other)) values) ≡ without value (carried number values)
-  by_case number [] = refl
-  by_case number (first ∷ values) = refl
-
 -- all sets of an owner are empty
 all_empty : (sets : OwnerSets) → has_no_data sets ≡ true → (kind : Kind) → is_empty (set_at kind sets).values ≡ true
 all_empty sets none kind = at kind where
@@ -209,14 +196,10 @@ all_empty sets none kind = at kind where
   at Pointer = second (is_empty sets.address4.values && is_empty sets.address6.values && is_empty sets.alias.values && is_empty sets.service.values) (is_empty sets.pointer.values) none
   at Exists = refl
 
-carried-none : (number : ℕ) (values : List Data) → is_empty values ≡ true → no_content ≡ carried number values
-carried-none number [] empty = refl
-carried-none number (first ∷ values) empty = cc
-
 -- so that the owner may be removed
 pub becomes-gone : (f g : Content → Content) (es : OwnerTable) (name : Labels) (kind : Kind) (sets : OwnerSets) → same_kind kind Exists ≡ false → ((set : Content) → carried (g set).number (g set).values ≡ f (carried set.number set.values)) → Some sets ≡ lookup (same_name name) es → has_no_data (with_set kind (g (set_at kind sets)) sets) ≡ true → Becomes f es name kind None
 becomes-gone f g es name kind sets of_records is found none other =
-    carried-none (set_at other (with_set kind (g (set_at kind sets)) sets)).number (set_at other (with_set kind (g (set_at kind sets)) sets)).values (all_empty (with_set kind (g (set_at kind sets)) sets) none other)
+    carried_none (set_at other (with_set kind (g (set_at kind sets)) sets)).number (set_at other (with_set kind (g (set_at kind sets)) sets)).values (all_empty (with_set kind (g (set_at kind sets)) sets) none other)
     ∙ becomes-found f g es name kind sets of_records is found other
 
 -- an owner has data where one of its sets does

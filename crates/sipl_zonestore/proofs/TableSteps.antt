@@ -18,7 +18,7 @@ use Rattle.sipl_zonestore.specs.Content.{Content, carried, pushed, renumbered}
 use Rattle.sipl_zonestore.specs.SetTable.{OwnerTable, set_at, content_of, has_set, keys_left, numbered_content}
 use Rattle.sipl_zonestore.proofs.Elements.{any-filter}
 use Rattle.sipl_zonestore.proofs.Positions.{from-append, from-none}
-use Rattle.sipl_zonestore.proofs.SetTables.{is_empty-push}
+use Rattle.sipl_zonestore.proofs.Contents.{is_empty-push}
 
 -- the set of a key with one more record
 data_of-more : (records : List Record) (i : ℕ) (r : Record) (own : Option Key) (key : Key) → i < length records → r ≡ get_or records i r → key_of r ≡ own → data_of (take (i + 1) records) key ≡ data_of (take i records) key ++ cond (is_key key own) (r.value ∷ []) []

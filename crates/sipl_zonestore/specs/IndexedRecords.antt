@@ -1,5 +1,5 @@
 -- Records with an index of their sets, each of which has a number.
-use Rattle.std.specs.Prelude.{◌≡◌, ◌≢◌, ℕ, ◌+◌, ◌^◌, ◌≤◌, Bool, true, List, None, Some, Result, OnOk, OnErr, IfOk, IfErr}
+use Rattle.std.specs.Prelude.{◌≡◌, ◌≢◌, ℕ, ◌+◌, ◌^◌, ◌≤◌, Bool, true, List, [], None, Some, Result, OnOk, OnErr, IfOk, IfErr}
 use Rattle.sipl_names.specs.Labels.{Labels}
 use Rattle.sipl_records.specs.Sets.{existence_of}
 use Rattle.sipl_records.specs.declared.data.Data.{Data}
@@ -30,6 +30,10 @@ pub record IsIndexed (records : List Record) (sets : OwnerTable) (bare : Labels 
   pub has_names : HasNames names records
   pub lent : existence ≡ existence_of true
   pub last : next ≤ 2 ^ 52 + 1
+
+-- no set changed
+abbrev pub nothing : Changed
+nothing = record { keys = []; sets = 0 }
 
 -- the records become these, unless too few numbers are left
 pub record IsReplaced (records : List Record) (old new : IndexedState)

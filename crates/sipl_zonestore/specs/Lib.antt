@@ -16,4 +16,5 @@ pub mod BareOwners
 pub mod NameTable
 pub mod IndexedRecords
 pub mod RecordList
+pub mod RecordSet
 pub use Rattle.sipl_masterfile.specs.Zones

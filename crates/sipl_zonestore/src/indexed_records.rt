@@ -1,5 +1,6 @@
 //! Records with an index of their sets.
-ghost use Rattle.std.specs.Prelude.{◌≡◌, ◌≤◌, ◌^◌, ◌+◌, ◌&&◌, ◌||◌, not, [], ◌∷◌, ◌++◌, length, true, false, None, if◌then◌else◌, IfOk, IfErr, OnOk, OnErr};
+ghost use Rattle.std.specs.Prelude.{◌≡◌, ◌≤◌, ◌^◌, ◌+◌, ◌&&◌, ◌||◌, not, [], ◌∷◌, ◌++◌, length, true, false, None, Ok, if◌then◌else◌, IfOk, IfErr, OnOk, OnErr};
+ghost use Rattle.std.specs.Bool.{OnTrue};
 ghost use Rattle.std.specs.Borrow.{sem};
 ghost use Rattle.std.specs.Io.BufRead.{Rests};
 ghost use Rattle.std.specs.List.{count_by, list_all, list_any};
@@ -14,7 +15,7 @@ ghost use Rattle.sipl_zonestore.specs.Content.{no_content};
 ghost use Rattle.sipl_zonestore.specs.SetTable.{content_of};
 ghost use Rattle.sipl_zonestore.specs.Store.{records_outside};
 ghost use Rattle.sipl_zonestore.specs.Edits.{records_without};
-ghost use Rattle.sipl_zonestore.specs.IndexedRecords.{IsReplaced};
+ghost use Rattle.sipl_zonestore.specs.IndexedRecords.{IsReplaced, nothing};
 
 use crate::ancestors::with_ancestors;
 use crate::bare_owners::{bare_owner, bare_owners, insert_owner, remove_owner, replace_owners};
@@ -30,6 +31,7 @@ use crate::set_numbers::{
     removed_count, sets_of,
 };
 use crate::sets::SetTable;
+use crate::unchanged::{is_loaded, no_change};
 use indexmap::{IndexMap, IndexSet};
 use sipl_names::Name;
 use sipl_records::{Data, Key, Record};
@@ -170,12 +172,38 @@ impl IndexedRecords {
     }
 
     // Replaces the records within the apex by those of a text, which are last. Returns what they
-    // changed.
+    // changed. Does not allocate where they are loaded, and last, already.
     pub(crate) fn replace_within(
         &mut self,
         apex: &Name,
         text: &[Record],
     ) -> Result<Changed, StoreFault>
+        requires distinct { has_repeats self.old.records ≡ false }
+        requires text_distinct { has_repeats text.now ≡ false }
+        requires within { list_all (λ r. is_within r.owner apex.now) text.now ≡ true }
+        ensures { IsReplaced (records_outside apex.now self.old.records ++ text.now)
+            self.old self.new result }
+    {
+        if self.has_loaded(apex, text) {
+            return Ok(no_change(self.alloc));
+        }
+        self.replace(apex, text)
+    }
+
+    // Whether a text has the records within the apex, and they are last.
+    fn has_loaded(&mut self, apex: &Name, text: &[Record]) -> bool
+        requires within { list_all (λ r. is_within r.owner apex.now) text.now ≡ true }
+        ensures loaded { OnTrue result
+            (IsReplaced (records_outside apex.now self.old.records ++ text.now)
+            self.old self.old (Ok nothing)) }
+        ensures unchanged { self.new ≡ self.old }
+    {
+        is_loaded(self.records.as_slice(), apex, text)
+    }
+
+    // Replaces the records within the apex by those of a text, which are last. Returns what they
+    // changed.
+    fn replace(&mut self, apex: &Name, text: &[Record]) -> Result<Changed, StoreFault>
         requires distinct { has_repeats self.old.records ≡ false }
         requires text_distinct { has_repeats text.now ≡ false }
         requires within { list_all (λ r. is_within r.owner apex.now) text.now ≡ true }

@@ -13,6 +13,7 @@ mod fault;
 mod indexed_records;
 pub mod laws;
 mod name_table;
+mod numbered_set;
 mod owner_codes;
 mod owner_sets;
 mod places;
@@ -21,6 +22,7 @@ mod record_set;
 mod set_numbers;
 mod sets;
 mod store;
+mod unchanged;
 mod zones;
 
 pub use changed::Changed;

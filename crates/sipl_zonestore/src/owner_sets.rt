@@ -1,7 +1,7 @@
 //! The record sets of one owner.
 ghost use Rattle.std.specs.Prelude.{◌≡◌, [], false, OnOk, OnErr};
 ghost use Rattle.std.specs.Borrow.{sem};
-ghost use Rattle.sipl_zonestore.specs.Content.{data_without, pushed, with_number};
+ghost use Rattle.sipl_zonestore.specs.Content.{pushed, renumbered, without};
 ghost use Rattle.sipl_records.specs.Sets.{same_kind};
 ghost use Rattle.sipl_zonestore.specs.SetTable.{has_no_data, held, no_sets, set_at, with_set};
 ghost use Rattle.sipl_zonestore.specs.Lending.{LendsSet};
@@ -10,7 +10,7 @@ use crate::record_set::RecordSet;
 use sipl_records::{Data, Kind};
 use std::alloc::{AllocError, Global};
 
-// A set for each kind, most of them empty.
+// A set for each kind. Most of them are empty, and take the room of a pointer.
 #[derive(Drop)]
 pub(crate) struct OwnerSets {
     address4: RecordSet,
@@ -22,15 +22,15 @@ pub(crate) struct OwnerSets {
 
 impl OwnerSets {
     // Empty sets. Does not allocate.
-    pub(crate) fn new(alloc: Global) -> Self
+    pub(crate) fn new() -> Self
         ensures { result ≡ no_sets }
     {
         OwnerSets {
-            address4: RecordSet::new(alloc),
-            address6: RecordSet::new(alloc),
-            alias: RecordSet::new(alloc),
-            service: RecordSet::new(alloc),
-            pointer: RecordSet::new(alloc),
+            address4: RecordSet::new(),
+            address6: RecordSet::new(),
+            alias: RecordSet::new(),
+            service: RecordSet::new(),
+            pointer: RecordSet::new(),
         }
     }
 
@@ -66,28 +66,33 @@ impl OwnerSets {
     }
 
     // Appends a datum to the set of this kind, which gets this number.
-    pub(crate) fn push(&mut self, kind: Kind, number: u64, value: Data) -> Result<(), AllocError>
+    pub(crate) fn push(
+        &mut self,
+        alloc: Global,
+        kind: Kind,
+        number: u64,
+        value: Data,
+    ) -> Result<(), AllocError>
         requires { same_kind kind Kind.Exists ≡ false }
         ensures pushed { OnOk result
             (self.new ≡ with_set kind (pushed number value (set_at kind self.old)) self.old) }
         ensures unchanged { OnErr result (self.new ≡ self.old) }
     {
-        self.set_mut(kind).push(number, value)
+        self.set_mut(kind).push(alloc, number, value)
     }
 
     // Removes a datum from the set of this kind.
     pub(crate) fn remove(&mut self, kind: Kind, value: &Data)
         requires { same_kind kind Kind.Exists ≡ false }
-        ensures { self.new
-            ≡ with_set kind (data_without value.now (set_at kind self.old)) self.old }
+        ensures { self.new ≡ with_set kind (without value.now (set_at kind self.old)) self.old }
     {
         self.set_mut(kind).remove(value);
     }
 
-    // Numbers the set of this kind.
+    // Numbers the set of this kind, unless it is empty.
     pub(crate) fn set_number(&mut self, kind: Kind, number: u64)
         requires { same_kind kind Kind.Exists ≡ false }
-        ensures { self.new ≡ with_set kind (with_number number (set_at kind self.old)) self.old }
+        ensures { self.new ≡ with_set kind (renumbered number (set_at kind self.old)) self.old }
     {
         self.set_mut(kind).set_number(number);
     }

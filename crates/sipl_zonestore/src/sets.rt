@@ -88,10 +88,10 @@ impl SetTable {
         ensures unchanged { OnErr result (self.new ≡ self.old) }
     {
         if let Some(sets) = self.owners.get_mut(owner) {
-            return sets.push(kind, number, value);
+            return sets.push(alloc, kind, number, value);
         }
-        let mut sets = OwnerSets::new(alloc);
-        sets.push(kind, number, value)?;
+        let mut sets = OwnerSets::new();
+        sets.push(alloc, kind, number, value)?;
         let name = owner.dup(alloc)?;
         self.owners.insert(name, sets)?;
         Ok(())
@@ -111,7 +111,8 @@ impl SetTable {
         };
         sets.remove(kind, value);
         if sets.is_empty() {
-            self.owners.swap_remove(owner);
+            let removed = self.owners.swap_remove(owner);
+            drop(removed);
         }
     }
 

@@ -47,6 +47,13 @@ impl Zones {
         Zones { apexes, records }
     }
 
+    /// A copy. The only error is an allocation failure. Linear in the apexes and the records.
+    pub fn dup(&self, alloc: Global) -> Result<Self, AllocError>
+        ensures { IfOk result (λ copy. copy ≡ self.now) }
+    {
+        Zones::copied(alloc, &self.apexes, &self.records)
+    }
+
     /// The apexes of the loaded zones, in the order of addition.
     pub fn apexes(&self) -> &[Name]
         ensures { result.now ≡ self.now.apexes }

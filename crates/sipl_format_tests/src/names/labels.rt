@@ -27,9 +27,7 @@ fn is_name(alloc: Global, found: &Name, text: &[u8]) -> bool {
 
 // The wildcard domain name beside the name.
 fn beside(alloc: Global, text: &[u8]) -> Option<Name> {
-    let mut wildcard = name(alloc, text).ok()?;
-    wildcard.to_wildcard();
-    Some(wildcard)
+    name(alloc, text).ok()?.wildcard_beside(alloc).ok()
 }
 
 // Whether this is the wildcard domain name beside the name.
@@ -94,7 +92,7 @@ fn a_name_has_at_most_127_labels(rt: HostRuntime) {
 }
 
 #[test]
-fn to_wildcard_replaces_the_first_label(rt: HostRuntime) {
+fn wildcard_beside_replaces_the_first_label(rt: HostRuntime) {
     let rows: [(&[u8], &[u8]); 6] = [
         (b"WWW.Example\\.x", b"*.example\\.x."),
         (b"a.b", b"*.b."),

@@ -22,7 +22,7 @@ returns-then-not-is_empty c = λ next kind.
     let found = c.in-Some-content_at.found.now in
     let some : name ≢ [] = λ at_root. let never : false ≡ true = sym c.if-not-is_root.true ∙ c.is_root.ensures.1 at_root in cc never in
     let there = some_from_length found (sym c.is_empty.ensures ∙ c.if-not-is_empty.true) in
-    let wildcard = c.to_wildcard.ensures.value ∙ wildcard-parent name parent some c.loop-more.invariant.parent in
+    let wildcard = c.in_ok-wildcard.ensures.value ∙ wildcard-parent name parent some c.loop-more.invariant.parent in
     c.loop-more.invariant.same next kind
     ∙ climb-found items (at_source next kind) c.loop-more.more name parent found c.loop-more-test.true some c.loop-more.invariant.parent (sym c.in-Some-content_at.ensures.content) there
     ∙ ap (λ source. advance items (at_name next kind source (done []))) (sym wildcard)

@@ -10,9 +10,9 @@ returns-clause-few c =
     let left = c.match-held.targets.items in
     elim c.match-held.branch [
       | in-Out w ↦
-          without-few holds endpoints left c.from_vec.result
-          ((λ k. (w.targets-is k).items) ∙ w.without_held-targets.ensures) c.from_vec.ensures
+          without-few holds endpoints left c.in_ok-shared.shared
+          ((λ k. (w.targets-is k).items) ∙ w.without_held-targets.ensures) c.in_ok-shared.ensures
       | in-Last+in_ok-targets-in-Last w ↦
-          last-few holds endpoints left c.from_vec.result
-          ((λ k. (w.targets-is k).items) ∙ w.in_ok-targets-in-Last.ensures) c.from_vec.ensures
+          last-few holds endpoints left c.in_ok-shared.shared
+          ((λ k. (w.targets-is k).items) ∙ w.in_ok-targets-in-Last.ensures) c.in_ok-shared.ensures
     ]

@@ -10,43 +10,43 @@ pub returns-then-exists : goal.returns-then-exists
 returns-then-exists c = λ next.
     none-exists c.args.records.now (λ encloser. next (wildcard_at encloser)) _ c.args.name.now (sym c.exists.ensures ∙ c.if-exists.true)
 
-pub loop-encloser-init : goal.loop-encloser-init
-loop-encloser-init c =
+pub loop-alloc-init : goal.loop-alloc-init
+loop-alloc-init c =
     let name = c.args.name.now in
     let same : c.in_ok-encloser.encloser ≡ name = c.in_ok-encloser.ensures.value in
     let valid : IsName name = subst IsName same c.in_ok-encloser.ensures.limits in
     let absent : exists_in c.args.records.now name ≡ false = sym c.exists.ensures ∙ c.if-exists.false in (
-      c.in_ok-wildcard.ensures.value ∙ sym same,
+      c.in_ok-below.ensures.value ∙ sym same,
       λ next. all-enclosers c.args.records.now next name valid absent ∙ ap (λ e. result_of (set_of c.args.records.now) (at_encloser (length e) e next)) (sym same),
     )
 
 pub returns-then-exists-2 : goal.returns-then-exists-2
 returns-then-exists-2 c = λ next.
-    let name = c.loop-encloser.encloser in
+    let name = c.loop-alloc.encloser in
     let parent = c.pop_label.new.self in
-    let is : parent_of name ≡ Some parent = c.loop-encloser-test.ensures.popped refl in
-    let exists : exists_in c.args.records.now parent ≡ true = sym c.exists-in-loop-encloser.ensures ∙ c.if-exists-2.true in
-    c.loop-encloser.invariant.1 (λ encloser. next (wildcard_at encloser))
+    let is : parent_of name ≡ Some parent = c.loop-alloc-test.ensures.popped refl in
+    let exists : exists_in c.args.records.now parent ≡ true = sym c.exists-in-loop-alloc.ensures ∙ c.if-exists-2.true in
+    c.loop-alloc.invariant.1 (λ encloser. next (wildcard_at encloser))
     ∙ encloser-parent c.args.records.now (λ encloser. next (wildcard_at encloser)) name parent is exists
-    ∙ ap (λ w. result_of (set_of c.args.records.now) (next w)) (sym (c.to_wildcard.ensures.value ∙ ap wildcard_beside c.loop-encloser.invariant.0 ∙ beside-parent name parent is))
+    ∙ ap (λ w. result_of (set_of c.args.records.now) (next w)) (sym (c.in_ok-wildcard.ensures.value ∙ ap wildcard_beside c.loop-alloc.invariant.0 ∙ beside-parent name parent is))
 
-pub loop-encloser-smaller : goal.loop-encloser-smaller
-loop-encloser-smaller c =
-    parent-shorter c.loop-encloser.encloser c.pop_label.new.self (c.loop-encloser-test.ensures.popped refl)
+pub loop-alloc-smaller : goal.loop-alloc-smaller
+loop-alloc-smaller c =
+    parent-shorter c.loop-alloc.encloser c.pop_label.new.self (c.loop-alloc-test.ensures.popped refl)
 
-pub loop-encloser-preserved : goal.loop-encloser-preserved
-loop-encloser-preserved c =
-    let name = c.loop-encloser.encloser in
+pub loop-alloc-preserved : goal.loop-alloc-preserved
+loop-alloc-preserved c =
+    let name = c.loop-alloc.encloser in
     let parent = c.pop_label.new.self in
-    let is : parent_of name ≡ Some parent = c.loop-encloser-test.ensures.popped refl in
-    let absent : exists_in c.args.records.now parent ≡ false = sym c.exists-in-loop-encloser.ensures ∙ c.if-exists-2.false in
-    let same : parent_of c.loop-encloser.wildcard ≡ Some parent = ap parent_of c.loop-encloser.invariant.0 ∙ is in (
-      dropped-parent c.loop-encloser.wildcard parent c.pop_label-in-loop-encloser.new.self c.pop_label-in-loop-encloser.result same c.pop_label-in-loop-encloser.ensures.popped c.pop_label-in-loop-encloser.ensures.root,
-      λ next. c.loop-encloser.invariant.1 next ∙ encloser-above c.args.records.now next name parent is absent,
+    let is : parent_of name ≡ Some parent = c.loop-alloc-test.ensures.popped refl in
+    let absent : exists_in c.args.records.now parent ≡ false = sym c.exists-in-loop-alloc.ensures ∙ c.if-exists-2.false in
+    let same : parent_of c.loop-alloc.below ≡ Some parent = ap parent_of c.loop-alloc.invariant.0 ∙ is in (
+      dropped-parent c.loop-alloc.below parent c.pop_label-in-loop-alloc.new.self c.pop_label-in-loop-alloc.result same c.pop_label-in-loop-alloc.ensures.popped c.pop_label-in-loop-alloc.ensures.root,
+      λ next. c.loop-alloc.invariant.1 next ∙ encloser-above c.args.records.now next name parent is absent,
     )
 
 pub returns : goal.returns
 returns c = λ next.
-    let root = c.loop-encloser-test.ensures.root refl in
-    c.loop-encloser.invariant.1 (λ encloser. next (wildcard_at encloser))
+    let root = c.loop-alloc-test.ensures.root refl in
+    c.loop-alloc.invariant.1 (λ encloser. next (wildcard_at encloser))
     ∙ ap (λ e. result_of (set_of c.args.records.now) (at_encloser (length e) e (λ encloser. next (wildcard_at encloser)))) root.0

@@ -7,10 +7,10 @@ use Rattle.sipl_evidence.specs.Looks.{Asking, result_of}
 use Rattle.sipl_plans.proofs.look.source_of_synthesis.Given as goal
 
 -- the closest encloser is sought among the ancestors of the name that is left
-abbrev pub invariant-loop-encloser : goal.invariant-loop-encloser
-invariant-loop-encloser l =
-    (l.wildcard ≡ l.encloser)
+abbrev pub invariant-loop-alloc : goal.invariant-loop-alloc
+invariant-loop-alloc l =
+    (l.below ≡ l.encloser)
     × ((next : Labels → Asking (List Data)) → result_of (set_of l.records) (unless_exists max_ancestors l.name next) ≡ result_of (set_of l.records) (at_encloser (length l.encloser) l.encloser next))
 
-abbrev pub decreases-loop-encloser : goal.decreases-loop-encloser
-decreases-loop-encloser l = length l.encloser
+abbrev pub decreases-loop-alloc : goal.decreases-loop-alloc
+decreases-loop-alloc l = length l.encloser

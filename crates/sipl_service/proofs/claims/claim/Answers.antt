@@ -4,7 +4,7 @@ use Rattle.sipl_book.specs.declared.event.Event.{Event}
 use Rattle.sipl_service.specs.Passes.{receipts_of}
 use Rattle.sipl_service.proofs.Gaps.{no_gap}
 use Rattle.sipl_service.proofs.Joined.{joined-legal}
-use Rattle.sipl_service.proofs.Marked.{IsMarked, refutes, first-at, is_cause, is_unclaimed, is_union, marked-in}
+use Rattle.sipl_service.proofs.Marked.{IsMarked, refutes, first-at, is_cause, is_unclaimed, is_union, marked-all, marked-in}
 use Rattle.sipl_service.proofs.claims.claim.Goals as goal
 
 pub returns-in-Some-clause-exact : goal.returns-in-Some-clause-exact
@@ -28,11 +28,12 @@ loop-receipt-preserved c =
     c.loop-receipt.invariant c.loop-receipt-test.true c.receipt-item.is c.in-Ok-mark.ensures.ours c.in-Ok-mark.ensures.free c.in-Ok-mark.ensures.marked
 
 pub returns-in-Some-first_free-clause-cause : goal.returns-in-Some-first_free-clause-cause
-returns-in-Some-first_free-clause-cause c =
-    is_unclaimed c.args.pages.now c.args.passes.now c.loop-pass.pass-index c.as_slice.result.now (omega (arith, c.loop-pass-test.false))
-    (subst (IsMarked c.args.pages.now (receipts_of (take c.loop-pass.pass-index c.args.passes.now))) (sym c.as_slice.ensures.value) c.loop-pass.invariant)
-    c.first_number-first.result c.in-Some-first_free.place c.first_number-first.ensures.first c.in_default.ensures.none
-    c.in-Some-first_free.ensures.free.0 c.in-Some-first_free.ensures.free.1 c.in-Some-first_free.ensures.free.2
+returns-in-Some-first_free-clause-cause c = (
+  c.in_default.ensures.none,
+  is_unclaimed c.args.pages.now (receipts_of c.args.passes.now) c.as_slice.result.now
+      (marked-all c.args.pages.now c.args.passes.now c.loop-pass.pass-index c.loop-pass.marks.items c.as_slice.result.now c.as_slice.ensures.value (omega (arith, c.loop-pass-test.false)) c.loop-pass.invariant) c.first_number-first.result c.in-Some-first_free.place c.first_number-first.ensures.first
+      c.in-Some-first_free.ensures.free.0 c.in-Some-first_free.ensures.free.1 c.in-Some-first_free.ensures.free.2,
+)
 
 pub returns-in-Some-first_free-clause-exact : goal.returns-in-Some-first_free-clause-exact
 returns-in-Some-first_free-clause-exact c = λ ample. refutes _ _ _ ample (returns-in-Some-first_free-clause-cause c)
@@ -40,8 +41,8 @@ returns-in-Some-first_free-clause-exact c = λ ample. refutes _ _ _ ample (retur
 pub returns-clause-union : goal.returns-clause-union
 returns-clause-union c = (
   c.in_default.ensures.none,
-  is_union c.args.pages.now c.args.passes.now c.loop-pass.pass-index c.as_slice.result.now (omega (arith, c.loop-pass-test.false))
-      (subst (IsMarked c.args.pages.now (receipts_of (take c.loop-pass.pass-index c.args.passes.now))) (sym c.as_slice.ensures.value) c.loop-pass.invariant) c.in-None.ensures.none,
+  is_union c.args.pages.now (receipts_of c.args.passes.now) c.as_slice.result.now
+      (marked-all c.args.pages.now c.args.passes.now c.loop-pass.pass-index c.loop-pass.marks.items c.as_slice.result.now c.as_slice.ensures.value (omega (arith, c.loop-pass-test.false)) c.loop-pass.invariant) c.in-None.ensures.none,
 )
 
 pub returns-clause-legal : goal.returns-clause-legal

@@ -18,5 +18,5 @@ of-requires-clause-sound c =
 pub returns-clause-answer : goal.returns-clause-answer
 returns-clause-answer c =
     let current : c.in-Some.entry.now.is_current ≡ true = sym c.is_current.ensures ∙ c.if-not-is_current.false in
-    c.in_ok-of.ensures.answer ∙ (λ i. draw (c.layout.ensures.layout i) (c.board.ensures i).holds c.args.asked.draws (sym c.requires.held i))
+    c.in_ok-of.ensures.answer ∙ (λ i. draw (c.layout.ensures.layout i) (c.requires.holds i).holds c.args.asked.draws (sym c.requires.held i))
     ∙ entry-answer c.args.book.now c.args.asked.question c.args.asked.draws c.in-Some.entry.now c.entry.ensures.routes (sym c.in-Some.ensures.entry) c.in-Some.ensures.question current

@@ -7,7 +7,6 @@ use Rattle.sipl_book.specs.Cache.{CacheState}
 use Rattle.sipl_book.specs.Calls.{IsChanged}
 use Rattle.sipl_book.specs.Entries.{after_change}
 use Rattle.sipl_book.specs.Repairs.{after_marks, dependents}
-use Rattle.sipl_book.specs.declared.event.Event.TheVariants.{Change}
 use Rattle.sipl_book.proofs.Changing.{consistent-changed, made-change, refused-change}
 use Rattle.sipl_book.proofs.book.Book.change.Goals as goal
 
@@ -34,7 +33,7 @@ invariant_of-self-2 c =
       max_entries = k.max_entries;
     })) (sym cache)
     (consistent-changed c.args.edit _ c.apply.new.store c.in_ok-changed.changed events (changed keys).entries (changed keys).queue c.self.invariant c.in_ok-changed.ensures c.in_ok-reserve_event.ensures.few
-    (c.record_event-number.ensures.items ∙ ap (λ events. events ++ Change c.args.edit ∷ []) c.reserve_event.ensures.items) refl)
+    (c.record_event-number.ensures.items ∙ (λ i. c.reserve_event.ensures.items i ++ c.change_event-event.ensures i ∷ [])) refl)
 
 pub returns : goal.returns
 returns c =
@@ -56,4 +55,4 @@ returns c =
     }) (Ok (record { number = c.record_event-number.result; changed = c.in_ok-changed.changed.sets }))) (sym cache)
     (made-change c.args.edit (book_of inside) c.apply.new.store c.in_ok-changed.changed c.record_event-number.result events c.in_ok-changed.ensures c.in_ok-reserve_event.ensures.few
     (c.record_event-number.ensures.number ∙ ap (λ events. inside.first + length events) c.reserve_event.ensures.items)
-    (c.record_event-number.ensures.items ∙ ap (λ events. events ++ Change c.args.edit ∷ []) c.reserve_event.ensures.items)))
+    (c.record_event-number.ensures.items ∙ (λ i. c.reserve_event.ensures.items i ++ c.change_event-event.ensures i ∷ []))))

@@ -7,7 +7,8 @@ use Rattle.sipl_records.specs.Sets.{same_key}
 use Rattle.sipl_zonestore.specs.Content.{pushed}
 use Rattle.sipl_zonestore.specs.SetTable.{OwnerTable, content_of, has_no_data, no_sets, set_at, with_set}
 use Rattle.sipl_zonestore.specs.declared.owner_sets.OwnerSets.{OwnerSets}
-use Rattle.sipl_zonestore.proofs.SetTables.{Becomes, OnErr-map, becomes-found, becomes-new, carried-pushed, content-updated, data-found, data-updated, data-with_set, filled-push, is_empty-push, set_value-same}
+use Rattle.sipl_zonestore.proofs.Contents.{carried_pushed, is_empty-push}
+use Rattle.sipl_zonestore.proofs.SetTables.{Becomes, OnErr-map, becomes-found, becomes-new, content-updated, data-found, data-updated, data-with_set, filled-push, set_value-same}
 use Rattle.sipl_zonestore.proofs.sets.SetTable.push.Goals as goal
 
 pub invariant_of-self : goal.invariant_of-self
@@ -25,7 +26,7 @@ returns-in-Some-clause-pushed c =
     subst (λ (owners : OwnerTable). (key : Key) → content_of new key ≡ (if same_key (record { name = c.args.owner.now; kind = c.args.kind }) key then pushed c.args.number c.args.value (content_of owners key) else content_of owners key)) c.self.view_is
     (content-updated (pushed c.args.number c.args.value) c.self.inside.owners.entries new c.args.owner.now c.args.kind (Some written)
     ((c.get_mut.follows.holds written).3 (subst IsSome c.in-Some.ensures.value refl)).0
-    (subst (λ sets. Becomes (pushed c.args.number c.args.value) c.self.inside.owners.entries c.args.owner.now c.args.kind (Some sets)) (sym is) (becomes-found (pushed c.args.number c.args.value) (pushed c.args.number c.args.value) c.self.inside.owners.entries c.args.owner.now c.args.kind c.in-Some.sets.now c.requires (carried-pushed c.args.number c.args.value) c.in-Some.ensures.value))))
+    (subst (λ sets. Becomes (pushed c.args.number c.args.value) c.self.inside.owners.entries c.args.owner.now c.args.kind (Some sets)) (sym is) (becomes-found (pushed c.args.number c.args.value) (pushed c.args.number c.args.value) c.self.inside.owners.entries c.args.owner.now c.args.kind c.in-Some.sets.now c.requires (carried_pushed c.args.number c.args.value) c.in-Some.ensures.value))))
     c.push.ensures.pushed
 
 pub returns-in-Some-clause-unchanged : goal.returns-in-Some-clause-unchanged
@@ -51,4 +52,4 @@ returns-clause-pushed c =
     subst (λ (owners : OwnerTable). (key : Key) → content_of new key ≡ (if same_key (record { name = c.args.owner.now; kind = c.args.kind }) key then pushed c.args.number c.args.value (content_of owners key) else content_of owners key)) c.self.view_is
     (content-updated (pushed c.args.number c.args.value) c.self.inside.owners.entries new c.args.owner.now c.args.kind (Some c.push-2.new.self)
     (λ other. c.in_ok-insert.ensures.updates.0 other ∙ (λ i. cond (same_name (c.in_ok-name.ensures.value i) other) (Some c.push-2.new.self) (lookup (same_name other) (stored i))))
-    (subst (λ sets. Becomes (pushed c.args.number c.args.value) c.self.inside.owners.entries c.args.owner.now c.args.kind (Some sets)) (sym made) (becomes-new (pushed c.args.number c.args.value) (pushed c.args.number c.args.value) c.self.inside.owners.entries c.args.owner.now c.args.kind c.requires (carried-pushed c.args.number c.args.value) c.in_default.ensures.value)))
+    (subst (λ sets. Becomes (pushed c.args.number c.args.value) c.self.inside.owners.entries c.args.owner.now c.args.kind (Some sets)) (sym made) (becomes-new (pushed c.args.number c.args.value) (pushed c.args.number c.args.value) c.self.inside.owners.entries c.args.owner.now c.args.kind c.requires (carried_pushed c.args.number c.args.value) c.in_default.ensures.value)))

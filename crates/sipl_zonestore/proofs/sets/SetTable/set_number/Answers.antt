@@ -3,8 +3,9 @@ use Rattle.sipl_records.specs.declared.data.Data.{Data}
 use Rattle.sipl_records.specs.declared.record.Key.{Key}
 use Rattle.sipl_records.specs.Sets.{same_key}
 use Rattle.sipl_zonestore.specs.Numbers.{is_empty}
-use Rattle.sipl_zonestore.specs.Content.{Content, renumbered, with_number}
+use Rattle.sipl_zonestore.specs.Content.{Content, renumbered}
 use Rattle.sipl_zonestore.specs.SetTable.{OwnerTable, content_of, has_no_data, set_at}
+use Rattle.sipl_zonestore.proofs.Contents.{renumbered_carried}
 use Rattle.sipl_zonestore.proofs.SetTables.{becomes-found, content-is, content-none, content-stays, content-updated, data-found, data-same, data-updated, length-empty, set_at-with_set, Becomes}
 use Rattle.sipl_zonestore.proofs.sets.SetTable.set_number.Goals as goal
 
@@ -22,12 +23,12 @@ invariant_of-self-2 c =
     let written = c.set_number.new.self in
     data-updated c.self.inside.owners.entries (c.get_mut.follows.lender written).entries c.args.owner.now (Some written)
     ((c.get_mut.follows.holds written).3 (subst IsSome c.in-Some.ensures.value refl)).0 c.self.invariant
-    (ap has_no_data c.set_number.ensures ∙ data-same c.args.kind (with_number c.args.number (set_at c.args.kind c.in-Some.sets.now)) c.in-Some.sets.now refl ∙ data-found c.self.inside.owners.entries c.args.owner.now c.in-Some.sets.now c.self.invariant c.in-Some.ensures.value)
+    (ap has_no_data c.set_number.ensures ∙ data-same c.args.kind (renumbered c.args.number (set_at c.args.kind c.in-Some.sets.now)) c.in-Some.sets.now refl ∙ data-found c.self.inside.owners.entries c.args.owner.now c.in-Some.sets.now c.self.invariant c.in-Some.ensures.value)
 
 pub returns-clause-found : goal.returns-clause-found
 returns-clause-found c =
     ap not (c.is_empty.ensures ∙ length-empty c.get.result.1.now)
-    ∙ ap (λ (values : List Data). not (is_empty values)) (c.get.ensures.values ∙ ap (λ (set : Content). set.values) (ap (set_at c.args.kind) c.set_number.ensures ∙ set_at-with_set c.args.kind (with_number c.args.number (set_at c.args.kind c.in-Some.sets.now)) c.in-Some.sets.now c.requires))
+    ∙ ap (λ (values : List Data). not (is_empty values)) (c.get.ensures.values ∙ ap (λ (set : Content). set.values) (ap (set_at c.args.kind) c.set_number.ensures ∙ set_at-with_set c.args.kind (renumbered c.args.number (set_at c.args.kind c.in-Some.sets.now)) c.in-Some.sets.now c.requires))
     ∙ ap (λ (content : Content). not (is_empty content.values)) (sym (content-is c.self.inside.owners.entries c.args.owner.now c.args.kind c.in-Some.sets.now c.in-Some.ensures.value) ∙ ap (λ owners. content_of owners (record { name = c.args.owner.now; kind = c.args.kind })) c.self.view_is)
 
 pub returns-clause-numbered : goal.returns-clause-numbered
@@ -37,4 +38,4 @@ returns-clause-numbered c =
     subst (λ (owners : OwnerTable). (key : Key) → content_of new key ≡ (if same_key (record { name = c.args.owner.now; kind = c.args.kind }) key then renumbered c.args.number (content_of owners key) else content_of owners key)) c.self.view_is
     (content-updated (renumbered c.args.number) c.self.inside.owners.entries new c.args.owner.now c.args.kind (Some written)
     ((c.get_mut.follows.holds written).3 (subst IsSome c.in-Some.ensures.value refl)).0
-    (subst (λ sets. Becomes (renumbered c.args.number) c.self.inside.owners.entries c.args.owner.now c.args.kind (Some sets)) (sym c.set_number.ensures) (becomes-found (renumbered c.args.number) (with_number c.args.number) c.self.inside.owners.entries c.args.owner.now c.args.kind c.in-Some.sets.now c.requires (λ set. refl) c.in-Some.ensures.value)))
+    (subst (λ sets. Becomes (renumbered c.args.number) c.self.inside.owners.entries c.args.owner.now c.args.kind (Some sets)) (sym c.set_number.ensures) (becomes-found (renumbered c.args.number) (renumbered c.args.number) c.self.inside.owners.entries c.args.owner.now c.args.kind c.in-Some.sets.now c.requires (renumbered_carried c.args.number) c.in-Some.ensures.value)))

@@ -1,0 +1,88 @@
+// The receipts that wait with numbers below the end of some events.
+ghost use Rattle.std.specs.Prelude.{◌≡◌, ◌≢◌, ◌<◌, ◌≤◌, ◌-◌, ◌⊎◌, length, map, false, true, slice_set, slice_index_or, Some, IfErr, OnOk, vec_len};
+ghost use Rattle.sipl_service.specs.Claims.{IsUnion, event_in};
+ghost use Rattle.sipl_service.specs.Ledgers.{IsNoUnionAfter};
+ghost use Rattle.sipl_service.specs.Receipts.{all_receipts, due, later};
+
+use crate::claims::{first_free, first_number, join, mark};
+use crate::fault::ClaimFault;
+use crate::receipt::Receipt;
+use crate::receipts::Receipts;
+use sipl_book::{Event, Page};
+use std::alloc::Global;
+
+// Whether the events of the pages are the union of the receipts that wait with numbers below the end,
+// where those with numbers below the next were claimed.
+pub(crate) fn check(
+    alloc: Global,
+    next: u64,
+    end: u64,
+    pages: &[Page],
+    waiting: &[Receipts],
+) -> Result<(), ClaimFault>
+    ensures union { OnOk result (IsUnion pages.now (due end (all_receipts waiting.now))) }
+    ensures cause { IfErr result (λ fault. fault ≢ ClaimFault.Memory
+        → IsNoUnionAfter next pages.now (due end (all_receipts waiting.now)) fault) }
+{
+    let Ok(events) = join(alloc, pages) else {
+        return Err(ClaimFault::Memory);
+    };
+    let mut marks = Vec::new(alloc);
+    if marks.resize(events.len(), false).is_err() {
+        return Err(ClaimFault::Memory);
+    }
+    let first = first_number(pages);
+    for handed in waiting {
+        let count = handed.count_due(end);
+        for place in 0..count {
+            match mark_new(&mut marks, next, first, &events, handed.get(place)) {
+                Ok(()) => {}
+                Err(fault) => return Err(fault),
+            }
+        }
+    }
+    match first_free(marks.as_slice()) {
+        Some(place) => Err(ClaimFault::Unclaimed(first + place as u64)),
+        None => Ok(()),
+    }
+}
+
+// As `mark`; a receipt with a number below the next is one too many.
+fn mark_new(
+    marks: &mut Vec<bool>,
+    next: u64,
+    first: u64,
+    events: &[&Event],
+    receipt: &Receipt,
+) -> Result<(), ClaimFault>
+    requires { vec_len marks.old ≡ length events.now }
+    ensures len { vec_len marks.new ≡ vec_len marks.old }
+    ensures ours { OnOk result (event_in first (map (λ event. event.now) events.now)
+        receipt.now.number ≡ Some receipt.now.event) }
+    ensures free { OnOk result
+        (slice_index_or marks.old.items (receipt.now.number - first) false ≡ false) }
+    ensures marked { OnOk result
+        (marks.new.items ≡ slice_set marks.old.items (receipt.now.number - first) true) }
+    ensures cause { IfErr result (λ fault.
+        let here = event_in first (map (λ event. event.now) events.now) receipt.now.number in
+        ((fault ≡ ClaimFault.Doubled receipt.now.number) × (receipt.now.number < next))
+        ⊎ (((fault ≡ ClaimFault.NotOurs receipt.now.number) × (next ≤ receipt.now.number)
+        × (here ≢ Some receipt.now.event))
+        ⊎ ((fault ≡ ClaimFault.Doubled receipt.now.number) × (here ≡ Some receipt.now.event)
+        × (slice_index_or marks.old.items (receipt.now.number - first) false ≡ true)))) }
+{
+    if receipt.number < next {
+        return Err(ClaimFault::Doubled(receipt.number));
+    }
+    mark(marks, first, events, receipt)
+}
+
+// Lets go of the receipts with numbers below the end. Does not allocate.
+pub(crate) fn let_go(waiting: &mut Vec<Receipts>, end: u64)
+    ensures { all_receipts waiting.new.items ≡ later end (all_receipts waiting.old.items) }
+{
+    for place in 0..waiting.len() {
+        waiting[place].let_go(end);
+    }
+    waiting.retain(|handed| !handed.is_empty());
+}
