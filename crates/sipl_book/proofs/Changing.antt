@@ -148,14 +148,14 @@ consistent-changed edit old store changed journal entries queue good edited spac
     })
 
 pub made-change : (edit : Edit) (old : BookState) (store : Store) (changed : Changed) (number : ℕ) (journal : List Event)
-    → IsEdited (zone_edit edit) old.store store (Ok changed) → length old.journal < old.max_events → number ≡ next_event old → journal ≡ old.journal ++ Change edit ∷ []
+    → IsConsistent old → IsEdited (zone_edit edit) old.store store (Ok changed) → length old.journal < old.max_events → number ≡ next_event old → journal ≡ old.journal ++ Change edit ∷ []
     → IsChanged edit old (record old {
       store = store;
       journal = journal;
       entries = map (after_change changed.keys) old.entries;
       queue = after_marks old.queue (dependents changed.keys old.entries);
     }) (Ok (record { number = number; changed = changed.sets }))
-made-change edit old store changed number journal edited space number_is journal_is =
+made-change edit old store changed number journal good edited space number_is journal_is =
     record {
       accepted = cond-false (leb old.max_events (length old.journal)) (Some JournalFull) _ (lt-leb old.max_events (length old.journal) space)
           ∙ ap (option_map OfStore) edited.accepted;
@@ -179,6 +179,8 @@ made-change edit old store changed number journal edited space number_is journal
       held = refl;
       max_entries = refl;
       max_events = refl;
+      consistent = consistent-changed edit old store changed journal (map (after_change changed.keys) old.entries)
+          (after_marks old.queue (dependents changed.keys old.entries)) good edited space journal_is refl;
     }
 
 -- ---- an edit that is refused
@@ -196,9 +198,9 @@ fault-of WildApex some = refl
 fault-of Memory some = absurd (some refl)
 
 pub refused-change : (edit : Edit) (old : BookState) (store : Store) (journal : List Event) (fault : StoreFault)
-    → IsEdited (zone_edit edit) old.store store (Err fault) → length old.journal < old.max_events → journal ≡ old.journal
+    → IsConsistent old → IsEdited (zone_edit edit) old.store store (Err fault) → length old.journal < old.max_events → journal ≡ old.journal
     → IsChanged edit old (record old { store = store; journal = journal }) (Err (of_store fault))
-refused-change edit old store journal fault edited space journal_is =
+refused-change edit old store journal fault good edited space journal_is =
     record {
       accepted = tt;
       number = tt;
@@ -224,4 +226,5 @@ refused-change edit old store journal fault edited space journal_is =
       held = refl;
       max_entries = refl;
       max_events = refl;
+      consistent = subst IsConsistent (λ i. record old { store = sym edited.unchanged i; journal = sym journal_is i }) good;
     }

@@ -13,8 +13,9 @@ use Rattle.sipl_zonestore.specs.Changes.{changed_count, changed_keys}
 use Rattle.sipl_zonestore.specs.Numbers.{number_after, next_after}
 use Rattle.sipl_outages.specs.Holds.{BoardEvent, refusal_of as hold_refusal, after as after_hold}
 use Rattle.sipl_outages.specs.Holds.BoardEvent.{Hold as HoldFor, Release as ReleaseOf, Advance as AdvanceTo}
+use Rattle.sipl_outages.specs.Board.{IsConsistent as IsConsistentBoard}
 use Rattle.sipl_plans.specs.Findings.{Found}
-use Rattle.sipl_book.specs.Book.{BookState, answer_now, next_event}
+use Rattle.sipl_book.specs.Book.{BookState, IsConsistent, answer_now, next_event}
 use Rattle.sipl_repair.specs.QueueState.{after_lease, after_settle, first_of, is_leased}
 use Rattle.sipl_repair.specs.declared.fault.QueueFault.TheVariants.{Empty}
 use Rattle.sipl_book.specs.Entries.{entry_of, has_current_entry, after_change, committed, renewed}
@@ -50,7 +51,7 @@ change_refusal edit book =
 -- An accepted edit changes the zones, the numbers of their sets, and which entries are current, and
 -- is the next event. The entries that it makes outdated are marked in their order, but for those
 -- that are leased. A refused one changes nothing. An allocation fails only where the journal is not
--- full.
+-- full. What always holds of a book holds after either.
 pub record IsChanged (edit : Edit) (old new : BookState) (result : Result Done BookFault)
     : Type 0 where
   pub accepted : OnOk result (change_refusal edit old ≡ None)
@@ -80,6 +81,7 @@ pub record IsChanged (edit : Edit) (old new : BookState) (result : Result Done B
   pub held : new.held ≡ old.held
   pub max_entries : new.max_entries ≡ old.max_entries
   pub max_events : new.max_events ≡ old.max_events
+  pub consistent : IsConsistent new
 
 -- the event of a hold, a release or a move of the clock
 abbrev pub board_event : BoardEvent → Event
@@ -100,7 +102,8 @@ after_board event book =
     })
 
 -- An accepted hold, release or move of the clock is the next event. A refused one changes nothing.
--- An allocation fails only where the journal is not full.
+-- An allocation fails only where the journal is not full. What always holds of a board holds after
+-- either.
 pub record MovesBoard (event : BoardEvent) (old new : BookState) (result : Result ℕ BookFault)
     : Type 0 where
   pub accepted : OnOk result (board_refusal event old ≡ None)
@@ -109,6 +112,7 @@ pub record MovesBoard (event : BoardEvent) (old new : BookState) (result : Resul
   pub refused : IfErr result (λ fault. fault ≢ Memory → board_refusal event old ≡ Some fault)
   pub memory : IfErr result (λ fault. fault ≡ Memory → unless_full old None ≡ None)
   pub unchanged : OnErr result (new ≡ old)
+  pub consistent : IsConsistentBoard new.board
 
 -- the event of the answer to a question
 abbrev pub answer_event : BookState → Question → List ℕ → Event

@@ -3,8 +3,10 @@ mod Numbers
 mod Jobs
 mod Entries
 mod Leases
+mod Consistent
 mod Keeping
 mod Moving
 mod Working
 mod Making
+mod Lasting
 mod Right

@@ -1,7 +1,7 @@
 -- That the steps of workers are made as they are to be.
-use Rattle.std.proofs.Common.{◌≡◌, ◌≢◌, ℕ, ◌<◌, leb, true, false, ◌||◌, List, [], ◌∷◌, zero, suc, length, set, Option, Some, None, option_map, Result, Ok, Err, IfSome, inl, inr, refl, sym, ap, subst, ◌∙◌}
+use Rattle.std.proofs.Common.{◌≡◌, ◌≢◌, ℕ, ◌<◌, leb, true, false, ◌||◌, List, [], ◌∷◌, zero, suc, length, set, Option, Some, None, option_map, Result, Ok, Err, IfSome, OnOk, inl, inr, refl, sym, ap, subst, ◌∙◌}
 use Rattle.std.specs.List.{position}
-use Rattle.std.proofs.lemmas.Bool.{cases_Bool, cond-true, cond-false, eq-eqb}
+use Rattle.std.proofs.lemmas.Bool.{cases_Bool, cond-true, cond-false, eq-eqb, leb-false}
 use Rattle.std.proofs.lemmas.List.{set-get_or}
 use Rattle.std.proofs.lemmas.Option.{none-some, same_Some}
 use Rattle.sipl_records.specs.declared.data.Data.{Data}
@@ -13,14 +13,14 @@ use Rattle.sipl_repair.proofs.Public.{contains-insert, remove-insert}
 use Rattle.sipl_uri.specs.declared.question.Question.{Question}
 use Rattle.sipl_plans.specs.Findings.{Found, IsFound, IsSound}
 use Rattle.sipl_plans.specs.Runs.{RunState}
-use Rattle.sipl_book.specs.Book.{BookState}
-use Rattle.sipl_book.specs.Calls.{IsCommitted, IsLeased, IsSettled, after_give_back as give_back, after_look, is_renumbered, with_looks}
+use Rattle.sipl_book.specs.Book.{BookState, IsConsistent}
+use Rattle.sipl_book.specs.Calls.{IsCommitted, IsLeased, IsSettled, after_commit, after_give_back as give_back, after_look, is_renumbered, with_looks}
 use Rattle.sipl_book.specs.Honesty.{AreCurrent, WereRead}
 use Rattle.sipl_book.specs.Repairs.{is_leased_for, is_outdated}
 use Rattle.sipl_book.specs.declared.fault.BookFault.TheVariants.{JournalFull, Stale, Gone, Memory}
 use Rattle.sipl_book.specs.declared.outcome.Handed.{Handed}
 use Rattle.sipl_book.specs.declared.outcome.Uncommitted.{Uncommitted}
-use Rattle.sipl_book.proofs.Public.{current-numbered}
+use Rattle.sipl_book.proofs.Public.{consistent_committed, current-numbered, space}
 use Rattle.sipl_interleave.specs.Jobs.{Job, job_at, lease_of, new_run, refusal_of, run_of, with_item}
 use Rattle.sipl_interleave.specs.Steps.{IsCommittedBy, IsLeasedBy, IsMade, IsRead, IsSettledBy, IsStarted, IsStep, Replies, worker_refusal, after_commit_by, commit_reply, is_memory, settle_reply}
 use Rattle.sipl_interleave.specs.World.{IsWorld, WorldState}
@@ -62,7 +62,7 @@ pub record IsFoundBy (old : WorldState) (w : ℕ) (found : Found) : Type 0 where
   pub read : WereRead old.book.store found.items
   pub sound : IsSound found
 
-found-by : (old : WorldState) (w : ℕ) (found : Found) (job : Job) → IsWorld old → w < length old.workers → job_at old.workers w ≡ Some job
+pub found-by : (old : WorldState) (w : ℕ) (found : Found) (job : Job) → IsWorld old → w < length old.workers → job_at old.workers w ≡ Some job
     → IfSome (job_at old.workers w) (λ job. IsFound job.run found) → IsFoundBy old w found
 found-by old w found job good within is of_run =
     let found_is : IsFound job.run found = subst (λ (o : Option Job). IfSome o (λ job. IsFound job.run found)) is of_run in
@@ -110,7 +110,7 @@ no_place : (o : Option ℕ) → option_map Stale o ≡ None → o ≡ None
 no_place None none = refl
 no_place (Some place) none = cc
 
-commit-current : (old : WorldState) (book : BookState) (w : ℕ) (words : List ℕ) (found : Found) (handed : Handed) → IsFoundBy old w found
+pub commit-current : (old : WorldState) (book : BookState) (w : ℕ) (words : List ℕ) (found : Found) (handed : Handed) → IsFoundBy old w found
     → IsCommitted is_renumbered found words old.book old.book book (Ok handed) → AreCurrent old.book.store found.items
 commit-current old book w words found handed finding commit =
     current-numbered old.book.store found.items finding.read.honest (elim (cases_Bool (leb old.book.max_events (length old.book.journal))) [
@@ -118,15 +118,23 @@ commit-current old book w words found handed finding commit =
       | inr space ↦ no_place (position (is_renumbered old.book.store) found.items) (sym (cond-false _ _ _ space) ∙ commit.accepted)
     ])
 
-settle-current : (old : WorldState) (book : BookState) (w id : ℕ) (found : Found) → IsFoundBy old w found
-    → IsSettled is_renumbered id found old.book old.book book (Ok tt) → AreCurrent old.book.store found.items
-settle-current old book w id found finding settle =
+pub settle-current : (old : WorldState) (book : BookState) (w id : ℕ) (found : Found) (result : Result (Unit {0}) Uncommitted) → IsFoundBy old w found
+    → IsSettled is_renumbered id found old.book old.book book result → OnOk result (AreCurrent old.book.store found.items)
+settle-current old book w id found (Err refused) finding settle = tt
+settle-current old book w id found (Ok done) finding settle =
     current-numbered old.book.store found.items finding.read.honest (elim (cases_Bool (is_leased_for old.book.entries old.book.queue id found.question)) [
       | inl own ↦ no_place (position (is_renumbered old.book.store) found.items) (sym (cond-true _ _ _ own) ∙ settle.accepted)
       | inr other ↦ let never : Some Gone ≡ None = sym (cond-false _ _ _ other) ∙ settle.accepted in cc
     ])
 
 -- ---- a commit
+
+-- what always holds of a book holds after a commit
+pub consistent-commit : (old : WorldState) (book : BookState) (w : ℕ) (words : List ℕ) (found : Found) (handed : Handed) → IsWorld old → IsFoundBy old w found
+    → IsCommitted is_renumbered found words old.book old.book book (Ok handed) → IsConsistent (after_commit found words old.book)
+consistent-commit old book w words found handed good finding commit =
+    consistent_committed old.book found words good.book finding.sound finding.client (leb-false _ _ (space old.book _ commit.accepted).0)
+    (commit-current old book w words found handed finding commit)
 
 pub committed-by : (old : WorldState) (book : BookState) (w : ℕ) (words : List ℕ) (found : Found) (handed : Handed) (workers : List (Option Job))
     → IsFoundBy old w found → IsCommitted is_renumbered found words old.book old.book book (Ok handed) → workers ≡ set old.workers w None
@@ -188,7 +196,7 @@ pub settled-by : (old : WorldState) (book : BookState) (w id : ℕ) (found : Fou
     → reply ≡ settle_reply result → workers ≡ set old.workers w None
     → IsSettledBy w old (record { book = book; workers = workers }) reply
 settled-by old book w id found (Ok done) workers reply finding lease settle shown after =
-    record { found = found; id = id; result = Ok done; of_run = finding.of_run; lease = lease; settle = settle; current = settle-current old book w id found finding settle; shown = shown; workers = after }
+    record { found = found; id = id; result = Ok done; of_run = finding.of_run; lease = lease; settle = settle; current = settle-current old book w id found (Ok done) finding settle; shown = shown; workers = after }
 settled-by old book w id found (Err refused) workers reply finding lease settle shown after =
     record { found = found; id = id; result = Err refused; of_run = finding.of_run; lease = lease; settle = settle; current = tt; shown = shown; workers = after }
 

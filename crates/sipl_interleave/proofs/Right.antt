@@ -25,7 +25,7 @@ use Rattle.sipl_book.proofs.Public.{differ}
 use Rattle.sipl_interleave.specs.Jobs.{Job, job_at, lease_of, new_run, with_item}
 use Rattle.sipl_interleave.specs.Plays.{AnswersAreRight, Asked, IsRightAnswer, Plays, after_event, asked_after, asked_by, event_of, journal_after, journal_with, with_event}
 use Rattle.sipl_interleave.specs.Steps.{CallsBook, IsLeasedBy, IsMade, IsRead, IsStarted, IsStep, after_commit_by, commit_reply, is_memory, reply_of, settle_reply, worker_refusal}
-use Rattle.sipl_interleave.specs.World.{WorldState, after_return}
+use Rattle.sipl_interleave.specs.World.{IsWorld, WorldState, after_give_back_of}
 use Rattle.sipl_interleave.specs.declared.act.Act.TheVariants.{Start as ToStart, Read as ToRead, Commit as ToCommit, Settle as ToSettle, Abandon as ToAbandon}
 use Rattle.sipl_interleave.specs.declared.fault.WorldFault.{WorldFault}
 use Rattle.sipl_interleave.specs.declared.fault.WorldFault.TheVariants.{Book as OfBook}
@@ -34,7 +34,7 @@ use Rattle.sipl_interleave.specs.declared.reply.Reply.TheVariants.{Changed, Move
 use Rattle.sipl_interleave.specs.declared.step.Step.{Step}
 use Rattle.sipl_interleave.specs.declared.step.Step.TheVariants.{Change, Hold, Release, Advance, Hand, Start, Read, Commit, Lease, Settle, Abandon, Forget, Page}
 use Rattle.sipl_interleave.proofs.Jobs.{allowed, commit-job, own_or_other}
-use Rattle.sipl_interleave.proofs.Working.{IsSpent, gone_or_not, spent-by_settling}
+use Rattle.sipl_interleave.proofs.Working.{IsSpent, gone_or_not, spent-refused}
 
 -- the questions of the runs that are to be committed are those that were asked
 abbrev pub Knows : Asked → List (Option Job) → Type 0
@@ -285,7 +285,7 @@ module _ (asked : Asked) (old new : WorldState) (knows : Knows asked old.workers
       (ap state_of settle.after) (ap (λ (b : BookState). b.journal) settle.after)
       (subst (λ (ws : List (Option Job)). Knows asked ws) (sym workers) (keeps-idle asked old.workers w knows within))
   settled w id found (Err refusal) within settle workers =
-      let after = spent-by_settling id found old.book new.book (Err refusal) settle in
+      let after = spent-refused id found old.book new.book refusal settle in
       quiet asked (Settle w) old new (NotCommitted refusal) (record { event = refl; journal = λ _. refl; answer = tt; asking = refl }) after.client after.held
       (after_state after) after.journal
       (subst (λ (ws : List (Option Job)). Knows asked ws) (sym workers) (keeps-idle asked old.workers w knows within))
@@ -296,13 +296,13 @@ module _ (asked : Asked) (old new : WorldState) (knows : Knows asked old.workers
         by (inl gone) = ap state_of (settle.gone gone)
         by (inr other) = ap state_of (settle.stale other)
 
-  returned-book : (worker : Option Job) (book : BookState) → (P : BookState → Type 0) → P book → ((id : ℕ) → P (after_give_back id book)) → P (after_return worker book)
+  returned-book : (worker : Option Job) (book : BookState) → (P : BookState → Type 0) → P book → ((id : ℕ) → P (after_give_back id book)) → P (after_give_back_of worker book)
   returned-book worker book P none some = by (lease_of worker) where
     by : (o : Option ℕ) → P (elim o [ Some id ↦ after_give_back id book | None ↦ book ])
     by None = none
     by (Some id) = some id
 
-  abandoned : (w : ℕ) → w < length old.workers → new.book ≡ after_return (job_at old.workers w) old.book → new.workers ≡ set old.workers w None
+  abandoned : (w : ℕ) → w < length old.workers → new.book ≡ after_give_back_of (job_at old.workers w) old.book → new.workers ≡ set old.workers w None
       → IsRight asked (Abandon w) old new Abandoned
   abandoned w within book workers =
       let worker = job_at old.workers w in
@@ -351,13 +351,13 @@ step-right asked step old new reply knows made = by (worker_refusal step old.wor
 
 -- ---- steps one after the other
 
-pub plays-push : (steps : List Step) (old mid new : WorldState) (replies : List Reply) (step : Step) (reply : Reply) → Plays steps old replies mid → IsStep step mid new reply
+pub plays-push : (steps : List Step) (old mid new : WorldState) (replies : List Reply) (step : Step) (reply : Reply) → Plays steps old replies mid → IsStep step mid new reply → IsWorld new
     → Plays (steps ++ step ∷ []) old (replies ++ reply ∷ []) new
-plays-push [] old mid new [] step reply before last = (new, subst (λ (w : WorldState). IsStep step w new reply) before last, refl)
-plays-push [] old mid new (r ∷ replies) step reply before last = absurd before
-plays-push (s ∷ steps) old mid new [] step reply before last = absurd before
-plays-push (s ∷ steps) old mid new (r ∷ replies) step reply before last =
-    (before.0, before.1, plays-push steps before.0 mid new replies step reply before.2 last)
+plays-push [] old mid new [] step reply before last good = (new, subst (λ (w : WorldState). IsStep step w new reply) before last, good, refl)
+plays-push [] old mid new (r ∷ replies) step reply before last good = absurd before
+plays-push (s ∷ steps) old mid new [] step reply before last good = absurd before
+plays-push (s ∷ steps) old mid new (r ∷ replies) step reply before last good =
+    (before.0, before.1, before.2, plays-push steps before.0 mid new replies step reply before.3 last good)
 
 pub all-right : (asked : Asked) (steps : List Step) (old new : WorldState) (replies : List Reply) → Knows asked old.workers → Plays steps old replies new
     → AnswersAreRight old.book.client old.book.held (state_of old.book) asked steps replies
@@ -367,7 +367,7 @@ all-right asked (step ∷ steps) old new (reply ∷ replies) knows plays =
     let right = step-right asked step old plays.0 reply knows plays.1 in (
       right.answer,
       subst (λ (p : Client × Held × State). AnswersAreRight p.0 p.1 p.2 (asked_after step reply asked) steps replies) (λ i. (right.client i, right.held i, right.state i))
-          (all-right (asked_after step reply asked) steps plays.0 new replies right.knows plays.2),
+          (all-right (asked_after step reply asked) steps plays.0 new replies right.knows plays.3),
     )
 
 pub all-journal : (asked : Asked) (steps : List Step) (old new : WorldState) (replies : List Reply) → Knows asked old.workers → Plays steps old replies new
@@ -377,7 +377,7 @@ all-journal asked [] old new (reply ∷ replies) knows plays = absurd plays
 all-journal asked (step ∷ steps) old new [] knows plays = absurd plays
 all-journal asked (step ∷ steps) old new (reply ∷ replies) knows plays =
     let right = step-right asked step old plays.0 reply knows plays.1 in
-    all-journal (asked_after step reply asked) steps plays.0 new replies right.knows plays.2
+    all-journal (asked_after step reply asked) steps plays.0 new replies right.knows plays.3
     ∙ ap (journal_after (asked_after step reply asked) steps replies) right.journal
 
 pub asked-knows : (workers : List (Option Job)) → Knows (asked_by workers) workers

@@ -1,26 +1,26 @@
 -- What always holds of a world holds after a step of a worker.
-use Rattle.std.proofs.Common.{◌≡◌, ◌≢◌, ◌⊎◌, ℕ, ◌+◌, ◌<◌, eqb, List, [], ◌∷◌, ◌++◌, length, set, Option, Some, None, option_map, Result, Ok, Err, inl, inr, refl, sym, ap, subst, ◌∙◌, arith, true≢false}
-use Rattle.std.specs.List.{All, AllPairs}
+use Rattle.std.proofs.Common.{◌≡◌, ◌≢◌, ◌⊎◌, ℕ, ◌+◌, ◌<◌, eqb, List, [], ◌∷◌, ◌++◌, length, set, Option, Some, None, option_map, Result, Ok, Err, OnOk, inl, inr, refl, sym, ap, subst, ◌∙◌, arith, true≢false}
+use Rattle.std.specs.List.{All}
 use Rattle.std.proofs.lemmas.Bool.{cases_Bool, cond-false}
-use Rattle.std.proofs.lemmas.List.Elements.{All-head, All-tail, All-weaker, All-map, All-push}
+use Rattle.std.proofs.lemmas.List.Elements.{All-head, All-tail, All-weaker, All-push}
 use Rattle.std.proofs.lemmas.Map.Views.{exact_unsigned_eq}
 use Rattle.std.proofs.lemmas.Option.{none-some, same_Some}
 use Rattle.sipl_records.specs.Sets.{set_of}
 use Rattle.sipl_uri.specs.declared.question.Question.{Question}
 use Rattle.sipl_evidence.specs.Items.{Item, IsItem}
-use Rattle.sipl_plans.specs.Findings.{Found}
+use Rattle.sipl_plans.specs.Findings.{Found, IsSound}
 use Rattle.sipl_plans.specs.Runs.{RunState}
 use Rattle.sipl_repair.specs.QueueState.{after_lease, is_leased}
 use Rattle.sipl_zonestore.specs.Store.{Store, number_in}
-use Rattle.sipl_book.specs.Book.{BookState, next_event}
-use Rattle.sipl_book.specs.Calls.{IsLeased, IsSettled, after_commit, after_give_back, after_look, after_settlement, after_stale, is_renumbered}
+use Rattle.sipl_book.specs.Book.{BookState, IsConsistent, IsGoodEntry, next_event}
+use Rattle.sipl_book.specs.Calls.{IsLeased, IsSettled, after_commit, after_give_back, after_look, after_settlement, after_stale, is_renumbered, with_looks}
 use Rattle.sipl_book.specs.Entries.{EntryState, entry_of, renewed}
-use Rattle.sipl_book.specs.Honesty.{WasGiven, WereRead}
+use Rattle.sipl_book.specs.Honesty.{AreCurrent, WasGiven, WereRead}
 use Rattle.sipl_book.specs.Repairs.{entry_with}
 use Rattle.sipl_book.specs.declared.fault.BookFault.{BookFault}
 use Rattle.sipl_book.specs.declared.fault.BookFault.TheVariants.{JournalFull, NotCurrent, Stale, Unknown, Gone, PagesSpent, Queue, Store as OfStore, Board, Memory}
 use Rattle.sipl_book.specs.declared.outcome.Uncommitted.{Uncommitted}
-use Rattle.sipl_book.proofs.Public.{All-committed, AllPairs-map, id-renewed, ids-committed}
+use Rattle.sipl_book.proofs.Public.{consistent-queued, consistent-settled, consistent_looked, id-renewed}
 use Rattle.sipl_interleave.specs.Jobs.{Job, job_at, lease_of, with_item}
 use Rattle.sipl_interleave.specs.World.{IsGoodJob, IsLeaseOf, IsWorld, WorldState}
 use Rattle.sipl_interleave.proofs.Entries.{absent-committed, absent-map}
@@ -49,26 +49,31 @@ worked-world old book w worker good within to same job =
             | inl is ↦ inl (same ∙ ap (λ v. lease_of (job_at old.workers v)) (sym is) ∙ p.1)
             | inr other ↦ inr (p.0, other, p.1)
           ];
-      made = to.made;
-      ids = to.ids;
+      consistent = to.consistent;
     })
 
 -- the book stays
 pub stays : (old : WorldState) → IsWorld old → Moves old.book old.book
 stays old good =
-    record { client = refl; read = λ items was. was; leases = λ id out. out; held = λ id held. held; made = good.made; ids = good.ids }
+    record { client = refl; read = λ items was. was; leases = λ id out. out; held = λ id held. held; consistent = good.book }
 
--- a set of the book was looked at
-read-looked : (book : BookState) (items : List Item) → WereRead book.store items → WereRead (after_look book).store items
-read-looked book items was = record { sets = was.sets; given = was.given; honest = was.honest }
+-- sets of the book were looked at
+read-looked : (looks : ℕ) (book : BookState) (items : List Item) → WereRead book.store items → WereRead (with_looks looks book).store items
+read-looked looks book items was = record { sets = was.sets; given = was.given; honest = was.honest }
 
-pub moves-looked : (old : WorldState) → IsWorld old → Moves old.book (after_look old.book)
-moves-looked old good =
-    record { client = refl; read = λ items was. read-looked old.book items was; leases = λ id out. record { made = out.made; leased = out.leased }; held = λ id held. held; made = good.made; ids = good.ids }
+pub moves-looked : (looks : ℕ) (old : WorldState) → IsWorld old → Moves old.book (with_looks looks old.book)
+moves-looked looks old good =
+    record {
+      client = refl;
+      read = λ items was. read-looked looks old.book items was;
+      leases = λ id out. record { made = out.made; leased = out.leased };
+      held = λ id held. held;
+      consistent = consistent_looked looks old.book good.book;
+    }
 
-pub world-looked : (old : WorldState) (book : BookState) → IsWorld old → book ≡ after_look old.book → IsWorld (record { book = book; workers = old.workers })
-world-looked old book good is =
-    subst (λ (b : BookState). IsWorld (record { book = b; workers = old.workers })) (sym is) (moved-world old (after_look old.book) good (moves-looked old good))
+pub world-looked : (looks : ℕ) (old : WorldState) (book : BookState) → IsWorld old → book ≡ with_looks looks old.book → IsWorld (record { book = book; workers = old.workers })
+world-looked looks old book good is =
+    subst (λ (b : BookState). IsWorld (record { book = b; workers = old.workers })) (sym is) (moved-world old (with_looks looks old.book) good (moves-looked looks old good))
 
 -- ---- a run is begun
 
@@ -106,7 +111,7 @@ good-read book (Some was) item good set given content job is =
     subst (IsGoodJob (after_look book)) (same_Some _ job is)
     (record {
       client = before.client;
-      read = read-looked book (was.run.items ++ item ∷ []) (read-push book.store was.run.items item before.read set given content);
+      read = read-looked (after_look book).store.looks book (was.run.items ++ item ∷ []) (read-push book.store was.run.items item before.read set given content);
     })
 
 lease-with_item : (item : Item) (worker : Option Job) → lease_of (with_item item worker) ≡ lease_of worker
@@ -118,7 +123,7 @@ pub world-read : (old : WorldState) (book : BookState) (w : ℕ) (item : Item) �
     → IsWorld (record { book = book; workers = set old.workers w (with_item item (job_at old.workers w)) })
 world-read old book w item good within is is_set given content =
     subst (λ (b : BookState). IsWorld (record { book = b; workers = set old.workers w (with_item item (job_at old.workers w)) })) (sym is)
-    (worked-world old (after_look old.book) w (with_item item (job_at old.workers w)) good within (moves-looked old good) (lease-with_item item (job_at old.workers w))
+    (worked-world old (after_look old.book) w (with_item item (job_at old.workers w)) good within (moves-looked (after_look old.book).store.looks old good) (lease-with_item item (job_at old.workers w))
     (good-read old.book (job_at old.workers w) item (good.jobs w) is_set given content))
 
 -- ---- a run ends without a lease
@@ -127,8 +132,8 @@ pub world-idle : (old : WorldState) (book : BookState) (w : ℕ) → IsWorld old
     → lease_of (job_at old.workers w) ≡ None → IsWorld (record { book = book; workers = set old.workers w None })
 world-idle old book w good within to none = worked-world old book w None good within to (sym none) (λ job is. absurd (none-some job is))
 
-moves-committed : (old : WorldState) (found : Found) (words : List ℕ) → IsWorld old → Moves old.book (after_commit found words old.book)
-moves-committed old found words good =
+moves-committed : (old : WorldState) (found : Found) (words : List ℕ) → IsConsistent (after_commit found words old.book) → Moves old.book (after_commit found words old.book)
+moves-committed old found words consistent =
     let book = old.book in
     let n = next_event book in
     let new = after_commit found words book in
@@ -145,16 +150,14 @@ moves-committed old found words good =
         ];
       };
       held = λ id held. sym (leased-renewal book.queue entry id) ∙ held;
-      made = All-committed (λ e. e.id < n) (λ e. e.id < next_event new) found n book.max_entries book.entries
-          (λ e below. omega (arith, below, longer)) (λ e below. omega (arith, below, longer)) (omega (arith, longer)) good.made;
-      ids = ids-committed found n book.max_entries book.entries good.made good.ids;
+      consistent = consistent;
     }
 
 pub world-committed : (old : WorldState) (book : BookState) (w : ℕ) (found : Found) (words : List ℕ) → IsWorld old → w < length old.workers
-    → lease_of (job_at old.workers w) ≡ None → book ≡ after_commit found words old.book → IsWorld (record { book = book; workers = set old.workers w None })
-world-committed old book w found words good within none is =
+    → lease_of (job_at old.workers w) ≡ None → IsConsistent (after_commit found words old.book) → book ≡ after_commit found words old.book → IsWorld (record { book = book; workers = set old.workers w None })
+world-committed old book w found words good within none consistent is =
     subst (λ (b : BookState). IsWorld (record { book = b; workers = set old.workers w None })) (sym is)
-    (world-idle old (after_commit found words old.book) w good within (moves-committed old found words good) none)
+    (world-idle old (after_commit found words old.book) w good within (moves-committed old found words consistent) none)
 
 pub world-refused : (old : WorldState) (book : BookState) (w : ℕ) → IsWorld old → w < length old.workers
     → lease_of (job_at old.workers w) ≡ None → book ≡ old.book → IsWorld (record { book = book; workers = set old.workers w None })
@@ -173,8 +176,7 @@ pub record IsSpent (id : ℕ) (old new : BookState) : Type 0 where
   pub journal : new.journal ≡ old.journal
   pub absent : (k : ℕ) → entry_with old.entries k ≡ None → entry_with new.entries k ≡ None
   pub spends : Spends id old.queue new.queue
-  pub made : All (λ e. e.id < next_event old) old.entries → All (λ e. e.id < next_event old) new.entries
-  pub ids : AllPairs (λ a b. a.id < b.id) old.entries → AllPairs (λ a b. a.id < b.id) new.entries
+  pub consistent : IsConsistent old → IsConsistent new
 
 pub world-spent : (old : WorldState) (book : BookState) (w id : ℕ) → IsWorld old → w < length old.workers → lease_of (job_at old.workers w) ≡ Some id
     → IsSpent id old.book book → IsWorld (record { book = book; workers = set old.workers w None })
@@ -201,8 +203,7 @@ world-spent old book w id good within own spent =
           let was = was_leased id old.book.queue book.queue spent.spends k leased in
           let p = good.held k was.1 in
           inr (p.0, (λ same. was.0 (same_Some k id (sym p.1 ∙ ap (λ v. lease_of (job_at old.workers v)) same ∙ own))), p.1);
-      made = subst (λ (n : ℕ). All (λ e. e.id < n) book.entries) (sym events) (spent.made good.made);
-      ids = spent.ids good.ids;
+      consistent = spent.consistent good.book;
     })
 
 pub spent-return : (id : ℕ) (old : BookState) → IsSpent id old (after_give_back id old)
@@ -215,8 +216,7 @@ spent-return id old =
       journal = refl;
       absent = λ k none. none;
       spends = spends-return old.entries old.queue id;
-      made = λ made. made;
-      ids = λ ids. ids;
+      consistent = λ so. consistent-queued old _ so;
     }
 
 pub spent-stale : (id : ℕ) (old : BookState) → IsSpent id old (after_stale id old)
@@ -229,12 +229,12 @@ spent-stale id old =
       journal = refl;
       absent = λ k none. none;
       spends = spends-failure old.entries old.queue id;
-      made = λ made. made;
-      ids = λ ids. ids;
+      consistent = λ so. consistent-queued old _ so;
     }
 
-pub spent-settled : (id : ℕ) (found : Found) (old : BookState) → IsSpent id old (after_settlement id found old)
-spent-settled id found old =
+pub spent-settled : (id : ℕ) (found : Found) (old : BookState) → IsSound found → found.client ≡ old.client → AreCurrent old.store found.items
+    → IsSpent id old (after_settlement id found old)
+spent-settled id found old sound client now =
     record {
       client = refl;
       held = refl;
@@ -243,9 +243,7 @@ spent-settled id found old =
       journal = refl;
       absent = λ k none. absent-map (renewed found) (id-renewed found) old.entries k none;
       spends = spends-settle old.queue id;
-      made = λ made. All-map (λ e. e.id < next_event old) (renewed found) old.entries
-          (All-weaker (λ e. e.id < next_event old) (λ e. (renewed found e).id < next_event old) (λ e below. omega (arith, below, id-renewed found e)) old.entries made);
-      ids = λ ids. AllPairs-map (renewed found) (λ a b. a.id < b.id) (λ a b. a.id < b.id) (λ a b before. omega (arith, id-renewed found a, id-renewed found b)) old.entries ids;
+      consistent = λ so. consistent-settled old found _ so sound client now;
     }
 
 spent-at : (id : ℕ) (old new there : BookState) → new ≡ there → IsSpent id old there → IsSpent id old new
@@ -263,13 +261,19 @@ gone_or_not (OfStore fault) = inr (λ is. cc)
 gone_or_not (Board fault) = inr (λ is. cc)
 gone_or_not Memory = inr (λ is. cc)
 
-pub spent-by_settling : (id : ℕ) (found : Found) (old new : BookState) (result : Result (Unit {0}) Uncommitted)
-    → IsSettled is_renumbered id found old old new result → IsSpent id old new
-spent-by_settling id found old new (Ok done) settled = spent-at id old new (after_settlement id found old) settled.after (spent-settled id found old)
-spent-by_settling id found old new (Err refused) settled = elim (gone_or_not refused.fault) [
+pub spent-refused : (id : ℕ) (found : Found) (old new : BookState) (refused : Uncommitted)
+    → IsSettled is_renumbered id found old old new (Err refused) → IsSpent id old new
+spent-refused id found old new refused settled = elim (gone_or_not refused.fault) [
   | inl gone ↦ spent-at id old new (after_give_back id old) (settled.gone gone) (spent-return id old)
   | inr other ↦ spent-at id old new (after_stale id old) (settled.stale other) (spent-stale id old)
 ]
+
+pub spent-by_settling : (id : ℕ) (found : Found) (old new : BookState) (result : Result (Unit {0}) Uncommitted)
+    → IsSound found → found.client ≡ old.client → OnOk result (AreCurrent old.store found.items)
+    → IsSettled is_renumbered id found old old new result → IsSpent id old new
+spent-by_settling id found old new (Ok done) sound client now settled =
+    spent-at id old new (after_settlement id found old) settled.after (spent-settled id found old sound client now)
+spent-by_settling id found old new (Err refused) sound client now settled = spent-refused id found old new refused settled
 
 -- ---- a lease is taken
 
@@ -280,6 +284,9 @@ made-with n (e ∷ es) id made some = elim (cases_Bool (eqb e.id id)) [
   | inl own ↦ subst (λ (k : ℕ). k < n) (exact_unsigned_eq e.id id own) (All-head (λ x. x.id < n) e es made)
   | inr other ↦ made-with n es id (All-tail (λ x. x.id < n) e es made) (λ none. some (cond-false _ _ _ other ∙ none))
 ]
+
+entries-made : (book : BookState) → IsConsistent book → All (λ e. e.id < next_event book) book.entries
+entries-made book so = All-weaker (IsGoodEntry book) (λ e. e.id < next_event book) (λ e good. good.made) book.entries so.entries
 
 there : (entry : Option EntryState) (question : Question) → option_map (λ e. e.found.question) entry ≡ Some question → entry ≢ None
 there None question own none = none-some question own
@@ -305,7 +312,7 @@ world-leased old book w id question run good within idle lease client none =
             ];
           };
       lease = λ k has. subst (IsLeaseOf leased) (same_Some id k has)
-          (record { made = made-with (next_event old.book) old.book.entries id good.made is_there; leased = inr takes.leased });
+          (record { made = made-with (next_event old.book) old.book.entries id (entries-made old.book good.book) is_there; leased = inr takes.leased });
       own = λ v k other has own. elim (good.leases v k has).leased [
         | inl gone ↦ is_there (ap (entry_with old.book.entries) (same_Some id k own) ∙ gone)
         | inr held ↦ true≢false (sym held ∙ ap (is_leased old.book.queue) (sym (same_Some id k own)) ∙ lease.idle)
@@ -316,8 +323,7 @@ world-leased old book w id question run good within idle lease client none =
             let p = good.held k (sym (takes.others k other) ∙ held) in
             inr (p.0, (λ same. none-some k (sym (ap lease_of idle) ∙ ap (λ v. lease_of (job_at old.workers v)) (sym same) ∙ p.1)), p.1)
       ];
-      made = good.made;
-      ids = good.ids;
+      consistent = consistent-queued old.book _ good.book;
     }))
   where
     worker : Option Job

@@ -6,7 +6,7 @@ use Rattle.sipl_outages.specs.declared.held.Held.{Held}
 use Rattle.sipl_interleave.specs.Jobs.{Job, job_at}
 use Rattle.sipl_book.specs.Machine.{State, after, answer_in}
 use Rattle.sipl_interleave.specs.Steps.{IsStep}
-use Rattle.sipl_interleave.specs.World.{WorldState}
+use Rattle.sipl_interleave.specs.World.{IsWorld, WorldState}
 use Rattle.sipl_book.specs.declared.event.Event.{Event}
 use Rattle.sipl_book.specs.declared.event.Event.TheVariants.{Change as Changes, Hold as Holds, Release as Releases, Advance as Advances, Answer as Answers}
 use Rattle.sipl_interleave.specs.declared.reply.Reply.{Reply}
@@ -14,13 +14,14 @@ use Rattle.sipl_interleave.specs.declared.reply.Reply.TheVariants.{Changed, Move
 use Rattle.sipl_interleave.specs.declared.step.Step.{Step}
 use Rattle.sipl_interleave.specs.declared.step.Step.TheVariants.{Change, Hold, Release, Advance, Hand, Start, Commit}
 
--- the steps are made one after the other, each with its reply
+-- the steps are made one after the other, each with its reply; what always holds of a world holds
+-- after each
 abbrev pub Plays : List Step → WorldState → List Reply → WorldState → Type 0
 Plays [] old [] new = new ≡ old
 Plays [] old (reply ∷ replies) new = ⊥
 Plays (step ∷ steps) old [] new = ⊥
 Plays (step ∷ steps) old (reply ∷ replies) new =
-    (next : WorldState) × IsStep step old next reply × Plays steps next replies new
+    (next : WorldState) × IsStep step old next reply × IsWorld next × Plays steps next replies new
 
 -- the question that each worker looks up, by the worker's number
 abbrev pub Asked : Type 0

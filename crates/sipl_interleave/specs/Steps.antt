@@ -11,7 +11,7 @@ use Rattle.sipl_book.specs.Calls.{CountsLooks, IsChanged, MovesBoard, IsHanded, 
 use Rattle.sipl_book.specs.Honesty.{AreCurrent}
 use Rattle.sipl_book.specs.Pages.{IsTurned, extent_of}
 use Rattle.sipl_interleave.specs.Jobs.{Job, job_at, lease_of, new_run, refusal_of, wanted_by, with_item}
-use Rattle.sipl_interleave.specs.World.{WorldState, after_return}
+use Rattle.sipl_interleave.specs.World.{WorldState, after_give_back_of}
 use Rattle.sipl_interleave.specs.declared.act.Act.TheVariants.{Start as ToStart, Read as ToRead, Commit as ToCommit, Settle as ToSettle, Abandon as ToAbandon}
 use Rattle.sipl_book.specs.declared.fault.BookFault.{BookFault}
 use Rattle.sipl_book.specs.declared.fault.BookFault.TheVariants.{JournalFull, NotCurrent, Stale, Unknown, Gone, PagesSpent, Queue, Store, Board, Memory}
@@ -151,7 +151,7 @@ pub record IsSettledBy (w : ℕ) (old new : WorldState) (reply : Reply) : Type 0
 
 -- A worker ends its run, and gives its lease back if it has one.
 pub record IsAbandonedBy (w : ℕ) (old new : WorldState) (reply : Reply) : Type 0 where
-  pub book : new.book ≡ after_return (job_at old.workers w) old.book
+  pub book : new.book ≡ after_give_back_of (job_at old.workers w) old.book
   pub workers : new.workers ≡ set old.workers w None
   pub shown : reply ≡ Abandoned
 

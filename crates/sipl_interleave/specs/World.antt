@@ -1,10 +1,9 @@
 -- A world: a book and its workers, and what always holds of them.
 use Rattle.std.specs.Prelude.{◌≡◌, ◌⊎◌, ℕ, ◌<◌, ◌≤◌, true, List, [], ◌∷◌, length, Option, None, Some}
-use Rattle.std.specs.List.{All, AllPairs}
 use Rattle.std.specs.Coded.{Coded, codes}
 use Rattle.sipl_repair.specs.Codes.{queue_state_code}
 use Rattle.sipl_repair.specs.QueueState.{is_leased}
-use Rattle.sipl_book.specs.Book.{BookState, next_event}
+use Rattle.sipl_book.specs.Book.{BookState, IsConsistent, next_event}
 use Rattle.sipl_book.specs.Calls.{after_give_back}
 use Rattle.sipl_book.specs.Honesty.{WereRead}
 use Rattle.sipl_interleave.specs.Jobs.{Job, job_at, lease_of}
@@ -30,6 +29,8 @@ pub record IsLeaseOf (book : BookState) (id : ℕ) : Type 0 where
 
 -- what always holds of a world
 pub record IsWorld (world : WorldState) : Type 0 where
+  -- what always holds of a book: its journal is legal and leads to its state, and its entries are good
+  pub book : IsConsistent world.book
   -- each job is for the book's client, and its sets were read from the book
   pub jobs : (w : ℕ) (job : Job) → job_at world.workers w ≡ Some job → IsGoodJob world.book job
   -- the lease of a worker is leased in the book, unless its entry was forgotten
@@ -40,19 +41,16 @@ pub record IsWorld (world : WorldState) : Type 0 where
   -- each leased id is the lease of a worker
   pub held : (id : ℕ) → is_leased world.book.queue id ≡ true
       → (w : ℕ) × (lease_of (job_at world.workers w) ≡ Some id)
-  -- each entry was made by an event before now, and the entries are in the order of their events
-  pub made : All (λ e. e.id < next_event world.book) world.book.entries
-  pub ids : AllPairs (λ a b. a.id < b.id) world.book.entries
   -- there are 1 to 64 workers
   pub some : 1 ≤ length world.workers
   pub few : length world.workers ≤ 64
 
 -- the book after a worker's lease was given back, if it has one
-abbrev pub after_return : Option Job → BookState → BookState
-after_return worker book =
+abbrev pub after_give_back_of : Option Job → BookState → BookState
+after_give_back_of worker book =
     elim (lease_of worker) [ Some id ↦ after_give_back id book | None ↦ book ]
 
 -- the book after the leases of all workers were given back, that of the last one first
-abbrev pub after_return_of : List (Option Job) → BookState → BookState
-after_return_of [] book = book
-after_return_of (worker ∷ workers) book = after_return worker (after_return_of workers book)
+abbrev pub after_give_back_of_all : List (Option Job) → BookState → BookState
+after_give_back_of_all [] book = book
+after_give_back_of_all (worker ∷ workers) book = after_give_back_of worker (after_give_back_of_all workers book)

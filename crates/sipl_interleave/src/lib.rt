@@ -4,6 +4,7 @@
 
 mod act;
 mod fault;
+pub mod laws;
 mod reply;
 mod step;
 mod worker;

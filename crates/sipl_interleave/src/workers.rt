@@ -3,7 +3,7 @@ ghost use Rattle.std.specs.Prelude.{◌≡◌, ◌+◌, ◌∷◌, ◌++◌, [],
 ghost use Rattle.std.specs.Option.{option_copied};
 ghost use Rattle.sipl_plans.specs.Findings.{IsFound, IsSound};
 ghost use Rattle.sipl_plans.specs.Runs.{IsWanted, wanted};
-ghost use Rattle.sipl_interleave.specs.World.{after_return_of};
+ghost use Rattle.sipl_interleave.specs.World.{after_give_back_of_all};
 ghost use Rattle.sipl_interleave.specs.Jobs.{job_at, lease_of, refusal_of, run_of, wanted_by, with_item};
 
 use crate::act::Act;
@@ -23,7 +23,7 @@ pub(crate) struct Workers {
 
 impl Model for Workers {
     ghost use Rattle.std.specs.Prelude.{List, Option};
-    ghost use Rattle.sipl_interleave.specs.World.{after_return_of};
+    ghost use Rattle.sipl_interleave.specs.World.{after_give_back_of_all};
     ghost use Rattle.sipl_interleave.specs.Jobs.{Job, jobs_code};
 
     ghost Value = { List (Option Job) };
@@ -150,7 +150,7 @@ impl Workers {
     /// Ends all jobs, and returns their leases to the book, that of the last worker first. Does not
     /// allocate.
     pub(crate) fn give_back(self, book: &mut Book)
-        ensures { book.new ≡ after_return_of self book.old }
+        ensures { book.new ≡ after_give_back_of_all self book.old }
     {
         let Workers { mut workers } = self;
         while let Some(worker) = workers.pop() {

@@ -6,6 +6,8 @@ mod calls;
 #[cfg(test)]
 mod copies;
 #[cfg(test)]
+mod deps;
+#[cfg(test)]
 mod existence;
 #[cfg(test)]
 mod gates;

@@ -2,6 +2,7 @@ use Rattle.std.proofs.Common.{◌≡◌, List, [], ◌∷◌, length, ap, arith,
 use Rattle.std.specs.Vec.Iter.{into_iter_items}
 use Rattle.sipl_interleave.specs.Plays.{Plays, asked_by}
 use Rattle.sipl_interleave.specs.declared.step.Step.{Step}
+use Rattle.sipl_interleave.proofs.Lasting.{step-world}
 use Rattle.sipl_interleave.proofs.Right.{all-journal, all-right, asked-knows, plays-push}
 use Rattle.sipl_interleave.proofs.world.play.Goals as goal
 
@@ -16,9 +17,11 @@ loop-step-preserved c =
     let steps : into_iter_items at.step-iterator ≡ x ∷ into_iter_items c.next.new.self = c.in-Some.ensures.steps.0 in
     let gone = c.in-Some.ensures.steps.1 in
     let short = ap length steps in
+    let good = step-world x at.world _ c.step.result at.invariant.good c.step.ensures in
     record {
       steps = append_assoc at.yielded (x ∷ []) _ ∙ rw (← steps) at.invariant.steps;
-      played = rw c.push_reserved.ensures.items (plays-push at.yielded _ at.world _ at.replies.items x c.step.result at.invariant.played c.step.ensures);
+      played = rw c.push_reserved.ensures.items (plays-push at.yielded _ at.world _ at.replies.items x c.step.result at.invariant.played c.step.ensures good);
+      good = good;
       len = let was = at.invariant.len in omega arith;
       space = let was = at.invariant.space in let len = c.push_reserved.ensures.len in let capacity = c.push_reserved.ensures.capacity in omega arith;
     }

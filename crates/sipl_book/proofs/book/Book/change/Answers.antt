@@ -13,7 +13,7 @@ use Rattle.sipl_book.proofs.book.Book.change.Goals as goal
 pub returns-in_err-changed : goal.returns-in_err-changed
 returns-in_err-changed c =
     let p = err_from_is_err_and c.from_residual-in_err-changed.result c.from_residual-in_err-changed.ensures.1 in
-    rw (p.1, p.2, ← c.self.view_is) (refused-change c.args.edit _ c.apply.new.store c.reserve_event.new.journal.items c.in_err-changed.field-0.0 c.in_err-changed.ensures c.in_ok-reserve_event.ensures.few c.reserve_event.ensures.items)
+    rw (p.1, p.2, ← c.self.view_is) (refused-change c.args.edit _ c.apply.new.store c.reserve_event.new.journal.items c.in_err-changed.field-0.0 c.self.invariant c.in_err-changed.ensures c.in_ok-reserve_event.ensures.few c.reserve_event.ensures.items)
 
 pub invariant_of-self-2 : goal.invariant_of-self-2
 invariant_of-self-2 c =
@@ -53,6 +53,6 @@ returns c =
       queue = k.queue;
       max_entries = k.max_entries;
     }) (Ok (record { number = c.record_event-number.result; changed = c.in_ok-changed.changed.sets }))) (sym cache)
-    (made-change c.args.edit (book_of inside) c.apply.new.store c.in_ok-changed.changed c.record_event-number.result events c.in_ok-changed.ensures c.in_ok-reserve_event.ensures.few
+    (made-change c.args.edit (book_of inside) c.apply.new.store c.in_ok-changed.changed c.record_event-number.result events c.self.invariant c.in_ok-changed.ensures c.in_ok-reserve_event.ensures.few
     (c.record_event-number.ensures.number ∙ ap (λ events. inside.first + length events) c.reserve_event.ensures.items)
     (c.record_event-number.ensures.items ∙ (λ i. c.reserve_event.ensures.items i ++ c.change_event-event.ensures i ∷ []))))

@@ -4,7 +4,7 @@ use Rattle.sipl_interleave.specs.Jobs.{refusal_of}
 use Rattle.sipl_interleave.specs.World.{WorldState}
 use Rattle.sipl_interleave.specs.declared.act.Act.TheVariants.{Commit}
 use Rattle.sipl_interleave.proofs.Keeping.{same-world}
-use Rattle.sipl_interleave.proofs.Making.{Commits, as_before, commits, committed-by, memory-by}
+use Rattle.sipl_interleave.proofs.Making.{Commits, as_before, commits, committed-by, consistent-commit, memory-by}
 use Rattle.sipl_interleave.proofs.Working.{world-committed, world-refused}
 use Rattle.sipl_interleave.proofs.world.World.commit.Goals as goal
 
@@ -27,7 +27,8 @@ invariant_of-self c =
     let by = commits old c.args.worker c.finish-finding.result c.self.invariant
     (subst (λ (v : WorldState). refusal_of c.args.worker Commit v.workers ≡ None) (sym c.self.view_is) c.requires) c.finish-finding.ensures.found in
     rw c.finish-finding.ensures.idle
-    (world-committed old c.commit.new.self c.args.worker c.finish-finding.result c.args.draws.now c.self.invariant by.finding.within by.lease c.in-Ok.ensures.after)
+    (world-committed old c.commit.new.self c.args.worker c.finish-finding.result c.args.draws.now c.self.invariant by.finding.within by.lease
+    (consistent-commit old c.commit.new.self c.args.worker c.args.draws.now c.finish-finding.result c.in-Ok.handed c.self.invariant by.finding c.in-Ok.ensures) c.in-Ok.ensures.after)
 
 pub invariant_of-self-in-Err : goal.invariant_of-self-in-Err
 invariant_of-self-in-Err c =

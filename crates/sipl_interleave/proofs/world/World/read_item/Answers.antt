@@ -1,6 +1,7 @@
 use Rattle.std.proofs.Common.{◌≡◌, None, refl, subst, sym, ◌∙◌}
 use Rattle.std.proofs.lemmas.Result.{err_from_is_err_and}
 use Rattle.sipl_evidence.specs.Items.{Item}
+use Rattle.sipl_book.specs.Calls.{after_look}
 use Rattle.sipl_interleave.specs.Jobs.{refusal_of, wanted_by, job_at}
 use Rattle.sipl_interleave.specs.World.{WorldState}
 use Rattle.sipl_interleave.specs.declared.act.Act.TheVariants.{Read}
@@ -12,17 +13,17 @@ use Rattle.sipl_interleave.proofs.world.World.read_item.Goals as goal
 pub invariant_of-self : goal.invariant_of-self
 invariant_of-self c =
     let old : WorldState = record { book = c.self.inside.book; workers = c.self.inside.workers } in
-    world-looked old c.read.new.self c.self.invariant c.read.ensures.looked
+    world-looked (after_look old.book).store.looks old c.read.new.self c.self.invariant c.read.ensures.looked
 
 pub invariant_of-self-in_err-copy : goal.invariant_of-self-in_err-copy
 invariant_of-self-in_err-copy c =
     let old : WorldState = record { book = c.self.inside.book; workers = c.self.inside.workers } in
-    world-looked old c.read.new.self c.self.invariant c.read.ensures.looked
+    world-looked (after_look old.book).store.looks old c.read.new.self c.self.invariant c.read.ensures.looked
 
 pub invariant_of-self-in_err-give : goal.invariant_of-self-in_err-give
 invariant_of-self-in_err-give c =
     let old : WorldState = record { book = c.self.inside.book; workers = c.self.inside.workers } in
-    rw c.in_err-give.ensures.err (world-looked old c.read.new.self c.self.invariant c.read.ensures.looked)
+    rw c.in_err-give.ensures.err (world-looked (after_look old.book).store.looks old c.read.new.self c.self.invariant c.read.ensures.looked)
 
 pub invariant_of-self-2 : goal.invariant_of-self-2
 invariant_of-self-2 c =

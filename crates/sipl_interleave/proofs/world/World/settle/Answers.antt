@@ -3,7 +3,7 @@ use Rattle.sipl_interleave.specs.Jobs.{refusal_of}
 use Rattle.sipl_interleave.specs.Steps.{settle_reply}
 use Rattle.sipl_interleave.specs.World.{WorldState}
 use Rattle.sipl_interleave.specs.declared.act.Act.TheVariants.{Settle}
-use Rattle.sipl_interleave.proofs.Making.{settled-by, settles}
+use Rattle.sipl_interleave.proofs.Making.{settle-current, settled-by, settles}
 use Rattle.sipl_interleave.proofs.Working.{spent-by_settling, world-spent}
 use Rattle.sipl_interleave.proofs.world.World.settle.Goals as goal
 use Rattle.sipl_interleave.proofs.world.World.settle.Goals.{in-Ok, in-Err}
@@ -27,7 +27,8 @@ invariant_of-self c =
     (subst (λ (v : WorldState). refusal_of c.args.worker Settle v.workers ≡ None) (sym c.self.view_is) c.requires) c.finish_leased-finding.ensures.found in
     rw c.finish_leased-finding.ensures.idle
     (world-spent old c.settle.new.self c.args.worker c.finish_leased-finding.result.1 c.self.invariant by.within c.finish_leased-finding.ensures.lease
-    (spent-by_settling c.finish_leased-finding.result.1 c.finish_leased-finding.result.0 old.book c.settle.new.self c.settle.result c.settle.ensures))
+    (spent-by_settling c.finish_leased-finding.result.1 c.finish_leased-finding.result.0 old.book c.settle.new.self c.settle.result by.sound by.client
+    (settle-current old c.settle.new.self c.args.worker c.finish_leased-finding.result.1 c.finish_leased-finding.result.0 c.settle.result by c.settle.ensures) c.settle.ensures))
 
 pub returns : goal.returns
 returns c =
