@@ -1,0 +1,53 @@
+use sipl_book::Event;
+use sipl_choice::Endpoint;
+use std::alloc::{AllocError, Global};
+
+/// The endpoints that are held, each until a time, and the present time, as the events of a journal leave
+/// them.
+#[derive(Drop)]
+pub(crate) struct Holds {
+    pub(crate) ends: Vec<(Endpoint, u64)>,
+    pub(crate) now: u64,
+}
+
+impl Holds {
+    /// Nothing is held, at time 0.
+    pub(crate) fn new(alloc: Global) -> Holds {
+        Holds {
+            ends: Vec::new(alloc),
+            now: 0,
+        }
+    }
+
+    /// Goes on with events that were accepted.
+    pub(crate) fn follow(&mut self, events: &[Event]) -> Result<(), AllocError> {
+        for event in events {
+            match event {
+                Event::Hold(endpoint, ms) => self.hold(endpoint, *ms)?,
+                Event::Release(endpoint) => self.ends.retain(|held| held.0 != *endpoint),
+                Event::Advance(to) => {
+                    self.now = *to;
+                    let now = *to;
+                    self.ends.retain(|held| held.1 > now);
+                }
+                Event::Change(_) | Event::Answer(..) => {}
+            }
+        }
+        Ok(())
+    }
+
+    // An endpoint that is held already is held to the later of the two ends.
+    fn hold(&mut self, endpoint: &Endpoint, ms: u64) -> Result<(), AllocError> {
+        let end = self.now.saturating_add(ms);
+        for held in self.ends.iter_mut() {
+            if held.0 == *endpoint {
+                held.1 = held.1.max(end);
+                return Ok(());
+            }
+        }
+        if ms > 0 {
+            self.ends.push((*endpoint, end))?;
+        }
+        Ok(())
+    }
+}

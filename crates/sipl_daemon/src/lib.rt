@@ -1,0 +1,34 @@
+//! The daemon: sessions without end over TCP and Unix sockets, at one service, until it is told to stop.
+#![tactic(auto)]
+
+mod address;
+mod changes;
+mod claimer;
+mod claims;
+mod clients;
+mod control;
+mod counts;
+mod daemon;
+mod descriptors;
+mod desk;
+mod fault;
+mod holds;
+mod listener;
+mod pages;
+mod program;
+mod server;
+mod session;
+mod settings;
+mod source;
+mod state;
+mod stop;
+mod stream;
+mod tell;
+mod text;
+mod time;
+
+pub use address::Address;
+pub use fault::{ConnectionFault, DeskFault};
+pub use program::start;
+pub use server::Host;
+pub use settings::{Clocks, DaemonSettings};

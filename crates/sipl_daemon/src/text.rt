@@ -1,0 +1,171 @@
+//! Changes and records as the lines of a session.
+use sipl_book::Edit;
+use sipl_choice::Endpoint;
+use sipl_names::Name;
+use sipl_records::{Address, Data, Record};
+use std::alloc::{AllocError, Global};
+use std::fmt::Write as _;
+
+/// The line of an edit; that of a zone has those of its records after it.
+pub(crate) fn edit_text(alloc: Global, edit: &Edit) -> Result<Vec<u8>, AllocError> {
+    let mut out = Vec::new(alloc);
+    match edit {
+        Edit::Load(zone) => write_zone(alloc, &mut out, zone.apex(), zone.records())?,
+        Edit::Unload(apex) => {
+            out.extend_from_slice(b"drop ")?;
+            apex.write(&mut out)?;
+            out.push(b'\n')?;
+        }
+        Edit::Add(record) => {
+            out.extend_from_slice(b"add ")?;
+            write_record(alloc, &mut out, record)?;
+        }
+        Edit::Remove(record) => {
+            out.extend_from_slice(b"del ")?;
+            write_record(alloc, &mut out, record)?;
+        }
+    }
+    Ok(out)
+}
+
+/// Appends the lines that load a zone with those of the records that are within its apex.
+pub(crate) fn write_zone(
+    alloc: Global,
+    out: &mut Vec<u8>,
+    apex: &Name,
+    records: &[Record],
+) -> Result<(), AllocError> {
+    let mut count = 0u64;
+    for record in records {
+        if record.owner.is_within(apex) {
+            count = count.saturating_add(1);
+        }
+    }
+    out.extend_from_slice(b"zone ")?;
+    apex.write(out)?;
+    write_number(alloc, out, count)?;
+    out.push(b'\n')?;
+    for record in records {
+        if record.owner.is_within(apex) {
+            write_record(alloc, out, record)?;
+        }
+    }
+    Ok(())
+}
+
+/// The line that holds an endpoint for some milliseconds.
+pub(crate) fn hold_text(
+    alloc: Global,
+    endpoint: &Endpoint,
+    ms: u64,
+) -> Result<Vec<u8>, AllocError> {
+    let mut out = Vec::new(alloc);
+    write_endpoint(alloc, &mut out, b"hold ", endpoint)?;
+    write_number(alloc, &mut out, ms)?;
+    out.push(b'\n')?;
+    Ok(out)
+}
+
+/// The line that ends the hold of an endpoint.
+pub(crate) fn release_text(alloc: Global, endpoint: &Endpoint) -> Result<Vec<u8>, AllocError> {
+    let mut out = Vec::new(alloc);
+    write_endpoint(alloc, &mut out, b"release ", endpoint)?;
+    out.push(b'\n')?;
+    Ok(out)
+}
+
+/// The line that sets the time, in milliseconds.
+pub(crate) fn clock_text(alloc: Global, to: u64) -> Result<Vec<u8>, AllocError> {
+    let mut out = Vec::new(alloc);
+    out.extend_from_slice(b"clock")?;
+    write_number(alloc, &mut out, to)?;
+    out.push(b'\n')?;
+    Ok(out)
+}
+
+fn write_endpoint(
+    alloc: Global,
+    out: &mut Vec<u8>,
+    word: &[u8],
+    endpoint: &Endpoint,
+) -> Result<(), AllocError> {
+    out.extend_from_slice(word)?;
+    out.extend_from_slice(endpoint.transport.name().as_bytes())?;
+    out.push(b' ')?;
+    endpoint.address.write(out)?;
+    write_number(alloc, out, u64::from(endpoint.port))
+}
+
+// Appends a record as an entry of a master file (RFC 1035, 5.1). One of another type, of which nothing is
+// kept, is an empty `TXT`.
+fn write_record(alloc: Global, out: &mut Vec<u8>, record: &Record) -> Result<(), AllocError> {
+    record.owner.write(out)?;
+    match &record.value {
+        Data::Address4(address) => write_address(out, b" A ", Address::V4(*address))?,
+        Data::Address6(address) => write_address(out, b" AAAA ", Address::V6(*address))?,
+        Data::Alias(target) => write_name(out, b" CNAME ", target)?,
+        Data::Service {
+            priority,
+            weight,
+            port,
+            target,
+        } => {
+            out.extend_from_slice(b" SRV")?;
+            write_number(alloc, out, u64::from(*priority))?;
+            write_number(alloc, out, u64::from(*weight))?;
+            write_number(alloc, out, u64::from(*port))?;
+            write_name(out, b" ", target)?;
+        }
+        Data::Pointer {
+            order,
+            preference,
+            flags,
+            services,
+            regexp,
+            replacement,
+        } => {
+            out.extend_from_slice(b" NAPTR")?;
+            write_number(alloc, out, u64::from(*order))?;
+            write_number(alloc, out, u64::from(*preference))?;
+            write_string(alloc, out, flags.get().as_slice())?;
+            write_string(alloc, out, services.get().as_slice())?;
+            write_string(alloc, out, regexp.get().as_slice())?;
+            write_name(out, b" ", replacement.get())?;
+        }
+        Data::Bare => out.extend_from_slice(b" TXT \"\"")?,
+    }
+    out.push(b'\n')?;
+    Ok(())
+}
+
+fn write_address(out: &mut Vec<u8>, word: &[u8], address: Address) -> Result<(), AllocError> {
+    out.extend_from_slice(word)?;
+    address.write(out)
+}
+
+fn write_name(out: &mut Vec<u8>, word: &[u8], name: &Name) -> Result<(), AllocError> {
+    out.extend_from_slice(word)?;
+    name.write(out)
+}
+
+// Appends a space and a number.
+fn write_number(alloc: Global, out: &mut Vec<u8>, number: u64) -> Result<(), AllocError> {
+    let text = format!(in alloc; " {number}")?;
+    out.extend_from_slice(text.as_bytes())
+}
+
+// Appends a space and a character string in quotes (RFC 1035, 5.1): each octet that is no printable
+// character of ASCII, and each quote and backslash, as an escape of three digits.
+fn write_string(alloc: Global, out: &mut Vec<u8>, octets: &[u8]) -> Result<(), AllocError> {
+    let mut text = String::new(alloc);
+    text.push_str(" \"")?;
+    for octet in octets {
+        if octet.is_ascii_graphic() && *octet != b'"' && *octet != b'\\' || *octet == b' ' {
+            text.push(char::from(*octet))?;
+        } else {
+            write!(text, "\\{:03}", *octet)?;
+        }
+    }
+    text.push('"')?;
+    out.extend_from_slice(text.as_bytes())
+}
