@@ -16,6 +16,8 @@ const MIN_LEN: u64 = 1 << 20;
 pub(crate) struct Changes {
     alloc: Global,
     path: String,
+    // It has the lock of the state for as long as it is open.
+    _lock: File,
     pending: Mutex<Pending>,
     written: Mutex<Written>,
 }
@@ -47,11 +49,12 @@ struct Written {
 }
 
 impl Changes {
-    /// The file, which has these octets, of which the last mark is this one.
+    /// The file, which has these octets, of which the last mark is this one, with the lock of its state.
     pub(crate) fn open<R: Files<File = File>>(
         rt: &R,
         alloc: Global,
         path: String,
+        lock: File,
         len: u64,
         mark: u64,
     ) -> io::Result<Changes> {
@@ -59,6 +62,7 @@ impl Changes {
         Ok(Changes {
             alloc,
             path,
+            _lock: lock,
             pending: Mutex::new(Pending {
                 alloc,
                 text: Vec::new(alloc),

@@ -1,5 +1,6 @@
 //! The thread that claims pages, and writes states.
 use crate::claims::{Claimed, Claims};
+use crate::close::CloseFault;
 use crate::daemon::Daemon;
 use crate::server::Host;
 use crate::source::{Mark, Turned};
@@ -12,7 +13,7 @@ use std::time::Duration;
 const PATIENCE: u64 = 20;
 
 /// Claims pages until the daemon is to stop. A fault stops it: then the journal is not what callers were
-/// told, or the state can't be written.
+/// told, or a page can't be archived, or the state can't be written.
 pub(crate) fn claim_pages<H: Host>(host: &H, daemon: &Daemon) {
     let mut claims = daemon.pages.claims().lock(host);
     for _ in host.forever() {
@@ -20,29 +21,28 @@ pub(crate) fn claim_pages<H: Host>(host: &H, daemon: &Daemon) {
             return;
         }
         match daemon.pages.claim_next(host, &mut claims) {
-            Ok(Claimed::Page(turned)) => {
-                if keep_state(host, daemon, &claims, &turned).is_err() {
-                    daemon.stop.ask(host);
-                }
-            }
+            Ok(Claimed::Page(turned)) => keep_page(host, daemon, &claims, &turned),
             Ok(Claimed::NotYet) => daemon.stop.pause(host, Duration::from_millis(PATIENCE)),
             Ok(Claimed::Nothing) => daemon.pages.wait_for_page(host),
-            Err(_) => daemon.stop.ask(host),
+            Err(fault) => daemon.fail(host, CloseFault::Claim(fault)),
         }
     }
     unreachable!()
 }
 
-// Writes the state after a page, if it is to be written.
-fn keep_state<H: Host>(
-    host: &H,
-    daemon: &Daemon,
-    claims: &Claims,
-    turned: &Turned,
-) -> io::Result<()> {
-    match turned.mark {
-        Some(mark) => write_at(host, daemon, claims, &turned.page, mark),
-        None => Ok(()),
+// Archives a page that was claimed, and writes the state after it, if these are to be.
+fn keep_page<H: Host>(host: &H, daemon: &Daemon, claims: &Claims, turned: &Turned) {
+    if let Some(archive) = &daemon.archive {
+        if let Err(error) = archive.keep(host, &turned.page) {
+            daemon.fail(host, CloseFault::Archive(error));
+            return;
+        }
+    }
+    let Some(mark) = turned.mark else {
+        return;
+    };
+    if let Err(error) = write_at(host, daemon, claims, &turned.page, mark) {
+        daemon.fail(host, CloseFault::State(error));
     }
 }
 

@@ -1,9 +1,13 @@
+//! What was claimed.
+use crate::archive::Archive;
+use crate::close::CloseFault;
 use crate::holds::Holds;
 use crate::source::Turned;
 use sipl_book::Page;
 use sipl_service::{ClaimFault, Ledger, Receipts};
 use std::alloc::Global;
-use std::collections::VecDeque;
+use std::fs::File;
+use std::rt::Files;
 
 /// What was claimed, the page that is to be claimed next, and the holds after what was claimed.
 #[derive(Drop)]
@@ -71,19 +75,30 @@ impl Claims {
         }
     }
 
-    /// Claims the page, if there is one, and then those that were turned.
-    pub(crate) fn claim_all(&mut self, turned: VecDeque<Turned>) -> Result<(), ClaimFault> {
-        if let Some(next) = self.next.take() {
-            self.claim_page(&next.page)?;
-        }
-        for next in turned {
-            self.claim_page(&next.page)?;
-        }
-        Ok(())
+    /// Takes the page out that is to be claimed next, if there is one.
+    pub(crate) fn take(&mut self) -> Option<Turned> {
+        self.next.take()
     }
 
-    /// Claims a page.
-    pub(crate) fn claim_page(&mut self, page: &Page) -> Result<(), ClaimFault> {
+    /// Claims a page and archives it.
+    pub(crate) fn finish<R: Files<File = File>>(
+        &mut self,
+        rt: &R,
+        archive: Option<&Archive>,
+        page: &Page,
+    ) -> Result<(), CloseFault> {
+        self.claim_page(page)?;
+        let Some(archive) = archive else {
+            return Ok(());
+        };
+        match archive.keep(rt, page) {
+            Ok(()) => Ok(()),
+            Err(error) => Err(CloseFault::Archive(error)),
+        }
+    }
+
+    // Claims a page.
+    fn claim_page(&mut self, page: &Page) -> Result<(), ClaimFault> {
         self.ledger.claim(page)?;
         match self.holds.follow(page.events()) {
             Ok(()) => Ok(()),

@@ -3,6 +3,7 @@ use crate::clients::Client;
 use crate::daemon::Daemon;
 use crate::server::Host;
 use crate::stream::Stream;
+use crate::text::hold_text;
 use std::alloc::{AllocError, Global};
 use std::fmt::Write as _;
 use std::io::{BufRead, BufReader, Read, Write};
@@ -71,6 +72,8 @@ fn obey<H: Host>(
     match line {
         "stats" => write_stats(host, daemon, reply)?,
         "now" => writeln!(reply, "ok now {}", daemon.source.service.now(host))?,
+        "zones" => write_zones(host, daemon, reply)?,
+        "holds" => write_holds(host, daemon, reply)?,
         "page" => turn_page(host, daemon, reply)?,
         "stop" => {
             reply.push_str("ok stop\n")?;
@@ -97,12 +100,41 @@ fn write_stats<H: Host>(host: &H, daemon: &Daemon, reply: &mut String) -> Result
     write_count(reply, "NotAvailable", &counts.not_available)?;
     write_count(reply, "NoTransport", &counts.no_transport)?;
     write_count(reply, "AllHeld", &counts.all_held)?;
+    let tally = daemon.tally.lock(host);
+    writeln!(reply, "records {}", tally.records())?;
+    writeln!(reply, "held {}", tally.holds().ends.len())?;
+    drop(tally);
     writeln!(reply, "clients {}", daemon.clients.count(host))?;
     writeln!(reply, "pages {}", daemon.pages.claimed())?;
     writeln!(reply, "waiting {}", daemon.pages.waiting(host))?;
     let octets = resident(host, daemon.alloc).unwrap_or(0);
     writeln!(reply, "resident {octets}")?;
     reply.push_str("ok stats\n")
+}
+
+// The zones, and how many records each has.
+fn write_zones<H: Host>(host: &H, daemon: &Daemon, reply: &mut String) -> Result<(), AllocError> {
+    let tally = daemon.tally.lock(host);
+    let mut text = Vec::new(daemon.alloc);
+    for (apex, count) in tally.zones() {
+        text.clear();
+        apex.write(&mut text)?;
+        let apex = str::from_utf8(&text).unwrap_or("");
+        writeln!(reply, "zone {apex} {count}")?;
+    }
+    writeln!(reply, "ok zones {}", tally.zones().len())
+}
+
+// The held endpoints, and for how many milliseconds each is held yet.
+fn write_holds<H: Host>(host: &H, daemon: &Daemon, reply: &mut String) -> Result<(), AllocError> {
+    daemon.move_clock(host);
+    let tally = daemon.tally.lock(host);
+    let holds = tally.holds();
+    for (endpoint, end) in &holds.ends {
+        let text = hold_text(daemon.alloc, endpoint, end.saturating_sub(holds.now))?;
+        reply.push_str(str::from_utf8(&text).unwrap_or(""))?;
+    }
+    writeln!(reply, "ok holds {}", holds.ends.len())
 }
 
 fn write_count(reply: &mut String, name: &str, count: &AtomicU64) -> Result<(), AllocError> {

@@ -1,42 +1,34 @@
-ghost use Rattle.std.specs.Prelude.{◌≡◌, ◌≤◌, ◌^◌, IfOk, OnOk};
+//! What the threads of a daemon share.
+ghost use Rattle.std.specs.Prelude.{IfOk};
 ghost use Rattle.sipl_service.specs.Passes.{GetsReceipt};
 ghost use Rattle.sipl_service.specs.Telling.{IsToldFor, event_of};
 
+use crate::archive::Archive;
 use crate::changes::Changes;
 use crate::clients::Clients;
+use crate::close::CloseFault;
 use crate::counts::Counts;
 use crate::descriptors::max_clients;
 use crate::pages::Pages;
 use crate::settings::{Clocks, DaemonSettings};
 use crate::source::Source;
-use crate::state::end_state;
 use crate::stop::Stop;
 use crate::stream::Stream;
-use crate::text::{clock_text, edit_text, hold_text, release_text};
+use crate::tally::Tally;
 use crate::time::HostTime;
-use sipl_book::{BookFault, Done, Edit};
-use sipl_choice::Endpoint;
-use sipl_service::{ClaimFault, OpenGate, Pass, Service, ServiceFault, Told};
+use sipl_book::BookFault;
+use sipl_service::{OpenGate, Pass, Service, ServiceFault, Told};
 use sipl_srv::Draws;
 use sipl_uri::Question;
 use std::alloc::Global;
-use std::fs::File;
 use std::io;
 use std::rt::Files;
-use std::sync::atomic::{AtomicU64, Ordering};
+use std::sync::atomic::AtomicU64;
 use std::sync::{Arc, Mutex, Wait};
 use std::time::Clock;
 
 // How many control connections there may be at a time.
 const MAX_CONTROLS: usize = 8;
-
-/// Why the service of a daemon is not closed, or its events are not claimed.
-#[derive(Drop)]
-pub(crate) enum CloseFault {
-    Close(ServiceFault),
-    Claim(ClaimFault),
-    State(io::Error),
-}
 
 /// What the threads of a daemon share.
 #[derive(Drop)]
@@ -45,6 +37,12 @@ pub(crate) struct Daemon {
     pub(crate) source: Source,
     // The path of the state.
     pub(crate) state: Option<String>,
+    // Where the pages are kept that were claimed.
+    pub(crate) archive: Option<Archive>,
+    // How many octets the lines of a zone may have.
+    pub(crate) zone_octets: u64,
+    // The zones and the holds as they are. Its lock is taken before those of the changes and the service.
+    pub(crate) tally: Mutex<Tally>,
     pub(crate) pages: Pages,
     pub(crate) stop: Arc<Stop, Global>,
     pub(crate) clients: Clients,
@@ -58,6 +56,8 @@ pub(crate) struct Daemon {
     pub(crate) idle: Option<u64>,
     // The connections that asked for the stop, which stay open until the process ends.
     open: Mutex<Vec<Arc<Stream, Global>>>,
+    // Why the daemon is to stop, if it is for a fault.
+    pub(crate) fault: Mutex<Option<CloseFault>>,
 }
 
 impl Daemon {
@@ -84,6 +84,9 @@ impl Daemon {
                 changes: None,
             },
             state: None,
+            archive: None,
+            zone_octets: settings.zone_octets,
+            tally: Mutex::new(Tally::new(alloc)),
             pages: Pages::new(alloc, own.journal as u64),
             stop,
             clients: Clients::new(alloc, max_clients(rt, alloc, settings.clients))?,
@@ -93,12 +96,23 @@ impl Daemon {
             mover,
             idle: settings.idle,
             open: Mutex::new(Vec::new(alloc)),
+            fault: Mutex::new(None),
         })
     }
 
     // Keeps a connection open until the process ends.
     pub(crate) fn keep_open<R: Wait>(&self, rt: &R, stream: Arc<Stream, Global>) {
         let _ = self.open.lock(rt).push(stream);
+    }
+
+    // Keeps the first fault, and asks for the stop.
+    pub(crate) fn fail<R: Wait>(&self, rt: &R, fault: CloseFault) {
+        let mut first = self.fault.lock(rt);
+        if first.is_none() {
+            *first = Some(fault);
+        }
+        drop(first);
+        self.stop.ask(rt);
     }
 
     // Moves the book's time to that of the host, if it is the host's and an endpoint may be held. The move
@@ -111,7 +125,12 @@ impl Daemon {
         let mut mover = self.mover.lock(rt);
         let before = self.source.service.now(rt);
         if before < now && time.may_be_held(before) {
+            let mut tally = self.tally.lock(rt);
             let moved = self.source.service.advance(rt, &mut mover, now);
+            if moved.is_ok() {
+                tally.advance(now);
+            }
+            drop(tally);
             self.end_move(rt, &mut mover, moved);
         }
     }
@@ -165,120 +184,6 @@ impl Daemon {
         self.state = Some(path);
         self.source.changes = Some(changes);
         Ok(())
-    }
-
-    // Edits the zones. The change is in the file of changes when its reply is sent: `place` is where it ends.
-    pub(crate) fn edit<R: Wait>(
-        &self,
-        rt: &R,
-        pass: &mut Pass,
-        edit: Edit,
-        place: &AtomicU64,
-    ) -> Result<Done, ServiceFault>
-        ensures { GetsReceipt (λ done. done.number) (λ done. Event.Change edit)
-            pass.old pass.new result }
-    {
-        let Some(changes) = &self.source.changes else {
-            return self.source.service.edit(rt, pass, edit);
-        };
-        let text = edit_text(self.alloc, &edit)?;
-        let mut pending = changes.lock(rt);
-        pending.reserve(text.len())?;
-        let done = self.source.service.edit(rt, pass, edit)?;
-        place.fetch_max(pending.push(&text), Ordering::SeqCst);
-        Ok(done)
-    }
-
-    // Holds an endpoint, as `edit` makes an edit.
-    pub(crate) fn hold<R: Wait>(
-        &self,
-        rt: &R,
-        pass: &mut Pass,
-        endpoint: &Endpoint,
-        ms: u64,
-        place: &AtomicU64,
-    ) -> Result<u64, ServiceFault>
-        ensures { GetsReceipt (λ number. number) (λ number. Event.Hold endpoint.now ms)
-            pass.old pass.new result }
-    {
-        let Some(changes) = &self.source.changes else {
-            return self.source.service.hold(rt, pass, endpoint, ms);
-        };
-        let text = hold_text(self.alloc, endpoint, ms)?;
-        let mut pending = changes.lock(rt);
-        pending.reserve(text.len())?;
-        let number = self.source.service.hold(rt, pass, endpoint, ms)?;
-        place.fetch_max(pending.push(&text), Ordering::SeqCst);
-        Ok(number)
-    }
-
-    // Ends the hold of an endpoint, as `edit` makes an edit.
-    pub(crate) fn release<R: Wait>(
-        &self,
-        rt: &R,
-        pass: &mut Pass,
-        endpoint: &Endpoint,
-        place: &AtomicU64,
-    ) -> Result<u64, ServiceFault>
-        ensures { GetsReceipt (λ number. number) (λ number. Event.Release endpoint.now)
-            pass.old pass.new result }
-    {
-        let Some(changes) = &self.source.changes else {
-            return self.source.service.release(rt, pass, endpoint);
-        };
-        let text = release_text(self.alloc, endpoint)?;
-        let mut pending = changes.lock(rt);
-        pending.reserve(text.len())?;
-        let number = self.source.service.release(rt, pass, endpoint)?;
-        place.fetch_max(pending.push(&text), Ordering::SeqCst);
-        Ok(number)
-    }
-
-    // Sets the time, as `edit` makes an edit. In the file it is counted from the last mark.
-    pub(crate) fn advance<R: Wait>(
-        &self,
-        rt: &R,
-        pass: &mut Pass,
-        to: u64,
-        place: &AtomicU64,
-    ) -> Result<u64, ServiceFault>
-        ensures receipt { GetsReceipt (λ number. number) (λ number. Event.Advance to)
-            pass.old pass.new result }
-        ensures limit { OnOk result (to ≤ 2 ^ 52) }
-    {
-        let Some(changes) = &self.source.changes else {
-            return self.source.service.advance(rt, pass, to);
-        };
-        let mut pending = changes.lock(rt);
-        let text = clock_text(self.alloc, to.saturating_sub(pending.base()))?;
-        pending.reserve(text.len())?;
-        let number = self.source.service.advance(rt, pass, to)?;
-        place.fetch_max(pending.push(&text), Ordering::SeqCst);
-        Ok(number)
-    }
-
-    // Closes the service, claims the events of all pages, and writes the state. Returns how many events there
-    // were.
-    pub(crate) fn close<R: Files<File = File> + Wait>(self, rt: &R) -> Result<u64, CloseFault> {
-        let alloc = self.alloc;
-        let Source { service, changes } = self.source;
-        let last = match service.close() {
-            Ok(last) => last,
-            Err((fault, _service)) => return Err(CloseFault::Close(fault)),
-        };
-        // The first event has the number 0.
-        let events = last.next();
-        let claims = match self.pages.close(&last) {
-            Ok(claims) => claims,
-            Err(fault) => return Err(CloseFault::Claim(fault)),
-        };
-        let (Some(changes), Some(path)) = (changes, self.state) else {
-            return Ok(events);
-        };
-        match end_state(rt, alloc, &changes, path.as_str(), &last, &claims.holds) {
-            Ok(()) => Ok(events),
-            Err(error) => Err(CloseFault::State(error)),
-        }
     }
 
     // The answer to a question. Where the journal is full the page is turned, and it is tried again.

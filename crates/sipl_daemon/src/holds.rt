@@ -24,20 +24,28 @@ impl Holds {
         for event in events {
             match event {
                 Event::Hold(endpoint, ms) => self.hold(endpoint, *ms)?,
-                Event::Release(endpoint) => self.ends.retain(|held| held.0 != *endpoint),
-                Event::Advance(to) => {
-                    self.now = *to;
-                    let now = *to;
-                    self.ends.retain(|held| held.1 > now);
-                }
+                Event::Release(endpoint) => self.release(endpoint),
+                Event::Advance(to) => self.advance(*to),
                 Event::Change(_) | Event::Answer(..) => {}
             }
         }
         Ok(())
     }
 
-    // An endpoint that is held already is held to the later of the two ends.
-    fn hold(&mut self, endpoint: &Endpoint, ms: u64) -> Result<(), AllocError> {
+    /// The hold of an endpoint is ended.
+    pub(crate) fn release(&mut self, endpoint: &Endpoint) {
+        self.ends.retain(|held| held.0 != *endpoint);
+    }
+
+    /// The time is set, and the holds that end at or before it are over.
+    pub(crate) fn advance(&mut self, to: u64) {
+        self.now = to;
+        self.ends.retain(|held| held.1 > to);
+    }
+
+    /// An endpoint is held for some milliseconds. One that is held already is held to the later of the two
+    /// ends.
+    pub(crate) fn hold(&mut self, endpoint: &Endpoint, ms: u64) -> Result<(), AllocError> {
         let end = self.now.saturating_add(ms);
         for held in self.ends.iter_mut() {
             if held.0 == *endpoint {

@@ -117,7 +117,7 @@ pub(crate) fn take_lock<R: Files<File = File>>(rt: &R, path: &str) -> io::Result
         .open(rt, path)?;
     match file.try_lock() {
         Ok(()) => {}
-        Err(TryLockError::WouldBlock) => return Err(io::Error::from(ErrorKind::AddrInUse)),
+        Err(TryLockError::WouldBlock) => return Err(io::Error::from(ErrorKind::ResourceBusy)),
         Err(TryLockError::Error(error)) => return Err(error),
     }
     Ok(file)

@@ -1,13 +1,17 @@
 //! The journal of the daemon's service, which rolls: pages are turned before they are full, and each is
 //! claimed when the receipts of its events are in.
+use crate::archive::Archive;
 use crate::claims::{Claimed, Claims};
+use crate::close::CloseFault;
 use crate::source::{Source, Turned};
 use crate::stop::Stop;
 use sipl_book::{Extent, Page};
 use sipl_service::{ClaimFault, Pass, Receipts, ServiceFault};
 use std::alloc::Global;
 use std::collections::VecDeque;
+use std::fs::File;
 use std::mem;
+use std::rt::Files;
 use std::sync::atomic::{AtomicU64, Ordering};
 use std::sync::{Condvar, CondvarTimeouts, Mutex, Wait};
 use std::time::{Clock, Duration};
@@ -141,9 +145,14 @@ impl Pages {
         mem::replace(&mut *handed, Vec::new(self.alloc))
     }
 
-    /// Claims all pages that were turned, and then the last one, when all receipts were handed over.
-    /// Returns what was claimed.
-    pub(crate) fn close(self, last: &Page) -> Result<Claims, ClaimFault> {
+    /// Claims all pages that were turned, and then the last one, when all receipts were handed over, and
+    /// archives them. Returns what was claimed.
+    pub(crate) fn close<R: Files<File = File>>(
+        self,
+        rt: &R,
+        archive: Option<&Archive>,
+        last: &Page,
+    ) -> Result<Claims, CloseFault> {
         let Pages {
             turned,
             handed,
@@ -152,8 +161,13 @@ impl Pages {
         } = self;
         let mut claims = claims.into_inner();
         claims.add(handed.into_inner())?;
-        claims.claim_all(turned.into_inner())?;
-        claims.claim_page(last)?;
+        if let Some(next) = claims.take() {
+            claims.finish(rt, archive, &next.page)?;
+        }
+        for next in turned.into_inner() {
+            claims.finish(rt, archive, &next.page)?;
+        }
+        claims.finish(rt, archive, last)?;
         Ok(claims)
     }
 }

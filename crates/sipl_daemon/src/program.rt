@@ -1,24 +1,28 @@
 //! The program: its arguments, its settings, and the daemon from its start to its end.
 use crate::address::Address;
-use crate::daemon::{CloseFault, Daemon};
+use crate::archive::Archive;
+use crate::arguments::{Call, read_arguments};
+use crate::daemon::Daemon;
 use crate::listener::Listener;
+use crate::replay::replay;
+use crate::report::{Fault, report};
 use crate::server::{Host, serve_all};
 use crate::settings::DaemonSettings;
-use crate::state::{StateFault, restore};
+use crate::state::restore;
 use crate::stop::Stop;
 use crate::tell::tell;
-use sipl_lines::SettingsFault;
-use std::alloc::{AllocError, AllocFailed, Global};
+use std::alloc::Global;
 use std::io::{ErrorKind, Input};
 use std::process::ExitCode;
 use std::rt::Env;
 use std::sync::{Arc, Wait};
-use std::{env, io, thread};
+use std::{io, thread};
 
-const USAGE: &str = "usage: siplocd [SETTINGS] | tell ADDRESS LINE | --help | --version";
+const USAGE: &str = "usage: siplocd [SETTINGS] | tell ADDRESS LINE | replay FOLDER | --help | --version";
 
 const HELP: &str = "siplocd [SETTINGS]           serves sessions until it is told to stop
 siplocd tell ADDRESS LINE    sends a line to the daemon's control address, and prints the reply
+siplocd replay FOLDER        checks the pages of an archive, and prints how many events they have
 siplocd --help               prints this
 siplocd --version            prints the version
 
@@ -29,61 +33,6 @@ const VERSION: &str = "siplocd 0.6";
 
 // The status of a call with wrong arguments.
 const WRONG_ARGUMENTS: u8 = 2;
-
-// What the arguments ask for.
-#[derive(Drop)]
-enum Call {
-    Serve(String),
-    Tell(String, String),
-    Help,
-    Version,
-}
-
-// Why the daemon does not begin, or ends with a fault.
-#[derive(Drop)]
-enum Fault {
-    Settings(SettingsFault),
-    // It cannot listen there.
-    Listen(Address, io::Error),
-    // Nobody is there to be told, or the connection failed.
-    Tell(String, io::Error),
-    // Standard output failed, or the clock.
-    Stream(io::Error),
-    // The state of this path can't be read.
-    State(String, StateFault),
-    Close(CloseFault),
-    Memory,
-}
-
-impl From<SettingsFault> for Fault {
-    fn from(fault: SettingsFault) -> Fault {
-        Fault::Settings(fault)
-    }
-}
-
-impl From<AllocError> for Fault {
-    fn from(_: AllocError) -> Fault {
-        Fault::Memory
-    }
-}
-
-impl<T: Drop> From<AllocFailed<T>> for Fault {
-    fn from(_: AllocFailed<T>) -> Fault {
-        Fault::Memory
-    }
-}
-
-impl From<io::Error> for Fault {
-    fn from(error: io::Error) -> Fault {
-        Fault::Stream(error)
-    }
-}
-
-impl From<CloseFault> for Fault {
-    fn from(fault: CloseFault) -> Fault {
-        Fault::Close(fault)
-    }
-}
 
 /// Does what the arguments of a process ask for. The status is 0, 1 after a fault, or where a line that
 /// was told is refused, or 2 where the arguments are wrong; for a fault and for 2 one line on standard
@@ -111,69 +60,6 @@ where
     }
 }
 
-// Writes a fault on standard error.
-fn report<R: Eprint>(rt: &R, fault: &Fault) {
-    let _ = match fault {
-        Fault::Settings(SettingsFault::UnknownKey(key)) => {
-            eprintln!(rt; "siplocd: settings G2 {key}")
-        }
-        Fault::Settings(SettingsFault::BadValue(key)) => {
-            eprintln!(rt; "siplocd: settings G3 {key}")
-        }
-        Fault::Settings(fault) => eprintln!(rt; "siplocd: settings {}", fault.code()),
-        Fault::Listen(address, error) => eprintln!(rt; "siplocd: listen {address}: {error}"),
-        Fault::Tell(address, error) => eprintln!(rt; "siplocd: tell {address}: {error}"),
-        Fault::Stream(error) => eprintln!(rt; "siplocd: {error}"),
-        Fault::State(path, fault) => return report_state(rt, path.as_str(), fault),
-        Fault::Close(CloseFault::State(error)) => eprintln!(rt; "siplocd: state: {error}"),
-        Fault::Close(CloseFault::Close(fault)) => eprintln!(rt; "siplocd: close {}", fault.code()),
-        Fault::Close(CloseFault::Claim(fault)) => eprintln!(rt; "siplocd: claim {}", fault.code()),
-        Fault::Memory => eprintln!(rt; "siplocd: out of memory"),
-    };
-}
-
-// Writes why a state can't be read.
-fn report_state<R: Eprint>(rt: &R, path: &str, fault: &StateFault) {
-    let _ = match fault {
-        StateFault::File(error) => eprintln!(rt; "siplocd: state {path}: {error}"),
-        StateFault::State(line) => eprintln!(rt; "siplocd: state {path}: line {line}"),
-        StateFault::Changes(line) => eprintln!(rt; "siplocd: state {path}.log: line {line}"),
-        StateFault::NoMark => eprintln!(rt; "siplocd: state {path}.log: not of this state"),
-    };
-}
-
-// What the arguments ask for, if they are right. An error says that one of them is not UTF-8, or that an
-// allocation failed.
-fn read_arguments<R: Env + AllocGlobal>(rt: &R) -> io::Result<Option<Call>> {
-    let mut words = env::args(rt)?;
-    let _program = words.next();
-    let first = words.next();
-    let second = words.next();
-    let third = words.next();
-    if words.next().is_some() {
-        return Ok(None);
-    }
-    Ok(match (first, second, third) {
-        (None, None, None) => Some(Call::Serve(String::new(rt.alloc()))),
-        (Some(word), None, None) => read_word(word),
-        (Some(word), Some(address), Some(line)) if word.as_str() == "tell" => {
-            Some(Call::Tell(address, line))
-        }
-        _ => None,
-    })
-}
-
-// What one argument asks for: an option, or the text of the settings.
-fn read_word(word: String) -> Option<Call> {
-    match word.as_str() {
-        "--help" => Some(Call::Help),
-        "--version" => Some(Call::Version),
-        "tell" => None,
-        text if text.starts_with('-') => None,
-        _ => Some(Call::Serve(word)),
-    }
-}
-
 // Does what the arguments ask for. Returns whether a line that was told is not refused.
 fn perform<R, H>(rt: R, host: &H, call: Call) -> Result<bool, Fault>
 where
@@ -188,6 +74,10 @@ where
                 Ok(is_accepted) => Ok(is_accepted),
                 Err(error) => Err(Fault::Tell(address, error)),
             };
+        }
+        Call::Replay(folder) => {
+            let events = replay(host, rt.alloc(), folder.as_str())?;
+            println!(rt; "replayed {events}")?;
         }
         Call::Serve(text) => {
             let settings = DaemonSettings::from_toml(rt.alloc(), text.as_str())?;
@@ -212,7 +102,7 @@ where
     Ok(())
 }
 
-// A daemon that goes on from its state, if it has one.
+// A daemon with its archive, which goes on from its state, if it has them.
 fn begin<H: Host>(
     host: &H,
     alloc: Global,
@@ -220,10 +110,27 @@ fn begin<H: Host>(
     stop: Arc<Stop, Global>,
 ) -> Result<Box<Daemon>, Fault> {
     let mut daemon = Box::new(alloc, Daemon::new(host, alloc, settings, stop)?)?;
+    if let Some(path) = &settings.archive {
+        daemon.archive = Some(open_archive(host, alloc, settings, path.as_str())?);
+    }
     if let Some(path) = &settings.state {
         go_on(host, alloc, &mut daemon, path.as_str())?;
     }
     Ok(daemon)
+}
+
+// The archive of a path.
+fn open_archive<H: Host>(
+    host: &H,
+    alloc: Global,
+    settings: &DaemonSettings,
+    path: &str,
+) -> Result<Archive, Fault> {
+    let own = &settings.service;
+    match Archive::open(host, alloc, path, &own.abilities, own.held) {
+        Ok(archive) => Ok(archive),
+        Err(error) => Err(Fault::Archive(String::from_str(alloc, path)?, error)),
+    }
 }
 
 // Goes on from the state of a path.

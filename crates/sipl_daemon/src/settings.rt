@@ -12,11 +12,16 @@ const MAX_CLIENTS: u64 = 65_536;
 // The greatest number of seconds for which a client may send nothing: a day.
 const MAX_IDLE: u64 = 86_400;
 
+// The greatest number of octets that the lines of a zone may have.
+const MAX_ZONE_OCTETS: u64 = 1 << 40;
+
 /// The settings of the daemon: those of a server of sessions, and its own, each by the name of its key.
 #[derive(Drop)]
 pub struct DaemonSettings {
     /// Those that `serve` has too. What it has of `sessions` and `listen` is not used.
     pub service: Settings,
+    /// The folder of the pages that were claimed, by default none.
+    pub archive: Option<String>,
     /// The greatest number of clients at a time: 1 to 65,536, by default 512.
     pub clients: usize,
     /// What the time is: the host's, or what clients set it to. By default the host's.
@@ -33,6 +38,8 @@ pub struct DaemonSettings {
     pub state: Option<String>,
     /// Whether the end of standard input ends the daemon, by default not.
     pub ends_with_input: bool,
+    /// How many octets the lines of a zone may have: 0 to 2^40, by default 256 MB.
+    pub zone_octets: u64,
     ghost within_limits: { IsWithinLimits service },
 }
 
@@ -48,6 +55,7 @@ pub enum Clocks {
 // The daemon's own keys.
 #[derive(Drop)]
 struct Own {
+    archive: Option<String>,
     clients: usize,
     clock: Clocks,
     control: Option<Address>,
@@ -56,6 +64,7 @@ struct Own {
     mode: u32,
     state: Option<String>,
     ends_with_input: bool,
+    zone_octets: u64,
 }
 
 // Whether a key is one of the daemon's own.
@@ -68,8 +77,8 @@ enum Taken {
 impl DaemonSettings {
     /// Reads the settings from a TOML document. `listen` is a list of addresses, not empty; `control` is
     /// an address; `clock` is `"host"` or `"lines"`; `stdin` is `"stop"` or `"ignore"`; `state` is the
-    /// path of a file. `clients`, `idle` and `mode` are integers. All other keys are those of `serve`, but
-    /// for `sessions`.
+    /// path of a file, and `archive` that of a folder. `clients`, `idle`, `mode` and `zone_octets` are
+    /// integers. All other keys are those of `serve`, but for `sessions`.
     ///
     /// The fault is G1 where the text is not a TOML document. Otherwise it is that of the first of the
     /// daemon's own keys, in the order of their octets, that does not allow its value (G3); or else that
@@ -126,6 +135,7 @@ impl Own {
             listen.push(address)?;
         }
         Ok(Own {
+            archive: None,
             clients: 512,
             clock: Clocks::Host,
             control: None,
@@ -134,12 +144,14 @@ impl Own {
             mode: 0o600,
             state: None,
             ends_with_input: false,
+            zone_octets: 1 << 28,
         })
     }
 
     // Takes the value of a key, if it is one of the daemon's own.
     fn take(&mut self, alloc: Global, key: &str, value: &Value) -> Result<Taken, AllocError> {
         let is_taken = match key {
+            "archive" => put_some(&mut self.archive, path(alloc, value)?),
             "clients" => put(
                 &mut self.clients,
                 number(value, 1, MAX_CLIENTS).map(|n| n as usize),
@@ -151,6 +163,7 @@ impl Own {
             "mode" => put(&mut self.mode, number(value, 0, 0o777).map(|n| n as u32)),
             "state" => put_some(&mut self.state, path(alloc, value)?),
             "stdin" => put(&mut self.ends_with_input, ends_with_input(value)),
+            "zone_octets" => put(&mut self.zone_octets, number(value, 0, MAX_ZONE_OCTETS)),
             _ => return Ok(Taken::Other),
         };
         Ok(if is_taken { Taken::Own } else { Taken::Refused })
@@ -162,6 +175,7 @@ impl Own {
     {
         DaemonSettings {
             service,
+            archive: self.archive,
             clients: self.clients,
             clock: self.clock,
             control: self.control,
@@ -170,6 +184,7 @@ impl Own {
             mode: self.mode,
             state: self.state,
             ends_with_input: self.ends_with_input,
+            zone_octets: self.zone_octets,
         }
     }
 }

@@ -3,12 +3,13 @@ use crate::changes::{Changes, replace};
 use crate::daemon::Daemon;
 use crate::desk::SessionDesk;
 use crate::holds::Holds;
+use crate::items::{item_of, split_line};
+use crate::listener::take_lock;
 use crate::server::Host;
 use crate::text::{hold_text, write_zone};
-use memchr::memchr;
 use sipl_book::{Page, State};
 use sipl_lines::{Tapped, serve};
-use sipl_records::{next_field, read_number};
+use sipl_records::read_number;
 use std::alloc::{AllocError, Global};
 use std::fs::File;
 use std::io::ErrorKind;
@@ -49,6 +50,7 @@ pub(crate) fn restore<H: Host>(
     path: &str,
 ) -> Result<Changes, StateFault> {
     let alloc = daemon.alloc;
+    let lock = take_lock(host, format!(in alloc; "{path}.lock")?.as_str())?;
     let state = read_file(host, alloc, path)?;
     let log = format!(in alloc; "{path}.log")?;
     let changes = read_file(host, alloc, log.as_str())?;
@@ -68,7 +70,7 @@ pub(crate) fn restore<H: Host>(
     if changes.is_empty() {
         let text = format!(in alloc; "# page {mark}\n")?;
         replace(host, alloc, log.as_str(), &[text.as_bytes()])?;
-        return Ok(Changes::open(host, alloc, log, text.len() as u64, mark)?);
+        return Ok(Changes::open(host, alloc, log, lock, text.len() as u64, mark)?);
     }
     let Some((begin, lines)) = find_mark(&changes, mark) else {
         return Err(StateFault::NoMark);
@@ -82,7 +84,7 @@ pub(crate) fn restore<H: Host>(
     let kept = changes.as_slice().get(..whole).unwrap_or(&[]);
     replace(host, alloc, log.as_str(), &[kept])?;
     let last = made.mark.unwrap_or(mark);
-    Ok(Changes::open(host, alloc, log, kept.len() as u64, last)?)
+    Ok(Changes::open(host, alloc, log, lock, kept.len() as u64, last)?)
 }
 
 /// Writes the state after a mark. Returns its length.
@@ -172,33 +174,6 @@ fn make_item<H: Host>(alloc: Global, desk: &mut SessionDesk<'_, H>, item: &[u8])
     served.is_ok() && replies.starts_with(b"ok ")
 }
 
-// How many octets and lines the first change of a text has: a line, and after a `zone` line those that it
-// takes. `None` where it is not whole.
-fn item_of(text: &[u8]) -> Option<(usize, u64)> {
-    let mut len = memchr(b'\n', text)?.saturating_add(1);
-    let count = taken_by(text.get(..len)?);
-    for _ in 0..count {
-        let rest = text.get(len..)?;
-        len = len.saturating_add(memchr(b'\n', rest)?).saturating_add(1);
-    }
-    Some((len, count.saturating_add(1)))
-}
-
-// How many lines a line takes.
-fn taken_by(line: &[u8]) -> u64 {
-    let line = split_line(line).0;
-    match next_field(line) {
-        Some((b"zone", rest)) => match next_field(rest) {
-            Some((_apex, rest)) => match next_field(rest) {
-                Some((count, _)) => read_number(count, 1_048_576).unwrap_or(0),
-                None => 0,
-            },
-            None => 0,
-        },
-        _ => 0,
-    }
-}
-
 // How many octets and lines there are up to the mark of this number, with it.
 fn find_mark(text: &[u8], mark: u64) -> Option<(usize, u64)> {
     let mut octets = 0usize;
@@ -221,17 +196,6 @@ fn read_file<R: Files<File = File>>(rt: &R, alloc: Global, path: &str) -> io::Re
         Ok(octets) => Ok(octets),
         Err(error) if error.kind() == ErrorKind::NotFound => Ok(Vec::new(alloc)),
         Err(error) => Err(error),
-    }
-}
-
-// The first line of a text, without its end, and the rest; the whole and nothing where no line ends.
-fn split_line(text: &[u8]) -> (&[u8], &[u8]) {
-    match memchr(b'\n', text) {
-        Some(end) => (
-            text.get(..end).unwrap_or(&[]),
-            text.get(end.saturating_add(1)..).unwrap_or(&[]),
-        ),
-        None => (text, &[]),
     }
 }
 

@@ -1,31 +1,91 @@
 //! Changes and records as the lines of a session.
-use sipl_book::Edit;
+use sipl_book::{Edit, Event};
 use sipl_choice::Endpoint;
 use sipl_names::Name;
+use sipl_plans::Answer;
 use sipl_records::{Address, Data, Record};
+use sipl_srv::Draws;
 use std::alloc::{AllocError, Global};
 use std::fmt::Write as _;
 
 /// The line of an edit; that of a zone has those of its records after it.
 pub(crate) fn edit_text(alloc: Global, edit: &Edit) -> Result<Vec<u8>, AllocError> {
     let mut out = Vec::new(alloc);
+    write_edit(alloc, &mut out, edit)?;
+    Ok(out)
+}
+
+/// Appends the line of an event, and of an answer those of its reply after it.
+pub(crate) fn write_event(
+    alloc: Global,
+    out: &mut Vec<u8>,
+    event: &Event,
+) -> Result<(), AllocError> {
+    match event {
+        Event::Change(edit) => write_edit(alloc, out, edit),
+        Event::Hold(endpoint, ms) => out.extend_from_slice(&hold_text(alloc, endpoint, *ms)?),
+        Event::Release(endpoint) => out.extend_from_slice(&release_text(alloc, endpoint)?),
+        Event::Advance(to) => out.extend_from_slice(&clock_text(alloc, *to)?),
+        Event::Answer(question, draws, answer) => {
+            out.extend_from_slice(b"find ")?;
+            question.write(out)?;
+            write_draws(alloc, out, draws)?;
+            out.push(b'\n')?;
+            write_answer(alloc, out, answer)
+        }
+    }
+}
+
+// Appends the random words, without those of 0 at their end.
+fn write_draws(alloc: Global, out: &mut Vec<u8>, draws: &Draws) -> Result<(), AllocError> {
+    let words = draws.words();
+    let Some(last) = words.iter().rposition(|word| *word != 0) else {
+        return Ok(());
+    };
+    let mut text = String::new(alloc);
+    for word in words.get(..=last).unwrap_or(&[]) {
+        write!(text, "{}{word}", if text.is_empty() { " words " } else { "," })?;
+    }
+    out.extend_from_slice(text.as_bytes())
+}
+
+// Appends the reply to a question.
+fn write_answer(alloc: Global, out: &mut Vec<u8>, answer: &Answer) -> Result<(), AllocError> {
+    let targets = match answer {
+        Answer::Targets(targets) => targets.as_slice(),
+        Answer::None(reason) => {
+            let text = format!(in alloc; "none {}\n", reason.name())?;
+            return out.extend_from_slice(text.as_bytes());
+        }
+    };
+    let mut number = 0u64;
+    for target in targets {
+        number = number.saturating_add(1);
+        out.extend_from_slice(format!(in alloc; "target {number} ")?.as_bytes())?;
+        write_endpoint(alloc, out, b"", target)?;
+        out.push(b'\n')?;
+    }
+    out.extend_from_slice(format!(in alloc; "ok find {number}\n")?.as_bytes())
+}
+
+fn write_edit(alloc: Global, out: &mut Vec<u8>, edit: &Edit) -> Result<(), AllocError> {
     match edit {
-        Edit::Load(zone) => write_zone(alloc, &mut out, zone.apex(), zone.records())?,
+        Edit::Load(zone) => write_zone(alloc, out, zone.apex(), zone.records())?,
         Edit::Unload(apex) => {
             out.extend_from_slice(b"drop ")?;
-            apex.write(&mut out)?;
+            apex.write(out)?;
             out.push(b'\n')?;
         }
         Edit::Add(record) => {
             out.extend_from_slice(b"add ")?;
-            write_record(alloc, &mut out, record)?;
+            write_record(alloc, out, record)?;
         }
         Edit::Remove(record) => {
             out.extend_from_slice(b"del ")?;
-            write_record(alloc, &mut out, record)?;
+            write_record(alloc, out, record)?;
         }
     }
-    Ok(out)
+    Ok(())
 }
 
 /// Appends the lines that load a zone with those of the records that are within its apex.

@@ -1,0 +1,51 @@
+//! The lines of a session's input, and which lines belong to one command.
+use memchr::memchr;
+use sipl_lines::{MAX_LINE_LEN, MAX_ZONE_LINES};
+use sipl_records::{next_field, read_number};
+
+/// The first line of a text, without its end, and the rest; the whole and nothing where no line ends.
+pub(crate) fn split_line(text: &[u8]) -> (&[u8], &[u8]) {
+    match memchr(b'\n', text) {
+        Some(end) => (
+            text.get(..end).unwrap_or(&[]),
+            text.get(end.saturating_add(1)..).unwrap_or(&[]),
+        ),
+        None => (text, &[]),
+    }
+}
+
+/// How many octets and lines the first command of a text has: a line, and after a `zone` line those that
+/// it takes. `None` where it is not whole.
+pub(crate) fn item_of(text: &[u8]) -> Option<(usize, u64)> {
+    let end = memchr(b'\n', text)?;
+    let mut len = end.saturating_add(1);
+    let count = taken_by(text.get(..end)?);
+    for _ in 0..count {
+        let rest = text.get(len..)?;
+        len = len.saturating_add(memchr(b'\n', rest)?).saturating_add(1);
+    }
+    Some((len, count.saturating_add(1)))
+}
+
+/// How many lines after it a line takes, which has no LF: those of a zone's text after `zone APEX COUNT`,
+/// and else none.
+pub(crate) fn taken_by(line: &[u8]) -> u64 {
+    let line = line.strip_suffix(b"\r".as_slice()).unwrap_or(line);
+    if line.len() > MAX_LINE_LEN {
+        return 0;
+    }
+    match next_field(line) {
+        Some((b"zone", rest)) => zone_lines(rest).unwrap_or(0),
+        _ => 0,
+    }
+}
+
+// The count of `APEX COUNT`.
+fn zone_lines(fields: &[u8]) -> Option<u64> {
+    let (_apex, rest) = next_field(fields)?;
+    let (count, rest) = next_field(rest)?;
+    if next_field(rest).is_some() {
+        return None;
+    }
+    read_number(count, MAX_ZONE_LINES)
+}
