@@ -282,6 +282,20 @@ impl Book {
         self.cache.queued() as u64
     }
 
+    /// How many questions have an entry.
+    pub fn entry_count(&self) -> u64
+        ensures { result ≡ length self.now.entries }
+    {
+        self.cache.len() as u64
+    }
+
+    /// How many entries are current. Linear in the number of entries. Does not allocate.
+    pub fn current_count(&self) -> u64
+        ensures { result ≡ count_by (λ e. e.is_current) self.now.entries }
+    {
+        self.cache.current() as u64
+    }
+
     /// The entry of a question, if there is one. Constant time but for hashing. Does not allocate.
     pub fn entry(&self, question: &Question) -> Option<&Entry>
         ensures entry { option_copied result ≡ entry_of self.now.entries question.now }

@@ -87,6 +87,20 @@ impl Cache {
         self.queue.len()
     }
 
+    /// How many entries there are.
+    pub(crate) fn len(&self) -> usize
+        ensures { result ≡ length self.now.entries }
+    {
+        self.entries.entries().len()
+    }
+
+    /// How many entries are current. Linear in the number of entries.
+    pub(crate) fn current(&self) -> usize
+        ensures { result ≡ count_by (λ e. e.is_current) self.now.entries }
+    {
+        self.entries.entries().current()
+    }
+
     /// How many current entries have the key in their evidence. Does not allocate.
     pub(crate) fn dependents(&self, key: &Key) -> usize
         requires order { InOrder self.now.entries }

@@ -6,7 +6,7 @@ use crate::holds::Holds;
 use crate::items::{item_of, split_line};
 use crate::listener::take_lock;
 use crate::server::Host;
-use crate::text::{hold_text, write_zone};
+use crate::text::{hold_text, write_zones};
 use sipl_book::{Page, State};
 use sipl_lines::{Tapped, serve};
 use sipl_records::read_number;
@@ -98,9 +98,7 @@ pub(crate) fn write_state<R: Files<File = File>>(
 ) -> io::Result<u64> {
     let mut text = Vec::new(alloc);
     text.extend_from_slice(format!(in alloc; "# page {mark}\n")?.as_bytes())?;
-    for apex in state.apexes() {
-        write_zone(alloc, &mut text, apex, state.records())?;
-    }
+    write_zones(alloc, &mut text, state.apexes(), state.records())?;
     for (endpoint, end) in &holds.ends {
         let left = end.saturating_sub(holds.now);
         text.extend_from_slice(&hold_text(alloc, endpoint, left)?)?;

@@ -1,4 +1,5 @@
 //! Changes and records as the lines of a session.
+use indexmap::IndexMap;
 use sipl_book::{Edit, Event};
 use sipl_choice::Endpoint;
 use sipl_names::Name;
@@ -88,28 +89,73 @@ fn write_edit(alloc: Global, out: &mut Vec<u8>, edit: &Edit) -> Result<(), Alloc
     Ok(())
 }
 
-/// Appends the lines that load a zone with those of the records that are within its apex.
-pub(crate) fn write_zone(
+/// Appends the lines that load zones with the records that are within their apexes.
+pub(crate) fn write_zones(
+    alloc: Global,
+    out: &mut Vec<u8>,
+    apexes: &[Name],
+    records: &[Record],
+) -> Result<(), AllocError> {
+    let mut zones = IndexMap::new(alloc);
+    for apex in apexes {
+        zones.insert(apex.dup(alloc)?, Vec::new(alloc))?;
+    }
+    for record in records {
+        if let Some(own) = zone_of(alloc, &mut zones, &record.owner)? {
+            own.push(record)?;
+        }
+    }
+    for (apex, own) in &zones {
+        write_zone_line(alloc, out, apex, own.len())?;
+        for record in own {
+            write_record(alloc, out, record)?;
+        }
+    }
+    Ok(())
+}
+
+// The records of the zone that an owner is within, if there is one.
+fn zone_of<'a, 'b>(
+    alloc: Global,
+    zones: &'a mut IndexMap<Name, Vec<&'b Record>>,
+    owner: &Name,
+) -> Result<Option<&'a mut Vec<&'b Record>>, AllocError> {
+    let mut name = owner.dup(alloc)?;
+    for _ in 0..=owner.wire_len() {
+        if zones.contains_key(&name) {
+            return Ok(zones.get_mut(&name));
+        }
+        if !name.pop_label() {
+            break;
+        }
+    }
+    Ok(None)
+}
+
+// Appends the lines that load a zone with these records.
+fn write_zone(
     alloc: Global,
     out: &mut Vec<u8>,
     apex: &Name,
     records: &[Record],
 ) -> Result<(), AllocError> {
-    let mut count = 0u64;
+    write_zone_line(alloc, out, apex, records.len())?;
     for record in records {
-        if record.owner.is_within(apex) {
-            count = count.saturating_add(1);
-        }
+        write_record(alloc, out, record)?;
     }
+    Ok(())
+}
+
+fn write_zone_line(
+    alloc: Global,
+    out: &mut Vec<u8>,
+    apex: &Name,
+    count: usize,
+) -> Result<(), AllocError> {
     out.extend_from_slice(b"zone ")?;
     apex.write(out)?;
-    write_number(alloc, out, count)?;
+    write_number(alloc, out, count as u64)?;
     out.push(b'\n')?;
-    for record in records {
-        if record.owner.is_within(apex) {
-            write_record(alloc, out, record)?;
-        }
-    }
     Ok(())
 }
 

@@ -13,7 +13,28 @@ use std::sync::Wait;
 use std::thread;
 use std::thread::Threads;
 
+/// How many questions have a kept result.
+#[derive(Clone, Copy, Debug, PartialEq, Eq)]
+pub struct KeptCounts {
+    /// In all.
+    pub kept: u64,
+    /// Of these, those whose record sets are as they were read.
+    pub current: u64,
+    /// Of these, those that are to be looked up again.
+    pub queued: u64,
+}
+
 impl Service {
+    /// How many results are kept, at one moment. Linear in their number, with the lock held.
+    pub fn kept_counts<R: Wait>(&self, rt: &R) -> KeptCounts {
+        let shared = self.lock(rt);
+        KeptCounts {
+            kept: shared.book.entry_count(),
+            current: shared.book.current_count(),
+            queued: shared.book.queued(),
+        }
+    }
+
     /// Looks queued entries up again, at most as many as are queued now. One whose sets change
     /// meanwhile stays queued, and is not looked up a second time.
     ///
