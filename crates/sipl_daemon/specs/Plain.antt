@@ -37,7 +37,7 @@ plain_rules =
       Finds = λ question words old outcome new. KeepsBoard old new
           × (new.store.zones ≡ old.store.zones)
           × IfOk outcome (λ handed. handed.answer
-              ≡ plan (set_of old.store.zones.records) old.board.holds question old.client words old.held);
+          ≡ plan (set_of old.store.zones.records) old.board.holds question old.client words old.held);
       Changes = λ edit old outcome new. KeepsBoard old new
           × ((changed : Result Changed StoreFault) × IsEdited (zone_edit edit) old.store new.store changed);
       Moves = λ event old outcome new. KeepsStore old new

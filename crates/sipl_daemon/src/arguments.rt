@@ -1,7 +1,6 @@
 //! The arguments of the program.
-use std::io;
 use std::rt::Env;
-use std::env;
+use std::{env, io};
 
 /// What the arguments ask for.
 #[derive(Drop)]
@@ -45,4 +44,3 @@ fn read_word(word: String) -> Option<Call> {
         _ => Some(Call::Serve(word)),
     }
 }
-

@@ -90,6 +90,7 @@ impl ZoneMeter {
             return Ok(());
         }
         let space = MAX_KEPT.saturating_sub(self.line.len()).min(piece.len());
-        self.line.extend_from_slice(piece.get(..space).unwrap_or(&[]))
+        self.line
+            .extend_from_slice(piece.get(..space).unwrap_or(&[]))
     }
 }

@@ -87,4 +87,3 @@ impl<R: Wait> Write for Output<'_, R> {
         Ok(())
     }
 }
-

@@ -18,7 +18,8 @@ use std::rt::Env;
 use std::sync::{Arc, Wait};
 use std::{io, thread};
 
-const USAGE: &str = "usage: siplocd [SETTINGS] | tell ADDRESS LINE | replay FOLDER | --help | --version";
+const USAGE: &str =
+    "usage: siplocd [SETTINGS] | tell ADDRESS LINE | replay FOLDER | --help | --version";
 
 const HELP: &str = "siplocd [SETTINGS]           serves sessions until it is told to stop
 siplocd tell ADDRESS LINE    sends a line to the daemon's control address, and prints the reply

@@ -112,7 +112,10 @@ fn replay_page(
         return Err(ReplayFault::NotPage(path));
     };
     let len = text.len().saturating_sub(DIGEST_LEN);
-    let (body, end) = (text.get(..len).unwrap_or(&[]), text.get(len..).unwrap_or(&[]));
+    let (body, end) = (
+        text.get(..len).unwrap_or(&[]),
+        text.get(len..).unwrap_or(&[]),
+    );
     let Some(head) = read_head(body) else {
         return Err(ReplayFault::NotPage(path));
     };
@@ -155,7 +158,11 @@ fn run_of(
         Ok(settings) if head.first == 0 && before < number => settings,
         _ => return Ok(None),
     };
-    let Settings { abilities, held, .. } = settings;
+    let Settings {
+        abilities,
+        held,
+        ..
+    } = settings;
     Ok(Some(Run {
         number,
         next: 0,
@@ -207,10 +214,7 @@ fn replay_event(
             Some(len.saturating_add(reply.len()))
         }
         Some((b"zone" | b"drop" | b"add" | b"del" | b"hold" | b"release" | b"clock", _))
-            if reply.starts_with(b"ok") =>
-        {
-            Some(len)
-        }
+            if reply.starts_with(b"ok") => { Some(len) }
         _ => None,
     })
 }

@@ -114,10 +114,14 @@ fn report_close<R: Eprint>(rt: &R, fault: &CloseFault) {
 fn report_replay<R: Eprint>(rt: &R, fault: &ReplayFault) {
     let _ = match fault {
         ReplayFault::File(path, error) => eprintln!(rt; "siplocd: replay {path}: {error}"),
-        ReplayFault::Gap(path) => eprintln!(rt; "siplocd: replay {path}: a page before it is missing"),
+        ReplayFault::Gap(path) => eprintln!(rt;
+            "siplocd: replay {path}: a page before it is missing"
+        ),
         ReplayFault::NotPage(path) => eprintln!(rt; "siplocd: replay {path}: not a whole page"),
         ReplayFault::Event(path, number) => eprintln!(rt; "siplocd: replay {path}: event {number}"),
-        ReplayFault::Changed(path) => eprintln!(rt; "siplocd: replay {path}: not as it was written"),
+        ReplayFault::Changed(path) => eprintln!(rt;
+            "siplocd: replay {path}: not as it was written"
+        ),
         ReplayFault::Memory => eprintln!(rt; "siplocd: out of memory"),
     };
 }

@@ -45,7 +45,11 @@ fn write_draws(alloc: Global, out: &mut Vec<u8>, draws: &Draws) -> Result<(), Al
     };
     let mut text = String::new(alloc);
     for word in words.get(..=last).unwrap_or(&[]) {
-        write!(text, "{}{word}", if text.is_empty() { " words " } else { "," })?;
+        write!(
+            text,
+            "{}{word}",
+            if text.is_empty() { " words " } else { "," }
+        )?;
     }
     out.extend_from_slice(text.as_bytes())
 }
