@@ -9,7 +9,7 @@ use Rattle.sipl_book.specs.Pages.{IsPage, PageState, extent_of}
 use Rattle.sipl_book.specs.declared.event.Event.TheVariants.{Change}
 use Rattle.sipl_book.specs.declared.outcome.Done.{Done}
 use Rattle.sipl_book.specs.declared.outcome.Extent.{Extent}
-use Rattle.sipl_service.specs.Passes.{GetsReceipt}
+use Rattle.sipl_service.specs.Passes.{GetsReceipt, PassState}
 use Rattle.sipl_service.specs.Telling.{AreDependencies, ToldState}
 use Rattle.sipl_service.specs.declared.fault.ServiceFault.{ServiceFault}
 use Rattle.sipl_lines.specs.Desk.{DeskRules}
@@ -36,9 +36,12 @@ MovesBoard (Hold endpoint ms) old outcome new = MakesEvent (Hold endpoint ms) ol
 MovesBoard (Release endpoint) old outcome new = MakesEvent (Release endpoint) old new outcome
 
 -- the pass has no receipts left, or all that it had; its front is as it was
+abbrev pub IsHandedOver : PassState → PassState → Type 0
+IsHandedOver old new = (new ≡ old) ⊎ (new ≡ record { receipts = []; front = old.front })
+
+-- the pass may be handed over, and all else is as it was
 abbrev pub HandsOver : CallerState → CallerState → Type 0
-HandsOver old new =
-    (new ≡ old) ⊎ (new ≡ record old { pass = record { receipts = []; front = old.pass.front } })
+HandsOver old new = IsHandedOver old.pass new.pass × KeepsOthers old new
 
 -- what a refusal says of a fault
 abbrev pub desk_text : DeskFault → Octets

@@ -2,9 +2,8 @@ use std::alloc::{AllocError, Global};
 use std::fmt;
 use std::net::SocketAddr;
 
-// The maximum length in octets of the path of a Unix socket. The system takes 107, and the socket is bound
-// in a folder beside its path, whose name is longer by four.
-const MAX_PATH_LEN: usize = 103;
+// The maximum length in octets of the path of a Unix socket, which the system sets.
+const MAX_PATH_LEN: usize = 107;
 
 /// Where clients connect.
 #[derive(Drop)]
@@ -17,7 +16,7 @@ pub enum Address {
 
 impl Address {
     /// Reads an address such as `127.0.0.1:5099`, `[::1]:5099` or `unix:/run/siplocd.sock`. `None` where
-    /// it is neither, of another machine, or a path without octets or of more than 103.
+    /// it is neither, of another machine, or a path without octets or of more than 107.
     pub fn from_text(alloc: Global, text: &str) -> Result<Option<Address>, AllocError> {
         if let Some(path) = text.strip_prefix("unix:") {
             if path.is_empty() || path.len() > MAX_PATH_LEN || path.contains('\0') {

@@ -1,4 +1,6 @@
 //! The changes since the last state, in a file: each is there before its reply is sent.
+ghost use Rattle.std.specs.Prelude.{◌≡◌, ◌≤◌, ◌+◌, ◌++◌, length, OnOk, vec_len, vec_capacity};
+
 use crate::source::Mark;
 use std::alloc::{AllocError, Global};
 use std::fs::{File, OpenOptions};
@@ -33,8 +35,6 @@ pub(crate) struct Pending {
     // The number of the last mark, and the place after it.
     mark: u64,
     begin: u64,
-    // The time of the book at the last mark, from which the times of the changes are counted.
-    base: u64,
     // How long the last state was.
     state_len: u64,
 }
@@ -69,7 +69,6 @@ impl Changes {
                 end: len,
                 mark,
                 begin: 0,
-                base: 0,
                 state_len: 0,
             }),
             written: Mutex::new(Written {
@@ -133,22 +132,25 @@ impl Written {
 }
 
 impl Pending {
-    /// Reserves the space of a text.
-    pub(crate) fn reserve(&mut self, len: usize) -> Result<(), AllocError> {
+    /// Reserves the space of a text. The only error is an allocation failure.
+    pub(crate) fn reserve(&mut self, len: usize) -> Result<(), AllocError>
+        ensures space { OnOk result
+            (vec_len self.new.text + len ≤ vec_capacity self.new.text) }
+        ensures text { self.new.text.items ≡ self.old.text.items }
+    {
         self.text.reserve(len)
     }
 
-    /// Appends the text of a change, and returns the place after it.
-    pub(crate) fn push(&mut self, text: &[u8]) -> u64 {
-        if self.text.extend_from_slice(text).is_ok() {
-            self.end = self.end.saturating_add(text.len() as u64);
-        }
+    /// Appends the text of a change, to space that is reserved, and returns the place after it. So a
+    /// change that was made is not lost.
+    pub(crate) fn push(&mut self, text: &[u8]) -> u64
+        requires space { vec_len self.old.text + length text.now ≤ vec_capacity self.old.text }
+        ensures text { self.new.text.items ≡ self.old.text.items ++ text.now }
+        ensures place { result ≡ self.new.end }
+    {
+        self.text.extend_from_slice(text).unwrap();
+        self.end = self.end.saturating_add(text.len() as u64);
         self.end
-    }
-
-    /// The time at the last mark.
-    pub(crate) fn base(&self) -> u64 {
-        self.base
     }
 
     /// How long the state is that was written.
@@ -162,14 +164,13 @@ impl Pending {
         len > MIN_LEN && len > self.state_len
     }
 
-    /// Appends a mark, at a time of the book. Returns its number, and the place after it.
-    pub(crate) fn push_mark(&mut self, now: u64) -> Result<Mark, AllocError> {
+    /// Appends a mark. Returns its number, and the place after it.
+    pub(crate) fn push_mark(&mut self) -> Result<Mark, AllocError> {
         let mark = self.mark.saturating_add(1);
         let text = format!(in self.alloc; "# page {mark}\n")?;
         self.text.reserve(text.len())?;
         self.begin = self.push(text.as_bytes());
         self.mark = mark;
-        self.base = now;
         Ok(Mark {
             number: mark,
             begin: self.begin,

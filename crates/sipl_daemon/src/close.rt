@@ -40,6 +40,8 @@ impl Daemon {
             Ok(last) => last,
             Err((fault, _service)) => return Err(CloseFault::Close(fault)),
         };
+        let mut mover = self.mover.into_inner();
+        let _ = self.pages.hand_over(rt, &mut mover);
         let claims = self.pages.close(rt, self.archive.as_ref(), &last)?;
         // The first event has the number 0.
         let events = last.next();

@@ -51,7 +51,7 @@ pub(crate) struct Daemon {
     // The time of the host, if that is the book's.
     time: Option<HostTime>,
     // The pass of the moves of the clock.
-    mover: Mutex<Pass>,
+    pub(crate) mover: Mutex<Pass>,
     // For how many seconds a client may send nothing.
     pub(crate) idle: Option<u64>,
     // The connections that asked for the stop, which stay open until the process ends.
@@ -153,7 +153,7 @@ impl Daemon {
         if let Ok(number) = moved {
             self.count_event(rt, number);
         }
-        self.pages.hand_over(rt, &self.stop, mover);
+        let _ = self.pages.hand_over(rt, mover);
     }
 
     // Whether the time is the host's.

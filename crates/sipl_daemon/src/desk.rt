@@ -73,12 +73,12 @@ impl<'a, R: Wait + Clock> SessionDesk<'a, R> {
         }
     }
 
-    /// Hands over the receipts that the pass has.
+    /// Ends the session: hands over the receipts that the pass has. Where an allocation fails they are
+    /// lost, and the daemon is to stop: no claim is made without them.
     pub(crate) fn end(mut self) {
-        let daemon = self.daemon;
-        daemon
-            .pages
-            .hand_over(self.rt, &daemon.stop, &mut self.pass);
+        if !self.daemon.pages.hand_over(self.rt, &mut self.pass) {
+            self.daemon.stop.ask(self.rt);
+        }
     }
 }
 
@@ -186,10 +186,7 @@ impl<'a, R: Wait + Clock> Desk for SessionDesk<'a, R> {
     }
 
     fn pause(&mut self) {
-        let daemon = self.daemon;
-        daemon
-            .pages
-            .hand_over(self.rt, &daemon.stop, &mut self.pass);
+        let _ = self.daemon.pages.hand_over(self.rt, &mut self.pass);
     }
 
     fn write_fault(fault: DeskFault, out: &mut Vec<u8>) {

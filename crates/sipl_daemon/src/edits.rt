@@ -153,7 +153,7 @@ impl Daemon {
         Ok(number)
     }
 
-    // Sets the time, as `append_edit` makes an edit. In the file it is counted from the last mark.
+    // Sets the time, as `append_edit` makes an edit.
     fn append_advance<R: Wait>(
         &self,
         rt: &R,
@@ -168,8 +168,8 @@ impl Daemon {
         let Some(changes) = &self.source.changes else {
             return self.source.service.advance(rt, pass, to);
         };
+        let text = clock_text(self.alloc, to)?;
         let mut pending = changes.lock(rt);
-        let text = clock_text(self.alloc, to.saturating_sub(pending.base()))?;
         pending.reserve(text.len())?;
         let number = self.source.service.advance(rt, pass, to)?;
         place.fetch_max(pending.push(&text), Ordering::SeqCst);

@@ -1,3 +1,7 @@
+//! Why a line is refused, or a connection.
+ghost use Rattle.std.specs.Prelude.{◌≡◌};
+ghost use Rattle.sipl_daemon.specs.Faults.{connection_code, desk_code};
+
 use sipl_service::ServiceFault;
 use thiserror::Error;
 
@@ -14,7 +18,9 @@ pub enum DeskFault {
 
 impl DeskFault {
     /// The error's code in replies, such as `D1`.
-    pub fn code(&self) -> &'static str {
+    pub fn code(&self) -> &'static str
+        ensures { result.now ≡ desk_code self.now }
+    {
         match self {
             DeskFault::HostTime => "D1",
             DeskFault::Service(fault) => fault.code(),
@@ -32,7 +38,9 @@ pub enum ConnectionFault {
 
 impl ConnectionFault {
     /// The error's code, which is sent before the connection is closed.
-    pub fn code(self) -> &'static str {
+    pub fn code(self) -> &'static str
+        ensures { result.now ≡ connection_code self }
+    {
         match self {
             ConnectionFault::Busy => "Busy",
         }

@@ -1,4 +1,7 @@
 //! A client's stream as the reader of its session.
+ghost use Rattle.std.specs.Io.{ReadsAtMost};
+ghost use Rattle.std.specs.Prelude.{◌≤◌, length};
+
 use crate::meter::ZoneMeter;
 use crate::stop::Stop;
 use crate::stream::Stream;
@@ -48,7 +51,9 @@ impl<'a> Input<'a> {
     }
 
     // Reads from the stream.
-    fn read_stream(&self, buf: &mut [u8]) -> io::Result<usize> {
+    fn read_stream(&self, buf: &mut [u8]) -> io::Result<usize>
+        ensures { ReadsAtMost result buf.new }
+    {
         // A client that came while the others were ended is ended here.
         self.check()?;
         let mut stream = self.stream;
@@ -58,7 +63,9 @@ impl<'a> Input<'a> {
     }
 
     // Returns octets that make a line too long.
-    fn fill(&mut self, buf: &mut [u8]) -> usize {
+    fn fill(&mut self, buf: &mut [u8]) -> usize
+        ensures { result ≤ length buf.new }
+    {
         let count = self.filling.min(buf.len());
         if let Some(part) = buf.get_mut(..count) {
             part.fill(b'x');
@@ -68,7 +75,9 @@ impl<'a> Input<'a> {
     }
 
     // Returns a part of the tail.
-    fn read_tail(&mut self, buf: &mut [u8]) -> usize {
+    fn read_tail(&mut self, buf: &mut [u8]) -> usize
+        ensures { result ≤ length buf.new }
+    {
         let rest = self.tail.as_slice().get(self.begin..).unwrap_or(&[]);
         let count = rest.len().min(buf.len());
         if let (Some(to), Some(from)) = (buf.get_mut(..count), rest.get(..count)) {

@@ -1,7 +1,8 @@
-//! The lines of a session's input, and which lines belong to one command.
+//! The lines of a session, and which of them belong to one command or reply.
 use memchr::memchr;
-use sipl_lines::{MAX_LINE_LEN, MAX_ZONE_LINES};
+use sipl_lines::{Desk, MAX_LINE_LEN, MAX_ZONE_LINES, Tapped, serve};
 use sipl_records::{next_field, read_number};
+use std::alloc::Global;
 
 /// The first line of a text, without its end, and the rest; the whole and nothing where no line ends.
 pub(crate) fn split_line(text: &[u8]) -> (&[u8], &[u8]) {
@@ -48,4 +49,40 @@ fn zone_lines(fields: &[u8]) -> Option<u64> {
         return None;
     }
     read_number(count, MAX_ZONE_LINES)
+}
+
+/// Whether a line is that of a change: an edit, a hold, a release, or a move of the clock.
+pub(crate) fn is_change(line: &[u8]) -> bool {
+    match next_field(line) {
+        Some((word, _)) => matches!(
+            word,
+            b"zone" | b"drop" | b"add" | b"del" | b"hold" | b"release" | b"clock"
+        ),
+        None => false,
+    }
+}
+
+/// How many octets the first reply of a text has: its lines up to the one that ends it. `None` where it is
+/// not whole.
+pub(crate) fn reply_of(text: &[u8]) -> Option<usize> {
+    let mut len = 0usize;
+    for _ in 0..text.len() {
+        let rest = text.get(len..)?;
+        len = len.saturating_add(memchr(b'\n', rest)?).saturating_add(1);
+        if let Some((b"ok" | b"none" | b"err", _)) = next_field(rest) {
+            return Some(len);
+        }
+    }
+    None
+}
+
+/// Serves a session on a text, and returns the replies. `None` where an allocation fails.
+pub(crate) fn replies_to<D: Desk>(alloc: Global, desk: &mut D, text: &[u8]) -> Option<Vec<u8>> {
+    let mut replies = Vec::new(alloc);
+    let mut reader = Tapped::new(text);
+    let mut writer = Tapped::new(&mut replies);
+    match serve(alloc, &mut reader, &mut writer, desk) {
+        Ok(_) => Some(replies),
+        Err(_) => None,
+    }
 }

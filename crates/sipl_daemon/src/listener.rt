@@ -4,7 +4,7 @@ use std::alloc::Global;
 use std::fs::{DirBuilder, File, OpenOptions, Permissions, TryLockError};
 use std::io::ErrorKind;
 use std::net::{Net, Shutdown, SocketAddr, TcpListener, TcpStream};
-use std::os::fd::OwnedFd;
+use std::os::fd::{AsRawFd, OwnedFd};
 use std::os::unix::fs::{DirBuilderExt, FileTypeExt, OpenOptionsExt, PermissionsExt};
 use std::os::unix::net::{UnixListener, UnixStream};
 use std::rt::Files;
@@ -95,7 +95,7 @@ fn bind_unix<R: Files<File = File> + Net>(
     let _ = fs::remove_file(rt, bound.as_str());
     let _ = fs::remove_dir(rt, folder.as_str());
     DirBuilder::new().mode(0o700).create(rt, folder.as_str())?;
-    let listener = UnixListener::bind(rt, bound.as_str())?;
+    let listener = bind_in(rt, alloc, folder.as_str())?;
     fs::set_permissions(rt, bound.as_str(), Permissions::from_mode(mode))?;
     fs::rename(rt, bound.as_str(), path.as_str())?;
     fs::remove_dir(rt, folder.as_str())?;
@@ -105,6 +105,17 @@ fn bind_unix<R: Files<File = File> + Net>(
         socket: Socket::Unix(listener, lock),
         waker: Stream::Unix(waker),
     })
+}
+
+// Listens at `s` in a folder, by a name of it that is short: the system takes no longer one than 107 octets.
+fn bind_in<R: Files<File = File> + Net>(
+    rt: &R,
+    alloc: Global,
+    folder: &str,
+) -> io::Result<UnixListener> {
+    let folder = File::open(rt, folder)?;
+    let path = format!(in alloc; "/proc/self/fd/{}/s", folder.as_raw_fd())?;
+    UnixListener::bind(rt, path.as_str())
 }
 
 // Opens a file, and takes its lock.

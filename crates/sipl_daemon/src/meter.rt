@@ -1,4 +1,6 @@
 //! The limit on the lines that a `zone` line takes.
+ghost use Rattle.std.specs.Prelude.{◌<◌, length, IfOk, IfSome};
+
 use crate::items::taken_by;
 use memchr::memchr;
 use sipl_lines::MAX_LINE_LEN;
@@ -35,7 +37,9 @@ impl ZoneMeter {
 
     /// Goes on with what was read. Where a zone's lines become too many octets it returns the place of
     /// the end of the line at which they do, and is before that end.
-    pub(crate) fn measure(&mut self, chunk: &[u8]) -> Result<Option<usize>, AllocError> {
+    pub(crate) fn measure(&mut self, chunk: &[u8]) -> Result<Option<usize>, AllocError>
+        ensures { IfOk result (λ found. IfSome found (λ place. place < length chunk.now)) }
+    {
         let mut place = 0usize;
         for _ in 0..chunk.len() {
             let rest = chunk.get(place..).unwrap_or(&[]);

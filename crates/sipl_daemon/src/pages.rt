@@ -1,10 +1,11 @@
 //! The journal of the daemon's service, which rolls: pages are turned before they are full, and each is
 //! claimed when the receipts of its events are in.
+ghost use Rattle.sipl_daemon.specs.SessionDesk.{IsHandedOver};
+
 use crate::archive::Archive;
 use crate::claims::{Claimed, Claims};
 use crate::close::CloseFault;
 use crate::source::{Source, Turned};
-use crate::stop::Stop;
 use sipl_book::{Extent, Page};
 use sipl_service::{ClaimFault, Pass, Receipts, ServiceFault};
 use std::alloc::Global;
@@ -97,15 +98,20 @@ impl Pages {
         Ok(extent)
     }
 
-    /// Hands the receipts of a caller over, to be claimed. Where an allocation fails they are lost, and
-    /// the daemon is to stop: no claim is made without them.
-    pub(crate) fn hand_over<R: Wait>(&self, rt: &R, stop: &Stop, pass: &mut Pass) {
+    /// Hands the receipts of a caller over, to be claimed. Returns whether it has none left: where an
+    /// allocation fails it keeps them.
+    pub(crate) fn hand_over<R: Wait>(&self, rt: &R, pass: &mut Pass) -> bool
+        ensures { IsHandedOver pass.old pass.new }
+    {
         if pass.receipts().is_empty() {
-            return;
+            return true;
         }
-        if self.handed.lock(rt).push(pass.hand_over()).is_err() {
-            stop.ask(rt);
+        let mut handed = self.handed.lock(rt);
+        if handed.reserve(1).is_err() {
+            return false;
         }
+        handed.push_reserved(pass.hand_over());
+        true
     }
 
     /// Waits until a page is turned, for a tenth of a second at most.

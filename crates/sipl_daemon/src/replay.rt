@@ -1,11 +1,11 @@
 //! The replay of an archive: its pages follow one another, each event is accepted, and each answer is that
 //! of the plain machine.
 use crate::archive::digest_line;
-use crate::items::{item_of, split_line};
+use crate::items::{is_change, item_of, replies_to, reply_of, split_line};
 use crate::plain::Plain;
 use crate::server::Host;
 use sha2::{Digest, Sha256};
-use sipl_lines::{Settings, Tapped, serve};
+use sipl_lines::Settings;
 use sipl_records::{next_field, read_number};
 use std::alloc::{AllocError, AllocFailed, Global};
 use std::{fs, io};
@@ -178,45 +178,65 @@ fn replay_events(
     desk: &mut Plain,
     head: &Head<'_>,
 ) -> Result<Option<u64>, ReplayFault> {
-    let mut rest = head.events;
-    for place in 0..head.count {
-        let Some(len) = replay_event(alloc, desk, rest)? else {
-            return Ok(Some(head.first.saturating_add(place)));
-        };
-        rest = rest.get(len..).unwrap_or(&[]);
+    let commands = commands_of(alloc, head)?;
+    match replies_to(alloc, desk, &commands) {
+        Some(replies) => Ok(first_other(head, &replies)),
+        None => Err(ReplayFault::Memory),
     }
-    if rest.is_empty() {
-        return Ok(None);
-    }
-    Ok(Some(head.first.saturating_add(head.count)))
 }
 
-// Replays the first event of a text, as a session of its own. Returns how many octets its lines have; `None`
-// where it is not accepted, or its answer is another one.
-fn replay_event(
-    alloc: Global,
-    desk: &mut Plain,
-    text: &[u8],
-) -> Result<Option<usize>, ReplayFault> {
-    let Some((len, _)) = item_of(text) else {
-        return Ok(None);
-    };
-    let (line, after) = text.split_at_checked(len).unwrap_or((text, &[]));
-    let mut reply = Vec::new(alloc);
-    let mut reader = Tapped::new(line);
-    let mut writer = Tapped::new(&mut reply);
-    let served = serve(alloc, &mut reader, &mut writer, desk);
-    if served.is_err() || reply.starts_with(b"err Memory") {
-        return Err(ReplayFault::Memory);
+// The lines of the events of a page, without the replies, up to the first that is no event.
+fn commands_of(alloc: Global, head: &Head<'_>) -> Result<Vec<u8>, AllocError> {
+    let mut commands = Vec::new(alloc);
+    let mut rest = head.events;
+    for _ in 0..head.count {
+        let Some((len, reply)) = event_of(rest) else {
+            break;
+        };
+        commands.extend_from_slice(rest.get(..len).unwrap_or(&[]))?;
+        rest = rest.get(len.saturating_add(reply)..).unwrap_or(&[]);
     }
-    Ok(match next_field(line) {
-        Some((b"find", _)) if !reply.starts_with(b"err") && after.starts_with(&reply) => {
-            Some(len.saturating_add(reply.len()))
-        }
-        Some((b"zone" | b"drop" | b"add" | b"del" | b"hold" | b"release" | b"clock", _))
-            if reply.starts_with(b"ok") => { Some(len) }
+    Ok(commands)
+}
+
+// How many octets the first event of a text has, and of an answer how many its reply after it has.
+fn event_of(text: &[u8]) -> Option<(usize, usize)> {
+    let (len, _) = item_of(text)?;
+    if is_change(text) {
+        return Some((len, 0));
+    }
+    match next_field(text) {
+        Some((b"find", _)) => Some((len, reply_of(text.get(len..)?)?)),
         _ => None,
-    })
+    }
+}
+
+// The number of the first event whose reply is another one: that of an answer to the octet, and each other
+// event is accepted.
+fn first_other(head: &Head<'_>, replies: &[u8]) -> Option<u64> {
+    let (mut rest, mut replies) = (head.events, replies);
+    for place in 0..head.count {
+        let number = head.first.saturating_add(place);
+        let (Some((len, own)), Some(end)) = (event_of(rest), reply_of(replies)) else {
+            return Some(number);
+        };
+        let after = rest.get(len..).unwrap_or(&[]);
+        let (own, reply) = (
+            after.get(..own).unwrap_or(&[]),
+            replies.get(..end).unwrap_or(&[]),
+        );
+        if own != reply && !(own.is_empty() && reply.starts_with(b"ok "))
+            || reply.starts_with(b"err")
+        {
+            return Some(number);
+        }
+        rest = after.get(own.len()..).unwrap_or(&[]);
+        replies = replies.get(end..).unwrap_or(&[]);
+    }
+    if rest.is_empty() {
+        return None;
+    }
+    Some(head.first.saturating_add(head.count))
 }
 
 // The run and the first number of a page, by its name.

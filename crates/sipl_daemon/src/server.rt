@@ -79,16 +79,21 @@ pub(crate) fn serve_all<H: Host>(
             }
         }
         daemon.stop.wait(host);
-        for listener in listeners {
-            listener.close();
-        }
-        if let Some(listener) = control {
-            listener.close();
-        }
-        daemon.clients.end(host, Duration::from_millis(GRACE));
-        daemon.controls.end(host, Duration::from_millis(0));
-        daemon.source.service.stop(host);
+        end_all(host, daemon, listeners, control);
     });
+}
+
+// Ends all accepts and all sessions: each after the line that it is in.
+fn end_all<H: Host>(host: &H, daemon: &Daemon, listeners: &[Listener], control: Option<&Listener>) {
+    for listener in listeners {
+        listener.close();
+    }
+    if let Some(listener) = control {
+        listener.close();
+    }
+    daemon.clients.end(host, Duration::from_millis(GRACE));
+    daemon.controls.end(host, Duration::from_millis(0));
+    daemon.source.service.stop(host);
 }
 
 // Moves the clock until the daemon is to stop.

@@ -35,18 +35,10 @@ impl Source {
         let mut pending = changes.lock(rt);
         let page = self.service.turn_page(rt)?;
         let mark = if pending.is_long() {
-            pending.push_mark(time_of(&page)).ok()
+            pending.push_mark().ok()
         } else {
             None
         };
         Ok(Turned { page, mark })
-    }
-}
-
-// The time at the end of a page.
-fn time_of(page: &Page) -> u64 {
-    match page.result().board() {
-        Some(board) => board.now(),
-        None => 0,
     }
 }

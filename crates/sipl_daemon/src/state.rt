@@ -3,12 +3,11 @@ use crate::changes::{Changes, replace};
 use crate::daemon::Daemon;
 use crate::desk::SessionDesk;
 use crate::holds::Holds;
-use crate::items::{item_of, split_line};
+use crate::items::{is_change, item_of, replies_to, reply_of, split_line};
 use crate::listener::take_lock;
 use crate::server::Host;
-use crate::text::{hold_text, write_zones};
+use crate::text::{clock_text, hold_text, write_zones};
 use sipl_book::{Page, State};
-use sipl_lines::{Tapped, serve};
 use sipl_records::read_number;
 use std::alloc::{AllocError, Global};
 use std::fs::File;
@@ -51,26 +50,43 @@ pub(crate) fn restore<H: Host>(
 ) -> Result<Changes, StateFault> {
     let alloc = daemon.alloc;
     let lock = take_lock(host, format!(in alloc; "{path}.lock")?.as_str())?;
-    let state = read_file(host, alloc, path)?;
+    let mark = restore_state(host, daemon, path)?;
     let log = format!(in alloc; "{path}.log")?;
-    let changes = read_file(host, alloc, log.as_str())?;
+    let (len, last) = restore_changes(host, daemon, log.as_str(), mark)?;
+    Ok(Changes::open(host, alloc, log, lock, len, last)?)
+}
+
+// Makes the zones and the holds of a state. Returns its mark.
+fn restore_state<H: Host>(host: &H, daemon: &Daemon, path: &str) -> Result<u64, StateFault> {
+    let state = read_file(host, daemon.alloc, path)?;
+    if state.is_empty() {
+        return Ok(0);
+    }
     let (head, rest) = split_line(&state);
-    let mark = if state.is_empty() {
-        Some(0)
-    } else {
-        mark_of(head)
-    };
-    let Some(mark) = mark else {
+    let Some(mark) = mark_of(head) else {
         return Err(StateFault::State(1));
     };
     let made = make_lines(host, daemon, rest);
     if made.is_refused || made.octets < rest.len() {
         return Err(StateFault::State(made.lines.saturating_add(2)));
     }
+    Ok(mark)
+}
+
+// Makes the changes after a mark, and leaves them in their file without the last one, where that is not
+// whole. Returns how many octets the file has, and its last mark.
+fn restore_changes<H: Host>(
+    host: &H,
+    daemon: &Daemon,
+    log: &str,
+    mark: u64,
+) -> Result<(u64, u64), StateFault> {
+    let alloc = daemon.alloc;
+    let changes = read_file(host, alloc, log)?;
     if changes.is_empty() {
         let text = format!(in alloc; "# page {mark}\n")?;
-        replace(host, alloc, log.as_str(), &[text.as_bytes()])?;
-        return Ok(Changes::open(host, alloc, log, lock, text.len() as u64, mark)?);
+        replace(host, alloc, log, &[text.as_bytes()])?;
+        return Ok((text.len() as u64, mark));
     }
     let Some((begin, lines)) = find_mark(&changes, mark) else {
         return Err(StateFault::NoMark);
@@ -79,12 +95,10 @@ pub(crate) fn restore<H: Host>(
     if made.is_refused {
         return Err(StateFault::Changes(made.lines.saturating_add(lines).saturating_add(1)));
     }
-    // Without the line that is not whole.
     let whole = begin.saturating_add(made.octets);
     let kept = changes.as_slice().get(..whole).unwrap_or(&[]);
-    replace(host, alloc, log.as_str(), &[kept])?;
-    let last = made.mark.unwrap_or(mark);
-    Ok(Changes::open(host, alloc, log, lock, kept.len() as u64, last)?)
+    replace(host, alloc, log, &[kept])?;
+    Ok((kept.len() as u64, made.mark.unwrap_or(mark)))
 }
 
 /// Writes the state after a mark. Returns its length.
@@ -98,6 +112,9 @@ pub(crate) fn write_state<R: Files<File = File>>(
 ) -> io::Result<u64> {
     let mut text = Vec::new(alloc);
     text.extend_from_slice(format!(in alloc; "# page {mark}\n")?.as_bytes())?;
+    if holds.now > 0 {
+        text.extend_from_slice(&clock_text(alloc, holds.now)?)?;
+    }
     write_zones(alloc, &mut text, state.apexes(), state.records())?;
     for (endpoint, end) in &holds.ends {
         let left = end.saturating_sub(holds.now);
@@ -116,7 +133,7 @@ pub(crate) fn end_state<R: Files<File = File> + Wait>(
     last: &Page,
     holds: &Holds,
 ) -> io::Result<()> {
-    let mark = changes.lock(rt).push_mark(holds.now)?;
+    let mark = changes.lock(rt).push_mark()?;
     changes.sync(rt, mark.begin)?;
     write_state(rt, alloc, path, mark.number, last.result(), holds)?;
     changes.trim(rt, mark.number, mark.begin)
@@ -132,26 +149,52 @@ struct Made {
     is_refused: bool,
 }
 
-// Makes the changes of a text, one after another, up to one that is not whole.
+// Makes the changes of a text, but for the last one where that is not whole.
 fn make_lines<H: Host>(host: &H, daemon: &Daemon, text: &[u8]) -> Made {
     let place = AtomicU64::new(0);
     let mut desk = SessionDesk::restoring(host, daemon, &place);
+    let whole = text.get(..whole_len(text)).unwrap_or(&[]);
+    let replies = replies_to(daemon.alloc, &mut desk, whole);
+    desk.end();
+    match replies {
+        Some(replies) => accepted(whole, &replies),
+        None => accepted(whole, &[]),
+    }
+}
+
+// How many octets the whole items of a text have.
+fn whole_len(text: &[u8]) -> usize {
+    let mut octets = 0usize;
+    for _ in 0..text.len() {
+        let Some((len, _)) = item_of(text.get(octets..).unwrap_or(&[])) else {
+            break;
+        };
+        octets = octets.saturating_add(len);
+    }
+    octets
+}
+
+// What the changes of a text came to, by the replies to them.
+fn accepted(text: &[u8], replies: &[u8]) -> Made {
     let mut made = Made {
         octets: 0,
         lines: 0,
         mark: None,
         is_refused: false,
     };
+    let mut replies = replies;
     for _ in 0..text.len() {
         let rest = text.get(made.octets..).unwrap_or(&[]);
         let Some((len, lines)) = item_of(rest) else {
             break;
         };
-        let item = rest.get(..len).unwrap_or(&[]);
-        match mark_of(split_line(item).0) {
-            Some(mark) => made.mark = Some(mark),
-            None if make_item(daemon.alloc, &mut desk, item) => {}
-            None => {
+        let line = split_line(rest).0;
+        match (mark_of(line), reply_of(replies)) {
+            (Some(mark), _) => made.mark = Some(mark),
+            (None, Some(end)) if is_change(line) && replies.starts_with(b"ok ") => {
+                replies = replies.get(end..).unwrap_or(&[]);
+            }
+            _ => {
                 made.is_refused = true;
                 break;
             }
@@ -159,17 +202,7 @@ fn make_lines<H: Host>(host: &H, daemon: &Daemon, text: &[u8]) -> Made {
         made.octets = made.octets.saturating_add(len);
         made.lines = made.lines.saturating_add(lines);
     }
-    desk.end();
     made
-}
-
-// Makes one change, as a session of its own does. Returns whether it is accepted.
-fn make_item<H: Host>(alloc: Global, desk: &mut SessionDesk<'_, H>, item: &[u8]) -> bool {
-    let mut replies = Vec::new(alloc);
-    let mut reader = Tapped::new(item);
-    let mut writer = Tapped::new(&mut replies);
-    let served = serve(alloc, &mut reader, &mut writer, desk);
-    served.is_ok() && replies.starts_with(b"ok ")
 }
 
 // How many octets and lines there are up to the mark of this number, with it.
