@@ -2,8 +2,8 @@ use std::alloc::{AllocError, Global};
 use std::fmt;
 use std::net::SocketAddr;
 
-// The maximum length in octets of the path of a Unix socket, which the system sets.
-const MAX_PATH_LEN: usize = 107;
+/// The maximum length in octets of the path of a Unix socket, which the system sets.
+pub(crate) const MAX_PATH_LEN: usize = 107;
 
 /// Where clients connect.
 #[derive(Drop)]

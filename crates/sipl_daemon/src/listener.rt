@@ -1,4 +1,4 @@
-use crate::address::Address;
+use crate::address::{Address, MAX_PATH_LEN};
 use crate::stream::Stream;
 use std::alloc::Global;
 use std::fs::{DirBuilder, File, OpenOptions, Permissions, TryLockError};
@@ -95,7 +95,7 @@ fn bind_unix<R: Files<File = File> + Net>(
     let _ = fs::remove_file(rt, bound.as_str());
     let _ = fs::remove_dir(rt, folder.as_str());
     DirBuilder::new().mode(0o700).create(rt, folder.as_str())?;
-    let listener = bind_in(rt, alloc, folder.as_str())?;
+    let listener = bind_in(rt, alloc, folder.as_str(), bound.as_str())?;
     fs::set_permissions(rt, bound.as_str(), Permissions::from_mode(mode))?;
     fs::rename(rt, bound.as_str(), path.as_str())?;
     fs::remove_dir(rt, folder.as_str())?;
@@ -107,12 +107,17 @@ fn bind_unix<R: Files<File = File> + Net>(
     })
 }
 
-// Listens at `s` in a folder, by a name of it that is short: the system takes no longer one than 107 octets.
+// Listens at a path in a folder. Where the system takes no path of that length, the folder has a shorter
+// name as a file that is open.
 fn bind_in<R: Files<File = File> + Net>(
     rt: &R,
     alloc: Global,
     folder: &str,
+    path: &str,
 ) -> io::Result<UnixListener> {
+    if path.len() <= MAX_PATH_LEN {
+        return UnixListener::bind(rt, path);
+    }
     let folder = File::open(rt, folder)?;
     let path = format!(in alloc; "/proc/self/fd/{}/s", folder.as_raw_fd())?;
     UnixListener::bind(rt, path.as_str())
