@@ -16,7 +16,6 @@ use std::marker::Model;
 /// Records, holds and a clock, without any kept result: each answer is that of `plan_of`, from all records.
 #[derive(Drop)]
 pub(crate) struct Plain {
-    alloc: Global,
     store: ZoneStore,
     board: Board,
     abilities: Abilities,
@@ -28,7 +27,6 @@ impl Plain {
     /// Nothing is loaded or held, at time 0.
     pub(crate) fn new(alloc: Global, abilities: Abilities, held: Held) -> Plain {
         Plain {
-            alloc,
             store: ZoneStore::new(alloc),
             board: Board::new(alloc),
             abilities,
