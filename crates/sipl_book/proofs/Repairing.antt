@@ -19,7 +19,7 @@ use Rattle.sipl_book.specs.Book.{BookState}
 use Rattle.sipl_book.specs.Calls.{CountsLooks, IsSettled, after_give_back, after_settlement, is_renumbered, looks_after, settle_refusal, with_looks}
 use Rattle.sipl_book.specs.Entries.{EntryState, entry_of, has_current_entry, is_of, renewed}
 use Rattle.sipl_book.specs.Questions.{same_question}
-use Rattle.sipl_book.specs.Repairs.{queue_after_give_back, entry_with, is_leased_for, is_outdated}
+use Rattle.sipl_book.specs.Repairs.{entry_with, is_leased_for, is_outdated, queue_after_give_back}
 use Rattle.sipl_book.specs.declared.fault.BookFault.{BookFault}
 use Rattle.sipl_book.specs.declared.fault.BookFault.TheVariants.{JournalFull, NotCurrent, Stale, Unknown, Gone, PagesSpent, Queue, Store as OfStore, Board, Memory}
 use Rattle.sipl_book.specs.declared.outcome.Uncommitted.{Uncommitted}

@@ -20,7 +20,7 @@ use Rattle.sipl_repair.specs.QueueState.{after_lease, after_settle, first_of, is
 use Rattle.sipl_repair.specs.declared.fault.QueueFault.TheVariants.{Empty}
 use Rattle.sipl_book.specs.Entries.{entry_of, has_current_entry, after_change, committed, renewed}
 use Rattle.sipl_book.specs.Machine.{zone_edit}
-use Rattle.sipl_book.specs.Repairs.{after_failure, after_marks, after_removal, after_renewal, queue_after_give_back, dependents, entry_with, is_leased_for, without}
+use Rattle.sipl_book.specs.Repairs.{after_failure, after_marks, after_removal, after_renewal, dependents, entry_with, is_leased_for, queue_after_give_back, without}
 use Rattle.sipl_book.specs.declared.edit.Edit.{Edit}
 use Rattle.sipl_book.specs.declared.event.Event.{Event}
 use Rattle.sipl_book.specs.declared.event.Event.TheVariants.{Change, Hold, Release, Advance, Answer}
