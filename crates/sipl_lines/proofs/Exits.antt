@@ -13,7 +13,7 @@ use Rattle.sipl_lines.specs.declared.server.Ended.TheVariants.{Quit, EndOfInput}
 use Rattle.sipl_lines.specs.declared.server.ServeFault.{ServeFault}
 use Rattle.sipl_lines.specs.declared.server.ServeFault.TheVariants.{Read, Write, TooManyTurns, Memory}
 use Rattle.sipl_lines.specs.declared.tapped.Tapped.{Tapped}
-use Rattle.sipl_lines.proofs.Turning.{served_none, served_more, served_end, served_ended, served_prefix, served_read, served_kept, served_failed}
+use Rattle.sipl_lines.proofs.Turning.{served_none, served_more, served_end, served_ended, served_prefix, served_read, served_kept, served_failed, served_paused}
 
 -- so many turns were made, and all that they read is served
 pub record Progress {A B : Type 0} (p : Protocol) (remaining : A → Option Octets) (contents : B → Option Octets)
@@ -60,6 +60,18 @@ progress_more {reader' = reader'} {writer' = writer'} rules later kept' reader''
       reader_failed = no_read_fault ∙ or-false (has_failed reader') ∙ progress.reader_failed;
       writer_failed = no_write_fault ∙ or-false (has_failed writer') ∙ progress.writer_failed;
       counted = omega arith;
+    }
+
+-- a pause was made, before the next turn
+pub progress_paused : {A B : Type 0} {p : Protocol} {remaining : A → Option Octets} {contents : B → Option Octets} {before now : p.State} {kept : Octets} {reader reader' : Tapped A} {writer writer' : Tapped B} {made : ℕ}
+    → (later : p.State) → Progress p remaining contents before now kept reader reader' writer writer' made → p.MayPause now later
+    → Progress p remaining contents before later kept reader reader' writer writer' made
+progress_paused later progress pause =
+    record {
+      served = served_paused later progress.served pause;
+      reader_failed = progress.reader_failed;
+      writer_failed = progress.writer_failed;
+      counted = progress.counted;
     }
 
 -- the session had ended

@@ -11,6 +11,8 @@ pub mod Listening
 pub mod Rows
 pub mod Seen
 pub mod Plain
+pub mod OneReply
+pub mod OneText
 pub mod Calling
 pub mod Scripts
 pub mod Reading

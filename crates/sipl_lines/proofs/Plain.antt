@@ -53,20 +53,28 @@ memory_or_not Memory = inl refl
 abbrev limited : Bool → Option BookFault → Option BookFault
 limited full fault = if full then Some JournalFull else fault
 
--- a call ends otherwise than with B3 where there may be more events, if its own fault is another
-ending_open : {A : Type 0} (full : Bool) (fault : Option BookFault) (value : A) (after before : PlainState) → fault ≢ Some JournalFull
-    → limited full None ≡ None → (ending_of (limited full fault) value after before).0 ≢ Err JournalFull
-ending_open true fault value after before other room same = cc
-ending_open false None value after before other room same = cc
-ending_open false (Some e) value after before other room same = other (cc)
+-- a result that is neither B3 nor B6
+abbrev IsOpen : {A : Type 0} → Result A BookFault → Type 0
+IsOpen result = (result ≢ Err JournalFull) × (result ≢ Err PagesSpent)
 
-of_the_store : (fault : Option StoreFault) → option_map Store fault ≢ Some JournalFull
-of_the_store None same = cc
-of_the_store (Some fault) same = cc
+-- a fault that is neither, or none
+abbrev IsOther : Option BookFault → Type 0
+IsOther fault = (fault ≢ Some JournalFull) × (fault ≢ Some PagesSpent)
 
-of_the_board : (fault : Option BoardFault) → option_map Board fault ≢ Some JournalFull
-of_the_board None same = cc
-of_the_board (Some fault) same = cc
+-- a call ends otherwise than with B3 or B6 where there may be more events, if its own fault is another
+ending_open : {A : Type 0} (full : Bool) (fault : Option BookFault) (value : A) (after before : PlainState) → IsOther fault
+    → limited full None ≡ None → IsOpen (ending_of (limited full fault) value after before).0
+ending_open true fault value after before other room = (λ same. cc, λ same. cc)
+ending_open false None value after before other room = (λ same. cc, λ same. cc)
+ending_open false (Some e) value after before other room = (λ same. other.0 (cc), λ same. other.1 (cc))
+
+of_the_store : (fault : Option StoreFault) → IsOther (option_map Store fault)
+of_the_store None = (λ same. cc, λ same. cc)
+of_the_store (Some fault) = (λ same. cc, λ same. cc)
+
+of_the_board : (fault : Option BoardFault) → IsOther (option_map Board fault)
+of_the_board None = (λ same. cc, λ same. cc)
+of_the_board (Some fault) = (λ same. cc, λ same. cc)
 
 if_err : {A E : Type 0} {P Q : E → Type 0} (r : Result A E) → ((e : E) → P e → Q e) → IfErr r P → IfErr r Q
 if_err (Ok value) weaker fact = tt
@@ -76,13 +84,13 @@ if_err (Err e) weaker fact = weaker e fact
 ends_so : {A : Type 0} (fault : Option BookFault) (value : A) (after before : PlainState) (outcome : Result A BookFault) (new : PlainState)
     → OnOk outcome (fault ≡ None) → IfOk outcome (λ v. v ≡ value) → OnOk outcome (new ≡ after)
     → IfErr outcome (λ e. e ≢ Memory → fault ≡ Some e)
-    → IfErr outcome (λ e. e ≡ Memory → (ending_of fault value after before).0 ≢ Err JournalFull) → OnErr outcome (new ≡ before)
+    → IfErr outcome (λ e. e ≡ Memory → IsOpen (ending_of fault value after before).0) → OnErr outcome (new ≡ before)
     → EndsSo (ending_of fault value after before) before outcome new
 ends_so {A} fault value after before (Ok v) new accepted is moved refused memory kept =
     inl (subst (λ f. (Ok v ≡ (ending_of f value after before).0) × (new ≡ (ending_of f value after before).1)) (sym accepted) (ap Ok is, moved))
 ends_so {A} fault value after before (Err e) new accepted is moved refused memory kept =
     elim (memory_or_not e) as (λ _. EndsSo (ending_of fault value after before) before (Err e) new) [
-      | inl same ↦ inr (memory same, ap Err same, kept)
+      | inl same ↦ inr ((memory same).0, (memory same).1, ap Err same, kept)
       | inr other ↦ inl (subst (λ f. (Err e ≡ (ending_of f value after before).0) × (new ≡ (ending_of f value after before).1)) (sym (refused other)) (refl, kept))
     ]
 
@@ -114,7 +122,7 @@ finds question words old outcome new found =
     found.accepted (found_value question words old outcome found.number found.answer)
     (found_after (has_current_entry old.entries question) outcome question words old new (answer_event old question words) found.from_entry found.committed)
     found.refused
-    (if_err outcome (λ e room same. ending_open (nat_le old.max_events (length old.journal)) None (record { number = next_event old; answer = answer_now old question words }) (with_event (plain_of old)) (plain_of old) (λ none. cc) (room same)) found.memory)
+    (if_err outcome (λ e room same. ending_open (nat_le old.max_events (length old.journal)) None (record { number = next_event old; answer = answer_now old question words }) (with_event (plain_of old)) (plain_of old) (λ none. cc, λ none. cc) (room same)) found.memory)
     (on_err outcome (ap plain_of) found.unchanged)
 
 -- ---- an edit
@@ -200,25 +208,21 @@ depends : (question : Question) (old : BookState) (outcome : Result (List Item) 
 depends question old (Ok items) new are =
     let look : Look = set_of old.store.zones.records in
     inl (ap Ok (listed-agree look items are.sets.agrees ∙ ap (map (keyed look)) are.keys), ap plain_of are.unchanged)
-depends question old (Err e) new are = inr (λ same. cc, ap Err are.failed, ap plain_of are.unchanged)
+depends question old (Err e) new are = inr (λ same. cc, λ same. cc, ap Err are.failed, ap plain_of are.unchanged)
 
 -- ---- a repair
 
 repairs : (old : BookState) (outcome : Result (Unit {0}) BookFault) (new : BookState)
     → IsRepaired old new outcome → EndsSo (Ok tt, plain_of old) (plain_of old) outcome (plain_of new)
 repairs old (Ok done) new is = inl (refl, ap plain_of is.renewed.others)
-repairs old (Err e) new is = inr (λ same. cc, ap Err is.failed, ap plain_of is.renewed.others)
+repairs old (Err e) new is = inr (λ same. cc, λ same. cc, ap Err is.failed, ap plain_of is.renewed.others)
 
 -- ---- a page
 
--- the fault of a page is not B3
-not_full : (spent : Bool) → (if spent then Some PagesSpent else None) ≢ Some JournalFull
-not_full true same = cc
-not_full false same = cc
-
-page_open : {A : Type 0} (fault : Option BookFault) (value : A) (after before : PlainState) → fault ≢ Some JournalFull → (ending_of fault value after before).0 ≢ Err JournalFull
-page_open None value after before other same = cc
-page_open (Some e) value after before other same = other (cc)
+-- where no fault applies a page does not end with one
+page_open : {A : Type 0} (fault : Option BookFault) (value : A) (after before : PlainState) → fault ≡ None → IsOpen (ending_of fault value after before).0
+page_open None value after before none = (λ same. cc, λ same. cc)
+page_open (Some e) value after before none = cc
 
 turns : (old : BookState) (turned : Result PageState BookFault) (new : BookState)
     → IsTurned old new turned → EndsSo (page_ending (plain_of old)) (plain_of old) (result_map_both extent_of (λ fault. fault) turned) (plain_of new)
@@ -228,7 +232,7 @@ turns old (Ok page) new is =
 turns old (Err e) new is =
     ends_so (turn_refusal old) (extent_of (page_of old)) (plain_of (after_turn old)) (plain_of old) (Err e) (plain_of new)
     tt tt tt is.refused
-    (λ same. page_open (turn_refusal old) (extent_of (page_of old)) (plain_of (after_turn old)) (plain_of old) (not_full (nat_lt (2 ^ 52 - 2 ^ 20) (next_event old))))
+    (λ same. page_open (turn_refusal old) (extent_of (page_of old)) (plain_of (after_turn old)) (plain_of old) (is.memory same))
     (ap plain_of is.unchanged)
 
 pages : (old : BookState) (outcome : Result Extent BookFault) (new : BookState)
@@ -237,4 +241,4 @@ pages old outcome new done =
     subst (λ o. EndsSo (page_ending (plain_of old)) (plain_of old) o (plain_of new)) (sym done.2) (turns old done.0 new done.1)
 
 pub book_implies_plain : Implies plain_of book_rules plain_rules
-book_implies_plain = record { finds = finds; changes = changes; moves = moves; depends = depends; repairs = repairs; pages = pages; time = λ book now is. is; fault = λ fault. refl }
+book_implies_plain = record { finds = finds; changes = changes; moves = moves; depends = depends; repairs = repairs; pages = pages; pauses = λ old new same. ap plain_of same; time = λ book now is. is; fault = λ fault. refl }

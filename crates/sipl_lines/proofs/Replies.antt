@@ -6,20 +6,66 @@ use Rattle.sipl_names.specs.Labels.{Octets}
 use Rattle.sipl_lines.specs.Lines.{without_cr}
 use Rattle.sipl_lines.specs.Items.{Item, line, end_of_input}
 use Rattle.sipl_lines.specs.Protocol.{IsLineProtocol, Protocol}
-use Rattle.sipl_lines.specs.Replies.{Serves, AppendsReply, AppendsReplies, AppendsFirstReplies}
+use Rattle.sipl_lines.specs.Replies.{Pauses, Waits, Serves, AppendsReply, AppendsReplies, AppendsFirstReplies}
 use Rattle.sipl_lines.specs.Machine.{items_from, pending_after, kept_prefix, last_items, read_items, EndsNoLine, EndsLine}
 use Rattle.sipl_lines.proofs.Cutting.{kept-append, kept-kept, without_cr-length}
+
+-- ---- pauses between items
+
+-- with no pause all is as it was
+pub waits_none : (p : Protocol) (s : p.State) → Waits p s s
+waits_none p s = ([], refl)
+
+pauses-append : (p : Protocol) (states others : List p.State) (s u v : p.State) → Pauses p s states u → Pauses p u others v → Pauses p s (states ++ others) v
+pauses-append p [] others s u v first second = subst (λ w. Pauses p w others v) first second
+pauses-append p (next ∷ states) others s u v first second = (first.0, pauses-append p states others next u v first.1 second)
+
+waits_more : (p : Protocol) (s u v : p.State) → Waits p s u → Waits p u v → Waits p s v
+waits_more p s u v first second = (first.0 ++ second.0, pauses-append p first.0 second.0 s u v first.1 second.1)
+
+pub waits_once : (p : Protocol) (s u : p.State) → p.MayPause s u → Waits p s u
+waits_once p s u pause = (u ∷ [], (pause, refl))
+
+-- the items are served after a wait
+serves_later : (p : Protocol) (items : List Item) (s u : p.State) (text : Octets) (v : p.State) → Waits p s u → Serves p u items text v → Serves p s items text v
+serves_later p [] s u text v waits served = (served.0, waits_more p s u v waits served.1)
+serves_later p (item ∷ items) s u text v waits served =
+    record {
+      reply = served.reply;
+      replies = served.replies;
+      between = served.between;
+      first = (served.first.0, waits_more p s u served.first.0 waits served.first.1, served.first.2);
+      others = served.others;
+      joined = served.joined;
+    }
+
+-- the items are served, and then there is a wait
+pub serves_waiting : (p : Protocol) (items : List Item) (s : p.State) (text : Octets) (u v : p.State) → Serves p s items text u → Waits p u v → Serves p s items text v
+serves_waiting p [] s text u v served waits = (served.0, waits_more p s u v served.1 waits)
+serves_waiting p (item ∷ items) s text u v served waits =
+    record {
+      reply = served.reply;
+      replies = served.replies;
+      between = served.between;
+      first = served.first;
+      others = serves_waiting p items served.between served.replies u v served.others waits;
+      joined = served.joined;
+    }
+
+-- a pause after the items
+pub serves_paused : (p : Protocol) (items : List Item) (s : p.State) (text : Octets) (u v : p.State) → Serves p s items text u → p.MayPause u v → Serves p s items text v
+serves_paused p items s text u v served pause = serves_waiting p items s text u v served (waits_once p u v pause)
 
 -- ---- replies to several items
 
 pub Serves-one : (p : Protocol) (s : p.State) (item : Item) (text : Octets) (u : p.State) → p.MayReply s item text u → Serves p s (item ∷ []) text u
 Serves-one p s item text u reply =
-    record { reply = text; replies = []; between = u; first = reply; others = (refl, refl); joined = sym (append-nil text) }
+    record { reply = text; replies = []; between = u; first = (s, waits_none p s, reply); others = (refl, waits_none p u); joined = sym (append-nil text) }
 
 pub Serves-append : (p : Protocol) (items more : List Item) (s u v : p.State) (text others : Octets)
     → Serves p s items text u → Serves p u more others v → Serves p s (items ++ more) (text ++ others) v
 Serves-append p [] more s u v text others first second =
-    subst (λ t. Serves p s more (t ++ others) v) (sym first.0) (subst (λ w. Serves p w more others v) first.1 second)
+    subst (λ t. Serves p s more (t ++ others) v) (sym first.0) (serves_later p more s u others v first.1 second)
 Serves-append p (item ∷ items) more s u v text others first second =
     record {
       reply = first.reply;
@@ -32,9 +78,9 @@ Serves-append p (item ∷ items) more s u v text others first second =
 
 -- a state that has ended says nothing
 pub Serves-ended : (p : Protocol) → IsLineProtocol p → (items : List Item) (s : p.State) → p.has_ended s ≡ true → Serves p s items [] s
-Serves-ended p rules [] s ended = (refl, refl)
+Serves-ended p rules [] s ended = (refl, waits_none p s)
 Serves-ended p rules (item ∷ items) s ended =
-    record { reply = []; replies = []; between = s; first = rules.silent s item ended; others = Serves-ended p rules items s ended; joined = refl }
+    record { reply = []; replies = []; between = s; first = (s, waits_none p s, rules.silent s item ended); others = Serves-ended p rules items s ended; joined = refl }
 
 -- ---- items that have the same replies
 
@@ -71,7 +117,7 @@ Serves-alike p (item ∷ items) (other ∷ others) s text u alike serves =
       reply = serves.reply;
       replies = serves.replies;
       between = serves.between;
-      first = alike.0 s serves.reply serves.between serves.first;
+      first = (serves.first.0, serves.first.1, alike.0 serves.first.0 serves.reply serves.between serves.first.2);
       others = Serves-alike p items others serves.between serves.replies u alike.1 serves.others;
       joined = serves.joined;
     }
@@ -131,7 +177,7 @@ read_items-alike p rules (c ∷ octets) a b alike = items_from-alike p rules (c 
 -- ---- replies after one another in a buffer
 
 pub replies_none : (p : Protocol) (s : p.State) (old : Octets) → AppendsReplies p s [] old s old
-replies_none p s old = ([], (refl, refl), sym (append-nil old))
+replies_none p s old = ([], (refl, waits_none p s), sym (append-nil old))
 
 pub replies_one : (p : Protocol) (s : p.State) (item : Item) (old : Octets) (u : p.State) (new : Octets) → AppendsReply p s item old u new → AppendsReplies p s (item ∷ []) old u new
 replies_one p s item old u new reply = (reply.0, Serves-one p s item reply.0 u reply.1, reply.2)
@@ -183,7 +229,7 @@ replies_end p s kept old u new none reply =
 -- no item was served
 pub first_none : (p : Protocol) (s : p.State) (items : List Item) (old : Octets) (u : p.State) (new : Octets) → u ≡ s → new ≡ old → AppendsFirstReplies p s items old u new
 first_none p s items old u new same same_out =
-    record { done = []; rest = items; split = refl; replies = ([], (refl, same), same_out ∙ sym (append-nil old)) }
+    record { done = []; rest = items; split = refl; replies = ([], (refl, ([], same)), same_out ∙ sym (append-nil old)) }
 
 -- what was left is served, and the end is not
 pub first_line : (p : Protocol) (s : p.State) (kept old : Octets) (u : p.State) (mid : Octets) (v : p.State) (new : Octets) → (length kept ≡ 0 → ⊥)
@@ -206,6 +252,17 @@ pub record FedTo (p : Protocol) (before : p.State) (first chunk old : Octets) (n
   pub split : items_from first chunk ≡ done ++ items_from pending rest
   pub replies : AppendsReplies p before done old now new
   pub left : pending_after first chunk ≡ pending_after pending rest
+
+pub fed_waiting : {p : Protocol} {before : p.State} {first chunk old : Octets} {now : p.State} {pending rest new : Octets} (later : p.State)
+    → FedTo p before first chunk old now pending rest new → Waits p now later → FedTo p before first chunk old later pending rest new
+fed_waiting {p} {before} {first} {chunk} {old} {now} {pending} {rest} {new} later fed waits =
+    let replies = fed.replies in
+    record {
+      done = fed.done;
+      split = fed.split;
+      replies = (replies.0, serves_waiting p fed.done before replies.0 now later replies.1 waits, replies.2);
+      left = fed.left;
+    }
 
 pub fed_none : (p : Protocol) (before : p.State) (first chunk old : Octets) → FedTo p before first chunk old before first chunk old
 fed_none p before first chunk old = record { done = []; split = refl; replies = replies_none p before old; left = refl }

@@ -1,6 +1,6 @@
 -- A session at a desk whose states are seen as those of another desk: where each rule of the one
 -- implies that of the other, the same text is that of a session at the other.
-use Rattle.std.proofs.Common.{◌≡◌, ℕ, List, [], ◌∷◌, Bool, true, false, Option, None, Some, Result, Ok, Err, OnOk, OnErr, ◌==◌, ◌++◌, ap, ◌∙◌, inl, inr, codes}
+use Rattle.std.proofs.Common.{◌≡◌, ℕ, List, [], ◌∷◌, map, Bool, true, false, Option, None, Some, Result, Ok, Err, OnOk, OnErr, ◌==◌, ◌++◌, ap, ◌∙◌, inl, inr, codes}
 use Rattle.std.specs.Bool.{OnTrue, OnFalse}
 use Rattle.sipl_names.specs.Labels.{Octets, Labels}
 use Rattle.sipl_names.specs.NameText.{name_of}
@@ -45,12 +45,12 @@ use Rattle.sipl_lines.specs.Calls.{CallDesk, with_call, hold_in, MakesHold, Goes
 use Rattle.sipl_lines.specs.Desk.{DeskRules}
 use Rattle.sipl_lines.specs.Gathering.{gathering_of, after_line, at_end, lost}
 use Rattle.sipl_lines.specs.Items.{Item, line, end_of_input, items_of, complete_items}
-use Rattle.sipl_lines.specs.Replies.{Serves}
+use Rattle.sipl_lines.specs.Replies.{Pauses, Serves, Waits}
 use Rattle.sipl_lines.specs.ReplyText.{counts_line, refusal_line}
 use Rattle.sipl_lines.specs.Requests.{Request, nothing, unknown, too_long, zone, drop, add, del, find, deps, repair, page, hold, release, clock, call, got, broke, quit, request_of}
 use Rattle.sipl_lines.specs.Serving.{ServesWithin, ServesDesk}
 use Rattle.sipl_lines.specs.ServeFault.{OnReadFault, OnTooManyTurns}
-use Rattle.sipl_lines.specs.Session.{SessionState, with_gathering, AtCall, AtDesk, Gathers, GathersOrLoses, LoadsGathered, MayReply, Obeys, Performs, TakesEnd, TakesItem, TakesLine, new_session, session_protocol}
+use Rattle.sipl_lines.specs.Session.{SessionState, with_gathering, AtCall, AtDesk, Gathers, GathersOrLoses, LoadsGathered, MayPause, MayReply, Obeys, Performs, TakesEnd, TakesItem, TakesLine, new_session, session_protocol}
 use Rattle.sipl_lines.specs.Streams.{ServesAll, ServesPrefix, ServesRead}
 
 -- each rule of a desk implies that of another, where the states are seen so, and the faults have the
@@ -68,6 +68,7 @@ pub record Implies {D E F : Type 0} (seen : D → E) (R : DeskRules D F) (R' : D
       → R.Repairs before outcome after → R'.Repairs (seen before) outcome (seen after)
   pub pages : (before : D) (outcome : Result Extent F) (after : D)
       → R.Pages before outcome after → R'.Pages (seen before) outcome (seen after)
+  pub pauses : (before after : D) → R.Pauses before after → R'.Pauses (seen before) (seen after)
   pub time : (state : D) (now : ℕ) → R.IsTime state now → R'.IsTime (seen state) now
   pub fault : (fault : F) → R.fault_text fault ≡ R'.fault_text fault
 
@@ -300,15 +301,26 @@ module _ {D E F : Type 0} (seen : D → E) (R : DeskRules D F) (R' : DeskRules E
 
   -- ---- what a session writes
 
+  may_pause : (before after : SessionState D) → MayPause R before after → MayPause R' (session_seen seen before) (session_seen seen after)
+  may_pause before after pause = (implies.pauses before.desk after.desk pause.0, ap (session_seen seen) pause.1)
+
+  pauses : (before : SessionState D) (states : List (SessionState D)) (after : SessionState D)
+      → Pauses (session_protocol R) before states after → Pauses (session_protocol R') (session_seen seen before) (map (session_seen seen) states) (session_seen seen after)
+  pauses before [] after same = ap (session_seen seen) same
+  pauses before (next ∷ others) after paused = (may_pause before next paused.0, pauses next others after paused.1)
+
+  waits : (before after : SessionState D) → Waits (session_protocol R) before after → Waits (session_protocol R') (session_seen seen before) (session_seen seen after)
+  waits before after waited = (map (session_seen seen) waited.0, pauses before waited.0 after waited.1)
+
   serves : (items : List Item) (before : SessionState D) (text : Octets) (after : SessionState D)
       → Serves (session_protocol R) before items text after → Serves (session_protocol R') (session_seen seen before) items text (session_seen seen after)
-  serves [] before text after done = (done.0, ap (session_seen seen) done.1)
+  serves [] before text after done = (done.0, waits before after done.1)
   serves (item ∷ items) before text after done =
       record {
         reply = done.reply;
         replies = done.replies;
         between = session_seen seen done.between;
-        first = may_reply before item done.reply done.between done.first;
+        first = (session_seen seen done.first.0, waits before done.first.0 done.first.1, may_reply done.first.0 item done.reply done.between done.first.2);
         others = serves items done.between done.replies after done.others;
         joined = done.joined;
       }

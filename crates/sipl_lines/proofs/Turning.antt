@@ -16,7 +16,7 @@ use Rattle.sipl_lines.specs.Turns.{AppendsPrefix, EndsWithNone, CompletesTurn, A
 use Rattle.sipl_lines.specs.declared.server.ServeFault.{ServeFault}
 use Rattle.sipl_lines.specs.declared.server.ServeFault.TheVariants.{Read, Write, TooManyTurns, Memory}
 use Rattle.sipl_lines.proofs.Cutting.{items_from-append, pending_after-append, complete_items-from, items_of-from, kept-kept, kept-pending_after}
-use Rattle.sipl_lines.proofs.Replies.{AreAllAlike, Serves-append, Serves-ended, Serves-alike, AreAllAlike-split, read_items-alike}
+use Rattle.sipl_lines.proofs.Replies.{waits_none, serves_paused, AreAllAlike, Serves-append, Serves-ended, Serves-alike, AreAllAlike-split, read_items-alike}
 
 -- ---- a text that is sent
 
@@ -137,7 +137,7 @@ all_prefix old new text sent = (text, [], sym (append-nil text), sent)
 
 pub served_none : (p : Protocol) (s : p.State) (unread old : Option Octets) → HasServed p s unread unread old s [] old
 served_none p s unread old =
-    record { got = []; text = []; consumed = Consumes-nil unread; serves = (refl, refl); appended = Appends-nil old; kept_is = sym (take_all 65538 [] (omega arith)) }
+    record { got = []; text = []; consumed = Consumes-nil unread; serves = (refl, waits_none p s); appended = Appends-nil old; kept_is = sym (take_all 65538 [] (omega arith)) }
 
 read_some : (pending octets : Octets) → octets ≢ [] → read_items pending octets ≡ items_from pending octets
 read_some pending [] some = absurd (some refl)
@@ -251,6 +251,19 @@ served_kept {p} {s} {unread} {left} {old} {now} {kept} {new} {left'} {later} {ne
       consumed = Consumes-kept unread left left' so_far.got so_far.consumed all.reader;
       serves = subst (λ state. Serves p s (items_from [] so_far.got) so_far.text state) (sym all.state) so_far.serves;
       appended = Appends-kept old new newer so_far.text so_far.appended all.writer;
+      kept_is = so_far.kept_is;
+    }
+
+-- a pause comes after what was served
+pub served_paused : {p : Protocol} {s : p.State} {unread left old : Option Octets} {now : p.State} {kept : Octets} {new : Option Octets} (later : p.State)
+    → HasServed p s unread left old now kept new → p.MayPause now later → HasServed p s unread left old later kept new
+served_paused {p} {s} {unread} {left} {old} {now} {kept} {new} later so_far pause =
+    record {
+      got = so_far.got;
+      text = so_far.text;
+      consumed = so_far.consumed;
+      serves = serves_paused p (items_from [] so_far.got) s so_far.text now later so_far.serves pause;
+      appended = so_far.appended;
       kept_is = so_far.kept_is;
     }
 

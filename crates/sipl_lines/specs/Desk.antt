@@ -16,8 +16,9 @@ use Rattle.sipl_book.specs.declared.outcome.Done.{Done}
 use Rattle.sipl_book.specs.declared.outcome.Extent.{Extent}
 use Rattle.sipl_book.specs.declared.outcome.Handed.{Handed}
 
--- what the calls of a desk may do, from a state to a state, with a value or a fault; which times, in
--- milliseconds, it may report in a state; and what a refusal says of a fault
+-- what the calls of a desk may do, from a state to a state, with a value or a fault; what a pause of
+-- the session may do, which has no reply; which times, in milliseconds, it may report in a state; and
+-- what a refusal says of a fault
 pub record DeskRules (D F : Type 0) : Type 1 where
   pub Finds : Question → List ℕ → D → Result Handed F → D → Type 0
   pub Changes : Edit → D → Result Done F → D → Type 0
@@ -25,10 +26,12 @@ pub record DeskRules (D F : Type 0) : Type 1 where
   pub Depends : Question → D → Result (List Item) F → D → Type 0
   pub Repairs : D → Result (Unit {0}) F → D → Type 0
   pub Pages : D → Result Extent F → D → Type 0
+  pub Pauses : D → D → Type 0
   pub IsTime : D → ℕ → Type 0
   pub fault_text : F → Octets
 
--- what the calls of a book's desk do: those of the book. Of a page it returns the extent alone
+-- what the calls of a book's desk do: those of the book. Of a page it returns the extent alone, and a
+-- pause does nothing
 abbrev pub book_rules : DeskRules BookState BookFault
 book_rules =
     record {
@@ -39,6 +42,7 @@ book_rules =
       Repairs = λ old outcome new. IsRepaired old new outcome;
       Pages = λ old outcome new. (turned : Result PageState BookFault) × IsTurned old new turned
           × (outcome ≡ result_map_both extent_of (λ fault. fault) turned);
+      Pauses = λ old new. new ≡ old;
       IsTime = λ book now. now ≡ book.board.holds.now;
       fault_text = book_code;
     }

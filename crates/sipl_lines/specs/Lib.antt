@@ -22,6 +22,7 @@ pub mod Commands
 pub mod Calls
 pub mod Session
 pub mod SessionLaws
+pub mod OneReply
 pub mod ScriptLines
 pub mod ScriptMeaning
 pub mod ScriptSteps

@@ -159,23 +159,26 @@ sets_listed (Ok items) = Ok (map (λ item. (item.key, item.content)) items)
 sets_listed (Err fault) = Err fault
 
 -- a call ends so; or an allocation failed, and the state is as it was, but not where there may be no
--- more events: that is found before anything is allocated
+-- more events or pages: that is found before anything is allocated
 abbrev pub EndsSo : {A : Type 0} → Ending A → PlainState → Result A BookFault → PlainState → Type 0
 EndsSo ending before outcome after =
     ((outcome ≡ ending.0) × (after ≡ ending.1))
-    ⊎ ((ending.0 ≢ Err JournalFull) × (outcome ≡ Err Memory) × (after ≡ before))
+    ⊎ ((ending.0 ≢ Err JournalFull) × (ending.0 ≢ Err PagesSpent)
+    × (outcome ≡ Err Memory) × (after ≡ before))
 
 -- what the calls of the plain machine do; there is nothing that a repair has to look up again
 abbrev pub plain_rules : DeskRules PlainState BookFault
 plain_rules =
     record {
-      Finds = λ question words before outcome after. EndsSo (find_ending question words before) before outcome after;
+      Finds = λ question words before outcome after.
+          EndsSo (find_ending question words before) before outcome after;
       Changes = λ edit before outcome after. EndsSo (change_ending edit before) before outcome after;
       Moves = λ event before outcome after. EndsSo (move_ending event before) before outcome after;
       Depends = λ question before outcome after.
           EndsSo (Ok (sets_read question before), before) before (sets_listed outcome) after;
       Repairs = λ before outcome after. EndsSo (Ok tt, before) before outcome after;
       Pages = λ before outcome after. EndsSo (page_ending before) before outcome after;
+      Pauses = λ before after. after ≡ before;
       IsTime = λ plain now. now ≡ plain.holds.now;
       fault_text = book_code;
     }

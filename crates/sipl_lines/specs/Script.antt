@@ -147,9 +147,15 @@ has_ended (Waiting settings) = false
 has_ended (Playing play) = false
 has_ended Ended = true
 
--- the protocol of a script
+-- the protocol of a script; a pause does nothing
 abbrev pub script_protocol : Protocol
-script_protocol = record { State = Script; MayReply = MayReply; has_ended = has_ended }
+script_protocol =
+    record {
+      State = Script;
+      MayReply = MayReply;
+      MayPause = λ before after. after ≡ before;
+      has_ended = has_ended;
+    }
 
 -- Playing a script went so, from one that has had no line to one that has ended or whose input has.
 pub record PlaysScript {A B : Type 0} (settings : Settings) (limit : ℕ)

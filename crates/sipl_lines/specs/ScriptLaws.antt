@@ -44,4 +44,4 @@ long_alike (Playing play) u a b text long long' reply =
 long_alike Ended u a b text long long' reply = reply
 
 pub script_rules : IsLineProtocol script_protocol
-script_rules = record { silent = ended_silent; long = long_alike }
+script_rules = record { silent = ended_silent; long = long_alike; paused = λ s u same. ap has_ended same }

@@ -79,6 +79,7 @@ caller_rules =
           IfOk outcome (AreToldDependencies question old.client) × (new ≡ old);
       Repairs = λ old outcome new. new ≡ old;
       Pages = λ old outcome new. KeepsPage old new outcome;
+      Pauses = λ old new. new ≡ old;
       IsTime = λ caller now. Unit {0};
       fault_text = service_text;
     }

@@ -31,7 +31,8 @@ pub record ServesWithin {A B : Type 0} (p : Protocol) (limit : ℕ) (result : Re
       (remaining (tapped_inner reader')) (contents (tapped_inner writer)) after
       (contents (tapped_inner writer')))
   pub all_turns : OnTooManyTurns result (ServesRead p before (remaining (tapped_inner reader))
-      (remaining (tapped_inner reader')) (contents (tapped_inner writer)) after (contents (tapped_inner writer')))
+      (remaining (tapped_inner reader')) (contents (tapped_inner writer)) after
+      (contents (tapped_inner writer')))
   -- a state that has ended reads no more
   pub reads_until_ended : OnReadFault result (p.has_ended after ≡ false)
   pub turns_until_ended : OnTooManyTurns result (p.has_ended after ≡ false)

@@ -169,10 +169,20 @@ MayReply rules before item text after =
     OnTrue before.ended (Keeps [] before text after)
     × OnFalse before.ended (TakesItem rules item before text after)
 
+-- the states after a pause: the desk does its part, and all else is as it was
+abbrev pub MayPause : {D F : Type 0} → DeskRules D F → SessionState D → SessionState D → Type 0
+MayPause rules before after =
+    rules.Pauses before.desk after.desk × (after ≡ with_desk after.desk before)
+
 -- the protocol of a session
 abbrev pub session_protocol : {D F : Type 0} → DeskRules D F → Protocol
 session_protocol {D} rules =
-    record { State = SessionState D; MayReply = MayReply rules; has_ended = λ state. state.ended }
+    record {
+      State = SessionState D;
+      MayReply = MayReply rules;
+      MayPause = MayPause rules;
+      has_ended = λ state. state.ended;
+    }
 
 -- something is done, and its reply appended
 abbrev pub AppendsText : {S : Type 0} → (S → Octets → S → Type 0) → S → Octets → S → Octets → Type 0

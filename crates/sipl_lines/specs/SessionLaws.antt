@@ -13,7 +13,7 @@ use Rattle.sipl_lines.specs.Requests.{nothing, too_long, is_comment, fields_requ
 use Rattle.sipl_lines.specs.Gathering.{gathered_after, after_long_line, after_short_line}
 use Rattle.sipl_lines.specs.declared.gather.Gathered.{Gathered}
 use Rattle.sipl_lines.specs.declared.gather.Gathering.{Gathering}
-use Rattle.sipl_lines.specs.Session.{SessionState, Obeys, GathersOrLoses, TakesLine, TakesItem, MayReply, session_protocol}
+use Rattle.sipl_lines.specs.Session.{SessionState, Obeys, GathersOrLoses, TakesLine, TakesItem, MayPause, MayReply, session_protocol}
 
 -- once a session has ended an item has no reply
 ended_silent : {D F : Type 0} (rules : DeskRules D F) (s : SessionState D) (item : Item) → s.ended ≡ true → MayReply rules s item [] s
@@ -41,5 +41,9 @@ long_alike : {D F : Type 0} (rules : DeskRules D F) (s u : SessionState D) (a b 
 long_alike rules s u a b text long long' reply =
     (reply.0, takes_line-long rules s.gathering a b text s u long long' reply.1)
 
+-- after a pause a session has ended where it had before
+pause_ends_nothing : {D F : Type 0} (rules : DeskRules D F) (s u : SessionState D) → MayPause rules s u → u.ended ≡ s.ended
+pause_ends_nothing rules s u pause = ap (λ state. state.ended) pause.1
+
 pub session_rules : {D F : Type 0} (rules : DeskRules D F) → IsLineProtocol (session_protocol rules)
-session_rules rules = record { silent = ended_silent rules; long = long_alike rules }
+session_rules rules = record { silent = ended_silent rules; long = long_alike rules; paused = pause_ends_nothing rules }

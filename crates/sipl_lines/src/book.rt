@@ -19,7 +19,8 @@ use std::io::{Read, Write};
 /// command its effect on them, or its first fault.
 ///
 /// Where an allocation fails the reply to a command may be `err Memory`, and then the machine's state
-/// is as it was; but the answer to a `find` whose text can't be written has been an event.
+/// is as it was; but the answer to a `find` whose text can't be written has been an event, and where
+/// the hold of a step fails, the call and the time have moved.
 pub fn serve_book<R: Read, W: Write>(
     alloc: Global,
     reader: &mut Tapped<R>,

@@ -41,6 +41,10 @@ pub(crate) trait Conversation<D> {
         ensures err { OnErr result (state desk.new self.new ≡ state desk.old self.old) }
         ensures err_out { OnErr result (out.new.items ≡ out.old.items) };
 
+    /// A pause: before a read, and after each 1,024 lines. It has no reply.
+    fn pause(&self, desk: &mut D)
+        ensures { protocol.MayPause (state desk.old self.now) (state desk.new self.now) };
+
     ghost is_line_protocol: { IsLineProtocol protocol };
 }
 
@@ -71,5 +75,9 @@ impl<D: Desk> Conversation<D> for Session {
 
     fn finish(&mut self, alloc: Global, desk: &mut D, out: &mut Vec<u8>) -> Result<(), AllocError> {
         Session::finish(self, alloc, desk, out)
+    }
+
+    fn pause(&self, desk: &mut D) {
+        desk.pause();
     }
 }

@@ -67,6 +67,11 @@ pub trait Desk {
     fn page(&mut self) -> Result<Extent, Self::Fault>
         ensures { rules.Pages self.old result self.new };
 
+    /// A pause of the session: before it waits for input, and after each 1,024 lines. It has no part in
+    /// the replies. Here a desk may give away what it keeps of the calls before.
+    fn pause(&mut self)
+        ensures { rules.Pauses self.old self.new };
+
     /// Appends the reply to a command that is refused for this fault, to space that is reserved: it
     /// does not allocate.
     fn write_fault(fault: Self::Fault, out: &mut Vec<u8>)
@@ -75,7 +80,8 @@ pub trait Desk {
         ensures capacity { vec_capacity out.old ≤ vec_capacity out.new };
 }
 
-/// A book as a desk: the calls are those of the book, which has its own allocator. Its pages are dropped.
+/// A book as a desk: the calls are those of the book, which has its own allocator. Its pages are
+/// dropped, and a pause does nothing.
 impl Desk for Book {
     ghost use Rattle.sipl_lines.specs.Desk.{book_rules};
 
@@ -123,6 +129,8 @@ impl Desk for Book {
     fn page(&mut self) -> Result<Extent, BookFault> {
         Ok(self.turn_page()?.extent())
     }
+
+    fn pause(&mut self) {}
 
     fn write_fault(fault: BookFault, out: &mut Vec<u8>) {
         write_refusal(out, fault.code()).unwrap();

@@ -11,6 +11,7 @@ mod desk;
 mod desk_commands;
 mod draws_field;
 mod gather;
+pub mod laws;
 mod lines;
 mod play;
 mod reply;

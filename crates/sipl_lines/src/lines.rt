@@ -1,7 +1,7 @@
 ghost use Rattle.std.specs.Prelude.{◌≡◌, ◌≢◌, ℕ, ◌<◌, ◌≤◌, List, [], ◌∷◌, ◌++◌, length, take, drop, MatchOption, IfOk, OnOk, OnErr};
 ghost use Rattle.sipl_lines.specs.Lines.{without_cr};
 ghost use Rattle.sipl_lines.specs.Items.{Item};
-ghost use Rattle.sipl_lines.specs.Replies.{AppendsReplies, AppendsFirstReplies};
+ghost use Rattle.sipl_lines.specs.Replies.{AppendsReplies, AppendsFirstReplies, Waits};
 ghost use Rattle.sipl_lines.specs.Machine.{items_from, pending_after, kept_prefix, last_items, read_items, EndsNoLine, EndsLine};
 
 use crate::command::MAX_LINE_LEN;
@@ -13,6 +13,9 @@ use std::marker::Model;
 // The maximum number of octets that are kept of a line. A line of so many is too long, with a CR at
 // its end too.
 const MAX_KEPT_LEN: usize = MAX_LINE_LEN + 2;
+
+// How many lines there are at most between two pauses.
+const LINES_BETWEEN_PAUSES: u32 = 1_024;
 
 // The octets of a line whose end has not been read: the first 65,538 of them, on which its reply
 // depends.
@@ -123,15 +126,18 @@ impl Pending {
             out.old.items (C.state desk.new conversation.new) out.new.items) }
     {
         let mut rest = chunk;
+        let mut lines = 0;
         while let Some((piece, tail)) = split_line(rest) {
             self.end_line(alloc, desk, piece, conversation, out)?;
             rest = tail;
+            lines = count_line(lines, desk, conversation);
         }
         self.keep(rest);
         Ok(())
     }
 
     // Processes the octets that are left, and then the end of the input.
+    #[tactic(auto, using(crate::proofs::Replies::first_none))]
     fn finish<D, C: Conversation<D>>(
         &self,
         alloc: Global,
@@ -152,6 +158,19 @@ impl Pending {
         conversation.process_line(alloc, desk, &self.kept, out)?;
         conversation.finish(alloc, desk, out)
     }
+}
+
+// Counts a line, and after each 1,024 has a pause. Returns how many lines there were since.
+#[tactic(auto, using(crate::proofs::Replies::waits_none, crate::proofs::Replies::waits_once))]
+fn count_line<D, C: Conversation<D>>(lines: u32, desk: &mut D, conversation: &C) -> u32
+    ensures { Waits C.protocol
+        (C.state desk.old conversation.now) (C.state desk.new conversation.now) }
+{
+    if lines < LINES_BETWEEN_PAUSES - 1 {
+        return lines + 1;
+    }
+    conversation.pause(desk);
+    0
 }
 
 // The octets before the first LF and those after it, where there is one.

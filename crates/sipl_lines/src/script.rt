@@ -182,4 +182,6 @@ impl Conversation<()> for Script {
     ) -> Result<(), AllocError> {
         Script::finish(self, alloc, out)
     }
+
+    fn pause(&self, _desk: &mut ()) {}
 }

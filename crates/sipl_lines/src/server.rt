@@ -78,7 +78,8 @@ impl From<AllocError> for ServeFault {
 ///
 /// After each read the replies to all complete lines are written and flushed before the next read.
 /// Once the session has ended it reads no more. An error of the reader or the writer is a fault at
-/// once; what the desk has accepted stays.
+/// once; what the desk has accepted stays. The desk has a pause before each read, and after each
+/// 1,024 lines that a read gave.
 pub fn serve<R: Read, W: Write, D: Desk>(
     alloc: Global,
     reader: &mut Tapped<R>,
@@ -124,6 +125,7 @@ pub(crate) fn serve_conversation<R: Read, W: Write, D, C: Conversation<D>>(
         if conversation.has_ended(desk) {
             return Ok(Ended::Quit);
         }
+        conversation.pause(desk);
         if !server.turn(alloc, reader, writer, desk, conversation)? {
             return Ok(end_of(desk, conversation));
         }

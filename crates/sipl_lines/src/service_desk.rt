@@ -121,6 +121,8 @@ impl<'a, R: Wait> Desk for ServiceDesk<'a, R> {
         Ok(extent)
     }
 
+    fn pause(&mut self) {}
+
     fn write_fault(fault: ServiceFault, out: &mut Vec<u8>) {
         match fault {
             ServiceFault::Contended(key) => {

@@ -49,9 +49,10 @@ impl Session {
     /// `zone` command takes has no reply, unless it is the last one.
     ///
     /// Where an allocation fails, the reply is `err Memory` and nothing changes, except that an
-    /// answer that can't be written has been recorded; the lines that a `zone` takes are taken
-    /// nevertheless. An error says that the space for a short reply could not be reserved: then too
-    /// nothing has changed.
+    /// answer that can't be written has been recorded, that the call and the time have moved where the
+    /// hold of a step fails, and that a `repair` may have looked some answers up; the lines that a
+    /// `zone` takes are taken nevertheless. An error says that the space for a short reply could not be
+    /// reserved: then nothing has changed.
     pub fn process_line<D: Desk>(
         &mut self,
         alloc: Global,

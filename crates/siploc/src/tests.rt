@@ -3,6 +3,7 @@ mod faults;
 mod limits;
 mod live;
 mod pages;
+mod pauses;
 pub mod process;
 mod program;
 mod repairs;
