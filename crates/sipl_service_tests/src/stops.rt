@@ -130,12 +130,7 @@ fn a_worker_that_is_stopped_gives_its_lease_back(rt: HostRuntime) {
 }
 
 // An edit is made while the worker's run is stopped, before it sleeps. It goes on with what is queued.
-fn goes_on<R: Wait + Clock + Abort>(
-    rt: &R,
-    alloc: Global,
-    service: &Service,
-    gate: &EditingOnce,
-) {
+fn goes_on<R: Wait + Clock + Abort>(rt: &R, alloc: Global, service: &Service, gate: &EditingOnce) {
     let mut pass = service.pass();
     outdate(rt, alloc, service, &mut pass);
     let went_on = comes(rt, &gate.went_on);

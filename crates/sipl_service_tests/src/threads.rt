@@ -213,7 +213,14 @@ fn turns_and_reads<R: Wait + Abort>(rt: &R, alloc: Global, service: &Service) {
     let mut pass = service.pass();
     targets(
         rt,
-        find(rt, alloc, service, &mut pass, b"sip:server1.example.com:5060;transport=tcp", &[]),
+        find(
+            rt,
+            alloc,
+            service,
+            &mut pass,
+            b"sip:server1.example.com:5060;transport=tcp",
+            &[],
+        ),
         &[SERVER_1],
     );
     assert_eq!(rt; service.version_count(rt), 1);
