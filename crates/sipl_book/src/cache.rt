@@ -6,7 +6,7 @@ ghost use Rattle.sipl_repair.specs.QueueState.{after_lease, after_settle, first_
 ghost use Rattle.sipl_book.specs.Cache.{InOrder, new_cache};
 ghost use Rattle.sipl_book.specs.Entries.{after_change, committed, entry_of, renewed};
 ghost use Rattle.sipl_book.specs.Indexed.{needs};
-ghost use Rattle.sipl_book.specs.Repairs.{IsQueueOf, after_failure, after_marks, after_removal, after_renewal, after_return, dependents, entry_with, is_leased_for, is_outdated, without};
+ghost use Rattle.sipl_book.specs.Repairs.{IsQueueOf, after_failure, after_marks, after_removal, after_renewal, dependents, entry_with, is_leased_for, is_outdated, queue_after_give_back, without};
 
 use crate::entry::Entry;
 use crate::fault::BookFault;
@@ -85,20 +85,6 @@ impl Cache {
         ensures queue { IsQueueOf self.now.entries self.now.queue }
     {
         self.queue.len()
-    }
-
-    /// How many entries there are.
-    pub(crate) fn len(&self) -> usize
-        ensures { result ≡ length self.now.entries }
-    {
-        self.entries.entries().len()
-    }
-
-    /// How many entries are current. Linear in the number of entries.
-    pub(crate) fn current(&self) -> usize
-        ensures { result ≡ count_by (λ e. e.is_current) self.now.entries }
-    {
-        self.entries.entries().current()
     }
 
     /// How many current entries have the key in their evidence. Does not allocate.
@@ -246,7 +232,7 @@ impl Cache {
     pub(crate) fn give_back(&mut self, lease: Lease)
         requires order { InOrder self.old.entries }
         ensures { self.new ≡ record self.old {
-          queue = after_return self.old.entries self.old.queue lease;
+          queue = queue_after_give_back self.old.entries self.old.queue lease;
         } }
     {
         if self.entries.entries().is_outdated(lease.id()) {

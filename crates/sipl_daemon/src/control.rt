@@ -100,7 +100,6 @@ fn write_stats<H: Host>(host: &H, daemon: &Daemon, reply: &mut String) -> Result
     write_count(reply, "NotAvailable", &counts.not_available)?;
     write_count(reply, "NoTransport", &counts.no_transport)?;
     write_count(reply, "AllHeld", &counts.all_held)?;
-    write_kept(host, daemon, reply)?;
     let tally = daemon.tally.lock(host);
     writeln!(reply, "records {}", tally.records())?;
     writeln!(reply, "held {}", tally.holds().ends.len())?;
@@ -111,14 +110,6 @@ fn write_stats<H: Host>(host: &H, daemon: &Daemon, reply: &mut String) -> Result
     let octets = resident(host, daemon.alloc).unwrap_or(0);
     writeln!(reply, "resident {octets}")?;
     reply.push_str("ok stats\n")
-}
-
-// How many results are kept.
-fn write_kept<H: Host>(host: &H, daemon: &Daemon, reply: &mut String) -> Result<(), AllocError> {
-    let counts = daemon.source.service.kept_counts(host);
-    writeln!(reply, "kept {}", counts.kept)?;
-    writeln!(reply, "current {}", counts.current)?;
-    writeln!(reply, "queued {}", counts.queued)
 }
 
 // The zones, and how many records each has.

@@ -5,7 +5,7 @@ ghost use Rattle.sipl_records.specs.Sets.{is_existence};
 ghost use Rattle.sipl_plans.specs.Findings.{IsSound};
 ghost use Rattle.sipl_plans.specs.Runs.{IsSet, wanted};
 ghost use Rattle.sipl_service.specs.Passes.{GetsReceipt};
-ghost use Rattle.sipl_service.specs.Telling.{AreDependencies, IsToldFor, event_of};
+ghost use Rattle.sipl_service.specs.Telling.{AreToldDependencies, IsToldFor, event_of};
 
 use crate::asked::Asked;
 use crate::fault::ServiceFault;
@@ -16,13 +16,14 @@ use crate::service::Service;
 use crate::steps;
 use crate::steps::{Copies, Prepared};
 use crate::told::Told;
+use crate::versions::Versions;
 use sipl_book::BookFault;
 use sipl_evidence::Evidence;
 use sipl_plans::{Finding, Run};
 use sipl_records::{Data, Key, Kind, Sequence};
 use sipl_srv::Draws;
 use sipl_uri::Question;
-use std::sync::Wait;
+use std::sync::{Arc, Wait};
 
 impl Service {
     /// The answer to a question for these random words, with the record sets and the holds that
@@ -178,13 +179,10 @@ impl Service {
         if key.kind == Kind::Exists {
             return self.read_existence(rt, key);
         }
-        let Some(mark) = self.mark(rt, key)? else {
+        let Some((mark, versions)) = self.mark(rt, key)? else {
             return Ok((0, Sequence::from_vec(Vec::new(self.alloc))));
         };
-        match self
-            .versions
-            .item(self.alloc, mark.place, key, mark.number)?
-        {
+        match versions.item(self.alloc, mark.place, key, mark.number)? {
             Some(item) => Ok((item.number(), item.into_content())),
             None => self.read_locked(rt, key),
         }
@@ -214,13 +212,21 @@ impl Service {
         Ok(shared.book.number(key))
     }
 
-    // Where the version of a key's set of records as it is now is; `None` where the set is empty.
-    fn mark<R: Wait>(&self, rt: &R, key: &Key) -> Result<Option<Mark>, ServiceFault>
+    // Where the version of a key's set of records as it is now is, and among which; `None` where the set
+    // is empty.
+    fn mark<R: Wait>(
+        &self,
+        rt: &R,
+        key: &Key,
+    ) -> Result<Option<(Mark, Arc<Versions>)>, ServiceFault>
         requires { is_existence key.now ≡ false }
     {
         let mut shared = self.lock(rt);
         shared.check(&self.abilities, self.held)?;
-        Ok(shared.mark(rt, &self.versions, key)?)
+        match shared.mark(rt, key)? {
+            Some(mark) => Ok(Some((mark, shared.share_versions()?))),
+            None => Ok(None),
+        }
     }
 
     // A copy of a key's set as it is, with its number, made under the lock.
@@ -239,7 +245,7 @@ impl Service {
     /// policy (L7).
     pub fn deps<R: Wait>(&self, rt: &R, question: &Question) -> Result<Evidence, ServiceFault>
         ensures { IfOk result
-            (λ items. AreDependencies question.now self.now.client items) }
+            (λ items. AreToldDependencies question.now self.now.client items) }
     {
         self.lock(rt).check(&self.abilities, self.held)?;
         let finding = self.locate(rt, Who::Caller, question, &OpenGate)?;

@@ -5,6 +5,7 @@ use crate::fault::ServiceFault;
 use crate::gate::{Gate, OpenGate, Who};
 use crate::service::Service;
 use crate::steps;
+use indexmap::IndexSet;
 use sipl_book::BookFault;
 use sipl_plans::Finding;
 use sipl_repair::{Lease, QueueFault};
@@ -13,28 +14,7 @@ use std::sync::Wait;
 use std::thread;
 use std::thread::Threads;
 
-/// How many questions have a kept result.
-#[derive(Clone, Copy, Debug, PartialEq, Eq)]
-pub struct KeptCounts {
-    /// In all.
-    pub kept: u64,
-    /// Of these, those whose record sets are as they were read.
-    pub current: u64,
-    /// Of these, those that are to be looked up again.
-    pub queued: u64,
-}
-
 impl Service {
-    /// How many results are kept, at one moment. Linear in their number, with the lock held.
-    pub fn kept_counts<R: Wait>(&self, rt: &R) -> KeptCounts {
-        let shared = self.lock(rt);
-        KeptCounts {
-            kept: shared.book.entry_count(),
-            current: shared.book.current_count(),
-            queued: shared.book.queued(),
-        }
-    }
-
     /// Looks queued entries up again, at most as many as are queued now. One whose sets change
     /// meanwhile stays queued, and is not looked up a second time.
     ///
@@ -49,7 +29,7 @@ impl Service {
     // Looks up again as many entries as are queued now. A stale one is put after all that are queued:
     // where it is the first again, those are done.
     fn repair_queued<R: Wait>(&self, rt: &R) -> Result<(), ServiceFault> {
-        let mut stale = Vec::new(self.alloc);
+        let mut stale = IndexSet::new(self.alloc);
         for _ in 0..self.queued(rt)? {
             let Some((lease, question)) = self.lease(rt)? else {
                 break;
@@ -60,7 +40,7 @@ impl Service {
                 break;
             }
             if !self.renew(rt, Who::Caller, lease, &question, &OpenGate)? {
-                stale.push(id)?;
+                stale.insert(id)?;
             }
         }
         Ok(())
@@ -68,7 +48,7 @@ impl Service {
 
     /// Runs so many repair workers, each in a thread, until the service is stopped. A worker whose
     /// thread cannot be made is left out. After a run that was refused, or that the gate stopped, a
-    /// worker sleeps until the next edit.
+    /// worker sleeps until an edit that came after it was leased its entry.
     pub fn run_workers<R: Threads + Wait + Sync, G: Gate + Sync>(
         &self,
         rt: &R,
@@ -84,31 +64,29 @@ impl Service {
 
     // Looks queued entries up again until the service is stopped.
     fn work<R: Wait, G: Gate>(&self, rt: &R, worker: u64, gate: &G) {
-        let mut is_refused = false;
+        let mut refused = None;
         for _ in rt.forever() {
-            let Some((lease, question)) = self.next_lease(rt, is_refused) else {
+            let Some((lease, question, edits)) = self.next_lease(rt, refused) else {
                 return;
             };
-            is_refused = self
-                .renew(rt, Who::Repair(worker), lease, &question, gate)
-                .is_err();
+            let renewed = self.renew(rt, Who::Repair(worker), lease, &question, gate);
+            refused = renewed.err().map(|_| edits);
         }
         unreachable!()
     }
 
-    // Waits for a queued entry, and leases it; at first waits to be woken, if it is to. `None` where
-    // the service was stopped.
-    fn next_lease<R: Wait>(&self, rt: &R, is_to_wait: bool) -> Option<(Lease, Question)> {
+    // Waits for a queued entry, and leases it; at first, where a run was refused, for an edit more than
+    // there were then. Returns how many edits there are, too; `None` where the service was stopped.
+    fn next_lease<R: Wait>(&self, rt: &R, refused: Option<u64>) -> Option<(Lease, Question, u64)> {
         let mut shared = self.lock(rt);
-        if is_to_wait && !shared.is_stopped {
-            shared = self.woken.wait(rt, shared);
-        }
         for _ in rt.forever() {
             if shared.is_stopped {
                 return None;
             }
-            if let Ok(leased) = shared.book.lease() {
-                return Some(leased);
+            if refused != Some(shared.edits) {
+                if let Ok((lease, question)) = shared.book.lease() {
+                    return Some((lease, question, shared.edits));
+                }
             }
             shared = self.woken.wait(rt, shared);
         }

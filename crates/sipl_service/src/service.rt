@@ -18,7 +18,7 @@ use sipl_records::Key;
 use std::alloc::{AllocError, Global};
 use std::hint::spin_loop;
 use std::marker::Model;
-use std::sync::{Condvar, Mutex, MutexGuard, Wait};
+use std::sync::{Arc, Condvar, Mutex, MutexGuard, Wait};
 
 /// The greatest number of tries of a lookup.
 pub const MAX_TRIES: u64 = 16;
@@ -41,8 +41,6 @@ pub struct Service {
     // Apart from the other fields, which callers read without the lock: a thread that looks for the lock
     // takes the cache line that the lock is in.
     pub(crate) shared: CachePadded<Mutex<Shared>>,
-    // The record sets that were read, which callers copy with no lock held.
-    pub(crate) versions: Versions,
     // Repair workers wait here for entries to be queued, or for the end.
     pub(crate) woken: Condvar,
 }
@@ -90,8 +88,7 @@ impl Service {
             abilities,
             held,
             tries,
-            shared: CachePadded::new(Mutex::new(Shared::new(alloc, book))),
-            versions: Versions::new(alloc)?,
+            shared: CachePadded::new(Mutex::new(Shared::new(alloc, book)?)),
             woken: Condvar::new(),
         })
     }
@@ -121,10 +118,10 @@ impl Service {
         self.held
     }
 
-    /// How many versions of record sets callers have read, which are kept until `close`. It is only a
-    /// measure of the memory that they use, so it has no contract.
-    pub fn version_count(&self) -> usize {
-        self.versions.len()
+    /// How many versions of record sets callers have read since the last page: then they are let go of.
+    /// It is only a measure of the memory that they use, so it has no contract.
+    pub fn version_count<R: Wait>(&self, rt: &R) -> usize {
+        self.lock(rt).version_count()
     }
 
     /// A pass for one caller, which has seen nothing. Does not allocate.
@@ -150,8 +147,11 @@ impl Service {
             return Err(ServiceFault::Stopped);
         }
         let done = shared.change(pass, new, key.as_ref())?;
+        let is_queued = shared.book.queued() > 0;
         drop(shared);
-        self.woken.notify_all();
+        if is_queued {
+            self.woken.notify_all();
+        }
         Ok(done)
     }
 
@@ -228,7 +228,8 @@ impl Service {
 
     /// Hands the events since the last page out, and begins an empty journal at the state as it is, as
     /// `Book::turn_page` does. The numbers of events go on. Where an edit was made since the last page,
-    /// the records are copied with the lock held.
+    /// the records are copied with the lock held. The versions of record sets that were read are let go of;
+    /// who still copies from them keeps them.
     ///
     /// The fault is the first one: the service was stopped (L6), the book is for another client or
     /// policy (L7), no number is left for another page (B6). Then nothing changes.
@@ -240,9 +241,12 @@ impl Service {
             ⊎ ((fault ≡ ServiceFault.OtherBook) ⊎ ((fault ≡ ServiceFault.Book BookFault.PagesSpent)
             ⊎ (fault ≡ ServiceFault.Memory)))) }
     {
+        let versions = Arc::new(self.alloc, Versions::new(self.alloc)?)?;
         let mut shared = self.lock(rt);
         shared.check(&self.abilities, self.held)?;
-        shared.turn_page()
+        let (page, _read) = shared.turn_page(self.alloc, versions)?;
+        drop(shared);
+        Ok(page)
     }
 
     /// Takes the events since the last page out, for the service's client and policy on held endpoints.
@@ -263,7 +267,6 @@ impl Service {
                 held: self.held,
                 tries: self.tries,
                 shared: CachePadded::new(Mutex::new(shared)),
-                versions: self.versions,
                 woken: Condvar::new(),
             };
             return Err((ServiceFault::OtherBook, service));

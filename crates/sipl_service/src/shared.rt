@@ -6,7 +6,7 @@ ghost use Rattle.sipl_records.specs.declared.record.Key.{Key};
 ghost use Rattle.sipl_zonestore.specs.Store.{number_in};
 ghost use Rattle.sipl_book.specs.Calls.{IsChanged};
 ghost use Rattle.sipl_book.specs.Pages.{IsPage, after_turn, page_of};
-ghost use Rattle.sipl_service.specs.Marks.{after_mark, key_edited, mark_of, marked_at};
+ghost use Rattle.sipl_service.specs.Marks.{book_after_mark, key_edited, mark_of, marked_at};
 ghost use Rattle.sipl_service.specs.Passes.{GetsReceipt};
 ghost use Rattle.sipl_service.specs.Refusals.{unless_other, unless_stopped};
 
@@ -22,7 +22,8 @@ use sipl_outages::Held;
 use sipl_records::Key;
 use std::alloc::{AllocError, Global};
 use std::marker::Model;
-use std::sync::Wait;
+use std::mem;
+use std::sync::{Arc, Wait};
 
 // A book, and where the versions of its record sets are: each mark is that of its key's set as it is, and
 // no mark is of existence.
@@ -30,6 +31,17 @@ use std::sync::Wait;
 pub(crate) struct Shared {
     pub book: Book,
     pub is_stopped: bool,
+    // How many edits were accepted, for workers who wait for the next one.
+    pub edits: u64,
+    // The sets that were read since the last page, which callers copy with no lock held, and where they are.
+    versions: Arc<Versions>,
+    marks: Marks,
+}
+
+// The sets that were read until a page was turned.
+#[derive(Drop)]
+pub(crate) struct Read {
+    versions: Arc<Versions>,
     marks: Marks,
 }
 
@@ -55,14 +67,22 @@ impl Model for Shared {
 
 impl Shared {
     // A book, of which no set was read.
-    pub fn new(alloc: Global, book: Book) -> Self
-        ensures { result ≡ record { book = book; marks = []; is_stopped = false } }
+    pub fn new(alloc: Global, book: Book) -> Result<Self, AllocError>
+        ensures { IfOk result
+            (λ shared. shared ≡ record { book = book; marks = []; is_stopped = false }) }
     {
-        Shared {
+        Ok(Shared {
             book,
             is_stopped: false,
+            edits: 0,
+            versions: Arc::new(alloc, Versions::new(alloc)?)?,
             marks: Marks::new(alloc),
-        }
+        })
+    }
+
+    // How many versions there are, as far as this thread sees.
+    pub fn version_count(&self) -> usize {
+        self.versions.len()
     }
 
     // L6 where the service was stopped, L7 where the book is for a client of other abilities, or for
@@ -81,14 +101,15 @@ impl Shared {
         steps::check_client(&self.book, abilities, held)
     }
 
-    // The mark of a key's set of records; `None` where it is empty. Where no one has read it yet, its
-    // version is pushed.
-    pub fn mark<R: Wait>(
-        &mut self,
-        rt: &R,
-        versions: &Versions,
-        key: &Key,
-    ) -> Result<Option<Mark>, AllocError>
+    // The versions that the marks are of, which outlast the turn of a page where they are read. Does not
+    // allocate: the only error is that 2^63 others share them.
+    pub fn share_versions(&self) -> Result<Arc<Versions>, AllocError> {
+        Arc::try_clone(&self.versions)
+    }
+
+    // The mark of a key's set of records; `None` where it is empty. Where no one has read it since the
+    // last page, its version is pushed.
+    pub fn mark<R: Wait>(&mut self, rt: &R, key: &Key) -> Result<Option<Mark>, AllocError>
         requires { is_existence key.now ≡ false }
         ensures empty { IfOk result
             (λ mark. (mark ≡ None) ↔ (number_in self.old.book.store key.now ≡ 0)) }
@@ -99,11 +120,11 @@ impl Shared {
         ensures others { (other : Key) → same_key key.now other ≡ false
             → mark_of self.new.marks other ≡ mark_of self.old.marks other }
         ensures unchanged { OnErr result (self.new.marks ≡ self.old.marks) }
-        ensures book { self.new.book ≡ after_mark (number_in self.old.book.store key.now)
+        ensures book { self.new.book ≡ book_after_mark (number_in self.old.book.store key.now)
             (mark_of self.old.marks key.now) self.old.book }
         ensures stopped { self.new.is_stopped ≡ self.old.is_stopped }
     {
-        self.marks.of_key(rt, &mut self.book, versions, key)
+        self.marks.of_key(rt, &mut self.book, &self.versions, key)
     }
 
     // Edits the zones, and takes out the mark of each set that has changed. The key is that of the set of
@@ -127,22 +148,34 @@ impl Shared {
         ensures stopped { self.new.is_stopped ≡ self.old.is_stopped }
     {
         let done = steps::change(&mut self.book, pass, new)?;
+        self.edits = self.edits.wrapping_add(1);
         if done.changed > 0 {
             self.marks.take_out_changed(&self.book, key);
         }
         Ok(done)
     }
 
-    // Turns the page of the book.
-    pub fn turn_page(&mut self) -> Result<Page, ServiceFault>
-        ensures page { IfOk result (λ page. page ≡ page_of self.old.book) }
-        ensures is_page { IfOk result (λ page. IsPage page) }
+    // Turns the page of the book, and goes on with these versions, of which there is none. Those before
+    // are returned with their marks, to be dropped after the lock.
+    pub fn turn_page(
+        &mut self,
+        alloc: Global,
+        versions: Arc<Versions>,
+    ) -> Result<(Page, Read), ServiceFault>
+        ensures page { IfOk result (λ turned. turned.0 ≡ page_of self.old.book) }
+        ensures is_page { IfOk result (λ turned. IsPage turned.0) }
+        ensures marks { OnOk result (self.new.marks ≡ []) }
         ensures after { OnOk result (self.new.book ≡ after_turn self.old.book) }
         ensures refused { IfErr result (λ fault. (fault ≡ ServiceFault.Book BookFault.PagesSpent)
             ⊎ (fault ≡ ServiceFault.Memory)) }
         ensures unchanged { OnErr result (self.new ≡ self.old) }
         ensures stopped { self.new.is_stopped ≡ self.old.is_stopped }
     {
-        Ok(self.book.turn_page()?)
+        let page = self.book.turn_page()?;
+        let read = Read {
+            versions: mem::replace(&mut self.versions, versions),
+            marks: mem::replace(&mut self.marks, Marks::new(alloc)),
+        };
+        Ok((page, read))
     }
 }

@@ -96,8 +96,8 @@ fn two_callers<R: Threads + Wait + Abort + Sync>(rt: &R, alloc: Global, service:
     has_versions(rt, service, 1);
 }
 
-fn has_versions(rt: &impl Abort, service: &Service, count: usize) {
-    assert_eq!(rt; service.version_count(), count);
+fn has_versions<R: Wait + Abort>(rt: &R, service: &Service, count: usize) {
+    assert_eq!(rt; service.version_count(rt), count);
 }
 
 #[test]

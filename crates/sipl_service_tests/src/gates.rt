@@ -29,6 +29,30 @@ impl Gate for Editing<'_> {
     }
 }
 
+// Adds a record at the first read of a worker, and stops it; later runs go on.
+#[derive(Drop)]
+pub(crate) struct EditingOnce<'a> {
+    pub service: &'a Service,
+    pub pass: Mutex<Pass>,
+    pub record: Mutex<Option<Record>>,
+    pub went_on: AtomicU64,
+}
+
+impl Gate for EditingOnce<'_> {
+    fn turn<R: Wait>(&self, rt: &R, who: Who, _reads: u64) -> Go {
+        if who == Who::Caller {
+            return Go::On;
+        }
+        if let Some(record) = self.record.lock(rt).take() {
+            let mut pass = self.pass.lock(rt);
+            let _ = self.service.edit(rt, &mut pass, Edit::Add(record));
+            return Go::Stop;
+        }
+        self.went_on.store(1, Ordering::SeqCst);
+        Go::On
+    }
+}
+
 // Stops each run at its first read.
 #[derive(Clone, Copy)]
 pub(crate) struct Closed;

@@ -1,7 +1,7 @@
-// Callers and repair workers in threads of their own, by a policy on held endpoints that is drawn; one step of
-// a caller in fifty turns the page, and by one seed hands the receipts over, for a ledger that claims page by
-// page. What each caller is told is drawn anew from its parts, and the events of all pages are replayed: each
-// answer among them is that of the plain program on the records and the holds at its place.
+// Callers and repair workers in threads of their own, by a policy on held endpoints that is drawn; one step
+// of a caller in fifty turns the page, and by one seed hands the receipts over, for a ledger that claims
+// page by page. What each caller is told is drawn anew from its parts, and the events of all pages are
+// replayed: each answer among them is that of the plain program on the records and the holds at its place.
 use crate::told::is_drawn_anew;
 use crate::values::{
     close, is_claimed, load_zone, new_service_by, question, record, tcp, turn_page,
@@ -159,8 +159,8 @@ impl Claims {
     }
 }
 
-// Turns the page, with the pages locked, so that they are in their order. Where it is a time to hand over, the
-// ledger takes the receipts of the caller, and claims what it can.
+// Turns the page, with the pages locked, so that they are in their order. Where it is a time to hand
+// over, the ledger takes the receipts of the caller, and claims what it can.
 fn turn<R: Wait + Abort>(
     rt: &R,
     service: &Service,

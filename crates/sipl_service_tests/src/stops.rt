@@ -1,13 +1,14 @@
 // Gates that stop a run after each number of its reads.
-use crate::gates::{Closed, Stopping, comes, rest};
+use crate::gates::{Closed, EditingOnce, Stopping, comes, rest};
 use crate::values::{
-    BOB, SERVER_1, SERVER_2, draws, events, fails, is_tcp, load_zone, new_service, outdate,
-    question, targets,
+    ADDRESS_11, BOB, SERVER_1, SERVER_2, draws, events, fails, is_tcp, load_zone, new_service,
+    outdate, question, record, targets,
 };
 use sipl_service::{Pass, Service, ServiceFault, Told};
 use std::alloc::Global;
 use std::process::Abort;
-use std::sync::Wait;
+use std::sync::atomic::AtomicU64;
+use std::sync::{Mutex, Wait};
 use std::test::*;
 use std::thread;
 use std::thread::Threads;
@@ -126,4 +127,37 @@ fn a_worker_that_is_stopped_gives_its_lease_back(rt: HostRuntime) {
     for at in 1..=9 {
         stops_a_worker(&rt, rt.alloc(), at);
     }
+}
+
+// An edit is made while the worker's run is stopped, before it sleeps. It goes on with what is queued.
+fn goes_on<R: Wait + Clock + Abort>(rt: &R, alloc: Global, service: &Service, gate: &EditingOnce) {
+    let mut pass = service.pass();
+    outdate(rt, alloc, service, &mut pass);
+    let went_on = comes(rt, &gate.went_on);
+    service.stop(rt);
+    assert!(rt; went_on, "the edit was missed");
+}
+
+fn edits_while_stopped<R: Threads + Wait + Clock + Abort + Sync>(
+    rt: &R,
+    alloc: Global,
+    service: &Service,
+) {
+    let gate = EditingOnce {
+        service,
+        pass: Mutex::new(service.pass()),
+        record: Mutex::new(Some(record(rt, alloc, ADDRESS_11))),
+        went_on: AtomicU64::new(0),
+    };
+    thread::join(
+        rt,
+        || service.run_workers(rt, 1, &gate),
+        || goes_on(rt, alloc, service, &gate),
+    );
+}
+
+#[test]
+fn a_worker_that_was_stopped_does_not_miss_an_edit(rt: HostRuntime) {
+    let service = new_service(&rt, rt.alloc(), 4);
+    edits_while_stopped(&rt, rt.alloc(), &service);
 }

@@ -2,7 +2,7 @@
 use crate::gates::{Turns, Waiting, comes};
 use crate::values::{
     BOB, OVER_TCP, SERVER_1, SERVER_2, add, close, draws, events, find, has_events, is_claimed,
-    is_no_claim, load_zone, new_service, outdate, question, targets,
+    is_no_claim, load_zone, new_service, outdate, question, targets, turn_page,
 };
 use sipl_book::Page;
 use sipl_choice::Transport;
@@ -194,14 +194,42 @@ fn reads_twice<R: Wait + Abort>(rt: &R, alloc: Global, service: &Service) {
         find(rt, alloc, service, &mut first, BOB, &[2, 0]),
         &expected,
     );
-    let versions = service.version_count();
+    let versions = service.version_count(rt);
     assert_eq!(rt; versions, 4);
     targets(
         rt,
         find(rt, alloc, service, &mut second, OVER_TCP, &[2, 0]),
         &expected,
     );
-    assert_eq!(rt; service.version_count(), versions);
+    assert_eq!(rt; service.version_count(rt), versions);
+}
+
+// The versions go with the page; a lookup that reads has its own.
+fn turns_and_reads<R: Wait + Abort>(rt: &R, alloc: Global, service: &Service) {
+    reads_twice(rt, alloc, service);
+    let page = turn_page(rt, service);
+    has_events(rt, &page, 3);
+    assert_eq!(rt; service.version_count(rt), 0);
+    let mut pass = service.pass();
+    targets(
+        rt,
+        find(
+            rt,
+            alloc,
+            service,
+            &mut pass,
+            b"sip:server1.example.com:5060;transport=tcp",
+            &[],
+        ),
+        &[SERVER_1],
+    );
+    assert_eq!(rt; service.version_count(rt), 1);
+}
+
+#[test]
+fn versions_are_let_go_of_with_a_page(rt: HostRuntime) {
+    let service = new_service(&rt, rt.alloc(), 4);
+    turns_and_reads(&rt, rt.alloc(), &service);
 }
 
 #[test]

@@ -114,7 +114,8 @@ impl Write for Paper {
     }
 }
 
-// A book with a policy on held endpoints and the greatest limits. It is boxed, so that whoever owns it lets go of one value at each exit.
+// A book with a policy on held endpoints and the greatest limits. It is boxed, so that whoever owns it
+// lets go of one value at each exit.
 pub fn new_book(alloc: Global, abilities: Abilities, held: Held) -> Result<Box<Book>, AllocError> {
     let book = Book::new(alloc, abilities, &Limits::greatest(), held);
     Ok(Box::new(alloc, book)?)
