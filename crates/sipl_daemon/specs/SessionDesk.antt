@@ -10,7 +10,7 @@ use Rattle.sipl_book.specs.declared.event.Event.TheVariants.{Change}
 use Rattle.sipl_book.specs.declared.outcome.Done.{Done}
 use Rattle.sipl_book.specs.declared.outcome.Extent.{Extent}
 use Rattle.sipl_service.specs.Passes.{GetsReceipt, PassState}
-use Rattle.sipl_service.specs.Telling.{AreDependencies, ToldState}
+use Rattle.sipl_service.specs.Telling.{AreToldDependencies, ToldState}
 use Rattle.sipl_service.specs.declared.fault.ServiceFault.{ServiceFault}
 use Rattle.sipl_lines.specs.Desk.{DeskRules}
 use Rattle.sipl_lines.specs.ServiceDesk.{CallerState, IsTold, KeepsOthers, handed_of, service_text}
@@ -59,7 +59,7 @@ session_rules =
           × KeepsOthers old new × (outcome ≡ of_service done);
       Moves = λ event old outcome new. MovesBoard event old outcome new;
       Depends = λ question old outcome new.
-          IfOk outcome (AreDependencies question old.client) × (new ≡ old);
+          IfOk outcome (AreToldDependencies question old.client) × (new ≡ old);
       Repairs = λ old outcome new. new ≡ old;
       Pages = λ old outcome new.
           IfOk outcome (λ extent. (page : PageState) × IsPage page × (extent ≡ extent_of page)) × (new ≡ old);

@@ -1,3 +1,6 @@
+ghost use Rattle.std.specs.Prelude.{◌≡◌, [], not, nat_lt, filter};
+ghost use Rattle.sipl_choice.specs.Endpoints.{same_endpoint};
+
 use sipl_book::Event;
 use sipl_choice::Endpoint;
 use std::alloc::{AllocError, Global};
@@ -12,7 +15,10 @@ pub(crate) struct Holds {
 
 impl Holds {
     /// Nothing is held, at time 0.
-    pub(crate) fn new(alloc: Global) -> Holds {
+    pub(crate) fn new(alloc: Global) -> Holds
+        ensures ends { result.ends.items ≡ [] }
+        ensures now { result.now ≡ 0 }
+    {
         Holds {
             ends: Vec::new(alloc),
             now: 0,
@@ -33,14 +39,30 @@ impl Holds {
     }
 
     /// The hold of an endpoint is ended.
-    pub(crate) fn release(&mut self, endpoint: &Endpoint) {
-        self.ends.retain(|held| held.0 != *endpoint);
+    pub(crate) fn release(&mut self, endpoint: &Endpoint)
+        ensures ends { self.new.ends.items
+            ≡ filter (λ hold. not (same_endpoint endpoint.now hold.0)) self.old.ends.items }
+        ensures now { self.new.now ≡ self.old.now }
+    {
+        self.ends.retain(
+            |held: &(Endpoint, u64)| -> bool
+                ensures { result ≡ not (same_endpoint endpoint.now held.now.0) }
+            { *endpoint != held.0 },
+        );
     }
 
     /// The time is set, and the holds that end at or before it are over.
-    pub(crate) fn advance(&mut self, to: u64) {
+    pub(crate) fn advance(&mut self, to: u64)
+        ensures ends { self.new.ends.items
+            ≡ filter (λ hold. nat_lt to hold.1) self.old.ends.items }
+        ensures now { self.new.now ≡ to }
+    {
         self.now = to;
-        self.ends.retain(|held| held.1 > to);
+        self.ends.retain(
+            |held: &(Endpoint, u64)| -> bool
+                ensures { result ≡ nat_lt to held.now.1 }
+            { to < held.1 },
+        );
     }
 
     /// An endpoint is held for some milliseconds. One that is held already is held to the later of the two

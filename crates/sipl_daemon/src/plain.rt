@@ -1,16 +1,18 @@
 //! The plain machine, by which an archive is replayed.
-ghost use Rattle.std.specs.Prelude.{◌≡◌};
+ghost use Rattle.std.specs.Prelude.{◌≡◌, IfOk};
+ghost use Rattle.sipl_plans.specs.Plan.{plan};
+ghost use Rattle.sipl_records.specs.Sets.{set_of};
 
 use sipl_book::{Book, BookFault, Done, Edit, Extent, Handed};
 use sipl_choice::{Abilities, Endpoint};
 use sipl_evidence::Evidence;
 use sipl_lines::Desk;
 use sipl_outages::{Board, Held};
-use sipl_plans::plan_of;
+use sipl_plans::{Answer, plan_of};
 use sipl_srv::Draws;
 use sipl_uri::Question;
 use sipl_zonestore::ZoneStore;
-use std::alloc::Global;
+use std::alloc::{AllocError, Global};
 use std::marker::Model;
 
 /// Records, holds and a clock, without any kept result: each answer is that of `plan_of`, from all records.
@@ -69,9 +71,8 @@ impl Desk for Plain {
         question: Question,
         draws: &Draws,
     ) -> Result<Handed, BookFault> {
-        let records = self.store.records();
         let (board, client, held) = (&self.board, &self.abilities, self.held);
-        let answer = plan_of(alloc, records, board, &question, client, draws, held)?;
+        let answer = plain_answer(alloc, &mut self.store, board, &question, client, draws, held)?;
         let number = self.count();
         Ok(Handed { number, answer })
     }
@@ -126,4 +127,22 @@ impl Desk for Plain {
     fn write_fault(fault: BookFault, out: &mut Vec<u8>) {
         <Book as Desk>::write_fault(fault, out);
     }
+}
+
+// The answer to a question, from all records of a store, of which one look is counted.
+fn plain_answer(
+    alloc: Global,
+    store: &mut ZoneStore,
+    board: &Board,
+    question: &Question,
+    client: &Abilities,
+    draws: &Draws,
+    held: Held,
+) -> Result<Answer, AllocError>
+    ensures answer { IfOk result
+        (λ answer. answer ≡ plan (set_of store.old.zones.records) board.now.holds question.now
+            client.now draws.now held) }
+    ensures zones { store.new.zones ≡ store.old.zones }
+{
+    plan_of(alloc, store.records(), board, question, client, draws, held)
 }
