@@ -1,23 +1,30 @@
 //! The lines of a session, and which of them belong to one command or reply.
+ghost use Rattle.std.specs.Prelude.{◌≡◌, ◌⊎◌, ℕ, ◌<◌, ◌≤◌, ⊥, [], ◌∷◌, ◌++◌, length, get_or, IfSome};
+ghost use Rattle.sipl_daemon.specs.Replies.{AreReplies};
+
 use memchr::memchr;
 use sipl_lines::{Desk, MAX_LINE_LEN, MAX_ZONE_LINES, Tapped, serve};
 use sipl_records::{next_field, read_number};
 use std::alloc::Global;
 
 /// The first line of a text, without its end, and the rest; the whole and nothing where no line ends.
-pub(crate) fn split_line(text: &[u8]) -> (&[u8], &[u8]) {
+pub(crate) fn split_line(text: &[u8]) -> (&[u8], &[u8])
+    ensures whole { (text.now ≡ result.0.now ++ 10 ∷ result.1.now)
+        ⊎ ((text.now ≡ result.0.now) × (result.1.now ≡ [])) }
+    ensures line { (i : ℕ) → i < length result.0.now → get_or result.0.now i 0 ≡ 10 → ⊥ }
+{
     match memchr(b'\n', text) {
-        Some(end) => (
-            text.get(..end).unwrap_or(&[]),
-            text.get(end.saturating_add(1)..).unwrap_or(&[]),
-        ),
+        Some(end) => (&text[..end], &text[end + 1..]),
         None => (text, &[]),
     }
 }
 
 /// How many octets and lines the first command of a text has: a line, and after a `zone` line those that
 /// it takes. `None` where it is not whole.
-pub(crate) fn item_of(text: &[u8]) -> Option<(usize, u64)> {
+pub(crate) fn item_of(text: &[u8]) -> Option<(usize, u64)>
+    ensures some { IfSome result (λ item. 0 < item.0) }
+    ensures within { IfSome result (λ item. item.0 ≤ length text.now) }
+{
     let end = memchr(b'\n', text)?;
     let mut len = end.saturating_add(1);
     let count = taken_by(text.get(..end)?);
@@ -64,7 +71,9 @@ pub(crate) fn is_change(line: &[u8]) -> bool {
 
 /// How many octets the first reply of a text has: its lines up to the one that ends it. `None` where it is
 /// not whole.
-pub(crate) fn reply_of(text: &[u8]) -> Option<usize> {
+pub(crate) fn reply_of(text: &[u8]) -> Option<usize>
+    ensures { IfSome result (λ len. len ≤ length text.now) }
+{
     let mut len = 0usize;
     for _ in 0..text.len() {
         let rest = text.get(len..)?;
@@ -77,12 +86,14 @@ pub(crate) fn reply_of(text: &[u8]) -> Option<usize> {
 }
 
 /// Serves a session on a text, and returns the replies. `None` where an allocation fails.
-pub(crate) fn replies_to<D: Desk>(alloc: Global, desk: &mut D, text: &[u8]) -> Option<Vec<u8>> {
-    let mut replies = Vec::new(alloc);
+pub(crate) fn replies_to<D: Desk>(alloc: Global, desk: &mut D, text: &[u8]) -> Option<Vec<u8>>
+    ensures { IfSome result
+        (λ replies. AreReplies D.rules text.now desk.old desk.new replies.items) }
+{
     let mut reader = Tapped::new(text);
-    let mut writer = Tapped::new(&mut replies);
+    let mut writer = Tapped::new(Vec::new(alloc));
     match serve(alloc, &mut reader, &mut writer, desk) {
-        Ok(_) => Some(replies),
+        Ok(_) => Some(writer.into_inner()),
         Err(_) => None,
     }
 }

@@ -1,4 +1,8 @@
 //! Changes and records as the lines of a session.
+ghost use Rattle.std.specs.Prelude.{◌≡◌, ◌++◌, IfOk, OnOk};
+ghost use Rattle.sipl_lines.specs.ReplyText.{number_field};
+ghost use Rattle.sipl_daemon.specs.Text.{clock_line, endpoint_text, hold_line, release_line};
+
 use indexmap::IndexMap;
 use sipl_book::{Edit, Event};
 use sipl_choice::Endpoint;
@@ -168,7 +172,9 @@ pub(crate) fn hold_text(
     alloc: Global,
     endpoint: &Endpoint,
     ms: u64,
-) -> Result<Vec<u8>, AllocError> {
+) -> Result<Vec<u8>, AllocError>
+    ensures { IfOk result (λ text. text.items ≡ hold_line endpoint.now ms) }
+{
     let mut out = Vec::new(alloc);
     write_endpoint(alloc, &mut out, b"hold ", endpoint)?;
     write_number(alloc, &mut out, ms)?;
@@ -177,7 +183,9 @@ pub(crate) fn hold_text(
 }
 
 /// The line that ends the hold of an endpoint.
-pub(crate) fn release_text(alloc: Global, endpoint: &Endpoint) -> Result<Vec<u8>, AllocError> {
+pub(crate) fn release_text(alloc: Global, endpoint: &Endpoint) -> Result<Vec<u8>, AllocError>
+    ensures { IfOk result (λ text. text.items ≡ release_line endpoint.now) }
+{
     let mut out = Vec::new(alloc);
     write_endpoint(alloc, &mut out, b"release ", endpoint)?;
     out.push(b'\n')?;
@@ -185,7 +193,9 @@ pub(crate) fn release_text(alloc: Global, endpoint: &Endpoint) -> Result<Vec<u8>
 }
 
 /// The line that sets the time, in milliseconds.
-pub(crate) fn clock_text(alloc: Global, to: u64) -> Result<Vec<u8>, AllocError> {
+pub(crate) fn clock_text(alloc: Global, to: u64) -> Result<Vec<u8>, AllocError>
+    ensures { IfOk result (λ text. text.items ≡ clock_line to) }
+{
     let mut out = Vec::new(alloc);
     out.extend_from_slice(b"clock")?;
     write_number(alloc, &mut out, to)?;
@@ -198,7 +208,9 @@ fn write_endpoint(
     out: &mut Vec<u8>,
     word: &[u8],
     endpoint: &Endpoint,
-) -> Result<(), AllocError> {
+) -> Result<(), AllocError>
+    ensures { OnOk result (out.new.items ≡ out.old.items ++ word.now ++ endpoint_text endpoint.now) }
+{
     out.extend_from_slice(word)?;
     out.extend_from_slice(endpoint.transport.name().as_bytes())?;
     out.push(b' ')?;
@@ -259,7 +271,9 @@ fn write_name(out: &mut Vec<u8>, word: &[u8], name: &Name) -> Result<(), AllocEr
 }
 
 // Appends a space and a number.
-fn write_number(alloc: Global, out: &mut Vec<u8>, number: u64) -> Result<(), AllocError> {
+fn write_number(alloc: Global, out: &mut Vec<u8>, number: u64) -> Result<(), AllocError>
+    ensures { OnOk result (out.new.items ≡ out.old.items ++ number_field number) }
+{
     let text = format!(in alloc; " {number}")?;
     out.extend_from_slice(text.as_bytes())
 }
