@@ -1,6 +1,6 @@
 //! Changes and records as the lines of a session.
-ghost use Rattle.std.specs.Prelude.{◌≡◌, ◌++◌, IfOk, OnOk};
-ghost use Rattle.sipl_lines.specs.ReplyText.{number_field};
+ghost use Rattle.std.specs.Prelude.{◌≡◌, [], ◌∷◌, ◌++◌, length, codes, IfOk, OnOk};
+ghost use Rattle.sipl_lines.specs.ReplyText.{answer_text, counts_line, number_field, target_line, target_lines};
 ghost use Rattle.sipl_daemon.specs.Text.{clock_line, endpoint_text, hold_line, release_line};
 
 use indexmap::IndexMap;
@@ -59,22 +59,54 @@ fn write_draws(alloc: Global, out: &mut Vec<u8>, draws: &Draws) -> Result<(), Al
 }
 
 // Appends the reply to a question.
-fn write_answer(alloc: Global, out: &mut Vec<u8>, answer: &Answer) -> Result<(), AllocError> {
-    let targets = match answer {
-        Answer::Targets(targets) => targets.as_slice(),
+fn write_answer(alloc: Global, out: &mut Vec<u8>, answer: &Answer) -> Result<(), AllocError>
+    ensures { OnOk result (out.new.items ≡ out.old.items ++ answer_text answer.now) }
+{
+    match answer {
+        Answer::Targets(targets) => write_targets(alloc, out, targets.as_slice()),
         Answer::None(reason) => {
-            let text = format!(in alloc; "none {}\n", reason.name())?;
-            return out.extend_from_slice(text.as_bytes());
+            out.extend_from_slice(b"none ")?;
+            out.extend_from_slice(reason.name().as_bytes())?;
+            out.push(b'\n')?;
+            Ok(())
         }
-    };
-    let mut number = 0u64;
-    for target in targets {
-        number = number.saturating_add(1);
-        out.extend_from_slice(format!(in alloc; "target {number} ")?.as_bytes())?;
-        write_endpoint(alloc, out, b"", target)?;
-        out.push(b'\n')?;
     }
-    out.extend_from_slice(format!(in alloc; "ok find {number}\n")?.as_bytes())
+}
+
+// Appends a line for each target, and the line that counts them.
+fn write_targets(
+    alloc: Global,
+    out: &mut Vec<u8>,
+    targets: &[Endpoint],
+) -> Result<(), AllocError>
+    ensures { OnOk result (out.new.items ≡ out.old.items ++ (target_lines 1 targets.now
+        ++ counts_line (codes "ok find") (length targets.now ∷ []))) }
+{
+    let mut number = 1;
+    for target in targets {
+        write_target(alloc, out, number, target)?;
+        number += 1;
+    }
+    out.extend_from_slice(b"ok find")?;
+    write_number(alloc, out, targets.len() as u64)?;
+    out.push(b'\n')?;
+    Ok(())
+}
+
+// Appends the line of a target.
+fn write_target(
+    alloc: Global,
+    out: &mut Vec<u8>,
+    number: u64,
+    target: &Endpoint,
+) -> Result<(), AllocError>
+    ensures { OnOk result (out.new.items ≡ out.old.items ++ target_line number target.now) }
+{
+    out.extend_from_slice(b"target")?;
+    write_number(alloc, out, number)?;
+    write_endpoint(alloc, out, b" ", target)?;
+    out.push(b'\n')?;
+    Ok(())
 }
 
 fn write_edit(alloc: Global, out: &mut Vec<u8>, edit: &Edit) -> Result<(), AllocError> {
