@@ -1,5 +1,5 @@
 //! The lines of a session, and which of them belong to one command or reply.
-ghost use Rattle.std.specs.Prelude.{◌≡◌, ◌⊎◌, ℕ, ◌<◌, ◌≤◌, ⊥, [], ◌∷◌, ◌++◌, length, get_or, IfSome};
+ghost use Rattle.std.specs.Prelude.{◌≡◌, ◌⊎◌, ℕ, ◌<◌, ◌≤◌, [], ◌∷◌, ◌++◌, length, get_or, IfSome};
 ghost use Rattle.sipl_daemon.specs.Replies.{AreReplies};
 
 use memchr::memchr;

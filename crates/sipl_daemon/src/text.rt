@@ -1,6 +1,7 @@
 //! Changes and records as the lines of a session.
 ghost use Rattle.std.specs.Prelude.{◌≡◌, [], ◌∷◌, ◌++◌, length, codes, IfOk, OnOk};
-ghost use Rattle.sipl_lines.specs.ReplyText.{answer_text, counts_line, number_field, target_line, target_lines};
+ghost use Rattle.sipl_lines.specs.ReplyText.{answer_text, counts_line, number_field};
+ghost use Rattle.sipl_lines.specs.ReplyText.{target_line, target_lines};
 ghost use Rattle.sipl_daemon.specs.Text.{clock_line, endpoint_text, hold_line, release_line};
 
 use indexmap::IndexMap;
