@@ -1,11 +1,14 @@
 // Calls that read texts.
 use crate::call::{Call, Outcome, outcome_of, refused};
-use crate::values::{BOB, ZONE, apex, question, zone};
+use crate::values::{ZONE, apex, zone};
 use sipl_masterfile::{ZoneText, read_zone};
 use sipl_names::Name;
 use sipl_uri::{Question, Uri};
 use std::alloc::Global;
 use std::sync::Wait;
+
+// A URI with a longer name than one that is kept without an allocation.
+const LONG: &[u8] = b"sip:bob@server-of-many-octets.example.com";
 
 #[derive(Drop)]
 struct ReadZone {
@@ -29,7 +32,7 @@ struct ParseUri {
 
 impl Call for ParseUri {
     fn make<R: Wait>(&mut self, _rt: &R, alloc: Global) -> Option<bool> {
-        match Uri::parse(alloc, BOB) {
+        match Uri::parse(alloc, LONG) {
             Ok(question) => Some(question == self.question),
             Err(fault) => refused(fault.code(), true),
         }
@@ -42,6 +45,6 @@ pub(crate) fn read_zone_call<R: Wait>(rt: &R, alloc: Global) -> anyhow::Result<O
 }
 
 pub(crate) fn parse_call<R: Wait>(rt: &R, alloc: Global) -> anyhow::Result<Outcome> {
-    let question = question(alloc)?;
+    let question = Uri::parse(alloc, LONG)?;
     Ok(outcome_of(rt, alloc, &mut ParseUri { question }))
 }
