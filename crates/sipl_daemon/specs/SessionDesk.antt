@@ -1,5 +1,5 @@
 -- What the desk of a daemon's session does: the calls are those of the service, with the session's pass.
-use Rattle.std.specs.Prelude.{◌≡◌, ◌⊎◌, [], Result, Ok, Err, IfOk, OnErr, codes}
+use Rattle.std.specs.Prelude.{◌≡◌, ◌⊎◌, ℕ, [], Result, Ok, Err, IfOk, OnErr, codes}
 use Rattle.std.specs.Result.{result_map_both}
 use Rattle.sipl_names.specs.Labels.{Octets}
 use Rattle.sipl_outages.specs.Holds.{BoardEvent}

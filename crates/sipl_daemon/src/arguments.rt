@@ -17,21 +17,26 @@ pub(crate) enum Call {
 pub(crate) fn read_arguments<R: Env + AllocGlobal>(rt: &R) -> io::Result<Option<Call>> {
     let mut words = env::args(rt)?;
     let _program = words.next();
-    let first = words.next();
-    let second = words.next();
+    let Some(first) = words.next() else {
+        return Ok(Some(Call::Serve(String::new(rt.alloc()))));
+    };
+    let Some(second) = words.next() else {
+        return Ok(read_word(first));
+    };
     let third = words.next();
     if words.next().is_some() {
         return Ok(None);
     }
-    Ok(match (first, second, third) {
-        (None, None, None) => Some(Call::Serve(String::new(rt.alloc()))),
-        (Some(word), None, None) => read_word(word),
-        (Some(word), Some(folder), None) if word.as_str() == "replay" => Some(Call::Replay(folder)),
-        (Some(word), Some(address), Some(line)) if word.as_str() == "tell" => {
-            Some(Call::Tell(address, line))
-        }
+    Ok(read_words(first, second, third))
+}
+
+// What two or three arguments ask for.
+fn read_words(first: String, second: String, third: Option<String>) -> Option<Call> {
+    match third {
+        None if first.as_str() == "replay" => Some(Call::Replay(second)),
+        Some(line) if first.as_str() == "tell" => Some(Call::Tell(second, line)),
         _ => None,
-    })
+    }
 }
 
 // What one argument asks for: an option, or the text of the settings.

@@ -109,7 +109,7 @@ impl Changes {
         let skipped = usize::try_from(begin.saturating_sub(written.start)).unwrap_or(usize::MAX);
         let rest = all.as_slice().get(skipped..).unwrap_or(&[]);
         let head = format!(in self.alloc; "# page {mark}\n")?;
-        replace(rt, self.alloc, self.path.as_str(), &[head.as_bytes(), rest])?;
+        replace(rt, self.alloc, self.path.as_str(), head.as_bytes(), rest)?;
         written.file = open_to_append(rt, self.path.as_str())?;
         written.start = begin.saturating_sub(head.len() as u64);
         Ok(())
@@ -191,12 +191,14 @@ fn open_to_append<R: Files<File = File>>(rt: &R, path: &str) -> io::Result<File>
         .open(rt, path)
 }
 
-/// Replaces a file by one of these parts: at each moment the old one is there, or the new one.
+/// Replaces a file by one of a text and the rest of it: at each moment the old one is there, or the new
+/// one.
 pub(crate) fn replace<R: Files<File = File>>(
     rt: &R,
     alloc: Global,
     path: &str,
-    parts: &[&[u8]],
+    text: &[u8],
+    rest: &[u8],
 ) -> io::Result<()> {
     let new = format!(in alloc; "{path}.new")?;
     let mut file = OpenOptions::new()
@@ -205,9 +207,8 @@ pub(crate) fn replace<R: Files<File = File>>(
         .truncate(true)
         .mode(0o600)
         .open(rt, new.as_str())?;
-    for part in parts {
-        file.write_all(part)?;
-    }
+    file.write_all(text)?;
+    file.write_all(rest)?;
     file.sync_all()?;
     drop(file);
     fs::rename(rt, new.as_str(), path)?;

@@ -6,6 +6,7 @@ use crate::source::Turned;
 use sipl_book::Page;
 use sipl_service::{ClaimFault, Ledger, Receipts};
 use std::alloc::Global;
+use std::collections::VecDeque;
 use std::fs::File;
 use std::rt::Files;
 
@@ -76,8 +77,24 @@ impl Claims {
     }
 
     /// Takes the page out that is to be claimed next, if there is one.
-    pub(crate) fn take(&mut self) -> Option<Turned> {
+    fn take(&mut self) -> Option<Turned> {
         self.next.take()
+    }
+
+    /// Claims the page that is to be claimed next, and then these, and archives them.
+    pub(crate) fn finish_all<R: Files<File = File>>(
+        &mut self,
+        rt: &R,
+        archive: Option<&Archive>,
+        turned: VecDeque<Turned>,
+    ) -> Result<(), CloseFault> {
+        if let Some(next) = self.take() {
+            self.finish(rt, archive, &next.page)?;
+        }
+        for next in turned {
+            self.finish(rt, archive, &next.page)?;
+        }
+        Ok(())
     }
 
     /// Claims a page and archives it.

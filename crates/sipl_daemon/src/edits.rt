@@ -1,6 +1,7 @@
 //! The changes of the zones, the holds and the time: each is made, and is in the file of changes when its
 //! reply is sent.
 ghost use Rattle.std.specs.Prelude.{◌≤◌, ◌^◌, OnOk};
+ghost use Rattle.sipl_book.specs.declared.event.Event.TheVariants.{Change, Hold, Release, Advance};
 ghost use Rattle.sipl_service.specs.Passes.{GetsReceipt};
 
 use crate::daemon::Daemon;
@@ -21,7 +22,7 @@ impl Daemon {
         edit: Edit,
         place: &AtomicU64,
     ) -> Result<Done, ServiceFault>
-        ensures { GetsReceipt (λ done. done.number) (λ done. Event.Change edit)
+        ensures { GetsReceipt (λ done. done.number) (λ done. Change edit)
             pass.old pass.new result }
     {
         let step = Step::of(self.alloc, &edit)?;
@@ -41,7 +42,7 @@ impl Daemon {
         ms: u64,
         place: &AtomicU64,
     ) -> Result<u64, ServiceFault>
-        ensures { GetsReceipt (λ number. number) (λ number. Event.Hold endpoint.now ms)
+        ensures { GetsReceipt (λ number. number) (λ number. Hold endpoint.now ms)
             pass.old pass.new result }
     {
         let mut tally = self.tally.lock(rt);
@@ -59,7 +60,7 @@ impl Daemon {
         endpoint: &Endpoint,
         place: &AtomicU64,
     ) -> Result<u64, ServiceFault>
-        ensures { GetsReceipt (λ number. number) (λ number. Event.Release endpoint.now)
+        ensures { GetsReceipt (λ number. number) (λ number. Release endpoint.now)
             pass.old pass.new result }
     {
         let mut tally = self.tally.lock(rt);
@@ -76,7 +77,7 @@ impl Daemon {
         to: u64,
         place: &AtomicU64,
     ) -> Result<u64, ServiceFault>
-        ensures receipt { GetsReceipt (λ number. number) (λ number. Event.Advance to)
+        ensures receipt { GetsReceipt (λ number. number) (λ number. Advance to)
             pass.old pass.new result }
         ensures limit { OnOk result (to ≤ 2 ^ 52) }
     {
@@ -94,7 +95,7 @@ impl Daemon {
         edit: Edit,
         place: &AtomicU64,
     ) -> Result<Done, ServiceFault>
-        ensures { GetsReceipt (λ done. done.number) (λ done. Event.Change edit)
+        ensures { GetsReceipt (λ done. done.number) (λ done. Change edit)
             pass.old pass.new result }
     {
         let Some(changes) = &self.source.changes else {
@@ -117,7 +118,7 @@ impl Daemon {
         ms: u64,
         place: &AtomicU64,
     ) -> Result<u64, ServiceFault>
-        ensures { GetsReceipt (λ number. number) (λ number. Event.Hold endpoint.now ms)
+        ensures { GetsReceipt (λ number. number) (λ number. Hold endpoint.now ms)
             pass.old pass.new result }
     {
         let Some(changes) = &self.source.changes else {
@@ -139,7 +140,7 @@ impl Daemon {
         endpoint: &Endpoint,
         place: &AtomicU64,
     ) -> Result<u64, ServiceFault>
-        ensures { GetsReceipt (λ number. number) (λ number. Event.Release endpoint.now)
+        ensures { GetsReceipt (λ number. number) (λ number. Release endpoint.now)
             pass.old pass.new result }
     {
         let Some(changes) = &self.source.changes else {
@@ -161,7 +162,7 @@ impl Daemon {
         to: u64,
         place: &AtomicU64,
     ) -> Result<u64, ServiceFault>
-        ensures receipt { GetsReceipt (λ number. number) (λ number. Event.Advance to)
+        ensures receipt { GetsReceipt (λ number. number) (λ number. Advance to)
             pass.old pass.new result }
         ensures limit { OnOk result (to ≤ 2 ^ 52) }
     {

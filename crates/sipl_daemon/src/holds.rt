@@ -46,7 +46,7 @@ impl Holds {
     {
         self.ends.retain(
             |held: &(Endpoint, u64)| -> bool
-                ensures { result ≡ not (same_endpoint endpoint.now held.now.0) }
+                ensures { result ≡ not (same_endpoint endpoint.entry.now held.now.0) }
             { *endpoint != held.0 },
         );
     }

@@ -75,7 +75,8 @@ impl ZoneMeter {
             return Ok(());
         }
         self.keep(piece)?;
-        self.begin(taken_by(&self.line));
+        let lines = taken_by(self.line.as_slice());
+        self.begin(lines);
         self.line.clear();
         Ok(())
     }

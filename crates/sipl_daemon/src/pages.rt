@@ -159,22 +159,20 @@ impl Pages {
         archive: Option<&Archive>,
         last: &Page,
     ) -> Result<Claims, CloseFault> {
-        let Pages {
-            turned,
-            handed,
-            claims,
-            ..
-        } = self;
-        let mut claims = claims.into_inner();
-        claims.add(handed.into_inner())?;
-        if let Some(next) = claims.take() {
-            claims.finish(rt, archive, &next.page)?;
-        }
-        for next in turned.into_inner() {
-            claims.finish(rt, archive, &next.page)?;
-        }
+        let (mut claims, handed, turned) = self.into_parts();
+        claims.add(handed)?;
+        claims.finish_all(rt, archive, turned)?;
         claims.finish(rt, archive, last)?;
         Ok(claims)
+    }
+
+    // What was claimed, the receipts that were handed over since then, and the pages that were turned.
+    fn into_parts(self) -> (Claims, Vec<Receipts>, VecDeque<Turned>) {
+        (
+            self.claims.into_inner(),
+            self.handed.into_inner(),
+            self.turned.into_inner(),
+        )
     }
 }
 

@@ -1,4 +1,5 @@
 //! The settings of the daemon, read from a TOML document.
+ghost use Rattle.std.specs.Prelude.{IfOk};
 ghost use Rattle.sipl_lines.specs.Settings.{IsWithinLimits};
 
 use crate::address::Address;
@@ -101,7 +102,7 @@ impl DaemonSettings {
 
 // The settings that `serve` has too.
 fn read_others(alloc: Global, others: &Table) -> Result<Settings, SettingsFault>
-    ensures { Rattle.std.specs.Prelude.IfOk result (λ settings. IsWithinLimits settings) }
+    ensures { IfOk result (λ settings. IsWithinLimits settings) }
 {
     match toml::table_to_string(alloc, others) {
         Ok(text) => Settings::from_toml(alloc, text.as_str()),

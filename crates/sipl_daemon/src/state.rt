@@ -85,7 +85,7 @@ fn restore_changes<H: Host>(
     let changes = read_file(host, alloc, log)?;
     if changes.is_empty() {
         let text = format!(in alloc; "# page {mark}\n")?;
-        replace(host, alloc, log, &[text.as_bytes()])?;
+        replace(host, alloc, log, text.as_bytes(), &[])?;
         return Ok((text.len() as u64, mark));
     }
     let Some((begin, lines)) = find_mark(&changes, mark) else {
@@ -97,7 +97,7 @@ fn restore_changes<H: Host>(
     }
     let whole = begin.saturating_add(made.octets);
     let kept = changes.as_slice().get(..whole).unwrap_or(&[]);
-    replace(host, alloc, log, &[kept])?;
+    replace(host, alloc, log, kept, &[])?;
     Ok((kept.len() as u64, made.mark.unwrap_or(mark)))
 }
 
@@ -120,7 +120,7 @@ pub(crate) fn write_state<R: Files<File = File>>(
         let left = end.saturating_sub(holds.now);
         text.extend_from_slice(&hold_text(alloc, endpoint, left)?)?;
     }
-    replace(rt, alloc, path, &[&text])?;
+    replace(rt, alloc, path, &text, &[])?;
     Ok(text.len() as u64)
 }
 
