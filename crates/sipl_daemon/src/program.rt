@@ -14,7 +14,6 @@ use crate::tell::tell;
 use std::alloc::Global;
 use std::io::{ErrorKind, Input};
 use std::process::ExitCode;
-use std::rt::Env;
 use std::sync::{Arc, Wait};
 use std::{io, thread};
 
@@ -38,11 +37,7 @@ const WRONG_ARGUMENTS: u8 = 2;
 /// Does what the arguments of a process ask for. The status is 0, 1 after a fault, or where a line that
 /// was told is refused, or 2 where the arguments are wrong; for a fault and for 2 one line on standard
 /// error gives the reason.
-pub fn start<R, H>(rt: R, host: &H) -> ExitCode
-where
-    R: Env + Input + Print + Eprint + AllocGlobal + Wait + Copy + Send + 'static,
-    H: Host,
-{
+pub fn start<H: Host>(rt: HostRuntime, host: &H) -> ExitCode {
     let outcome = match read_arguments(&rt) {
         Ok(Some(call)) => perform(rt, host, call),
         Err(error) if error.kind() == ErrorKind::OutOfMemory => Err(Fault::Memory),
@@ -62,11 +57,7 @@ where
 }
 
 // Does what the arguments ask for. Returns whether a line that was told is not refused.
-fn perform<R, H>(rt: R, host: &H, call: Call) -> Result<bool, Fault>
-where
-    R: Input + Print + AllocGlobal + Wait + Copy + Send + 'static,
-    H: Host,
-{
+fn perform<H: Host>(rt: HostRuntime, host: &H, call: Call) -> Result<bool, Fault> {
     match call {
         Call::Help => print!(rt; "{HELP}")?,
         Call::Version => println!(rt; "{VERSION}")?,
@@ -89,11 +80,7 @@ where
 }
 
 // Serves until the daemon is to stop, claims all pages, and prints how many events there were.
-fn serve<R, H>(rt: R, host: &H, settings: DaemonSettings) -> Result<(), Fault>
-where
-    R: Input + Print + AllocGlobal + Wait + Copy + Send + 'static,
-    H: Host,
-{
+fn serve<H: Host>(rt: HostRuntime, host: &H, settings: DaemonSettings) -> Result<(), Fault> {
     let alloc = rt.alloc();
     let stop = Arc::new(alloc, Stop::new())?;
     let daemon = begin(host, alloc, &settings, Arc::try_clone(&stop)?)?;
@@ -144,17 +131,13 @@ fn go_on<H: Host>(host: &H, alloc: Global, daemon: &mut Daemon, path: &str) -> R
 }
 
 // Serves at the addresses of the settings until the daemon is to stop.
-fn serve_daemon<R, H>(
-    rt: R,
+fn serve_daemon<H: Host>(
+    rt: HostRuntime,
     host: &H,
     daemon: &Daemon,
     settings: DaemonSettings,
     stop: Arc<Stop, Global>,
-) -> Result<(), Fault>
-where
-    R: Input + Print + AllocGlobal + Wait + Copy + Send + 'static,
-    H: Host,
-{
+) -> Result<(), Fault> {
     let workers = settings.service.workers as u64;
     let ends_with_input = settings.ends_with_input;
     let (listeners, control) = listen_all(host, rt.alloc(), settings)?;
@@ -189,11 +172,7 @@ fn print_ready<R: Print>(
 
 // Asks for a stop at the end of standard input. No scope has the thread: nothing can end a read of standard
 // input, and the process is not to wait for it.
-fn watch_input<R, H>(rt: R, host: &H, stop: Arc<Stop, Global>)
-where
-    R: Input + AllocGlobal + Wait + Copy + Send + 'static,
-    H: Host,
-{
+fn watch_input<H: Host>(rt: HostRuntime, host: &H, stop: Arc<Stop, Global>) {
     let _watching = thread::spawn(host, move || watch(&rt, rt.alloc(), &stop));
 }
 
