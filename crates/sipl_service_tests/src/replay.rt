@@ -149,7 +149,7 @@ impl Claims {
 
     // Claims pages up to the first that lacks a receipt.
     fn claim(&mut self, rt: &impl Abort) {
-        for page in &self.pages[self.claimed..] {
+        for page in self.pages.get(self.claimed..).unwrap_or(&[]) {
             match self.ledger.claim(page) {
                 Ok(()) => self.claimed = self.claimed.saturating_add(1),
                 Err(ClaimFault::Unclaimed(_)) => return,
