@@ -22,7 +22,8 @@ abbrev pub of_service : {A : Type 0} → Result A ServiceFault → Result A Desk
 of_service result = result_map_both (λ value. value) Service result
 
 -- The service makes the event, and the pass gets the receipt of it; or it refuses.
-pub record MakesEvent (event : BoardEvent) (old new : CallerState) (outcome : Result ℕ DeskFault) : Type 0 where
+pub record MakesEvent (event : BoardEvent) (old new : CallerState)
+    (outcome : Result ℕ DeskFault) : Type 0 where
   pub number : Result ℕ ServiceFault
   pub receipt : GetsReceipt (λ number. number) (λ number. board_event event) old.pass new.pass number
   pub others : KeepsOthers old new

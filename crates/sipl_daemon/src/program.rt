@@ -14,6 +14,7 @@ use crate::tell::tell;
 use std::alloc::Global;
 use std::io::{ErrorKind, Input};
 use std::process::ExitCode;
+use std::rt::Env;
 use std::sync::{Arc, Wait};
 use std::{io, thread};
 
@@ -37,7 +38,11 @@ const WRONG_ARGUMENTS: u8 = 2;
 /// Does what the arguments of a process ask for. The status is 0, 1 after a fault, or where a line that
 /// was told is refused, or 2 where the arguments are wrong; for a fault and for 2 one line on standard
 /// error gives the reason.
-pub fn start<H: Host>(rt: HostRuntime, host: &H) -> ExitCode {
+pub fn start<R, H>(rt: R, host: &H) -> ExitCode
+where
+    R: Env + Input + Print + Eprint + AllocGlobal + Wait + Copy + Send + 'static,
+    H: Host,
+{
     let outcome = match read_arguments(&rt) {
         Ok(Some(call)) => perform(rt, host, call),
         Err(error) if error.kind() == ErrorKind::OutOfMemory => Err(Fault::Memory),
@@ -57,7 +62,11 @@ pub fn start<H: Host>(rt: HostRuntime, host: &H) -> ExitCode {
 }
 
 // Does what the arguments ask for. Returns whether a line that was told is not refused.
-fn perform<H: Host>(rt: HostRuntime, host: &H, call: Call) -> Result<bool, Fault> {
+fn perform<R, H>(rt: R, host: &H, call: Call) -> Result<bool, Fault>
+where
+    R: Input + Print + AllocGlobal + Wait + Copy + Send + 'static,
+    H: Host,
+{
     match call {
         Call::Help => print!(rt; "{HELP}")?,
         Call::Version => println!(rt; "{VERSION}")?,
@@ -80,7 +89,11 @@ fn perform<H: Host>(rt: HostRuntime, host: &H, call: Call) -> Result<bool, Fault
 }
 
 // Serves until the daemon is to stop, claims all pages, and prints how many events there were.
-fn serve<H: Host>(rt: HostRuntime, host: &H, settings: DaemonSettings) -> Result<(), Fault> {
+fn serve<R, H>(rt: R, host: &H, settings: DaemonSettings) -> Result<(), Fault>
+where
+    R: Input + Print + AllocGlobal + Wait + Copy + Send + 'static,
+    H: Host,
+{
     let alloc = rt.alloc();
     let stop = Arc::new(alloc, Stop::new())?;
     let daemon = begin(host, alloc, &settings, Arc::try_clone(&stop)?)?;
@@ -131,13 +144,17 @@ fn go_on<H: Host>(host: &H, alloc: Global, daemon: &mut Daemon, path: &str) -> R
 }
 
 // Serves at the addresses of the settings until the daemon is to stop.
-fn serve_daemon<H: Host>(
-    rt: HostRuntime,
+fn serve_daemon<R, H>(
+    rt: R,
     host: &H,
     daemon: &Daemon,
     settings: DaemonSettings,
     stop: Arc<Stop, Global>,
-) -> Result<(), Fault> {
+) -> Result<(), Fault>
+where
+    R: Input + Print + AllocGlobal + Wait + Copy + Send + 'static,
+    H: Host,
+{
     let workers = settings.service.workers as u64;
     let ends_with_input = settings.ends_with_input;
     let (listeners, control) = listen_all(host, rt.alloc(), settings)?;
@@ -172,7 +189,11 @@ fn print_ready<R: Print>(
 
 // Asks for a stop at the end of standard input. No scope has the thread: nothing can end a read of standard
 // input, and the process is not to wait for it.
-fn watch_input<H: Host>(rt: HostRuntime, host: &H, stop: Arc<Stop, Global>) {
+fn watch_input<R, H>(rt: R, host: &H, stop: Arc<Stop, Global>)
+where
+    R: Input + AllocGlobal + Wait + Copy + Send + 'static,
+    H: Host,
+{
     let _watching = thread::spawn(host, move || watch(&rt, rt.alloc(), &stop));
 }
 
