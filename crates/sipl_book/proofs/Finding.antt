@@ -7,7 +7,7 @@ use Rattle.std.proofs.lemmas.Bool.{cond-false, cond-true, lt-leb}
 use Rattle.sipl_book.specs.Book.{BookState, answer_now, next_event}
 use Rattle.sipl_book.specs.Calls.{IsCommitted, IsHanded, after_commit, commit_refusal, is_renumbered, unless_full, with_looks}
 use Rattle.sipl_book.specs.Entries.{has_current_entry}
-use Rattle.sipl_book.specs.Lookups.{IsFound, IsLocated, after_reads}
+use Rattle.sipl_book.specs.Lookups.{IsAnswered, IsLocated, after_reads}
 use Rattle.sipl_book.specs.declared.fault.BookFault.{BookFault}
 use Rattle.sipl_book.specs.declared.fault.BookFault.TheVariants.{Memory, NotCurrent, Stale}
 use Rattle.sipl_book.specs.declared.outcome.Handed.{Handed}
@@ -28,7 +28,7 @@ module _ (question : Question) (words : List ℕ) (old : BookState) (outdated : 
       let contradiction : false ≡ true = sym outdated ∙ current in
       cc
 
-  committed_found : (new : BookState) (handed : Handed) → IsCommitted is_renumbered found words now now new (Ok handed) → IsFound question words old new (Ok handed)
+  committed_found : (new : BookState) (handed : Handed) → IsCommitted is_renumbered found words now now new (Ok handed) → IsAnswered question words old new (Ok handed)
   committed_found new handed is =
       record {
         accepted = sym refusal ∙ is.accepted;
@@ -43,7 +43,7 @@ module _ (question : Question) (words : List ℕ) (old : BookState) (outdated : 
         counted = (length found.items, ap (λ (b : BookState). b.store.looks) (is.after ∙ ap (after_commit found words) looked));
       }
 
-  uncommitted_found : (new : BookState) (uncommitted : Uncommitted) → IsCommitted is_renumbered found words now now new (Err uncommitted) → IsFound question words old new (Err uncommitted.fault)
+  uncommitted_found : (new : BookState) (uncommitted : Uncommitted) → IsCommitted is_renumbered found words now now new (Err uncommitted) → IsAnswered question words old new (Err uncommitted.fault)
   uncommitted_found new uncommitted is =
       record {
         accepted = tt;
@@ -86,13 +86,13 @@ module _ (question : Question) (words : List ℕ) (old : BookState) (outdated : 
 
   -- what is returned of it
   pub found_anew : (new : BookState) (committed : Result Handed Uncommitted) (result : Result Handed BookFault) → IsCommitted is_renumbered found words now now new committed
-      → MatchResult committed (λ handed. result ≡ Ok handed) (λ uncommitted. IsErrAnd result (λ fault. fault ≡ uncommitted.fault)) → IsFound question words old new result
-  found_anew new (Ok handed) result is same = subst (IsFound question words old new) (sym same) (committed_found new handed is)
+      → MatchResult committed (λ handed. result ≡ Ok handed) (λ uncommitted. IsErrAnd result (λ fault. fault ≡ uncommitted.fault)) → IsAnswered question words old new result
+  found_anew new (Ok handed) result is same = subst (IsAnswered question words old new) (sym same) (committed_found new handed is)
   found_anew new (Err uncommitted) (Ok handed) is same = absurd same
-  found_anew new (Err uncommitted) (Err fault) is same = subst (λ f. IsFound question words old new (Err f)) (sym same) (uncommitted_found new uncommitted is)
+  found_anew new (Err uncommitted) (Err fault) is same = subst (λ f. IsAnswered question words old new (Err f)) (sym same) (uncommitted_found new uncommitted is)
 
 -- the answer of a current entry is found
-pub found-handed : (question : Question) (words : List ℕ) (old new : BookState) (handed : Handed) → has_current_entry old.entries question ≡ true → IsHanded question words old new (Ok handed) → IsFound question words old new (Ok handed)
+pub found-handed : (question : Question) (words : List ℕ) (old new : BookState) (handed : Handed) → has_current_entry old.entries question ≡ true → IsHanded question words old new (Ok handed) → IsAnswered question words old new (Ok handed)
 found-handed question words old new handed has is =
     record {
       accepted = ap (unless_full old) (sym (cond-true _ None (Some NotCurrent) has)) ∙ is.accepted;

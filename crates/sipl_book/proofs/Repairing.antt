@@ -19,7 +19,7 @@ use Rattle.sipl_book.specs.Book.{BookState}
 use Rattle.sipl_book.specs.Calls.{CountsLooks, IsSettled, after_give_back, after_settlement, is_renumbered, looks_after, settle_refusal, with_looks}
 use Rattle.sipl_book.specs.Entries.{EntryState, entry_of, has_current_entry, is_of, renewed}
 use Rattle.sipl_book.specs.Questions.{same_question}
-use Rattle.sipl_book.specs.Repairs.{after_return, entry_with, is_leased_for, is_outdated}
+use Rattle.sipl_book.specs.Repairs.{entry_with, is_leased_for, is_outdated, queue_after_give_back}
 use Rattle.sipl_book.specs.declared.fault.BookFault.{BookFault}
 use Rattle.sipl_book.specs.declared.fault.BookFault.TheVariants.{JournalFull, NotCurrent, Stale, Unknown, Gone, PagesSpent, Queue, Store as OfStore, Board, Memory}
 use Rattle.sipl_book.specs.declared.outcome.Uncommitted.{Uncommitted}
@@ -372,4 +372,4 @@ module _ (old : BookState) (id : ℕ) (question : Question) (first : first_of ol
         elim (is_outdated old.entries id) as (λ b. new.queue ≡ cond b (after_front (after_lease old.queue) id) (after_settle (after_lease old.queue) id) → IsRenewed old new) [
           | true ↦ λ back. renewed-queue 0 (back ∙ returned old.queue id idle old.queue.queued first)
           | false ↦ λ gone. renewed-queue 1 (gone ∙ spent old.queue id idle old.queue.queued first)
-        ] (ap (λ (b : BookState). b.queue) after ∙ ap (λ (b : BookState). after_return b.entries b.queue id) before)
+        ] (ap (λ (b : BookState). b.queue) after ∙ ap (λ (b : BookState). queue_after_give_back b.entries b.queue id) before)

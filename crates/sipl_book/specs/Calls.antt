@@ -20,7 +20,7 @@ use Rattle.sipl_repair.specs.QueueState.{after_lease, after_settle, first_of, is
 use Rattle.sipl_repair.specs.declared.fault.QueueFault.TheVariants.{Empty}
 use Rattle.sipl_book.specs.Entries.{entry_of, has_current_entry, after_change, committed, renewed}
 use Rattle.sipl_book.specs.Machine.{zone_edit}
-use Rattle.sipl_book.specs.Repairs.{after_failure, after_marks, after_removal, after_renewal, after_return, dependents, entry_with, is_leased_for, without}
+use Rattle.sipl_book.specs.Repairs.{after_failure, after_marks, after_removal, after_renewal, dependents, entry_with, is_leased_for, queue_after_give_back, without}
 use Rattle.sipl_book.specs.declared.edit.Edit.{Edit}
 use Rattle.sipl_book.specs.declared.event.Event.{Event}
 use Rattle.sipl_book.specs.declared.event.Event.TheVariants.{Change, Hold, Release, Advance, Answer}
@@ -244,7 +244,7 @@ pub record IsLeased (old new : BookState) (result : Result (ℕ × Question) Boo
 
 -- the book after a lease was given back
 abbrev pub after_give_back : ℕ → BookState → BookState
-after_give_back id book = record book { queue = after_return book.entries book.queue id }
+after_give_back id book = record book { queue = queue_after_give_back book.entries book.queue id }
 
 -- the fault of a settlement: the lease is not that of the question's entry, or the place, from 0, of
 -- the first set that has changed by the test

@@ -40,7 +40,7 @@ IsKept question words old new =
 -- Where the question has a current entry no set is looked at, and nothing else changes. Where it has
 -- none a finding is committed. It is refused only where the journal is full, or else where an
 -- allocation failed; then nothing changes but that looks may be counted.
-pub record IsFound (question : Question) (words : List ℕ) (old new : BookState)
+pub record IsAnswered (question : Question) (words : List ℕ) (old new : BookState)
     (result : Result Handed BookFault) : Type 0 where
   pub accepted : OnOk result (unless_full old None ≡ None)
   pub number : IfOk result (λ handed. handed.number ≡ next_event old)

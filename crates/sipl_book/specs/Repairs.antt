@@ -38,8 +38,8 @@ after_renewal queue None = queue
 after_renewal queue (Some e) = record queue { queued = filter (λ k. not (k == e.id)) queue.queued }
 
 -- the queue after a lease was given back: the id is the next one, unless its entry is current or gone
-abbrev pub after_return : List EntryState → QueueState → ℕ → QueueState
-after_return entries queue id =
+abbrev pub queue_after_give_back : List EntryState → QueueState → ℕ → QueueState
+queue_after_give_back entries queue id =
     if is_outdated entries id then after_give_back queue id else after_settle queue id
 
 -- the queue after a lease was spent in vain: the id is the last one, unless its entry is current or

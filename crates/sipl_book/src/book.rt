@@ -10,7 +10,7 @@ ghost use Rattle.sipl_plans.specs.Runs.{IsSet};
 ghost use Rattle.sipl_plans.specs.Servers.{HasFewServers};
 ghost use Rattle.sipl_book.specs.Book.{HasRoute, IsGoodEntry, answer_now, new_book, next_event, state_of};
 ghost use Rattle.sipl_book.specs.Calls.{IsChanged, MovesBoard, IsHanded, IsForgotten, after_look, answer_event, is_full, recorded, unless_full};
-ghost use Rattle.sipl_book.specs.Lookups.{IsFound};
+ghost use Rattle.sipl_book.specs.Lookups.{IsAnswered};
 ghost use Rattle.sipl_book.specs.Entries.{depends_on, entry_of};
 ghost use Rattle.sipl_book.specs.Honesty.{WasGiven};
 ghost use Rattle.sipl_book.specs.Repairs.{IsQueueOf};
@@ -248,7 +248,7 @@ impl Book {
     ///
     /// The fault is a full journal (B3).
     pub fn find(&mut self, question: Question, draws: &Draws) -> Result<Handed, BookFault>
-        ensures { IsFound question draws.now self.old self.new result }
+        ensures { IsAnswered question draws.now self.old self.new result }
     {
         reserve_event(&mut self.journal, self.max_events)?;
         let layout = match self.cache.get(&question) {

@@ -6,7 +6,7 @@ ghost use Rattle.sipl_repair.specs.QueueState.{after_lease, after_settle, first_
 ghost use Rattle.sipl_book.specs.Cache.{InOrder, new_cache};
 ghost use Rattle.sipl_book.specs.Entries.{after_change, committed, entry_of, renewed};
 ghost use Rattle.sipl_book.specs.Indexed.{needs};
-ghost use Rattle.sipl_book.specs.Repairs.{IsQueueOf, after_failure, after_marks, after_removal, after_renewal, after_return, dependents, entry_with, is_leased_for, is_outdated, without};
+ghost use Rattle.sipl_book.specs.Repairs.{IsQueueOf, after_failure, after_marks, after_removal, after_renewal, dependents, entry_with, is_leased_for, is_outdated, queue_after_give_back, without};
 
 use crate::entry::Entry;
 use crate::fault::BookFault;
@@ -232,7 +232,7 @@ impl Cache {
     pub(crate) fn give_back(&mut self, lease: Lease)
         requires order { InOrder self.old.entries }
         ensures { self.new ≡ record self.old {
-          queue = after_return self.old.entries self.old.queue lease;
+          queue = queue_after_give_back self.old.entries self.old.queue lease;
         } }
     {
         if self.entries.entries().is_outdated(lease.id()) {

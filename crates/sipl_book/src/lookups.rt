@@ -3,7 +3,7 @@ ghost use Rattle.std.specs.Prelude.{◌≡◌, ◌≢◌, ◌<◌, [], drop, tak
 ghost use Rattle.std.specs.List.{sum_by};
 ghost use Rattle.sipl_book.specs.Calls.{CountsLooks, looks_after, with_looks};
 ghost use Rattle.sipl_book.specs.Entries.{has_current_entry};
-ghost use Rattle.sipl_book.specs.Lookups.{AreDependencies, IsFound, IsLocated, IsRenewed, IsRepaired, after_reads, sets_read};
+ghost use Rattle.sipl_book.specs.Lookups.{AreDependencies, IsAnswered, IsLocated, IsRenewed, IsRepaired, after_reads, sets_read};
 
 use crate::book::Book;
 use crate::fault::BookFault;
@@ -24,7 +24,7 @@ impl Book {
     ) -> Result<Handed, BookFault>
         requires outdated { IsFalse (has_current_entry self.old.entries question) }
         requires space { length self.old.journal < self.old.max_events }
-        ensures { IsFound question draws.now self.old self.new result }
+        ensures { IsAnswered question draws.now self.old self.new result }
     {
         let finding = self.locate(question)?;
         self.commit_current(finding, draws)

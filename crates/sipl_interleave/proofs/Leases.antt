@@ -5,7 +5,7 @@ use Rattle.std.specs.Cmp.{nat_cmp_total, unsigned_tied}
 use Rattle.std.proofs.lemmas.Bool.{cond_both, eq-eqb}
 use Rattle.sipl_repair.specs.QueueState.{QueueState, after_give_back, after_lease, after_mark, after_requeue, after_settle, first_of, is_held, is_leased, with_first_leased}
 use Rattle.sipl_book.specs.Entries.{EntryState}
-use Rattle.sipl_book.specs.Repairs.{after_failure, after_marks, after_renewal, after_return, is_outdated}
+use Rattle.sipl_book.specs.Repairs.{after_failure, after_marks, after_renewal, is_outdated, queue_after_give_back}
 use Rattle.sipl_book.proofs.Public.{differ}
 use Rattle.sipl_interleave.proofs.Numbers.{same_or_not}
 
@@ -42,7 +42,7 @@ spends-remove q id queued =
 spends-none : (q : QueueState) (id : ℕ) → is_leased q id ≡ false → Spends id q q
 spends-none q id none = record { gone = none; others = λ k other. refl }
 
-pub spends-return : (es : List EntryState) (q : QueueState) (id : ℕ) → Spends id q (after_return es q id)
+pub spends-return : (es : List EntryState) (q : QueueState) (id : ℕ) → Spends id q (queue_after_give_back es q id)
 spends-return es q id =
     cond_both (is_outdated es id) (after_give_back q id) (after_settle q id) (Spends id q)
     (λ _. cond_both (is_leased q id) _ q (Spends id q) (λ _. spends-remove q id (id ∷ q.queued)) (λ none. spends-none q id none))

@@ -21,7 +21,7 @@ use Rattle.sipl_book.specs.Machine.{zone_edit}
 use Rattle.sipl_book.specs.Book.{BookState, answer_now, next_event}
 use Rattle.sipl_book.specs.Calls.{IsChanged, MovesBoard, answer_event, board_event, recorded}
 use Rattle.sipl_book.specs.Entries.{has_current_entry}
-use Rattle.sipl_book.specs.Lookups.{AreDependencies, IsFound, IsKept, IsRepaired, after_reads}
+use Rattle.sipl_book.specs.Lookups.{AreDependencies, IsAnswered, IsKept, IsRepaired, after_reads}
 use Rattle.sipl_book.specs.Pages.{IsTurned, PageState, after_turn, extent_of, page_of, turn_refusal}
 use Rattle.sipl_book.specs.declared.edit.Edit.{Edit}
 use Rattle.sipl_book.specs.declared.event.Event.{Event}
@@ -32,7 +32,7 @@ use Rattle.sipl_book.specs.declared.outcome.Done.{Done}
 use Rattle.sipl_book.specs.declared.outcome.Extent.{Extent}
 use Rattle.sipl_book.specs.declared.outcome.Handed.{Handed}
 use Rattle.sipl_lines.specs.Desk.{book_rules}
-use Rattle.sipl_lines.specs.PlainDesk.{EndsSo, PlainState, after_change, change_ending, change_refusal, edited, ending_of, find_ending, move_ending, move_refusal, page_ending, plain_of, plain_rules, sets_listed, sets_read, unless_full, with_event}
+use Rattle.sipl_lines.specs.PlainDesk.{EndsSo, PlainState, after_change, change_ending, change_refusal, edited, ending_of, find_ending, move_ending, move_refusal, page_ending, plain_of, plain_rules, sets_listed, sets_read, unless_at_limit, with_event}
 use Rattle.sipl_lines.proofs.Seen.{Implies, on_err, on_ok}
 
 -- ---- how a call ends
@@ -108,9 +108,9 @@ found_after false (Ok handed) question words old new event from_entry committed 
 found_after current (Err e) question words old new event from_entry committed = tt
 
 finds : (question : Question) (words : List ℕ) (old : BookState) (outcome : Result Handed BookFault) (new : BookState)
-    → IsFound question words old new outcome → EndsSo (find_ending question words (plain_of old)) (plain_of old) outcome (plain_of new)
+    → IsAnswered question words old new outcome → EndsSo (find_ending question words (plain_of old)) (plain_of old) outcome (plain_of new)
 finds question words old outcome new found =
-    ends_so (unless_full (plain_of old) None) (record { number = next_event old; answer = answer_now old question words }) (with_event (plain_of old)) (plain_of old) outcome (plain_of new)
+    ends_so (unless_at_limit (plain_of old) None) (record { number = next_event old; answer = answer_now old question words }) (with_event (plain_of old)) (plain_of old) outcome (plain_of new)
     found.accepted (found_value question words old outcome found.number found.answer)
     (found_after (has_current_entry old.entries question) outcome question words old new (answer_event old question words) found.from_entry found.committed)
     found.refused

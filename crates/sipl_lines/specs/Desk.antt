@@ -8,7 +8,7 @@ use Rattle.sipl_outages.specs.Holds.{BoardEvent}
 use Rattle.sipl_book.specs.Book.{BookState}
 use Rattle.sipl_book.specs.BookFault.{code_of as book_code}
 use Rattle.sipl_book.specs.Calls.{IsChanged, MovesBoard}
-use Rattle.sipl_book.specs.Lookups.{AreDependencies, IsFound, IsRepaired}
+use Rattle.sipl_book.specs.Lookups.{AreDependencies, IsAnswered, IsRepaired}
 use Rattle.sipl_book.specs.Pages.{IsTurned, PageState, extent_of}
 use Rattle.sipl_book.specs.declared.edit.Edit.{Edit}
 use Rattle.sipl_book.specs.declared.fault.BookFault.{BookFault}
@@ -32,7 +32,7 @@ pub record DeskRules (D F : Type 0) : Type 1 where
 abbrev pub book_rules : DeskRules BookState BookFault
 book_rules =
     record {
-      Finds = λ question words old outcome new. IsFound question words old new outcome;
+      Finds = λ question words old outcome new. IsAnswered question words old new outcome;
       Changes = λ edit old outcome new. IsChanged edit old new outcome;
       Moves = λ event old outcome new. MovesBoard event old new outcome;
       Depends = λ question old outcome new. AreDependencies question old new outcome;

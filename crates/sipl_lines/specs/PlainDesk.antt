@@ -69,8 +69,8 @@ ending_of (Some fault) value after before = (Err fault, before)
 ending_of None value after before = (Ok value, after)
 
 -- the fault of a call that is an event: that there may be no more events comes before all others
-abbrev pub unless_full : PlainState → Option BookFault → Option BookFault
-unless_full plain fault =
+abbrev pub unless_at_limit : PlainState → Option BookFault → Option BookFault
+unless_at_limit plain fault =
     if nat_le plain.max_events plain.events then Some JournalFull else fault
 
 -- the number of the next event
@@ -89,7 +89,7 @@ sets_in plain key = set_of plain.zones.records key
 -- 4), with held endpoints left out or last; they are the next event
 abbrev pub find_ending : Question → List ℕ → PlainState → Ending Handed
 find_ending question words plain =
-    ending_of (unless_full plain None)
+    ending_of (unless_at_limit plain None)
     (record {
       number = next_number plain;
       answer = plan (sets_in plain) plain.holds question plain.client words plain.held;
@@ -103,7 +103,7 @@ edited edit plain = zones_after (zone_edit edit) plain.zones
 -- the fault of an edit: that of the zones, or else too few numbers of sets are left
 abbrev pub change_refusal : Edit → PlainState → Option BookFault
 change_refusal edit plain =
-    unless_full plain
+    unless_at_limit plain
     (option_map Store (option_or (zones_refusal plain.max_records (zone_edit edit) plain.zones)
     (number_refusal plain.zones.records (edited edit plain).records plain.next)))
 
@@ -129,7 +129,7 @@ change_ending edit plain =
 -- the fault of a hold, a release or a move of the clock
 abbrev pub move_refusal : BoardEvent → PlainState → Option BookFault
 move_refusal event plain =
-    unless_full plain (option_map Board (hold_refusal plain.max_holds event plain.holds))
+    unless_at_limit plain (option_map Board (hold_refusal plain.max_holds event plain.holds))
 
 -- a hold, a release or a move of the clock, which is the next event
 abbrev pub move_ending : BoardEvent → PlainState → Ending ℕ

@@ -15,7 +15,7 @@ use Rattle.sipl_book.specs.declared.outcome.Extent.{Extent}
 use Rattle.sipl_book.specs.declared.outcome.Handed.{Handed}
 use Rattle.sipl_service.specs.Faults.{service_code}
 use Rattle.sipl_service.specs.Passes.{GetsReceipt, PassState}
-use Rattle.sipl_service.specs.Telling.{AreDependencies, IsDecided, IsToldFor, ToldState, event_of}
+use Rattle.sipl_service.specs.Telling.{AreToldDependencies, IsDecided, IsToldFor, ToldState, event_of}
 use Rattle.sipl_service.specs.declared.fault.ServiceFault.{ServiceFault}
 use Rattle.sipl_service.specs.declared.fault.ServiceFault.TheVariants.{Contended}
 use Rattle.sipl_lines.specs.Desk.{DeskRules}
@@ -76,7 +76,7 @@ caller_rules =
           GetsReceipt (λ number. number) (λ number. board_event event) old.pass new.pass outcome
           × KeepsOthers old new;
       Depends = λ question old outcome new.
-          IfOk outcome (AreDependencies question old.client) × (new ≡ old);
+          IfOk outcome (AreToldDependencies question old.client) × (new ≡ old);
       Repairs = λ old outcome new. new ≡ old;
       Pages = λ old outcome new. KeepsPage old new outcome;
       IsTime = λ caller now. Unit {0};

@@ -58,5 +58,5 @@ marked_at number mark = if is_marked number mark then mark else None
 
 -- a book after a call for the mark of its set of this number: a look more, where the set is not empty
 -- and has no mark yet
-abbrev pub after_mark : ℕ → Option Mark → BookState → BookState
-after_mark number mark book = if nat_eq number 0 || is_marked number mark then book else after_look book
+abbrev pub book_after_mark : ℕ → Option Mark → BookState → BookState
+book_after_mark number mark book = if nat_eq number 0 || is_marked number mark then book else after_look book

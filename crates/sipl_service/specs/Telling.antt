@@ -70,7 +70,7 @@ IsAnswerTo asked told = IsToldFor asked.question asked.abilities asked.held aske
 -- the record sets that the targets of a question depend on: no key is there twice, the data are of
 -- their keys' kinds, and wherever the records agree with these sets, they are those that the route
 -- looks at, in their order
-pub record AreDependencies (question : Question) (client : Client) (items : List Item) : Type 0 where
+pub record AreToldDependencies (question : Question) (client : Client) (items : List Item) : Type 0 where
   pub distinct : HasDistinctKeys items
   pub sets : All (λ item. IsSet item.key item.number item.content) items
   pub reads : (look : Look) → Agrees look items

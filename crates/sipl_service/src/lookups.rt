@@ -5,7 +5,7 @@ ghost use Rattle.sipl_records.specs.Sets.{is_existence};
 ghost use Rattle.sipl_plans.specs.Findings.{IsSound};
 ghost use Rattle.sipl_plans.specs.Runs.{IsSet, wanted};
 ghost use Rattle.sipl_service.specs.Passes.{GetsReceipt};
-ghost use Rattle.sipl_service.specs.Telling.{AreDependencies, IsToldFor, event_of};
+ghost use Rattle.sipl_service.specs.Telling.{AreToldDependencies, IsToldFor, event_of};
 
 use crate::asked::Asked;
 use crate::fault::ServiceFault;
@@ -245,7 +245,7 @@ impl Service {
     /// policy (L7).
     pub fn deps<R: Wait>(&self, rt: &R, question: &Question) -> Result<Evidence, ServiceFault>
         ensures { IfOk result
-            (λ items. AreDependencies question.now self.now.client items) }
+            (λ items. AreToldDependencies question.now self.now.client items) }
     {
         self.lock(rt).check(&self.abilities, self.held)?;
         let finding = self.locate(rt, Who::Caller, question, &OpenGate)?;

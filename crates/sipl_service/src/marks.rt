@@ -5,7 +5,7 @@ ghost use Rattle.sipl_records.specs.Sets.{is_existence, same_key};
 ghost use Rattle.sipl_records.specs.declared.record.Key.{Key};
 ghost use Rattle.sipl_zonestore.specs.Store.{number_in};
 ghost use Rattle.sipl_book.specs.Calls.{after_look};
-ghost use Rattle.sipl_service.specs.Marks.{AreMarksOf, after_mark, marked_at};
+ghost use Rattle.sipl_service.specs.Marks.{AreMarksOf, book_after_mark, marked_at};
 
 use crate::versions::Versions;
 use indexmap::IndexMap;
@@ -61,7 +61,7 @@ impl Marks {
         ensures others { (other : Key) → same_key key.now other ≡ false
             → get same_key self.new.table other ≡ get same_key self.old.table other }
         ensures unchanged { OnErr result (self.new.table.entries ≡ self.old.table.entries) }
-        ensures book { book.new ≡ after_mark (number_in book.old.store key.now)
+        ensures book { book.new ≡ book_after_mark (number_in book.old.store key.now)
             (get same_key self.old.table key.now) book.old }
     {
         if let Some(mark) = self.table.get(key).copied() {

@@ -7,8 +7,8 @@ use std::marker::Model;
 use std::mem;
 
 /// What a caller knows of a service: the receipts of its calls since it handed over, in their order, and
-/// one more than the greatest number of an event that it has seen, its front. Each call of a pass has a number from the
-/// front on: what a caller receives is never older than what it did, or saw, before.
+/// one more than the greatest number of an event that it has seen, its front. Each call of a pass has a
+/// number from the front on: what a caller receives is never older than what it did, or saw, before.
 #[derive(Drop)]
 pub struct Pass {
     pub(crate) receipts: Vec<Receipt>,

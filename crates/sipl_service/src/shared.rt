@@ -6,7 +6,7 @@ ghost use Rattle.sipl_records.specs.declared.record.Key.{Key};
 ghost use Rattle.sipl_zonestore.specs.Store.{number_in};
 ghost use Rattle.sipl_book.specs.Calls.{IsChanged};
 ghost use Rattle.sipl_book.specs.Pages.{IsPage, after_turn, page_of};
-ghost use Rattle.sipl_service.specs.Marks.{after_mark, key_edited, mark_of, marked_at};
+ghost use Rattle.sipl_service.specs.Marks.{book_after_mark, key_edited, mark_of, marked_at};
 ghost use Rattle.sipl_service.specs.Passes.{GetsReceipt};
 ghost use Rattle.sipl_service.specs.Refusals.{unless_other, unless_stopped};
 
@@ -120,7 +120,7 @@ impl Shared {
         ensures others { (other : Key) → same_key key.now other ≡ false
             → mark_of self.new.marks other ≡ mark_of self.old.marks other }
         ensures unchanged { OnErr result (self.new.marks ≡ self.old.marks) }
-        ensures book { self.new.book ≡ after_mark (number_in self.old.book.store key.now)
+        ensures book { self.new.book ≡ book_after_mark (number_in self.old.book.store key.now)
             (mark_of self.old.marks key.now) self.old.book }
         ensures stopped { self.new.is_stopped ≡ self.old.is_stopped }
     {

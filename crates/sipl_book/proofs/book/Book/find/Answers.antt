@@ -4,7 +4,7 @@ use Rattle.sipl_book.specs.Book.{BookState, answer_now}
 use Rattle.sipl_book.specs.BookFields.{book_of}
 use Rattle.sipl_book.specs.Calls.{answer_event}
 use Rattle.sipl_book.specs.Entries.{EntryState, has_current_entry}
-use Rattle.sipl_book.specs.Lookups.{IsFound}
+use Rattle.sipl_book.specs.Lookups.{IsAnswered}
 use Rattle.sipl_book.specs.declared.event.Event.TheVariants.{Answer}
 use Rattle.sipl_book.proofs.Answering.{current_answer, consistent-answered, handed}
 use Rattle.sipl_book.proofs.Finding.{found-handed}
@@ -36,7 +36,7 @@ pub returns : goal.returns
 returns c =
     let has : has_current_entry (old c).entries c.args.question ≡ true =
     ap (λ (entry : Option EntryState). let has : Bool = elim entry [ Some e ↦ e.is_current | None ↦ false ] in has) (sym c.in-Some.ensures.entry) ∙ current c in
-    subst (λ before. IsFound c.args.question c.args.draws.now before
+    subst (λ before. IsAnswered c.args.question c.args.draws.now before
     (record (old c) { journal = c.record_event-number.new.journal.items }) (Ok (record { number = c.record_event-number.result; answer = c.in_ok-event.answer }))) c.self.view_is
     (found-handed c.args.question c.args.draws.now (old c) (record (old c) { journal = c.record_event-number.new.journal.items }) (record { number = c.record_event-number.result; answer = c.in_ok-event.answer }) has
     (handed (old c) c.args.question c.args.draws.now c.record_event-number.new.journal.items c.record_event-number.result c.in_ok-event.answer

@@ -23,7 +23,7 @@ module _ (c : goal.After-record_event-number) where
   journal : c.record_event-number.new.journal.items ≡ old.journal ++ answer_event old c.args.question.now c.args.draws.now ∷ []
   journal =
       let event : c.in_ok-event.event ≡ answer_event old c.args.question.now c.args.draws.now =
-      c.in_ok-event.ensures.event ∙ (λ i. Answer (c.in_ok-question.ensures i) c.args.draws.now (drawn i)) in
+      c.in_ok-event.ensures.event ∙ (λ i. Answer (c.in_ok-question.ensures.value i) c.args.draws.now (drawn i)) in
       c.record_event-number.ensures.items ∙ (λ i. c.reserve_event.ensures.items i ++ event i ∷ [])
 
 pub invariant_of-self-2 : goal.invariant_of-self-2

@@ -2,7 +2,7 @@ use Rattle.std.proofs.Common.{◌≡◌, None, position, sym, subst, ◌∙◌}
 use Rattle.sipl_book.specs.Book.{BookState, IsConsistent}
 use Rattle.sipl_book.specs.Cache.{CacheState}
 use Rattle.sipl_book.specs.Calls.{is_renumbered}
-use Rattle.sipl_book.specs.Repairs.{after_return}
+use Rattle.sipl_book.specs.Repairs.{queue_after_give_back}
 use Rattle.sipl_book.specs.contracts.book.Book.{the_view}
 use Rattle.sipl_book.proofs.Settling.{consistent-queued}
 use Rattle.sipl_book.proofs.Staleness.{current-numbered}
@@ -13,7 +13,7 @@ invariant_of-self c =
     let inside = c.self.inside in
     let old : BookState = the_view inside in
     subst (λ (k : CacheState). IsConsistent (record old { entries = k.entries; queue = k.queue; max_entries = k.max_entries })) (sym c.give_back.ensures)
-    (consistent-queued old (after_return inside.cache.entries inside.cache.queue c.args.lease) c.self.invariant)
+    (consistent-queued old (queue_after_give_back inside.cache.entries inside.cache.queue c.args.lease) c.self.invariant)
 
 pub settle_compared-requires-clause-current : goal.settle_compared-requires-clause-current
 settle_compared-requires-clause-current c = λ none.

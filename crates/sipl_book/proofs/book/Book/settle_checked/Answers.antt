@@ -4,7 +4,7 @@ use Rattle.sipl_book.specs.Book.{BookState, IsConsistent}
 use Rattle.sipl_book.specs.Cache.{CacheState}
 use Rattle.sipl_book.specs.Calls.{compared, is_stale, looks_after}
 use Rattle.sipl_book.specs.Honesty.{AreCurrent}
-use Rattle.sipl_book.specs.Repairs.{after_return}
+use Rattle.sipl_book.specs.Repairs.{queue_after_give_back}
 use Rattle.sipl_book.specs.contracts.book.Book.{the_view}
 use Rattle.sipl_book.proofs.Committing.{consistent_looked}
 use Rattle.sipl_book.proofs.Settling.{consistent-queued}
@@ -16,7 +16,7 @@ invariant_of-self c =
     let inside = c.self.inside in
     let old : BookState = the_view inside in
     subst (λ (k : CacheState). IsConsistent (record old { entries = k.entries; queue = k.queue; max_entries = k.max_entries })) (sym c.give_back.ensures)
-    (consistent-queued old (after_return inside.cache.entries inside.cache.queue c.args.lease) c.self.invariant)
+    (consistent-queued old (queue_after_give_back inside.cache.entries inside.cache.queue c.args.lease) c.self.invariant)
 
 pub invariant_of-self-2 : goal.invariant_of-self-2
 invariant_of-self-2 c =
