@@ -8,7 +8,7 @@ use sipl_lines::{
 };
 use sipl_names::{Name, NameFault};
 use std::alloc::Global;
-use std::io::{ErrorKind, Input};
+use std::io::{ErrorKind, Input, Read, Write};
 use std::net::{Net, TcpListener, TcpStream};
 use std::process::ExitCode;
 use std::rt::Env;
@@ -212,9 +212,19 @@ fn serve_streams<R: Input + Print + AllocGlobal>(
     rt: &R,
     book: &mut Book,
 ) -> Result<Ended, ServeFault> {
-    let mut reader = Tapped::new(rt.reader());
-    let mut writer = Tapped::new(io::writer(rt));
-    serve_book(rt.alloc(), &mut reader, &mut writer, book)
+    serve_between(rt.alloc(), rt.reader(), io::writer(rt), book)
+}
+
+// Serves a session at a book between a reader and a writer.
+fn serve_between<A: Read + Drop, B: Write + Drop>(
+    alloc: Global,
+    reader: A,
+    writer: B,
+    book: &mut Book,
+) -> Result<Ended, ServeFault> {
+    let mut reader = Tapped::new(reader);
+    let mut writer = Tapped::new(writer);
+    serve_book(alloc, &mut reader, &mut writer, book)
 }
 
 // Plays a script on standard input and output.

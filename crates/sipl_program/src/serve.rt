@@ -141,8 +141,12 @@ fn split(
         passes.push(pass)?;
         pages.extend(turned)?;
     }
-    // A page without events has the first number of the page after it.
-    pages.sort_unstable_by_key(|page| (page.first(), page.extent().count));
+    pages.sort_unstable_by_key(|page| order_of(page));
     pages.push(last)?;
     Ok((passes, pages))
+}
+
+// By what pages are sorted: a page without events has the first number of the page after it.
+fn order_of(page: &Page) -> (u64, u64) {
+    (page.first(), page.extent().count)
 }
