@@ -1,15 +1,15 @@
 // What a call does to the book that the lock lends it, and to the caller's pass. What was allocated
 // before the lock was taken is passed in.
-ghost use Rattle.std.specs.Prelude.{◌≡◌, ◌≢◌, ◌⊎◌, ℕ, ◌+◌, ◌^◌, ◌<◌, ◌≤◌, ◌++◌, [], ◌∷◌, length, false, vec_len, vec_capacity, Some, None, Ok, IfOk, IfErr, OnOk, OnErr};
+ghost use Rattle.std.specs.Prelude.{◌≡◌, ◌≢◌, ◌⊎◌, ℕ, ◌+◌, ◌^◌, ◌<◌, ◌≤◌, ◌++◌, [], ◌∷◌, length, false, true, vec_len, vec_capacity, Some, None, Ok, IfOk, IfErr, OnOk, OnErr};
 ghost use Rattle.sipl_outages.specs.Holds.{BoardEvent, no_holds};
 ghost use Rattle.sipl_outages.specs.Holds.BoardEvent.{Hold, Release, Advance};
 ghost use Rattle.sipl_plans.specs.Findings.{IsSound};
 ghost use Rattle.sipl_book.specs.Book.{answer_now, next_event};
-ghost use Rattle.sipl_book.specs.Calls.{IsChanged, MovesBoard, after_check, after_commit, board_refusal, change_refusal, recorded, store_with_looks};
+ghost use Rattle.sipl_book.specs.Calls.{CommitsAnswer, IsChanged, IsHanded, MovesBoard, after_check, board_refusal, change_refusal, is_full, recorded, store_with_looks};
 ghost use Rattle.sipl_book.specs.Entries.{has_current_entry};
 ghost use Rattle.sipl_service.specs.Answering.{AreDrawn, IsPreparedFor, Records};
 ghost use Rattle.sipl_service.specs.Passes.{GetsReceipt, receipt_of};
-ghost use Rattle.sipl_service.specs.Refusals.{change_fault, contended, is_for, unless_ahead, unless_other};
+ghost use Rattle.sipl_service.specs.Refusals.{answer_fault, change_fault, commit_fault, contended, hand_fault, is_for, unless_ahead, unless_other};
 ghost use Rattle.sipl_service.specs.Telling.{event_of, IsAnswerTo};
 
 use crate::answered::{Answered, Answers};
@@ -80,6 +80,9 @@ fn next_answer(
     ensures front { OnOk result (pass.now.front ≤ next_event book.now) }
     ensures same { OnOk result (book.now.client ≡ abilities.now) }
     ensures held { OnOk result (book.now.held ≡ held) }
+    ensures accepted { OnOk result (answer_fault pass.now abilities.now held book.now None ≡ None) }
+    ensures refused { IfErr result
+        (λ fault. answer_fault pass.now abilities.now held book.now None ≡ Some fault) }
 {
     let number = next_number(book, pass)?;
     check_client(book, abilities, held)?;
@@ -225,6 +228,12 @@ impl Copies {
 }
 
 // The answer of the current entry of a question, of which there are copies.
+#[tactic(auto, using(
+    crate::proofs::Causes::fault_before,
+    crate::proofs::Causes::fault_is_known,
+    crate::proofs::Causes::fault_full,
+    crate::proofs::Causes::fault_not_current,
+))]
 pub(crate) fn hand(
     alloc: Global,
     book: &mut Book,
@@ -236,11 +245,13 @@ pub(crate) fn hand(
     requires receipt { copies.receipt ≡ asked.question }
     ensures front { OnOk result (pass.now.front ≤ next_event book.old) }
     ensures answered { IfOk result (λ answered. Records asked (next_event book.old) answered) }
-    ensures journal { IfOk result
-        (λ answered. book.new ≡ recorded (event_of answered.told) book.old) }
-    ensures answer { IfOk result
-        (λ answered. answered.told.answer ≡ answer_now book.old asked.question asked.draws) }
+    ensures handed { IfOk result (λ answered. IsHanded asked.question asked.draws book.old book.new
+        (Ok (record { number = answered.told.number; answer = answered.told.answer }))) }
     ensures store { book.new.store ≡ book.old.store }
+    ensures refused { IfErr result (λ fault. fault ≢ ServiceFault.Memory
+        → hand_fault pass.now asked book.old ≡ Some fault) }
+    ensures memory { IfErr result (λ fault. fault ≡ ServiceFault.Memory
+        → is_full book.old ≡ false) }
     ensures unchanged { OnErr result (book.new ≡ book.old) }
 {
     let number = next_answer(book, pass, &asked.abilities, asked.held)?;
@@ -268,9 +279,11 @@ fn record(
     requires event { copies.event ≡ told.now.question }
     requires receipt { copies.receipt ≡ told.now.question }
     requires answer { told.now.answer ≡ answer_now book.old told.now.question told.now.words }
+    requires space { is_full book.old ≡ false }
     ensures journal { OnOk result (book.new ≡ recorded (event_of told.now) book.old) }
     ensures receipt { IfOk result
         (λ receipt. receipt ≡ receipt_of (next_event book.old) (event_of told.now)) }
+    ensures memory { IfErr result (λ fault. fault ≡ ServiceFault.Memory) }
     ensures unchanged { OnErr result (book.new ≡ book.old) }
 {
     let Copies { event, receipt } = copies;
@@ -297,6 +310,7 @@ fn tell_entry(
     ensures asked { IfOk result (λ told. IsAnswerTo asked told) }
     ensures answer { IfOk result
         (λ told. told.answer ≡ answer_now book.now asked.question asked.draws) }
+    ensures current { OnOk result (has_current_entry book.now.entries asked.question ≡ true) }
     ensures refused { IfErr result (λ fault. fault ≢ ServiceFault.Memory
         → (fault ≡ ServiceFault.Book BookFault.NotCurrent)
         × (has_current_entry book.now.entries asked.question ≡ false)) }
@@ -342,6 +356,7 @@ impl Prepared {
 
 // The answer of a finding, where the sets that it read are as they were. L1 with the key of the first
 // that is not.
+#[tactic(auto, using(crate::proofs::Causes::fault_before))]
 pub(crate) fn commit(
     alloc: Global,
     book: &mut Book,
@@ -357,8 +372,10 @@ pub(crate) fn commit(
     ensures journal { IfOk result
         (λ answered. book.new.journal ≡ book.old.journal ++ event_of answered.told ∷ []) }
     ensures store { book.new.store ≡ store_with_looks book.new.store.looks book.old.store }
-    ensures committed { OnOk result
-        (book.new ≡ after_commit finding prepared.asked.draws (after_check finding book.old)) }
+    ensures committed { IfOk result (λ answered. CommitsAnswer finding prepared.asked.draws
+        book.old book.new (Ok (record { number = answered.told.number; released = answered.released }))) }
+    ensures refused { IfErr result (λ fault. fault ≢ ServiceFault.Memory
+        → commit_fault pass.now prepared.asked finding book.old ≡ Some fault) }
     ensures unchanged { OnErr result (book.new.journal ≡ book.old.journal) }
     ensures looked { OnErr result
         ((book.new ≡ book.old) ⊎ (book.new ≡ after_check finding book.old)) }
@@ -418,8 +435,8 @@ fn drawn_again(
 fn fault_of(alloc: Global, uncommitted: Uncommitted) -> ServiceFault
     requires within { (place : ℕ) → uncommitted.fault ≡ BookFault.Stale place
         → place < length uncommitted.finding.items }
-    ensures { result ≢ ServiceFault.Memory
-        → result ≡ contended uncommitted.finding.items uncommitted.fault }
+    ensures { result ≢ ServiceFault.Memory → (uncommitted.fault ≢ BookFault.Memory)
+        × (result ≡ contended uncommitted.finding.items uncommitted.fault) }
 {
     let Uncommitted { fault, finding } = uncommitted;
     let BookFault::Stale(place) = fault else {

@@ -1,11 +1,13 @@
-use Rattle.std.proofs.Common.{◌≡◌, ◌∷◌, ◌++◌, [], sym, ap, ◌∙◌}
+use Rattle.std.proofs.Common.{◌≡◌, ◌∷◌, ◌++◌, [], Some, Ok, sym, ap, subst, ◌∙◌}
 use Rattle.sipl_choice.specs.Abilities.{Client}
 use Rattle.sipl_outages.specs.declared.held.Held.{Held}
 use Rattle.sipl_plans.specs.Plan.{draw}
-use Rattle.sipl_book.specs.Book.{BookState}
+use Rattle.sipl_book.specs.Book.{BookState, next_event}
+use Rattle.sipl_book.specs.Calls.{CommitsAnswer, commit_refusal, is_stale}
 use Rattle.sipl_book.specs.declared.event.Event.{Event}
 use Rattle.sipl_book.specs.declared.event.Event.TheVariants.{Answer}
-use Rattle.sipl_service.specs.Telling.{event_of}
+use Rattle.sipl_service.specs.Telling.{ToldState, event_of}
+use Rattle.sipl_service.proofs.Causes.{fault_of_commit}
 use Rattle.sipl_service.proofs.Committing.{journal-committed}
 use Rattle.sipl_service.proofs.steps.commit.Goals as goal
 
@@ -25,3 +27,30 @@ returns-in-Ok-clause-journal c =
     (λ i. Answer (sym c.requires.prepared.question i) words (drawn i)) ∙ ap event_of (sym c.drawn-told.ensures) in
     journal-committed found words book c.commit_answer.new.self c.requires.sound client c.in-Ok.ensures.accepted c.in-Ok.ensures.after
     ∙ (λ i. (same i).journal ++ event i ∷ [])
+
+-- the book has shared its board, and is as it was
+pub returns-in-Ok-clause-committed : goal.returns-in-Ok-clause-committed
+returns-in-Ok-clause-committed c =
+    let same : c.share_board.new.self ≡ c.args.book.now = c.share_board.ensures.unchanged in
+    let number : c.drawn-told.result.number ≡ next_event c.share_board.new.self =
+    ap (λ (t : ToldState). t.number) c.drawn-told.ensures ∙ c.in_ok-number.ensures.number ∙ sym (ap next_event same) in
+    subst (λ (b : BookState). CommitsAnswer c.args.finding c.args.prepared.asked.draws b c.commit_answer.new.self
+    (Ok (record { number = c.drawn-told.result.number; released = c.in-Ok.committed.released }))) same
+    (record {
+      accepted = c.in-Ok.ensures.accepted;
+      number = number;
+      after = c.in-Ok.ensures.after;
+      refused = tt;
+      memory = tt;
+      finding = tt;
+      unchanged = tt;
+    })
+
+pub returns-in-Err-clause-refused : goal.returns-in-Err-clause-refused
+returns-in-Err-clause-refused c = λ known.
+    let found = c.args.finding in
+    let is = c.fault_of.ensures known in
+    let refusal = subst (λ (b : BookState). commit_refusal is_stale found b ≡ Some c.in-Err.uncommitted.fault)
+    c.share_board.ensures.unchanged (c.in-Err.ensures.refused is.0) in
+    fault_of_commit c.args.pass.now c.args.prepared.asked found c.args.book.now c.in-Err.uncommitted c.fault_of.result
+    c.in_ok-number.ensures.accepted refusal c.in-Err.ensures.finding is.1
