@@ -1,5 +1,5 @@
 pub mod Marked
-pub mod Causes
+pub mod FirstFault
 pub mod Committing
 pub mod Gaps
 pub mod Joined

@@ -38,9 +38,9 @@ pub record GetsReceipt {A : Type 0} (number_of : A → ℕ) (event_of : A → Ev
   pub front : IfOk result (λ a. old.front ≤ number_of a)
   pub refused : OnErr result (new ≡ old)
 
--- An edit that some book made, as this event: so many of its record sets changed. Which book it was,
--- the lock doesn't say.
-pub record IsMadeEdit (edit : Edit) (done : Done) : Type 0 where
+-- What an edit of some book reports: its number, and how many record sets of that book have changed.
+-- Which book it was, the lock doesn't say.
+pub record IsOutcomeOf (edit : Edit) (done : Done) : Type 0 where
   pub old : BookState
   pub new : BookState
   pub change : IsChanged edit old new (Ok done)

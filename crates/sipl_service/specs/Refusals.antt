@@ -6,7 +6,7 @@ use Rattle.sipl_outages.specs.declared.held.Held.{Held}
 use Rattle.sipl_outages.specs.declared.held.Held.TheVariants.{Out, Last}
 use Rattle.sipl_plans.specs.Findings.{Found}
 use Rattle.sipl_book.specs.Book.{BookState, next_event}
-use Rattle.sipl_book.specs.Calls.{commit_refusal, hand_refusal, is_stale}
+use Rattle.sipl_book.specs.Calls.{commit_refusal, hand_refusal, is_stale, unless_full}
 use Rattle.sipl_book.specs.declared.fault.BookFault.{BookFault}
 use Rattle.sipl_book.specs.declared.fault.BookFault.TheVariants.{Stale}
 use Rattle.sipl_service.specs.Passes.{PassState}
@@ -47,6 +47,12 @@ abbrev pub answer_fault : PassState → Client → Held → BookState → Option
     → Option ServiceFault
 answer_fault pass client held book refusal =
     unless_ahead pass book (unless_other client held book refusal)
+
+-- the fault of any answer for this client and policy, which comes before each allocation under the
+-- lock
+abbrev pub early_fault : PassState → Client → Held → BookState → Option ServiceFault
+early_fault pass client held book =
+    answer_fault pass client held book (option_map Book (unless_full book None))
 
 -- the fault of handing out the answer of a current entry
 abbrev pub hand_fault : PassState → Asked → BookState → Option ServiceFault

@@ -9,7 +9,7 @@ ghost use Rattle.sipl_book.specs.Calls.{CommitsAnswer, IsChanged, IsHanded, Move
 ghost use Rattle.sipl_book.specs.Entries.{has_current_entry};
 ghost use Rattle.sipl_service.specs.Answering.{AreDrawn, IsPreparedFor, Records};
 ghost use Rattle.sipl_service.specs.Passes.{GetsReceipt, receipt_of};
-ghost use Rattle.sipl_service.specs.Refusals.{answer_fault, change_fault, commit_fault, contended, hand_fault, is_for, unless_ahead, unless_other};
+ghost use Rattle.sipl_service.specs.Refusals.{change_fault, commit_fault, contended, early_fault, hand_fault, is_for, unless_ahead, unless_other};
 ghost use Rattle.sipl_service.specs.Telling.{event_of, IsAnswerTo};
 
 use crate::answered::{Answered, Answers};
@@ -32,8 +32,10 @@ use std::sync::Arc;
 pub(crate) fn next_number(book: &Book, pass: &Pass) -> Result<u64, ServiceFault>
     ensures number { IfOk result (λ number. number ≡ next_event book.now) }
     ensures front { OnOk result (pass.now.front ≤ next_event book.now) }
+    ensures accepted { OnOk result (unless_ahead pass.now book.now None ≡ None) }
     ensures ahead { IfErr result
         (λ fault. unless_ahead pass.now book.now None ≡ Some fault) }
+    ensures known { IfErr result (λ fault. fault ≢ ServiceFault.Memory) }
 {
     let next = book.next_event();
     let front = pass.front();
@@ -58,6 +60,7 @@ pub(crate) fn check_client(
 ) -> Result<(), ServiceFault>
     ensures same { OnOk result (book.now.client ≡ abilities.now) }
     ensures held { OnOk result (book.now.held ≡ held) }
+    ensures accepted { OnOk result (unless_other abilities.now held book.now None ≡ None) }
     ensures other { IfErr result
         (λ fault. unless_other abilities.now held book.now None ≡ Some fault) }
     ensures only { IfErr result (λ fault. fault ≡ ServiceFault.OtherBook) }
@@ -69,7 +72,7 @@ pub(crate) fn check_client(
 }
 
 // The number of the next event, where it may be an answer. L2 where the pass has seen it, L7 where the
-// book is for a client of other abilities, or for another policy.
+// book is for a client of other abilities, or for another policy, B3 where the journal is full.
 fn next_answer(
     book: &Book,
     pass: &Pass,
@@ -80,12 +83,17 @@ fn next_answer(
     ensures front { OnOk result (pass.now.front ≤ next_event book.now) }
     ensures same { OnOk result (book.now.client ≡ abilities.now) }
     ensures held { OnOk result (book.now.held ≡ held) }
-    ensures accepted { OnOk result (answer_fault pass.now abilities.now held book.now None ≡ None) }
+    ensures space { OnOk result (is_full book.now ≡ false) }
+    ensures accepted { OnOk result (early_fault pass.now abilities.now held book.now ≡ None) }
     ensures refused { IfErr result
-        (λ fault. answer_fault pass.now abilities.now held book.now None ≡ Some fault) }
+        (λ fault. early_fault pass.now abilities.now held book.now ≡ Some fault) }
+    ensures known { IfErr result (λ fault. fault ≢ ServiceFault.Memory) }
 {
     let number = next_number(book, pass)?;
     check_client(book, abilities, held)?;
+    if book.is_full() {
+        return Err(ServiceFault::Book(BookFault::JournalFull));
+    }
     Ok(number)
 }
 
@@ -108,6 +116,8 @@ pub(crate) fn change(
     ensures changed { IfOk result (λ done. IsChanged new.value.edit book.old book.new (Ok done)) }
     ensures refused { IfErr result (λ fault. fault ≢ ServiceFault.Memory
         → change_fault pass.old book.old (change_refusal new.value.edit book.old) ≡ Some fault) }
+    ensures memory { IfErr result (λ fault. fault ≡ ServiceFault.Memory
+        → unless_ahead pass.old book.old None ≡ None) }
     ensures unchanged { OnErr result (book.new ≡ book.old) }
 {
     next_number(book, pass)?;
@@ -151,6 +161,8 @@ pub(crate) fn hold(
     ensures store { book.new.store ≡ book.old.store }
     ensures refused { IfErr result (λ fault. fault ≢ ServiceFault.Memory
         → change_fault pass.old book.old (board_refusal (Hold endpoint.now ms) book.old) ≡ Some fault) }
+    ensures memory { IfErr result (λ fault. fault ≡ ServiceFault.Memory
+        → unless_ahead pass.old book.old None ≡ None) }
     ensures unchanged { OnErr result (book.new ≡ book.old) }
 {
     next_number(book, pass)?;
@@ -175,6 +187,8 @@ pub(crate) fn release(
     ensures store { book.new.store ≡ book.old.store }
     ensures refused { IfErr result (λ fault. fault ≢ ServiceFault.Memory
         → change_fault pass.old book.old (board_refusal (Release endpoint.now) book.old) ≡ Some fault) }
+    ensures memory { IfErr result (λ fault. fault ≡ ServiceFault.Memory
+        → unless_ahead pass.old book.old None ≡ None) }
     ensures unchanged { OnErr result (book.new ≡ book.old) }
 {
     next_number(book, pass)?;
@@ -196,6 +210,8 @@ pub(crate) fn advance(book: &mut Book, pass: &mut Pass, to: u64) -> Result<u64, 
     ensures limit { OnOk result (to ≤ 2 ^ 52) }
     ensures refused { IfErr result (λ fault. fault ≢ ServiceFault.Memory
         → change_fault pass.old book.old (board_refusal (Advance to) book.old) ≡ Some fault) }
+    ensures memory { IfErr result (λ fault. fault ≡ ServiceFault.Memory
+        → unless_ahead pass.old book.old None ≡ None) }
     ensures unchanged { OnErr result (book.new ≡ book.old) }
 {
     next_number(book, pass)?;
@@ -229,10 +245,8 @@ impl Copies {
 
 // The answer of the current entry of a question, of which there are copies.
 #[tactic(auto, using(
-    crate::proofs::Causes::fault_before,
-    crate::proofs::Causes::fault_is_known,
-    crate::proofs::Causes::fault_full,
-    crate::proofs::Causes::fault_not_current,
+    crate::proofs::FirstFault::hand_before,
+    crate::proofs::FirstFault::hand_not_current,
 ))]
 pub(crate) fn hand(
     alloc: Global,
@@ -251,13 +265,10 @@ pub(crate) fn hand(
     ensures refused { IfErr result (λ fault. fault ≢ ServiceFault.Memory
         → hand_fault pass.now asked book.old ≡ Some fault) }
     ensures memory { IfErr result (λ fault. fault ≡ ServiceFault.Memory
-        → is_full book.old ≡ false) }
+        → early_fault pass.now asked.abilities asked.held book.old ≡ None) }
     ensures unchanged { OnErr result (book.new ≡ book.old) }
 {
     let number = next_answer(book, pass, &asked.abilities, asked.held)?;
-    if book.is_full() {
-        return Err(ServiceFault::Book(BookFault::JournalFull));
-    }
     let holds = book.share_board()?;
     let told = tell_entry(alloc, book, number, asked, holds)?;
     let receipt = record(alloc, book, &told, copies)?;
@@ -270,6 +281,7 @@ pub(crate) fn hand(
 }
 
 // Records the answer that is to be told. Returns the receipt for it.
+#[tactic(auto, using(crate::proofs::FirstFault::refused_for_memory))]
 fn record(
     alloc: Global,
     book: &mut Book,
@@ -356,7 +368,7 @@ impl Prepared {
 
 // The answer of a finding, where the sets that it read are as they were. L1 with the key of the first
 // that is not.
-#[tactic(auto, using(crate::proofs::Causes::fault_before))]
+#[tactic(auto, using(crate::proofs::FirstFault::commit_before))]
 pub(crate) fn commit(
     alloc: Global,
     book: &mut Book,
@@ -376,6 +388,8 @@ pub(crate) fn commit(
         book.old book.new (Ok (record { number = answered.told.number; released = answered.released }))) }
     ensures refused { IfErr result (λ fault. fault ≢ ServiceFault.Memory
         → commit_fault pass.now prepared.asked finding book.old ≡ Some fault) }
+    ensures memory { IfErr result (λ fault. fault ≡ ServiceFault.Memory → early_fault pass.now
+        prepared.asked.abilities prepared.asked.held book.old ≡ None) }
     ensures unchanged { OnErr result (book.new.journal ≡ book.old.journal) }
     ensures looked { OnErr result
         ((book.new ≡ book.old) ⊎ (book.new ≡ after_check finding book.old)) }
@@ -435,8 +449,9 @@ fn drawn_again(
 fn fault_of(alloc: Global, uncommitted: Uncommitted) -> ServiceFault
     requires within { (place : ℕ) → uncommitted.fault ≡ BookFault.Stale place
         → place < length uncommitted.finding.items }
-    ensures { result ≢ ServiceFault.Memory → (uncommitted.fault ≢ BookFault.Memory)
-        × (result ≡ contended uncommitted.finding.items uncommitted.fault) }
+    ensures known { result ≢ ServiceFault.Memory → uncommitted.fault ≢ BookFault.Memory }
+    ensures contended { result ≢ ServiceFault.Memory
+        → result ≡ contended uncommitted.finding.items uncommitted.fault }
 {
     let Uncommitted { fault, finding } = uncommitted;
     let BookFault::Stale(place) = fault else {

@@ -7,7 +7,7 @@ use Rattle.sipl_book.specs.Calls.{CommitsAnswer, commit_refusal, is_stale}
 use Rattle.sipl_book.specs.declared.event.Event.{Event}
 use Rattle.sipl_book.specs.declared.event.Event.TheVariants.{Answer}
 use Rattle.sipl_service.specs.Telling.{ToldState, event_of}
-use Rattle.sipl_service.proofs.Causes.{fault_of_commit}
+use Rattle.sipl_service.proofs.FirstFault.{commit_refused}
 use Rattle.sipl_service.proofs.Committing.{journal-committed}
 use Rattle.sipl_service.proofs.steps.commit.Goals as goal
 
@@ -49,8 +49,7 @@ returns-in-Ok-clause-committed c =
 pub returns-in-Err-clause-refused : goal.returns-in-Err-clause-refused
 returns-in-Err-clause-refused c = λ known.
     let found = c.args.finding in
-    let is = c.fault_of.ensures known in
     let refusal = subst (λ (b : BookState). commit_refusal is_stale found b ≡ Some c.in-Err.uncommitted.fault)
-    c.share_board.ensures.unchanged (c.in-Err.ensures.refused is.0) in
-    fault_of_commit c.args.pass.now c.args.prepared.asked found c.args.book.now c.in-Err.uncommitted c.fault_of.result
-    c.in_ok-number.ensures.accepted refusal c.in-Err.ensures.finding is.1
+    c.share_board.ensures.unchanged (c.in-Err.ensures.refused (c.fault_of.ensures.known known)) in
+    commit_refused c.args.pass.now c.args.prepared.asked found c.args.book.now c.in-Err.uncommitted c.fault_of.result
+    c.in_ok-number.ensures.accepted refusal c.in-Err.ensures.finding (c.fault_of.ensures.contended known)
