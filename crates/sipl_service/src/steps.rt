@@ -368,7 +368,6 @@ impl Prepared {
 
 // The answer of a finding, where the sets that it read are as they were. L1 with the key of the first
 // that is not.
-#[tactic(auto, using(crate::proofs::FirstFault::commit_before))]
 pub(crate) fn commit(
     alloc: Global,
     book: &mut Book,

@@ -1,14 +1,18 @@
-use Rattle.std.proofs.Common.{◌≡◌, ◌∷◌, ◌++◌, [], Some, Ok, sym, ap, subst, ◌∙◌}
+use Rattle.std.proofs.Common.{◌≡◌, ◌≢◌, ◌<◌, ◌∷◌, ◌++◌, [], length, Some, Ok, sym, ap, subst, ◌∙◌}
+use Rattle.std.proofs.lemmas.Result.{err_from_is_err_and}
 use Rattle.sipl_choice.specs.Abilities.{Client}
 use Rattle.sipl_outages.specs.declared.held.Held.{Held}
+use Rattle.sipl_plans.specs.Findings.{Found}
 use Rattle.sipl_plans.specs.Plan.{draw}
 use Rattle.sipl_book.specs.Book.{BookState, next_event}
 use Rattle.sipl_book.specs.Calls.{CommitsAnswer, commit_refusal, is_stale}
 use Rattle.sipl_book.specs.declared.event.Event.{Event}
 use Rattle.sipl_book.specs.declared.event.Event.TheVariants.{Answer}
+use Rattle.sipl_book.specs.declared.fault.BookFault.{BookFault}
+use Rattle.sipl_book.specs.declared.fault.BookFault.TheVariants.{Stale, Memory}
 use Rattle.sipl_service.specs.Telling.{ToldState, event_of}
-use Rattle.sipl_service.proofs.FirstFault.{commit_refused}
-use Rattle.sipl_service.proofs.Committing.{journal-committed}
+use Rattle.sipl_service.proofs.FirstFault.{commit_before, commit_refused}
+use Rattle.sipl_service.proofs.Committing.{journal-committed, stale-within}
 use Rattle.sipl_service.proofs.steps.commit.Goals as goal
 
 pub returns-in-Ok-clause-journal : goal.returns-in-Ok-clause-journal
@@ -45,6 +49,20 @@ returns-in-Ok-clause-committed c =
       finding = tt;
       unchanged = tt;
     })
+
+pub returns-in_err-number-clause-refused : goal.returns-in_err-number-clause-refused
+returns-in_err-number-clause-refused c =
+    let p = err_from_is_err_and c.from_residual.result c.from_residual.ensures.1 in
+    rw (p.1, p.2) (λ known.
+    commit_before c.args.pass.now c.args.prepared.asked c.args.finding c.args.book.now c.in_err-number.field-0.0 c.in_err-number.ensures.refused)
+
+pub fault_of-requires : goal.fault_of-requires
+fault_of-requires c = record {
+  within = λ place is.
+    let known : c.in-Err.uncommitted.fault ≢ Memory = λ e. cc in
+    subst (λ (f : Found). place < length f.items) (sym c.in-Err.ensures.finding)
+    (stale-within c.args.finding c.share_board.new.self place (c.in-Err.ensures.refused known ∙ ap (λ (f : BookFault). Some f) is));
+}
 
 pub returns-in-Err-clause-refused : goal.returns-in-Err-clause-refused
 returns-in-Err-clause-refused c = λ known.
