@@ -244,10 +244,7 @@ impl Copies {
 }
 
 // The answer of the current entry of a question, of which there are copies.
-#[tactic(auto, using(
-    crate::proofs::FirstFault::hand_before,
-    crate::proofs::FirstFault::hand_not_current,
-))]
+#[tactic(auto, using(crate::proofs::FirstFault::hand_before, crate::proofs::FirstFault::hand_not_current,))]
 pub(crate) fn hand(
     alloc: Global,
     book: &mut Book,

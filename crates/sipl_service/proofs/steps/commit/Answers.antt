@@ -59,9 +59,9 @@ returns-in_err-number-clause-refused c =
 pub fault_of-requires : goal.fault_of-requires
 fault_of-requires c = record {
   within = λ place is.
-    let known : c.in-Err.uncommitted.fault ≢ Memory = λ e. cc in
-    subst (λ (f : Found). place < length f.items) (sym c.in-Err.ensures.finding)
-    (stale-within c.args.finding c.share_board.new.self place (c.in-Err.ensures.refused known ∙ ap (λ (f : BookFault). Some f) is));
+      let known : c.in-Err.uncommitted.fault ≢ Memory = λ e. cc in
+      subst (λ (f : Found). place < length f.items) (sym c.in-Err.ensures.finding)
+      (stale-within c.args.finding c.share_board.new.self place (c.in-Err.ensures.refused known ∙ ap (λ (f : BookFault). Some f) is));
 }
 
 pub returns-in-Err-clause-refused : goal.returns-in-Err-clause-refused
