@@ -1,4 +1,5 @@
 pub mod Marked
+pub mod FirstFault
 pub mod Committing
 pub mod Gaps
 pub mod Joined

@@ -1,7 +1,11 @@
 -- What a pass has, and what a call does to it.
-use Rattle.std.specs.Prelude.{◌≡◌, ◌<◌, ◌≤◌, ℕ, ◌+◌, List, ◌++◌, ◌∷◌, [], flat_map, Result, IfOk, OnErr}
+use Rattle.std.specs.Prelude.{◌≡◌, ◌<◌, ◌≤◌, ℕ, ◌+◌, List, ◌++◌, ◌∷◌, [], flat_map, Result, Ok, IfOk, OnErr}
 use Rattle.std.specs.List.{All}
+use Rattle.sipl_book.specs.Book.{BookState}
+use Rattle.sipl_book.specs.Calls.{IsChanged}
+use Rattle.sipl_book.specs.declared.edit.Edit.{Edit}
 use Rattle.sipl_book.specs.declared.event.Event.{Event}
+use Rattle.sipl_book.specs.declared.outcome.Done.{Done}
 use Rattle.sipl_service.specs.declared.fault.ServiceFault.{ServiceFault}
 use Rattle.sipl_service.specs.Receipts.{IsAscending}
 use Rattle.sipl_service.specs.declared.receipt.Receipt.{Receipt}
@@ -33,6 +37,13 @@ pub record GetsReceipt {A : Type 0} (number_of : A → ℕ) (event_of : A → Ev
   pub receipt : IfOk result (λ a. new ≡ with_receipt old (number_of a) (event_of a))
   pub front : IfOk result (λ a. old.front ≤ number_of a)
   pub refused : OnErr result (new ≡ old)
+
+-- What an edit of some book reports: its number, and how many record sets of that book have changed.
+-- Which book it was, the lock doesn't say.
+pub record IsOutcomeOf (edit : Edit) (done : Done) : Type 0 where
+  pub old : BookState
+  pub new : BookState
+  pub change : IsChanged edit old new (Ok done)
 
 -- the receipts of all passes, pass after pass
 abbrev pub receipts_of : List PassState → List Receipt

@@ -1,7 +1,7 @@
 ghost use Rattle.std.specs.Prelude.{◌≡◌, ◌≤◌, ◌-◌, ◌^◌, ◌⊎◌, [], IfOk, IfErr, OnOk};
 ghost use Rattle.sipl_book.specs.Pages.{IsPage};
 ghost use Rattle.sipl_service.specs.Marks.{key_edited};
-ghost use Rattle.sipl_service.specs.Passes.{GetsReceipt};
+ghost use Rattle.sipl_service.specs.Passes.{GetsReceipt, IsOutcomeOf};
 
 use crate::fault::ServiceFault;
 use crate::pass::Pass;
@@ -131,13 +131,15 @@ impl Service {
         Pass::new(self.alloc)
     }
 
-    /// Edits the zones, and wakes the repair workers for the entries that are outdated then.
+    /// Edits the zones, and wakes the repair workers for the entries that are outdated then. Returns the
+    /// event's number, and how many record sets have changed.
     ///
     /// The fault is the first one: the service was stopped (L6), the pass is another service's (L2),
     /// a fault of the book (B3, S1 to S9). Then nothing changes.
     pub fn edit<R: Wait>(&self, rt: &R, pass: &mut Pass, edit: Edit) -> Result<Done, ServiceFault>
-        ensures { GetsReceipt (λ done. done.number) (λ done. Event.Change edit)
+        ensures receipt { GetsReceipt (λ done. done.number) (λ done. Event.Change edit)
             pass.old pass.new result }
+        ensures outcome { IfOk result (λ done. IsOutcomeOf edit done) }
     {
         let new = new_edit(self.alloc, edit)?;
         let key = edited_key(self.alloc, &new.edit)?;

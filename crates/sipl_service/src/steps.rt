@@ -1,15 +1,15 @@
 // What a call does to the book that the lock lends it, and to the caller's pass. What was allocated
 // before the lock was taken is passed in.
-ghost use Rattle.std.specs.Prelude.{◌≡◌, ◌≢◌, ◌⊎◌, ℕ, ◌+◌, ◌^◌, ◌<◌, ◌≤◌, ◌++◌, [], ◌∷◌, length, false, vec_len, vec_capacity, Some, None, Ok, IfOk, IfErr, OnOk, OnErr};
+ghost use Rattle.std.specs.Prelude.{◌≡◌, ◌≢◌, ◌⊎◌, ℕ, ◌+◌, ◌^◌, ◌<◌, ◌≤◌, ◌++◌, [], ◌∷◌, length, false, true, vec_len, vec_capacity, Some, None, Ok, IfOk, IfErr, OnOk, OnErr};
 ghost use Rattle.sipl_outages.specs.Holds.{BoardEvent, no_holds};
 ghost use Rattle.sipl_outages.specs.Holds.BoardEvent.{Hold, Release, Advance};
 ghost use Rattle.sipl_plans.specs.Findings.{IsSound};
 ghost use Rattle.sipl_book.specs.Book.{answer_now, next_event};
-ghost use Rattle.sipl_book.specs.Calls.{IsChanged, MovesBoard, after_check, after_commit, board_refusal, change_refusal, recorded, store_with_looks};
+ghost use Rattle.sipl_book.specs.Calls.{CommitsAnswer, IsChanged, IsHanded, MovesBoard, after_check, board_refusal, change_refusal, is_full, recorded, store_with_looks};
 ghost use Rattle.sipl_book.specs.Entries.{has_current_entry};
 ghost use Rattle.sipl_service.specs.Answering.{AreDrawn, IsPreparedFor, Records};
 ghost use Rattle.sipl_service.specs.Passes.{GetsReceipt, receipt_of};
-ghost use Rattle.sipl_service.specs.Refusals.{change_fault, contended, is_for, unless_ahead, unless_other};
+ghost use Rattle.sipl_service.specs.Refusals.{change_fault, commit_fault, contended, early_fault, hand_fault, is_for, unless_ahead, unless_other};
 ghost use Rattle.sipl_service.specs.Telling.{event_of, IsAnswerTo};
 
 use crate::answered::{Answered, Answers};
@@ -32,8 +32,10 @@ use std::sync::Arc;
 pub(crate) fn next_number(book: &Book, pass: &Pass) -> Result<u64, ServiceFault>
     ensures number { IfOk result (λ number. number ≡ next_event book.now) }
     ensures front { OnOk result (pass.now.front ≤ next_event book.now) }
+    ensures accepted { OnOk result (unless_ahead pass.now book.now None ≡ None) }
     ensures ahead { IfErr result
         (λ fault. unless_ahead pass.now book.now None ≡ Some fault) }
+    ensures known { IfErr result (λ fault. fault ≢ ServiceFault.Memory) }
 {
     let next = book.next_event();
     let front = pass.front();
@@ -58,6 +60,7 @@ pub(crate) fn check_client(
 ) -> Result<(), ServiceFault>
     ensures same { OnOk result (book.now.client ≡ abilities.now) }
     ensures held { OnOk result (book.now.held ≡ held) }
+    ensures accepted { OnOk result (unless_other abilities.now held book.now None ≡ None) }
     ensures other { IfErr result
         (λ fault. unless_other abilities.now held book.now None ≡ Some fault) }
     ensures only { IfErr result (λ fault. fault ≡ ServiceFault.OtherBook) }
@@ -69,7 +72,7 @@ pub(crate) fn check_client(
 }
 
 // The number of the next event, where it may be an answer. L2 where the pass has seen it, L7 where the
-// book is for a client of other abilities, or for another policy.
+// book is for a client of other abilities, or for another policy, B3 where the journal is full.
 fn next_answer(
     book: &Book,
     pass: &Pass,
@@ -80,9 +83,17 @@ fn next_answer(
     ensures front { OnOk result (pass.now.front ≤ next_event book.now) }
     ensures same { OnOk result (book.now.client ≡ abilities.now) }
     ensures held { OnOk result (book.now.held ≡ held) }
+    ensures space { OnOk result (is_full book.now ≡ false) }
+    ensures accepted { OnOk result (early_fault pass.now abilities.now held book.now ≡ None) }
+    ensures refused { IfErr result
+        (λ fault. early_fault pass.now abilities.now held book.now ≡ Some fault) }
+    ensures known { IfErr result (λ fault. fault ≢ ServiceFault.Memory) }
 {
     let number = next_number(book, pass)?;
     check_client(book, abilities, held)?;
+    if book.is_full() {
+        return Err(ServiceFault::Book(BookFault::JournalFull));
+    }
     Ok(number)
 }
 
@@ -105,6 +116,8 @@ pub(crate) fn change(
     ensures changed { IfOk result (λ done. IsChanged new.value.edit book.old book.new (Ok done)) }
     ensures refused { IfErr result (λ fault. fault ≢ ServiceFault.Memory
         → change_fault pass.old book.old (change_refusal new.value.edit book.old) ≡ Some fault) }
+    ensures memory { IfErr result (λ fault. fault ≡ ServiceFault.Memory
+        → unless_ahead pass.old book.old None ≡ None) }
     ensures unchanged { OnErr result (book.new ≡ book.old) }
 {
     next_number(book, pass)?;
@@ -148,6 +161,8 @@ pub(crate) fn hold(
     ensures store { book.new.store ≡ book.old.store }
     ensures refused { IfErr result (λ fault. fault ≢ ServiceFault.Memory
         → change_fault pass.old book.old (board_refusal (Hold endpoint.now ms) book.old) ≡ Some fault) }
+    ensures memory { IfErr result (λ fault. fault ≡ ServiceFault.Memory
+        → unless_ahead pass.old book.old None ≡ None) }
     ensures unchanged { OnErr result (book.new ≡ book.old) }
 {
     next_number(book, pass)?;
@@ -172,6 +187,8 @@ pub(crate) fn release(
     ensures store { book.new.store ≡ book.old.store }
     ensures refused { IfErr result (λ fault. fault ≢ ServiceFault.Memory
         → change_fault pass.old book.old (board_refusal (Release endpoint.now) book.old) ≡ Some fault) }
+    ensures memory { IfErr result (λ fault. fault ≡ ServiceFault.Memory
+        → unless_ahead pass.old book.old None ≡ None) }
     ensures unchanged { OnErr result (book.new ≡ book.old) }
 {
     next_number(book, pass)?;
@@ -193,6 +210,8 @@ pub(crate) fn advance(book: &mut Book, pass: &mut Pass, to: u64) -> Result<u64, 
     ensures limit { OnOk result (to ≤ 2 ^ 52) }
     ensures refused { IfErr result (λ fault. fault ≢ ServiceFault.Memory
         → change_fault pass.old book.old (board_refusal (Advance to) book.old) ≡ Some fault) }
+    ensures memory { IfErr result (λ fault. fault ≡ ServiceFault.Memory
+        → unless_ahead pass.old book.old None ≡ None) }
     ensures unchanged { OnErr result (book.new ≡ book.old) }
 {
     next_number(book, pass)?;
@@ -225,6 +244,7 @@ impl Copies {
 }
 
 // The answer of the current entry of a question, of which there are copies.
+#[tactic(auto, using(crate::proofs::FirstFault::hand_before, crate::proofs::FirstFault::hand_not_current,))]
 pub(crate) fn hand(
     alloc: Global,
     book: &mut Book,
@@ -236,17 +256,16 @@ pub(crate) fn hand(
     requires receipt { copies.receipt ≡ asked.question }
     ensures front { OnOk result (pass.now.front ≤ next_event book.old) }
     ensures answered { IfOk result (λ answered. Records asked (next_event book.old) answered) }
-    ensures journal { IfOk result
-        (λ answered. book.new ≡ recorded (event_of answered.told) book.old) }
-    ensures answer { IfOk result
-        (λ answered. answered.told.answer ≡ answer_now book.old asked.question asked.draws) }
+    ensures handed { IfOk result (λ answered. IsHanded asked.question asked.draws book.old book.new
+        (Ok (record { number = answered.told.number; answer = answered.told.answer }))) }
     ensures store { book.new.store ≡ book.old.store }
+    ensures refused { IfErr result (λ fault. fault ≢ ServiceFault.Memory
+        → hand_fault pass.now asked book.old ≡ Some fault) }
+    ensures memory { IfErr result (λ fault. fault ≡ ServiceFault.Memory
+        → early_fault pass.now asked.abilities asked.held book.old ≡ None) }
     ensures unchanged { OnErr result (book.new ≡ book.old) }
 {
     let number = next_answer(book, pass, &asked.abilities, asked.held)?;
-    if book.is_full() {
-        return Err(ServiceFault::Book(BookFault::JournalFull));
-    }
     let holds = book.share_board()?;
     let told = tell_entry(alloc, book, number, asked, holds)?;
     let receipt = record(alloc, book, &told, copies)?;
@@ -259,6 +278,7 @@ pub(crate) fn hand(
 }
 
 // Records the answer that is to be told. Returns the receipt for it.
+#[tactic(auto, using(crate::proofs::FirstFault::refused_for_memory))]
 fn record(
     alloc: Global,
     book: &mut Book,
@@ -268,9 +288,11 @@ fn record(
     requires event { copies.event ≡ told.now.question }
     requires receipt { copies.receipt ≡ told.now.question }
     requires answer { told.now.answer ≡ answer_now book.old told.now.question told.now.words }
+    requires space { is_full book.old ≡ false }
     ensures journal { OnOk result (book.new ≡ recorded (event_of told.now) book.old) }
     ensures receipt { IfOk result
         (λ receipt. receipt ≡ receipt_of (next_event book.old) (event_of told.now)) }
+    ensures memory { IfErr result (λ fault. fault ≡ ServiceFault.Memory) }
     ensures unchanged { OnErr result (book.new ≡ book.old) }
 {
     let Copies { event, receipt } = copies;
@@ -297,6 +319,7 @@ fn tell_entry(
     ensures asked { IfOk result (λ told. IsAnswerTo asked told) }
     ensures answer { IfOk result
         (λ told. told.answer ≡ answer_now book.now asked.question asked.draws) }
+    ensures current { OnOk result (has_current_entry book.now.entries asked.question ≡ true) }
     ensures refused { IfErr result (λ fault. fault ≢ ServiceFault.Memory
         → (fault ≡ ServiceFault.Book BookFault.NotCurrent)
         × (has_current_entry book.now.entries asked.question ≡ false)) }
@@ -357,8 +380,12 @@ pub(crate) fn commit(
     ensures journal { IfOk result
         (λ answered. book.new.journal ≡ book.old.journal ++ event_of answered.told ∷ []) }
     ensures store { book.new.store ≡ store_with_looks book.new.store.looks book.old.store }
-    ensures committed { OnOk result
-        (book.new ≡ after_commit finding prepared.asked.draws (after_check finding book.old)) }
+    ensures committed { IfOk result (λ answered. CommitsAnswer finding prepared.asked.draws
+        book.old book.new (Ok (record { number = answered.told.number; released = answered.released }))) }
+    ensures refused { IfErr result (λ fault. fault ≢ ServiceFault.Memory
+        → commit_fault pass.now prepared.asked finding book.old ≡ Some fault) }
+    ensures memory { IfErr result (λ fault. fault ≡ ServiceFault.Memory → early_fault pass.now
+        prepared.asked.abilities prepared.asked.held book.old ≡ None) }
     ensures unchanged { OnErr result (book.new.journal ≡ book.old.journal) }
     ensures looked { OnErr result
         ((book.new ≡ book.old) ⊎ (book.new ≡ after_check finding book.old)) }
@@ -418,7 +445,8 @@ fn drawn_again(
 fn fault_of(alloc: Global, uncommitted: Uncommitted) -> ServiceFault
     requires within { (place : ℕ) → uncommitted.fault ≡ BookFault.Stale place
         → place < length uncommitted.finding.items }
-    ensures { result ≢ ServiceFault.Memory
+    ensures known { result ≢ ServiceFault.Memory → uncommitted.fault ≢ BookFault.Memory }
+    ensures contended { result ≢ ServiceFault.Memory
         → result ≡ contended uncommitted.finding.items uncommitted.fault }
 {
     let Uncommitted { fault, finding } = uncommitted;

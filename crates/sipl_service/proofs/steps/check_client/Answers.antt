@@ -1,5 +1,5 @@
 use Rattle.std.proofs.Common.{None, Some, sym, ◌∙◌}
-use Rattle.std.proofs.lemmas.Bool.{cond-false}
+use Rattle.std.proofs.lemmas.Bool.{cond-false, cond-true}
 use Rattle.sipl_service.specs.Refusals.{is_for}
 use Rattle.sipl_service.specs.declared.fault.ServiceFault.TheVariants.{OtherBook}
 use Rattle.sipl_service.proofs.Policies.{is_for-same}
@@ -12,6 +12,10 @@ returns-clause-same c =
 pub returns-clause-held : goal.returns-clause-held
 returns-clause-held c =
     (is_for-same c.args.abilities.now c.args.held c.args.book.now (sym c.is_for.ensures ∙ c.if-not-is_for.false)).1
+
+pub returns-clause-accepted : goal.returns-clause-accepted
+returns-clause-accepted c =
+    cond-true (is_for c.args.abilities.now c.args.held c.args.book.now) None (Some OtherBook) (sym c.is_for.ensures ∙ c.if-not-is_for.false)
 
 pub returns-then-not-is_for-clause-other : goal.returns-then-not-is_for-clause-other
 returns-then-not-is_for-clause-other c =
