@@ -193,8 +193,17 @@ pub fn zone(alloc: Global, text: &[u8]) -> Result<ZoneText, Fail> {
 
 // Loads the zone `e.` into a book and a store.
 fn load(alloc: Global, text: &[u8], book: &mut Book, store: &mut ZoneStore) -> Result<(), Fail> {
-    store.load(&zone(alloc, text)?)?;
-    book.change(Edit::Load(zone(alloc, text)?))?;
+    load_store(store, zone(alloc, text)?)?;
+    load_book(book, zone(alloc, text)?)
+}
+
+fn load_store(store: &mut ZoneStore, zone: ZoneText) -> Result<(), Fail> {
+    store.load(&zone)?;
+    Ok(())
+}
+
+fn load_book(book: &mut Book, zone: ZoneText) -> Result<(), Fail> {
+    book.change(Edit::Load(zone))?;
     Ok(())
 }
 

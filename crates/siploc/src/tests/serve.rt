@@ -125,13 +125,22 @@ fn turn_pages<H>(host: &H, alloc: Global, port: u16) -> io::Result<(usize, usize
 where
     H: Net<Listener = TcpListener, Stream = TcpStream> + Clock,
 {
+    let input = pages_of_holds(alloc)?;
+    let replies = ask(host, alloc, port, &input)?;
+    Ok(count_accepted(&replies))
+}
+
+// The lines of 40 pages.
+fn pages_of_holds(alloc: Global) -> io::Result<Vec<u8>> {
     let mut input = Vec::new(alloc);
     push_pages(&mut input, 40)?;
-    let replies = ask(host, alloc, port, &input)?;
-    Ok((
-        count_lines(&replies, b"ok hold"),
-        count_lines(&replies, b"ok page "),
-    ))
+    Ok(input)
+}
+
+// How many holds and how many pages are accepted.
+fn count_accepted(replies: &[u8]) -> (usize, usize) {
+    let holds = count_lines(replies, b"ok hold");
+    (holds, count_lines(replies, b"ok page "))
 }
 
 // Whether the server has the replies to a client that asks.
