@@ -1,5 +1,5 @@
 -- The union of receipts by the places where they stand, and by their numbers.
-use Rattle.std.proofs.Common.{suc, ◌≡◌, ◌≢◌, ◌<◌, ◌≤◌, ◌+◌, ◌-◌, ◌⊎◌, ℕ, true, false, List, [], ◌∷◌, ◌++◌, length, take, drop, get_or, nat_eq, slice_get, None, Some, refl, sym, ap, subst, ◌∙◌, inl, inr, arith, append_assoc}
+use Rattle.std.proofs.Common.{◌≡◌, ◌≢◌, ◌<◌, ◌≤◌, ◌+◌, ◌-◌, ◌⊎◌, ℕ, true, false, List, [], ◌∷◌, ◌++◌, length, take, drop, get_or, slice_get, None, Some, refl, sym, ap, subst, ◌∙◌, inl, inr, arith, append_assoc}
 use mathlib.Core.Logic.{⊎_elim}
 use Rattle.std.specs.List.{All, AllPairs}
 use Rattle.std.proofs.lemmas.Bool.{cases_lt, cases_Bool}
@@ -10,7 +10,7 @@ use Rattle.std.proofs.lemmas.Option.{slice_get-get_or, slice_get_within, get_or_
 use Rattle.sipl_book.specs.Pages.{PageState, events_in}
 use Rattle.sipl_book.specs.declared.event.Event.{Event}
 use Rattle.sipl_book.specs.declared.event.Event.TheVariants.{Advance}
-use Rattle.sipl_service.specs.Claims.{IsUnion, event_at, event_in, first_in, has_number}
+use Rattle.sipl_service.specs.Claims.{IsUnion, event_at, first_in, has_number}
 use Rattle.sipl_service.specs.Receipts.{with_number}
 use Rattle.sipl_service.specs.declared.receipt.Receipt.{Receipt}
 use Rattle.sipl_service.proofs.Marked.{has_at, within_pages}

@@ -1,5 +1,5 @@
 -- What holds after accepted calls of a ledger.
-use Rattle.std.proofs.Common.{zero, suc, ◌≡◌, ◌<◌, ◌≤◌, ◌+◌, ℕ, nat_le, List, [], ◌∷◌, ◌++◌, length, flat_map, Option, Some, None, refl, sym, ap, subst, ◌∙◌, arith, append_assoc, append-nil}
+use Rattle.std.proofs.Common.{◌≡◌, ◌<◌, ◌≤◌, ℕ, nat_le, List, [], ◌∷◌, ◌++◌, flat_map, Option, Some, None, refl, sym, ap, subst, ◌∙◌, arith, append_assoc, append-nil}
 use mathlib.Core.Logic.{⊎_elim}
 use Rattle.std.specs.List.{All}
 use Rattle.std.proofs.lemmas.Bool.{cases_lt}
@@ -7,14 +7,13 @@ use Rattle.std.proofs.lemmas.Grind.{flat_map-append}
 use Rattle.std.proofs.lemmas.List.{append_cancel_left}
 use Rattle.std.proofs.lemmas.List.Elements.{All-push, filter-append}
 use Rattle.sipl_book.specs.Pages.{AreInOrder, Follows, IsPage, PageState, events_in, next_of}
-use Rattle.sipl_book.specs.declared.event.Event.{Event}
 use Rattle.sipl_service.specs.Claims.{IsReplayed, IsUnion, first_in}
 use Rattle.sipl_service.specs.Laws.{AreClaimed, AreSameBelow, IsClaim}
 use Rattle.sipl_service.specs.Ledgers.{Accepts, Added, Call, Claimed, FollowsLast, IsRun, LedgerState, added_of, last_of, new_ledger, next_after, pages_of, since_claim, until_claim, with_added, with_claimed}
 use Rattle.sipl_service.specs.Receipts.{due, later, with_number}
 use Rattle.sipl_service.specs.declared.ledger.Last.{Last}
 use Rattle.sipl_service.specs.declared.receipt.Receipt.{Receipt}
-use Rattle.sipl_service.proofs.Numbers.{AreOwn, due-below, due-past, later-below, later-past, later-later, own_receipts, own-append, own-below, own-past, none_at_all, none_number, number-append}
+use Rattle.sipl_service.proofs.Numbers.{due-below, due-past, later-below, later-past, later-later, own_receipts, own-append, own-below, own-past, none_at_all, none_number, number-append}
 use Rattle.sipl_service.proofs.Placed.{are_own, is_union}
 
 abbrev pub last_page : Option PageState → List PageState → Option PageState

@@ -6,7 +6,7 @@ use Rattle.std.proofs.lemmas.List.Elements.{filter-append}
 use Rattle.sipl_book.specs.Pages.{PageState, events_in}
 use Rattle.sipl_book.specs.declared.event.Event.{Event}
 use Rattle.sipl_service.specs.Claims.{IsFirst, IsNoUnion, IsPart, IsUnion, event_in, first_in}
-use Rattle.sipl_service.specs.Ledgers.{IsLate, IsNoUnionAfter}
+use Rattle.sipl_service.specs.Ledgers.{IsNoUnionAfter}
 use Rattle.sipl_service.specs.Receipts.{all_receipts, due}
 use Rattle.sipl_service.specs.declared.fault.ClaimFault.{ClaimFault}
 use Rattle.sipl_service.specs.declared.fault.ClaimFault.TheVariants.{Gap, NotOurs, Doubled, Unclaimed, Memory}

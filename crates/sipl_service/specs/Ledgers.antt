@@ -1,10 +1,10 @@
 -- What a ledger has, and what its calls do.
-use Rattle.std.specs.Prelude.{◌≡◌, ◌≢◌, ◌<◌, ◌≤◌, ◌⊎◌, ℕ, List, [], ◌∷◌, ◌++◌, Option, None, Some}
+use Rattle.std.specs.Prelude.{◌≡◌, ◌<◌, ◌≤◌, ◌⊎◌, ℕ, List, [], ◌∷◌, ◌++◌, Option, None, Some}
 use Rattle.sipl_book.specs.Pages.{Follows, IsPage, PageState, next_of}
 use Rattle.sipl_service.specs.Claims.{IsFirst, IsNoUnion, IsUnion}
 use Rattle.sipl_service.specs.Receipts.{due, later}
 use Rattle.sipl_service.specs.declared.fault.ClaimFault.{ClaimFault}
-use Rattle.sipl_service.specs.declared.fault.ClaimFault.TheVariants.{Gap, NotOurs, Doubled, Unclaimed, Memory}
+use Rattle.sipl_service.specs.declared.fault.ClaimFault.TheVariants.{Gap, NotOurs, Doubled, Memory}
 use Rattle.sipl_service.specs.declared.ledger.Last.{Last}
 use Rattle.sipl_service.specs.declared.receipt.Receipt.{Receipt}
 

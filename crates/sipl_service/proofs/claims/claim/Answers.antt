@@ -1,10 +1,10 @@
-use Rattle.std.proofs.Common.{map, sym, ap, subst, take, ◌∙◌, arith}
+use Rattle.std.proofs.Common.{map, ap, ◌∙◌, arith}
 use Rattle.std.specs.Borrow.{Bor}
 use Rattle.sipl_book.specs.declared.event.Event.{Event}
 use Rattle.sipl_service.specs.Passes.{receipts_of}
 use Rattle.sipl_service.proofs.Gaps.{no_gap}
 use Rattle.sipl_service.proofs.Joined.{joined-legal}
-use Rattle.sipl_service.proofs.Marked.{IsMarked, refutes, first-at, is_cause, is_unclaimed, is_union, marked-all, marked-in}
+use Rattle.sipl_service.proofs.Marked.{refutes, first-at, is_cause, is_unclaimed, is_union, marked-all, marked-in}
 use Rattle.sipl_service.proofs.claims.claim.Goals as goal
 
 pub returns-in-Some-clause-exact : goal.returns-in-Some-clause-exact

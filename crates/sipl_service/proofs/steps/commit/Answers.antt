@@ -1,15 +1,12 @@
 use Rattle.std.proofs.Common.{◌≡◌, ◌≢◌, ◌<◌, ◌∷◌, ◌++◌, [], length, Some, Ok, sym, ap, subst, ◌∙◌}
 use Rattle.std.proofs.lemmas.Result.{err_from_is_err_and}
-use Rattle.sipl_choice.specs.Abilities.{Client}
-use Rattle.sipl_outages.specs.declared.held.Held.{Held}
 use Rattle.sipl_plans.specs.Findings.{Found}
 use Rattle.sipl_plans.specs.Plan.{draw}
 use Rattle.sipl_book.specs.Book.{BookState, next_event}
 use Rattle.sipl_book.specs.Calls.{CommitsAnswer, commit_refusal, is_stale}
-use Rattle.sipl_book.specs.declared.event.Event.{Event}
 use Rattle.sipl_book.specs.declared.event.Event.TheVariants.{Answer}
 use Rattle.sipl_book.specs.declared.fault.BookFault.{BookFault}
-use Rattle.sipl_book.specs.declared.fault.BookFault.TheVariants.{Stale, Memory}
+use Rattle.sipl_book.specs.declared.fault.BookFault.TheVariants.{Memory}
 use Rattle.sipl_service.specs.Telling.{ToldState, event_of}
 use Rattle.sipl_service.proofs.FirstFault.{commit_before, commit_refused}
 use Rattle.sipl_service.proofs.Committing.{journal-committed, stale-within}
