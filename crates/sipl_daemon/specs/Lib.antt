@@ -1,0 +1,5 @@
+pub mod Faults
+pub mod Plain
+pub mod Replies
+pub mod SessionDesk
+pub mod Text

@@ -1,0 +1,158 @@
+//! The archive: each page of the journal in a file of its own, once it is claimed.
+use crate::text::write_event;
+use sha2::{Digest, Sha256};
+use sipl_book::Page;
+use sipl_choice::{Abilities, Families};
+use sipl_outages::Held;
+use std::alloc::{AllocError, Global};
+use std::fmt::Write as _;
+use std::fs::{File, OpenOptions};
+use std::io::{ErrorKind, Write};
+use std::os::unix::fs::OpenOptionsExt;
+use std::rt::Files;
+use std::{fs, io};
+
+// How many octets of a page are written at a time.
+const PIECE_LEN: usize = 1 << 20;
+
+/// The greatest number of a run, one for each start of a daemon.
+pub(crate) const MAX_RUN: u64 = 999_999;
+
+/// The folder of the pages. This daemon's are those of one run, of a number that no earlier run has.
+#[derive(Drop)]
+pub(crate) struct Archive {
+    alloc: Global,
+    // The folder, whose lock the daemon has.
+    file: File,
+    folder: String,
+    run: u64,
+    // The client and the policy of each page, as settings.
+    client: String,
+}
+
+impl Archive {
+    /// The archive in a folder, of a service for this client and policy.
+    pub(crate) fn open<R: Files<File = File>>(
+        rt: &R,
+        alloc: Global,
+        folder: &str,
+        abilities: &Abilities,
+        held: Held,
+    ) -> io::Result<Archive> {
+        let file = File::open(rt, folder)?;
+        if file.try_lock().is_err() {
+            return Err(io::Error::from(ErrorKind::ResourceBusy));
+        }
+        Ok(Archive {
+            alloc,
+            file,
+            folder: String::from_str(alloc, folder)?,
+            run: next_run(rt, alloc, folder)?,
+            client: client_text(alloc, abilities, held)?,
+        })
+    }
+
+    /// Writes a page into its file, which is there whole or not at all. One without events has none.
+    pub(crate) fn keep<R: Files<File = File>>(&self, rt: &R, page: &Page) -> io::Result<()> {
+        if page.events().is_empty() {
+            return Ok(());
+        }
+        let new = new_path(self.alloc, self.folder.as_str())?;
+        let path = page_path(self.alloc, self.folder.as_str(), self.run, page.first())?;
+        let mut file = OpenOptions::new()
+            .write(true)
+            .create(true)
+            .truncate(true)
+            .mode(0o600)
+            .open(rt, new.as_str())?;
+        self.write_page(&mut file, page)?;
+        file.sync_all()?;
+        drop(file);
+        fs::rename(rt, new.as_str(), path.as_str())?;
+        self.file.sync_all()
+    }
+
+    // Writes the text of a page, and its digest.
+    fn write_page(&self, file: &mut File, page: &Page) -> io::Result<()> {
+        let mut digest = Sha256::new();
+        let extent = page.extent();
+        let (first, count, client) = (extent.first, extent.count, self.client.as_str());
+        let head = format!(in self.alloc; "siplocd page {first} {count}\n{client}\n")?;
+        let mut text = Vec::from_slice(self.alloc, head.as_bytes())?;
+        for event in page.events() {
+            write_event(self.alloc, &mut text, event)?;
+            if text.len() >= PIECE_LEN {
+                digest.update(text.as_slice());
+                file.write_all(&text)?;
+                text.clear();
+            }
+        }
+        digest.update(text.as_slice());
+        file.write_all(&text)?;
+        file.write_all(digest_line(self.alloc, &digest.finalize())?.as_bytes())
+    }
+}
+
+// The least number that no run in a folder has.
+fn next_run<R: Files<File = File>>(rt: &R, alloc: Global, folder: &str) -> io::Result<u64> {
+    for run in 1..=MAX_RUN {
+        let path = page_path(alloc, folder, run, 0)?;
+        match fs::symlink_metadata(rt, path.as_str()) {
+            Ok(_) => {}
+            Err(error) if error.kind() == ErrorKind::NotFound => return Ok(run),
+            Err(error) => return Err(error),
+        }
+    }
+    Err(io::Error::from(ErrorKind::StorageFull))
+}
+
+/// The path of a page of a run, by the number of its first event.
+pub(crate) fn page_path(
+    alloc: Global,
+    folder: &str,
+    run: u64,
+    first: u64,
+) -> Result<String, AllocError> {
+    format!(in alloc; "{folder}/{run:06}-{first:016}")
+}
+
+/// The path of the page that is being written. What is there was cut off.
+pub(crate) fn new_path(alloc: Global, folder: &str) -> Result<String, AllocError> {
+    format!(in alloc; "{folder}/new")
+}
+
+/// The last line of a page: the digest of all lines before it.
+pub(crate) fn digest_line(alloc: Global, digest: &[u8; 32]) -> Result<String, AllocError> {
+    let mut line = String::new(alloc);
+    line.push_str("sha256 ")?;
+    for octet in digest {
+        write!(line, "{:02x}", *octet)?;
+    }
+    line.push('\n')?;
+    Ok(line)
+}
+
+// The client and the policy, as settings.
+fn client_text(alloc: Global, abilities: &Abilities, held: Held) -> Result<String, AllocError> {
+    let mut text = String::new(alloc);
+    text.push_str("transports = [")?;
+    let mut is_first = true;
+    for transport in abilities.preference() {
+        text.push_str(if is_first { "\"" } else { ", \"" })?;
+        text.push_str(transport.name())?;
+        text.push('"')?;
+        is_first = false;
+    }
+    let families = match abilities.families() {
+        Families::V4 => "v4",
+        Families::V6 => "v6",
+        Families::V4ThenV6 => "v4v6",
+        Families::V6ThenV4 => "v6v4",
+    };
+    let held = match held {
+        Held::Out => "out",
+        Held::Last => "last",
+    };
+    write!(text, "]\nfamilies = \"{families}\"\nheld = \"{held}\"\n")?;
+    Ok(text)
+}
