@@ -41,6 +41,7 @@ mod time;
 
 pub use address::Address;
 pub use fault::{ConnectionFault, DeskFault};
-pub use program::start;
+pub use program::{WatchesInput, start, stop_at_end};
 pub use server::Host;
 pub use settings::{Clocks, DaemonSettings};
+pub use stop::Stop;

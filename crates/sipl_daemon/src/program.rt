@@ -16,7 +16,7 @@ use std::io::{ErrorKind, Input};
 use std::process::ExitCode;
 use std::rt::Env;
 use std::sync::{Arc, Wait};
-use std::{io, thread};
+use std::io;
 
 const USAGE: &str =
     "usage: siplocd [SETTINGS] | tell ADDRESS LINE | replay FOLDER | --help | --version";
@@ -35,16 +35,24 @@ const VERSION: &str = "siplocd 0.6";
 // The status of a call with wrong arguments.
 const WRONG_ARGUMENTS: u8 = 2;
 
+/// How a program begins a thread that reads standard input to its end. The library can't: no scope may have
+/// that thread, since nothing ends a read of standard input, and the process is not to wait for it.
+pub trait WatchesInput {
+    /// Begins a thread that does `stop_at_end`.
+    fn watch(&self, stop: Arc<Stop, Global>);
+}
+
 /// Does what the arguments of a process ask for. The status is 0, 1 after a fault, or where a line that
 /// was told is refused, or 2 where the arguments are wrong; for a fault and for 2 one line on standard
 /// error gives the reason.
-pub fn start<R, H>(rt: R, host: &H) -> ExitCode
+pub fn start<R, H, W>(rt: &R, host: &H, watcher: &W) -> ExitCode
 where
-    R: Env + Input + Print + Eprint + AllocGlobal + Wait + Copy + Send + 'static,
+    R: Env + Print + Eprint + AllocGlobal,
     H: Host,
+    W: WatchesInput,
 {
-    let outcome = match read_arguments(&rt) {
-        Ok(Some(call)) => perform(rt, host, call),
+    let outcome = match read_arguments(rt) {
+        Ok(Some(call)) => perform(rt, host, watcher, call),
         Err(error) if error.kind() == ErrorKind::OutOfMemory => Err(Fault::Memory),
         _ => {
             let _ = eprintln!(rt; "{USAGE}");
@@ -55,23 +63,24 @@ where
         Ok(true) => ExitCode::SUCCESS,
         Ok(false) => ExitCode::FAILURE,
         Err(fault) => {
-            report(&rt, &fault);
+            report(rt, &fault);
             ExitCode::FAILURE
         }
     }
 }
 
 // Does what the arguments ask for. Returns whether a line that was told is not refused.
-fn perform<R, H>(rt: R, host: &H, call: Call) -> Result<bool, Fault>
+fn perform<R, H, W>(rt: &R, host: &H, watcher: &W, call: Call) -> Result<bool, Fault>
 where
-    R: Input + Print + AllocGlobal + Wait + Copy + Send + 'static,
+    R: Print + AllocGlobal,
     H: Host,
+    W: WatchesInput,
 {
     match call {
         Call::Help => print!(rt; "{HELP}")?,
         Call::Version => println!(rt; "{VERSION}")?,
         Call::Tell(address, line) => {
-            return match tell(&rt, host, address.as_str(), line.as_str()) {
+            return match tell(rt, host, address.as_str(), line.as_str()) {
                 Ok(is_accepted) => Ok(is_accepted),
                 Err(error) => Err(Fault::Tell(address, error)),
             };
@@ -82,22 +91,28 @@ where
         }
         Call::Serve(text) => {
             let settings = DaemonSettings::from_toml(rt.alloc(), text.as_str())?;
-            serve(rt, host, settings)?;
+            serve(rt, host, watcher, settings)?;
         }
     }
     Ok(true)
 }
 
 // Serves until the daemon is to stop, claims all pages, and prints how many events there were.
-fn serve<R, H>(rt: R, host: &H, settings: DaemonSettings) -> Result<(), Fault>
+fn serve<R, H, W>(
+    rt: &R,
+    host: &H,
+    watcher: &W,
+    settings: DaemonSettings,
+) -> Result<(), Fault>
 where
-    R: Input + Print + AllocGlobal + Wait + Copy + Send + 'static,
+    R: Print + AllocGlobal,
     H: Host,
+    W: WatchesInput,
 {
     let alloc = rt.alloc();
     let stop = Arc::new(alloc, Stop::new())?;
     let daemon = begin(host, alloc, &settings, Arc::try_clone(&stop)?)?;
-    serve_daemon(rt, host, &daemon, settings, stop)?;
+    serve_daemon(rt, host, watcher, &daemon, settings, stop)?;
     let events = Box::into_inner(daemon).close(host)?;
     println!(rt; "closed {events}")?;
     Ok(())
@@ -144,23 +159,25 @@ fn go_on<H: Host>(host: &H, alloc: Global, daemon: &mut Daemon, path: &str) -> R
 }
 
 // Serves at the addresses of the settings until the daemon is to stop.
-fn serve_daemon<R, H>(
-    rt: R,
+fn serve_daemon<R, H, W>(
+    rt: &R,
     host: &H,
+    watcher: &W,
     daemon: &Daemon,
     settings: DaemonSettings,
     stop: Arc<Stop, Global>,
 ) -> Result<(), Fault>
 where
-    R: Input + Print + AllocGlobal + Wait + Copy + Send + 'static,
+    R: Print + AllocGlobal,
     H: Host,
+    W: WatchesInput,
 {
     let workers = settings.service.workers as u64;
     let ends_with_input = settings.ends_with_input;
     let (listeners, control) = listen_all(host, rt.alloc(), settings)?;
-    print_ready(&rt, &listeners, control.as_ref())?;
+    print_ready(rt, &listeners, control.as_ref())?;
     if ends_with_input {
-        watch_input(rt, host, stop);
+        watcher.watch(stop);
     }
     serve_all(host, daemon, &listeners, control.as_ref(), workers);
     for listener in &listeners {
@@ -185,16 +202,6 @@ fn print_ready<R: Print>(
         println!(rt; "ready {}", listener.address())?;
     }
     Ok(())
-}
-
-// Asks for a stop at the end of standard input. No scope has the thread: nothing can end a read of standard
-// input, and the process is not to wait for it.
-fn watch_input<R, H>(rt: R, host: &H, stop: Arc<Stop, Global>)
-where
-    R: Input + AllocGlobal + Wait + Copy + Send + 'static,
-    H: Host,
-{
-    let _watching = thread::spawn(host, move || watch(&rt, rt.alloc(), &stop));
 }
 
 // Listens at all addresses, and at the control address, if there is one.
@@ -233,8 +240,8 @@ fn listen_at<H: Host>(
     }
 }
 
-// Asks for a stop at the end of standard input.
-fn watch<R: Input + Wait>(rt: &R, alloc: Global, stop: &Stop) {
+/// Reads standard input to its end, and then asks for the stop.
+pub fn stop_at_end<R: Input + Wait>(rt: &R, alloc: Global, stop: &Stop) {
     for line in rt.lines(alloc) {
         if line.is_err() {
             break;
