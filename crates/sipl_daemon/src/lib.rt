@@ -25,6 +25,7 @@ mod output;
 mod pages;
 mod plain;
 mod program;
+mod record_text;
 mod replay;
 mod report;
 mod server;

@@ -2,20 +2,26 @@
 ghost use Rattle.std.specs.Prelude.{◌≡◌, [], ◌∷◌, ◌++◌, length, codes, IfOk, OnOk};
 ghost use Rattle.sipl_lines.specs.ReplyText.{answer_text, counts_line, number_field};
 ghost use Rattle.sipl_lines.specs.ReplyText.{target_line, target_lines};
-ghost use Rattle.sipl_daemon.specs.Text.{clock_line, endpoint_text, hold_line, release_line};
+ghost use Rattle.sipl_daemon.specs.Text.{clock_line, edit_lines, endpoint_text, event_lines};
+ghost use Rattle.sipl_daemon.specs.Text.{hold_line, hold_lines, mark_line, zone_line};
+ghost use Rattle.sipl_daemon.specs.Text.{release_line, without_last_zeros, words_field};
+ghost use Rattle.sipl_daemon.specs.Text.{zone_lines};
 
+use crate::record_text::write_record;
+use crate::holds::Holds;
 use indexmap::IndexMap;
 use sipl_book::{Edit, Event};
 use sipl_choice::Endpoint;
 use sipl_names::Name;
 use sipl_plans::Answer;
-use sipl_records::{Address, Data, Record};
+use sipl_records::Record;
 use sipl_srv::Draws;
 use std::alloc::{AllocError, Global};
-use std::fmt::Write as _;
 
 /// The line of an edit; that of a zone has those of its records after it.
-pub(crate) fn edit_text(alloc: Global, edit: &Edit) -> Result<Vec<u8>, AllocError> {
+pub(crate) fn edit_text(alloc: Global, edit: &Edit) -> Result<Vec<u8>, AllocError>
+    ensures { IfOk result (λ text. text.items ≡ edit_lines edit.now) }
+{
     let mut out = Vec::new(alloc);
     write_edit(alloc, &mut out, edit)?;
     Ok(out)
@@ -26,12 +32,14 @@ pub(crate) fn write_event(
     alloc: Global,
     out: &mut Vec<u8>,
     event: &Event,
-) -> Result<(), AllocError> {
+) -> Result<(), AllocError>
+    ensures { OnOk result (out.new.items ≡ out.old.items ++ event_lines event.now) }
+{
     match event {
         Event::Change(edit) => write_edit(alloc, out, edit),
-        Event::Hold(endpoint, ms) => out.extend_from_slice(&hold_text(alloc, endpoint, *ms)?),
-        Event::Release(endpoint) => out.extend_from_slice(&release_text(alloc, endpoint)?),
-        Event::Advance(to) => out.extend_from_slice(&clock_text(alloc, *to)?),
+        Event::Hold(endpoint, ms) => write_hold(alloc, out, endpoint, *ms),
+        Event::Release(endpoint) => write_release(alloc, out, endpoint),
+        Event::Advance(to) => write_clock(alloc, out, *to),
         Event::Answer(question, draws, answer) => {
             out.extend_from_slice(b"find ")?;
             question.write(out)?;
@@ -43,20 +51,30 @@ pub(crate) fn write_event(
 }
 
 // Appends the random words, without those of 0 at their end.
-fn write_draws(alloc: Global, out: &mut Vec<u8>, draws: &Draws) -> Result<(), AllocError> {
-    let words = draws.words();
-    let Some(last) = words.iter().rposition(|word| *word != 0) else {
+fn write_draws(alloc: Global, out: &mut Vec<u8>, draws: &Draws) -> Result<(), AllocError>
+    ensures { OnOk result (out.new.items ≡ out.old.items ++ words_field draws.now) }
+{
+    let Some((first, others)) = without_last_zeros(draws.words()).split_first() else {
         return Ok(());
     };
-    let mut text = String::new(alloc);
-    for word in words.get(..=last).unwrap_or(&[]) {
-        write!(
-            text,
-            "{}{word}",
-            if text.is_empty() { " words " } else { "," }
-        )?;
+    out.extend_from_slice(b" words")?;
+    write_number(alloc, out, u64::from(*first))?;
+    for word in others {
+        let text = format!(in alloc; ",{word}")?;
+        out.extend_from_slice(text.as_bytes())?;
     }
-    out.extend_from_slice(text.as_bytes())
+    Ok(())
+}
+
+// The words up to the last one that is not 0.
+fn without_last_zeros(words: &[u32]) -> &[u32]
+    ensures { result.now ≡ without_last_zeros words.now }
+{
+    let mut words = words;
+    while let Some((0, before)) = words.split_last() {
+        words = before;
+    }
+    words
 }
 
 // Appends the reply to a question.
@@ -110,24 +128,27 @@ fn write_target(
     Ok(())
 }
 
-fn write_edit(alloc: Global, out: &mut Vec<u8>, edit: &Edit) -> Result<(), AllocError> {
+// Appends the line of an edit; that of a zone has those of its records after it.
+fn write_edit(alloc: Global, out: &mut Vec<u8>, edit: &Edit) -> Result<(), AllocError>
+    ensures { OnOk result (out.new.items ≡ out.old.items ++ edit_lines edit.now) }
+{
     match edit {
-        Edit::Load(zone) => write_zone(alloc, out, zone.apex(), zone.records())?,
+        Edit::Load(zone) => write_zone(alloc, out, zone.apex(), zone.records()),
         Edit::Unload(apex) => {
             out.extend_from_slice(b"drop ")?;
             apex.write(out)?;
             out.push(b'\n')?;
+            Ok(())
         }
         Edit::Add(record) => {
             out.extend_from_slice(b"add ")?;
-            write_record(alloc, out, record)?;
+            write_record(alloc, out, record)
         }
         Edit::Remove(record) => {
             out.extend_from_slice(b"del ")?;
-            write_record(alloc, out, record)?;
+            write_record(alloc, out, record)
         }
     }
-    Ok(())
 }
 
 /// Appends the lines that load zones with the records that are within their apexes.
@@ -179,7 +200,9 @@ fn write_zone(
     out: &mut Vec<u8>,
     apex: &Name,
     records: &[Record],
-) -> Result<(), AllocError> {
+) -> Result<(), AllocError>
+    ensures { OnOk result (out.new.items ≡ out.old.items ++ zone_lines apex.now records.now) }
+{
     write_zone_line(alloc, out, apex, records.len())?;
     for record in records {
         write_record(alloc, out, record)?;
@@ -192,7 +215,9 @@ fn write_zone_line(
     out: &mut Vec<u8>,
     apex: &Name,
     count: usize,
-) -> Result<(), AllocError> {
+) -> Result<(), AllocError>
+    ensures { OnOk result (out.new.items ≡ out.old.items ++ zone_line apex.now count) }
+{
     out.extend_from_slice(b"zone ")?;
     apex.write(out)?;
     write_number(alloc, out, count as u64)?;
@@ -209,9 +234,7 @@ pub(crate) fn hold_text(
     ensures { IfOk result (λ text. text.items ≡ hold_line endpoint.now ms) }
 {
     let mut out = Vec::new(alloc);
-    write_endpoint(alloc, &mut out, b"hold ", endpoint)?;
-    write_number(alloc, &mut out, ms)?;
-    out.push(b'\n')?;
+    write_hold(alloc, &mut out, endpoint, ms)?;
     Ok(out)
 }
 
@@ -220,8 +243,7 @@ pub(crate) fn release_text(alloc: Global, endpoint: &Endpoint) -> Result<Vec<u8>
     ensures { IfOk result (λ text. text.items ≡ release_line endpoint.now) }
 {
     let mut out = Vec::new(alloc);
-    write_endpoint(alloc, &mut out, b"release ", endpoint)?;
-    out.push(b'\n')?;
+    write_release(alloc, &mut out, endpoint)?;
     Ok(out)
 }
 
@@ -230,10 +252,69 @@ pub(crate) fn clock_text(alloc: Global, to: u64) -> Result<Vec<u8>, AllocError>
     ensures { IfOk result (λ text. text.items ≡ clock_line to) }
 {
     let mut out = Vec::new(alloc);
-    out.extend_from_slice(b"clock")?;
-    write_number(alloc, &mut out, to)?;
-    out.push(b'\n')?;
+    write_clock(alloc, &mut out, to)?;
     Ok(out)
+}
+
+/// Appends a line for each endpoint that is held, with the milliseconds that are left of its hold.
+pub(crate) fn write_holds(
+    alloc: Global,
+    out: &mut Vec<u8>,
+    holds: &Holds,
+) -> Result<(), AllocError>
+    ensures { OnOk result
+        (out.new.items ≡ out.old.items ++ hold_lines holds.now.now holds.now.ends.items) }
+{
+    for (endpoint, end) in &holds.ends {
+        write_hold(alloc, out, endpoint, end.saturating_sub(holds.now))?;
+    }
+    Ok(())
+}
+
+/// Appends the line of a mark.
+pub(crate) fn write_mark(alloc: Global, out: &mut Vec<u8>, mark: u64) -> Result<(), AllocError>
+    ensures { OnOk result (out.new.items ≡ out.old.items ++ mark_line mark) }
+{
+    out.extend_from_slice(b"# page")?;
+    write_number(alloc, out, mark)?;
+    out.push(b'\n')?;
+    Ok(())
+}
+
+/// Appends the line that sets the time.
+pub(crate) fn write_clock(alloc: Global, out: &mut Vec<u8>, to: u64) -> Result<(), AllocError>
+    ensures { OnOk result (out.new.items ≡ out.old.items ++ clock_line to) }
+{
+    out.extend_from_slice(b"clock")?;
+    write_number(alloc, out, to)?;
+    out.push(b'\n')?;
+    Ok(())
+}
+
+fn write_hold(
+    alloc: Global,
+    out: &mut Vec<u8>,
+    endpoint: &Endpoint,
+    ms: u64,
+) -> Result<(), AllocError>
+    ensures { OnOk result (out.new.items ≡ out.old.items ++ hold_line endpoint.now ms) }
+{
+    write_endpoint(alloc, out, b"hold ", endpoint)?;
+    write_number(alloc, out, ms)?;
+    out.push(b'\n')?;
+    Ok(())
+}
+
+fn write_release(
+    alloc: Global,
+    out: &mut Vec<u8>,
+    endpoint: &Endpoint,
+) -> Result<(), AllocError>
+    ensures { OnOk result (out.new.items ≡ out.old.items ++ release_line endpoint.now) }
+{
+    write_endpoint(alloc, out, b"release ", endpoint)?;
+    out.push(b'\n')?;
+    Ok(())
 }
 
 fn write_endpoint(
@@ -251,78 +332,10 @@ fn write_endpoint(
     write_number(alloc, out, u64::from(endpoint.port))
 }
 
-// Appends a record as an entry of a master file (RFC 1035, 5.1). One of another type, of which nothing is
-// kept, is an empty `TXT`.
-fn write_record(alloc: Global, out: &mut Vec<u8>, record: &Record) -> Result<(), AllocError> {
-    record.owner.write(out)?;
-    match &record.value {
-        Data::Address4(address) => write_address(out, b" A ", Address::V4(*address))?,
-        Data::Address6(address) => write_address(out, b" AAAA ", Address::V6(*address))?,
-        Data::Alias(target) => write_name(out, b" CNAME ", target)?,
-        Data::Service {
-            priority,
-            weight,
-            port,
-            target,
-        } => {
-            out.extend_from_slice(b" SRV")?;
-            write_number(alloc, out, u64::from(*priority))?;
-            write_number(alloc, out, u64::from(*weight))?;
-            write_number(alloc, out, u64::from(*port))?;
-            write_name(out, b" ", target)?;
-        }
-        Data::Pointer {
-            order,
-            preference,
-            flags,
-            services,
-            regexp,
-            replacement,
-        } => {
-            out.extend_from_slice(b" NAPTR")?;
-            write_number(alloc, out, u64::from(*order))?;
-            write_number(alloc, out, u64::from(*preference))?;
-            write_string(alloc, out, flags.get().as_slice())?;
-            write_string(alloc, out, services.get().as_slice())?;
-            write_string(alloc, out, regexp.get().as_slice())?;
-            write_name(out, b" ", replacement.get())?;
-        }
-        Data::Bare => out.extend_from_slice(b" TXT \"\"")?,
-    }
-    out.push(b'\n')?;
-    Ok(())
-}
-
-fn write_address(out: &mut Vec<u8>, word: &[u8], address: Address) -> Result<(), AllocError> {
-    out.extend_from_slice(word)?;
-    address.write(out)
-}
-
-fn write_name(out: &mut Vec<u8>, word: &[u8], name: &Name) -> Result<(), AllocError> {
-    out.extend_from_slice(word)?;
-    name.write(out)
-}
-
-// Appends a space and a number.
-fn write_number(alloc: Global, out: &mut Vec<u8>, number: u64) -> Result<(), AllocError>
+/// Appends a space and a number.
+pub(crate) fn write_number(alloc: Global, out: &mut Vec<u8>, number: u64) -> Result<(), AllocError>
     ensures { OnOk result (out.new.items ≡ out.old.items ++ number_field number) }
 {
     let text = format!(in alloc; " {number}")?;
-    out.extend_from_slice(text.as_bytes())
-}
-
-// Appends a space and a character string in quotes (RFC 1035, 5.1): each octet that is no printable
-// character of ASCII, and each quote and backslash, as an escape of three digits.
-fn write_string(alloc: Global, out: &mut Vec<u8>, octets: &[u8]) -> Result<(), AllocError> {
-    let mut text = String::new(alloc);
-    text.push_str(" \"")?;
-    for octet in octets {
-        if octet.is_ascii_graphic() && *octet != b'"' && *octet != b'\\' || *octet == b' ' {
-            text.push(char::from(*octet))?;
-        } else {
-            write!(text, "\\{:03}", *octet)?;
-        }
-    }
-    text.push('"')?;
     out.extend_from_slice(text.as_bytes())
 }
