@@ -1,5 +1,5 @@
 -- Edits, holds, times and answers as the lines of a session; records as entries of a master file.
-use Rattle.std.specs.Prelude.{ℕ, ◌+◌, ◌-◌, List, [], ◌∷◌, ◌++◌, length, codes, decimal, flat_map, if◌then◌else◌, ◌==◌}
+use Rattle.std.specs.Prelude.{ℕ, ◌+◌, ◌-◌, List, [], ◌∷◌, ◌++◌, length, codes, decimal, flat_map, nat_lt, if◌then◌else◌, ◌==◌}
 use Rattle.sipl_names.specs.Labels.{Octets, Labels}
 use Rattle.sipl_names.specs.NamePrint.{text_of}
 use Rattle.sipl_records.specs.Addresses.{text_of_address}
@@ -63,6 +63,10 @@ clock_line to = codes "clock" ++ number_field to ++ 10 ∷ []
 -- a mark: where the changes after a state begin
 abbrev pub mark_line : ℕ → Octets
 mark_line mark = codes "# page" ++ number_field mark ++ 10 ∷ []
+
+-- the first lines of a state: its mark, and the time, unless that is 0
+abbrev pub state_head : ℕ → ℕ → Octets
+state_head mark now = mark_line mark ++ (if nat_lt 0 now then clock_line now else [])
 
 -- a word before others, where it is 0 and none is after it not
 abbrev pub before_zeros : ℕ → List ℕ → List ℕ

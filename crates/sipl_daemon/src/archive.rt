@@ -1,5 +1,8 @@
 //! The archive: each page of the journal in a file of its own, once it is claimed.
-use crate::text::write_event;
+ghost use Rattle.std.specs.Prelude.{◌≡◌, IfOk};
+ghost use Rattle.sipl_daemon.specs.Archive.{digest_line, page_head};
+
+use crate::text::{write_event, write_number};
 use sha2::{Digest, Sha256};
 use sipl_book::Page;
 use sipl_choice::{Abilities, Families};
@@ -76,9 +79,8 @@ impl Archive {
     fn write_page(&self, file: &mut File, page: &Page) -> io::Result<()> {
         let mut digest = Sha256::new();
         let extent = page.extent();
-        let (first, count, client) = (extent.first, extent.count, self.client.as_str());
-        let head = format!(in self.alloc; "siplocd page {first} {count}\n{client}\n")?;
-        let mut text = Vec::from_slice(self.alloc, head.as_bytes())?;
+        let client = self.client.as_str();
+        let mut text = page_head(self.alloc, extent.first, extent.count, client)?;
         for event in page.events() {
             write_event(self.alloc, &mut text, event)?;
             if text.len() >= PIECE_LEN {
@@ -89,7 +91,7 @@ impl Archive {
         }
         digest.update(text.as_slice());
         file.write_all(&text)?;
-        file.write_all(digest_line(self.alloc, &digest.finalize())?.as_bytes())
+        file.write_all(&digest_line(self.alloc, &digest.finalize())?)
     }
 }
 
@@ -121,15 +123,35 @@ pub(crate) fn new_path(alloc: Global, folder: &str) -> Result<String, AllocError
     format!(in alloc; "{folder}/new")
 }
 
-/// The last line of a page: the digest of all lines before it.
-pub(crate) fn digest_line(alloc: Global, digest: &[u8; 32]) -> Result<String, AllocError> {
-    let mut line = String::new(alloc);
-    line.push_str("sha256 ")?;
-    for octet in digest {
-        write!(line, "{:02x}", *octet)?;
-    }
-    line.push('\n')?;
+/// The last line of a page: the SHA-256 of all lines before it.
+pub(crate) fn digest_line(alloc: Global, digest: &[u8; 32]) -> Result<Vec<u8>, AllocError>
+    ensures { IfOk result (λ line. line.items ≡ digest_line digest.now) }
+{
+    let digits = hex::encode(alloc, digest.as_slice())?;
+    let mut line = Vec::new(alloc);
+    line.extend_from_slice(b"sha256 ")?;
+    line.extend_from_slice(digits.as_bytes())?;
+    line.push(b'\n')?;
     Ok(line)
+}
+
+// The first lines of a page: its extent, the client and the policy as settings, and an empty line.
+fn page_head(
+    alloc: Global,
+    first: u64,
+    count: u64,
+    client: &str,
+) -> Result<Vec<u8>, AllocError>
+    ensures { IfOk result (λ text. text.items ≡ page_head first count client.now) }
+{
+    let mut text = Vec::new(alloc);
+    text.extend_from_slice(b"siplocd page")?;
+    write_number(alloc, &mut text, first)?;
+    write_number(alloc, &mut text, count)?;
+    text.push(b'\n')?;
+    text.extend_from_slice(client.as_bytes())?;
+    text.push(b'\n')?;
+    Ok(text)
 }
 
 // The client and the policy, as settings.

@@ -2,6 +2,7 @@
 ghost use Rattle.std.specs.Prelude.{◌≡◌, ◌≤◌, ◌+◌, ◌++◌, length, OnOk, vec_len, vec_capacity};
 
 use crate::source::Mark;
+use crate::text::mark_text;
 use std::alloc::{AllocError, Global};
 use std::fs::{File, OpenOptions};
 use std::io::{ErrorKind, Read, Write};
@@ -108,8 +109,8 @@ impl Changes {
         let all = fs::read(&(rt, self.alloc), self.path.as_str())?;
         let skipped = usize::try_from(begin.saturating_sub(written.start)).unwrap_or(usize::MAX);
         let rest = all.as_slice().get(skipped..).unwrap_or(&[]);
-        let head = format!(in self.alloc; "# page {mark}\n")?;
-        replace(rt, self.alloc, self.path.as_str(), head.as_bytes(), rest)?;
+        let head = mark_text(self.alloc, mark)?;
+        replace(rt, self.alloc, self.path.as_str(), &head, rest)?;
         written.file = open_to_append(rt, self.path.as_str())?;
         written.start = begin.saturating_sub(head.len() as u64);
         Ok(())
@@ -167,9 +168,9 @@ impl Pending {
     /// Appends a mark. Returns its number, and the place after it.
     pub(crate) fn push_mark(&mut self) -> Result<Mark, AllocError> {
         let mark = self.mark.saturating_add(1);
-        let text = format!(in self.alloc; "# page {mark}\n")?;
-        self.text.reserve(text.len())?;
-        self.begin = self.push(text.as_bytes());
+        let text = mark_text(self.alloc, mark)?;
+        self.reserve(text.len())?;
+        self.begin = self.push(&text);
         self.mark = mark;
         Ok(Mark {
             number: mark,

@@ -1,5 +1,6 @@
-ghost use Rattle.std.specs.Prelude.{◌≡◌, [], not, nat_lt, filter};
+ghost use Rattle.std.specs.Prelude.{◌≡◌, ◌<◌, [], not, nat_lt, filter, position, vec_len, IfSome, OnOk, OnErr};
 ghost use Rattle.sipl_choice.specs.Endpoints.{same_endpoint};
+ghost use Rattle.sipl_daemon.specs.Holding.{after_hold};
 
 use sipl_book::Event;
 use sipl_choice::Endpoint;
@@ -67,17 +68,39 @@ impl Holds {
 
     /// An endpoint is held for some milliseconds. One that is held already is held to the later of the two
     /// ends.
-    pub(crate) fn hold(&mut self, endpoint: &Endpoint, ms: u64) -> Result<(), AllocError> {
+    pub(crate) fn hold(&mut self, endpoint: &Endpoint, ms: u64) -> Result<(), AllocError>
+        ensures ends { OnOk result (self.new.ends.items
+            ≡ after_hold endpoint.now ms self.old.now self.old.ends.items) }
+        ensures refused { OnErr result (self.new.ends.items ≡ self.old.ends.items) }
+        ensures now { self.new.now ≡ self.old.now }
+    {
+        if ms == 0 {
+            return Ok(());
+        }
         let end = self.now.saturating_add(ms);
-        for held in self.ends.iter_mut() {
-            if held.0 == *endpoint {
-                held.1 = held.1.max(end);
-                return Ok(());
+        match self.place_of(endpoint) {
+            Some(place) => {
+                let (held, old) = self.ends[place];
+                self.ends[place] = (held, old.max(end));
+                Ok(())
+            }
+            None => {
+                self.ends.push((*endpoint, end))?;
+                Ok(())
             }
         }
-        if ms > 0 {
-            self.ends.push((*endpoint, end))?;
-        }
-        Ok(())
+    }
+
+    // The place of the hold of an endpoint.
+    fn place_of(&self, endpoint: &Endpoint) -> Option<usize>
+        ensures place { result
+            ≡ position (λ hold. same_endpoint endpoint.now hold.0) self.now.ends.items }
+        ensures within { IfSome result (λ place. place < vec_len self.now.ends) }
+    {
+        self.ends.iter().position(
+            |held: &(Endpoint, u64)| -> bool
+                ensures { result ≡ same_endpoint endpoint.entry.now held.now.0 }
+            { *endpoint == held.0 },
+        )
     }
 }

@@ -1,5 +1,11 @@
 //! The replay of an archive: its pages follow one another, each event is accepted, and each answer is that
 //! of the plain machine.
+ghost use Rattle.std.specs.Prelude.{◌≡◌, IfOk};
+ghost use Rattle.std.specs.Bool.{Decides};
+ghost use Rattle.sha2.specs.Sha256.{sha256};
+ghost use Rattle.sipl_records.specs.Fields.{fields_of};
+ghost use Rattle.sipl_daemon.specs.Archive.{digest_line, extent_in};
+
 use crate::archive::digest_line;
 use crate::items::{is_change, item_of, replies_to, reply_of, split_line};
 use crate::plain::Plain;
@@ -128,11 +134,18 @@ fn replay_page(
     if let Some(number) = replay_events(alloc, &mut run.desk, &head)? {
         return Err(ReplayFault::Event(path, number));
     }
-    if digest_line(alloc, &Sha256::digest(body))?.as_bytes() != end {
+    if !is_digest(alloc, body, end)? {
         return Err(ReplayFault::Changed(path));
     }
     run.next = first.saturating_add(head.count);
     Ok((run, head.count))
+}
+
+// Whether a line is the last one of a page that has these lines before it.
+fn is_digest(alloc: Global, body: &[u8], line: &[u8]) -> Result<bool, AllocError>
+    ensures { IfOk result (λ is_so. Decides is_so (line.now ≡ digest_line (sha256 body.now))) }
+{
+    Ok(digest_line(alloc, &Sha256::digest(body))?.as_slice() == line)
 }
 
 // The run of a page, if it follows the one before it: the same run goes on for the same client, or a later
@@ -274,7 +287,9 @@ fn read_head(text: &[u8]) -> Option<Head<'_>> {
 }
 
 // `FIRST COUNT`.
-fn read_extent(fields: &[u8]) -> Option<(u64, u64)> {
+fn read_extent(fields: &[u8]) -> Option<(u64, u64)>
+    ensures { result ≡ extent_in (fields_of fields.now) }
+{
     let (first, rest) = next_field(fields)?;
     let (count, rest) = next_field(rest)?;
     if next_field(rest).is_some() {

@@ -6,7 +6,7 @@ use crate::holds::Holds;
 use crate::items::{is_change, item_of, replies_to, reply_of, split_line};
 use crate::listener::take_lock;
 use crate::server::Host;
-use crate::text::{clock_text, hold_text, write_zones};
+use crate::text::{mark_text, state_head, write_holds, write_zones};
 use sipl_book::{Page, State};
 use sipl_records::read_number;
 use std::alloc::{AllocError, Global};
@@ -84,8 +84,8 @@ fn restore_changes<H: Host>(
     let alloc = daemon.alloc;
     let changes = read_file(host, alloc, log)?;
     if changes.is_empty() {
-        let text = format!(in alloc; "# page {mark}\n")?;
-        replace(host, alloc, log, text.as_bytes(), &[])?;
+        let text = mark_text(alloc, mark)?;
+        replace(host, alloc, log, &text, &[])?;
         return Ok((text.len() as u64, mark));
     }
     let Some((begin, lines)) = find_mark(&changes, mark) else {
@@ -110,16 +110,9 @@ pub(crate) fn write_state<R: Files<File = File>>(
     state: &State,
     holds: &Holds,
 ) -> io::Result<u64> {
-    let mut text = Vec::new(alloc);
-    text.extend_from_slice(format!(in alloc; "# page {mark}\n")?.as_bytes())?;
-    if holds.now > 0 {
-        text.extend_from_slice(&clock_text(alloc, holds.now)?)?;
-    }
+    let mut text = state_head(alloc, mark, holds.now)?;
     write_zones(alloc, &mut text, state.apexes(), state.records())?;
-    for (endpoint, end) in &holds.ends {
-        let left = end.saturating_sub(holds.now);
-        text.extend_from_slice(&hold_text(alloc, endpoint, left)?)?;
-    }
+    write_holds(alloc, &mut text, holds)?;
     replace(rt, alloc, path, &text, &[])?;
     Ok(text.len() as u64)
 }

@@ -3,7 +3,7 @@ ghost use Rattle.std.specs.Prelude.{◌≡◌, [], ◌∷◌, ◌++◌, length, 
 ghost use Rattle.sipl_lines.specs.ReplyText.{answer_text, counts_line, number_field};
 ghost use Rattle.sipl_lines.specs.ReplyText.{target_line, target_lines};
 ghost use Rattle.sipl_daemon.specs.Text.{clock_line, edit_lines, endpoint_text, event_lines};
-ghost use Rattle.sipl_daemon.specs.Text.{hold_line, hold_lines, mark_line, zone_line};
+ghost use Rattle.sipl_daemon.specs.Text.{hold_line, hold_lines, mark_line, state_head, zone_line};
 ghost use Rattle.sipl_daemon.specs.Text.{release_line, without_last_zeros, words_field};
 ghost use Rattle.sipl_daemon.specs.Text.{zone_lines};
 
@@ -271,18 +271,30 @@ pub(crate) fn write_holds(
     Ok(())
 }
 
-/// Appends the line of a mark.
-pub(crate) fn write_mark(alloc: Global, out: &mut Vec<u8>, mark: u64) -> Result<(), AllocError>
-    ensures { OnOk result (out.new.items ≡ out.old.items ++ mark_line mark) }
+/// The line of a mark.
+pub(crate) fn mark_text(alloc: Global, mark: u64) -> Result<Vec<u8>, AllocError>
+    ensures { IfOk result (λ text. text.items ≡ mark_line mark) }
 {
+    let mut out = Vec::new(alloc);
     out.extend_from_slice(b"# page")?;
-    write_number(alloc, out, mark)?;
+    write_number(alloc, &mut out, mark)?;
     out.push(b'\n')?;
-    Ok(())
+    Ok(out)
 }
 
-/// Appends the line that sets the time.
-pub(crate) fn write_clock(alloc: Global, out: &mut Vec<u8>, to: u64) -> Result<(), AllocError>
+/// The first lines of a state: its mark, and the time, unless that is 0.
+pub(crate) fn state_head(alloc: Global, mark: u64, now: u64) -> Result<Vec<u8>, AllocError>
+    ensures { IfOk result (λ text. text.items ≡ state_head mark now) }
+{
+    let mut out = mark_text(alloc, mark)?;
+    if now > 0 {
+        write_clock(alloc, &mut out, now)?;
+    }
+    Ok(out)
+}
+
+// Appends the line that sets the time.
+fn write_clock(alloc: Global, out: &mut Vec<u8>, to: u64) -> Result<(), AllocError>
     ensures { OnOk result (out.new.items ≡ out.old.items ++ clock_line to) }
 {
     out.extend_from_slice(b"clock")?;
