@@ -1,10 +1,11 @@
 //! The archive: each page of the journal in a file of its own, once it is claimed.
-ghost use Rattle.std.specs.Prelude.{◌≡◌, IfOk};
-ghost use Rattle.sipl_daemon.specs.Archive.{digest_line, page_head};
+ghost use Rattle.std.specs.Prelude.{◌≡◌, IfOk, OnOk};
+ghost use Rattle.std.specs.Io.KnownBytes.{Appends};
+ghost use Rattle.sipl_daemon.specs.Archive.{WritesPiece, digest_line, page_head, page_text};
 
 use crate::text::{write_event, write_number};
 use sha2::{Digest, Sha256};
-use sipl_book::Page;
+use sipl_book::{Event, Page};
 use sipl_choice::{Abilities, Families};
 use sipl_outages::Held;
 use std::alloc::{AllocError, Global};
@@ -68,31 +69,52 @@ impl Archive {
             .truncate(true)
             .mode(0o600)
             .open(rt, new.as_str())?;
-        self.write_page(&mut file, page)?;
+        let extent = page.extent();
+        let client = self.client.as_str();
+        let head = page_head(self.alloc, extent.first, extent.count, client)?;
+        write_page(self.alloc, &mut file, head, page.events())?;
         file.sync_all()?;
         drop(file);
         fs::rename(rt, new.as_str(), path.as_str())?;
         self.file.sync_all()
     }
+}
 
-    // Writes the text of a page, and its digest.
-    fn write_page(&self, file: &mut File, page: &Page) -> io::Result<()> {
-        let mut digest = Sha256::new();
-        let extent = page.extent();
-        let client = self.client.as_str();
-        let mut text = page_head(self.alloc, extent.first, extent.count, client)?;
-        for event in page.events() {
-            write_event(self.alloc, &mut text, event)?;
-            if text.len() >= PIECE_LEN {
-                digest.update(text.as_slice());
-                file.write_all(&text)?;
-                text.clear();
-            }
+// Writes the text of a page in pieces, and its digest.
+fn write_page<W: Write>(
+    alloc: Global,
+    out: &mut W,
+    head: Vec<u8>,
+    events: &[Event],
+) -> io::Result<()>
+    ensures { OnOk result (Appends (W.contents out.old) (W.contents out.new)
+        (page_text head.items events.now)) }
+{
+    let mut digest = Sha256::new();
+    let mut text = head;
+    for event in events {
+        write_event(alloc, &mut text, event)?;
+        if text.len() >= PIECE_LEN {
+            write_piece(out, &mut digest, &mut text)?;
         }
-        digest.update(text.as_slice());
-        file.write_all(&text)?;
-        file.write_all(&digest_line(self.alloc, &digest.finalize())?)
     }
+    write_piece(out, &mut digest, &mut text)?;
+    out.write_all(&digest_line(alloc, &digest.finalize())?)
+}
+
+// Writes a piece of a page's text, and empties it.
+fn write_piece<W: Write>(
+    out: &mut W,
+    digest: &mut Sha256,
+    text: &mut Vec<u8>,
+) -> io::Result<()>
+    ensures { OnOk result (WritesPiece (W.contents out.old) (W.contents out.new)
+        digest.old digest.new text.old.items text.new.items) }
+{
+    digest.update(text.as_slice());
+    out.write_all(text)?;
+    text.clear();
+    Ok(())
 }
 
 // The least number that no run in a folder has.

@@ -131,7 +131,7 @@ fn write_holds<H: Host>(host: &H, daemon: &Daemon, reply: &mut String) -> Result
     let tally = daemon.tally.lock(host);
     let holds = tally.holds();
     for (endpoint, end) in &holds.ends {
-        let text = hold_text(daemon.alloc, endpoint, end.saturating_sub(holds.now))?;
+        let text = hold_text(daemon.alloc, endpoint, end.saturating_sub(holds.time))?;
         reply.push_str(str::from_utf8(&text).unwrap_or(""))?;
     }
     writeln!(reply, "ok holds {}", holds.ends.len())

@@ -18,7 +18,7 @@ pub(crate) fn write_record(
     out: &mut Vec<u8>,
     record: &Record,
 ) -> Result<(), AllocError>
-    ensures { OnOk result (out.new.items ≡ out.old.items ++ record_line record.now) }
+    ensures { OnOk result (out.new.items ≡ out.old.items ++ record_line «record».now) }
 {
     record.owner.write(out)?;
     write_data(alloc, out, &record.value)?;

@@ -110,7 +110,7 @@ pub(crate) fn write_state<R: Files<File = File>>(
     state: &State,
     holds: &Holds,
 ) -> io::Result<u64> {
-    let mut text = state_head(alloc, mark, holds.now)?;
+    let mut text = state_head(alloc, mark, holds.time)?;
     write_zones(alloc, &mut text, state.apexes(), state.records())?;
     write_holds(alloc, &mut text, holds)?;
     replace(rt, alloc, path, &text, &[])?;

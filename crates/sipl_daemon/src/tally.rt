@@ -1,4 +1,8 @@
 //! The zones and the holds as they are: what an operator asks for.
+ghost use Rattle.std.specs.Prelude.{◌≡◌, ◌<◌, vec_capacity, vec_len, OnOk};
+ghost use Rattle.sipl_outages.specs.Holds.{after_advance, after_release};
+ghost use Rattle.sipl_daemon.specs.Holding.{after_hold, holds_of};
+
 use crate::holds::Holds;
 use indexmap::IndexMap;
 use sipl_book::Edit;
@@ -47,9 +51,11 @@ impl Tally {
     }
 
     /// Reserves the space for one step.
-    pub(crate) fn reserve(&mut self) -> Result<(), AllocError> {
+    pub(crate) fn reserve(&mut self) -> Result<(), AllocError>
+        ensures { OnOk result (vec_len self.new.holds.ends < vec_capacity self.new.holds.ends) }
+    {
         self.zones.reserve(1)?;
-        self.holds.ends.reserve(1)
+        self.holds.reserve()
     }
 
     /// An edit was made.
@@ -88,17 +94,26 @@ impl Tally {
     }
 
     /// A hold was made.
-    pub(crate) fn hold(&mut self, endpoint: &Endpoint, ms: u64) {
-        let _ = self.holds.hold(endpoint, ms);
+    pub(crate) fn hold(&mut self, endpoint: &Endpoint, ms: u64)
+        requires space { vec_len self.old.holds.ends < vec_capacity self.old.holds.ends }
+        ensures { holds_of self.new.holds
+            ≡ after_hold endpoint.now ms (holds_of self.old.holds) }
+    {
+        self.holds.hold(endpoint, ms);
     }
 
     /// A hold was ended.
-    pub(crate) fn release(&mut self, endpoint: &Endpoint) {
+    pub(crate) fn release(&mut self, endpoint: &Endpoint)
+        ensures { holds_of self.new.holds
+            ≡ after_release endpoint.now (holds_of self.old.holds) }
+    {
         self.holds.release(endpoint);
     }
 
     /// The time was set.
-    pub(crate) fn advance(&mut self, to: u64) {
+    pub(crate) fn advance(&mut self, to: u64)
+        ensures { holds_of self.new.holds ≡ after_advance to (holds_of self.old.holds) }
+    {
         self.holds.advance(to);
     }
 

@@ -1,5 +1,5 @@
 //! Changes and records as the lines of a session.
-ghost use Rattle.std.specs.Prelude.{◌≡◌, [], ◌∷◌, ◌++◌, length, codes, IfOk, OnOk};
+ghost use Rattle.std.specs.Prelude.{◌≡◌, [], ◌∷◌, ◌++◌, length, codes, decimal, IfOk, OnOk};
 ghost use Rattle.sipl_lines.specs.ReplyText.{answer_text, counts_line, number_field};
 ghost use Rattle.sipl_lines.specs.ReplyText.{target_line, target_lines};
 ghost use Rattle.sipl_daemon.specs.Text.{clock_line, edit_lines, endpoint_text, event_lines};
@@ -60,13 +60,21 @@ fn write_draws(alloc: Global, out: &mut Vec<u8>, draws: &Draws) -> Result<(), Al
     out.extend_from_slice(b" words")?;
     write_number(alloc, out, u64::from(*first))?;
     for word in others {
-        let text = format!(in alloc; ",{word}")?;
-        out.extend_from_slice(text.as_bytes())?;
+        write_further_word(alloc, out, *word)?;
     }
     Ok(())
 }
 
+// Appends a comma and a word.
+fn write_further_word(alloc: Global, out: &mut Vec<u8>, word: u32) -> Result<(), AllocError>
+    ensures { OnOk result (out.new.items ≡ out.old.items ++ 44 ∷ decimal word) }
+{
+    let text = format!(in alloc; ",{word}")?;
+    out.extend_from_slice(text.as_bytes())
+}
+
 // The words up to the last one that is not 0.
+#[tactic(auto, using(crate::proofs::Words::zero_is_dropped, crate::proofs::Words::last_is_kept))]
 fn without_last_zeros(words: &[u32]) -> &[u32]
     ensures { result.now ≡ without_last_zeros words.now }
 {
@@ -263,10 +271,10 @@ pub(crate) fn write_holds(
     holds: &Holds,
 ) -> Result<(), AllocError>
     ensures { OnOk result
-        (out.new.items ≡ out.old.items ++ hold_lines holds.now.now holds.now.ends.items) }
+        (out.new.items ≡ out.old.items ++ hold_lines holds.now.time holds.now.ends.items) }
 {
     for (endpoint, end) in &holds.ends {
-        write_hold(alloc, out, endpoint, end.saturating_sub(holds.now))?;
+        write_hold(alloc, out, endpoint, end.saturating_sub(holds.time))?;
     }
     Ok(())
 }
