@@ -1,5 +1,6 @@
 -- Words without the zeros at their end.
-use Rattle.std.proofs.Common.{◌≡◌, ◌≢◌, ℕ, zero, suc, ◌<◌, cond, List, [], ◌∷◌, ◌++◌, refl, ap, ◌∙◌, arith}
+use Rattle.std.proofs.Common.{◌≡◌, ◌≢◌, ℕ, zero, suc, ◌<◌, Bool, cond, List, [], ◌∷◌, ◌++◌, refl, ap, ◌∙◌, arith}
+use Rattle.std.proofs.Math.Dec.{eqb-suc-zero}
 use Rattle.sipl_daemon.specs.Text.{before_zeros, without_last_zeros}
 
 pub zero_is_dropped : (words : List ℕ) → without_last_zeros (words ++ 0 ∷ []) ≡ without_last_zeros words
@@ -12,5 +13,5 @@ before_more word last (next ∷ words) = refl
 
 pub last_is_kept : (words : List ℕ) (last : ℕ) → 0 < last → without_last_zeros (words ++ last ∷ []) ≡ words ++ last ∷ []
 last_is_kept [] zero positive = absurd (omega arith)
-last_is_kept [] (suc last) positive = refl
+last_is_kept [] (suc last) positive = ap (λ (is_zero : Bool). cond is_zero [] (suc last ∷ [])) (eqb-suc-zero last)
 last_is_kept (word ∷ words) last positive = ap (before_zeros word) (last_is_kept words last positive) ∙ before_more word last words

@@ -5,7 +5,7 @@ use Rattle.sipl_names.specs.NamePrint.{text_of}
 use Rattle.sipl_records.specs.Addresses.{text_of_address}
 use Rattle.sipl_records.specs.declared.data.Data.{Data}
 use Rattle.sipl_records.specs.declared.record.Record.{Record}
-use Rattle.sipl_masterfile.specs.RecordPrint.{record_text, spelled, written_data}
+use Rattle.sipl_masterfile.specs.RecordPrint.{printed_string, quoted, record_text, spelled, written_data}
 use Rattle.sipl_choice.specs.Transports.{transport_text}
 use Rattle.sipl_choice.specs.declared.endpoint.Endpoint.{Endpoint}
 use Rattle.sipl_uri.specs.QuestionText.{question_text}
@@ -22,6 +22,10 @@ record_line r = record_text r ++ 10 ∷ []
 -- the type and the data of a record, each field after a space
 abbrev pub data_text : Data → Octets
 data_text value = flat_map (λ field. word_field (spelled field)) (written_data value)
+
+-- a character string in quotes, after a space
+abbrev pub string_field : Octets → Octets
+string_field octets = word_field (spelled (quoted (printed_string octets)))
 
 -- `zone APEX COUNT`
 abbrev pub zone_line : Labels → ℕ → Octets

@@ -1,10 +1,8 @@
 //! Records as entries of a master file.
-ghost use Rattle.std.specs.Prelude.{◌≡◌, ◌∷◌, ◌++◌, codes, OnOk};
-ghost use Rattle.std.specs.List.{flat_map};
+ghost use Rattle.std.specs.Prelude.{◌≡◌, ◌++◌, OnOk};
 ghost use Rattle.sipl_names.specs.NamePrint.{is_special, printed_octet, text_of};
 ghost use Rattle.sipl_records.specs.Addresses.{text_of_address};
-ghost use Rattle.sipl_masterfile.specs.RecordPrint.{printed_string};
-ghost use Rattle.sipl_daemon.specs.Text.{data_text, record_line};
+ghost use Rattle.sipl_daemon.specs.Text.{data_text, record_line, string_field};
 
 use crate::text::write_number;
 use sipl_names::Name;
@@ -57,9 +55,12 @@ fn write_data(alloc: Global, out: &mut Vec<u8>, data: &Data) -> Result<(), Alloc
             out.extend_from_slice(b" NAPTR")?;
             write_number(alloc, out, u64::from(*order))?;
             write_number(alloc, out, u64::from(*preference))?;
-            write_string(out, flags.get().as_slice())?;
-            write_string(out, services.get().as_slice())?;
-            write_string(out, regexp.get().as_slice())?;
+            write_strings(
+                out,
+                flags.get().as_slice(),
+                services.get().as_slice(),
+                regexp.get().as_slice(),
+            )?;
             write_name(out, b" ", replacement.get())
         }
         Data::Bare => out.extend_from_slice(b" NULL"),
@@ -80,10 +81,24 @@ fn write_name(out: &mut Vec<u8>, word: &[u8], name: &Name) -> Result<(), AllocEr
     name.write(out)
 }
 
+// Appends three character strings.
+fn write_strings(
+    out: &mut Vec<u8>,
+    first: &[u8],
+    second: &[u8],
+    third: &[u8],
+) -> Result<(), AllocError>
+    ensures { OnOk result (out.new.items ≡ out.old.items
+        ++ (string_field first.now ++ string_field second.now ++ string_field third.now)) }
+{
+    write_string(out, first)?;
+    write_string(out, second)?;
+    write_string(out, third)
+}
+
 // Appends a space and a character string in quotes.
 fn write_string(out: &mut Vec<u8>, octets: &[u8]) -> Result<(), AllocError>
-    ensures { OnOk result (out.new.items
-        ≡ out.old.items ++ codes " \"" ++ printed_string octets.now ++ codes "\"") }
+    ensures { OnOk result (out.new.items ≡ out.old.items ++ string_field octets.now) }
 {
     out.extend_from_slice(b" \"")?;
     for octet in octets {
