@@ -25,7 +25,8 @@ pub record PlainState : Type 0 where
   pub held : Held
 
 -- An edit is made where nothing refuses it; else the zones are as they were. All but the store stays.
-pub record MakesEdit (edit : Edit) (old new : PlainState) (outcome : Result Done BookFault) : Type 0 where
+pub record MakesEdit {A : Type 0} (edit : Edit) (old new : PlainState) (outcome : Result A BookFault)
+    : Type 0 where
   pub accepted : OnOk outcome (store_refusal (zone_edit edit) old.store ≡ None)
   pub after : OnOk outcome (new.store.zones ≡ after_edit (zone_edit edit) old.store.zones)
   pub unchanged : OnErr outcome (new.store ≡ old.store)

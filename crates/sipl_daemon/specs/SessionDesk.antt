@@ -36,6 +36,10 @@ MovesBoard (Advance to) old outcome new =
 MovesBoard (Hold endpoint ms) old outcome new = MakesEvent (Hold endpoint ms) old new outcome
 MovesBoard (Release endpoint) old outcome new = MakesEvent (Release endpoint) old new outcome
 
+-- which events a page has that was turned
+abbrev pub IsExtent : Extent → Type 0
+IsExtent extent = (page : PageState) × IsPage page × (extent ≡ extent_of page)
+
 -- the pass has no receipts left, or all that it had; its front is as it was
 abbrev pub IsHandedOver : PassState → PassState → Type 0
 IsHandedOver old new = (new ≡ old) ⊎ (new ≡ record { receipts = []; front = old.front })
@@ -62,8 +66,7 @@ session_rules =
       Depends = λ question old outcome new.
           IfOk outcome (AreToldDependencies question old.client) × (new ≡ old);
       Repairs = λ old outcome new. new ≡ old;
-      Pages = λ old outcome new.
-          IfOk outcome (λ extent. (page : PageState) × IsPage page × (extent ≡ extent_of page)) × (new ≡ old);
+      Pages = λ old outcome new. IfOk outcome IsExtent × (new ≡ old);
       Pauses = λ old new. HandsOver old new;
       IsTime = λ caller now. Unit {0};
       fault_text = desk_text;

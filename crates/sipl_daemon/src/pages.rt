@@ -1,6 +1,7 @@
 //! The journal of the daemon's service, which rolls: pages are turned before they are full, and each is
 //! claimed when the receipts of its events are in.
-ghost use Rattle.sipl_daemon.specs.SessionDesk.{IsHandedOver};
+ghost use Rattle.std.specs.Prelude.{IfOk};
+ghost use Rattle.sipl_daemon.specs.SessionDesk.{IsExtent, IsHandedOver};
 
 use crate::archive::Archive;
 use crate::claims::{Claimed, Claims};
@@ -76,7 +77,9 @@ impl Pages {
     }
 
     /// Turns the page.
-    pub(crate) fn turn<R: Wait>(&self, rt: &R, source: &Source) -> Result<Extent, ServiceFault> {
+    pub(crate) fn turn<R: Wait>(&self, rt: &R, source: &Source) -> Result<Extent, ServiceFault>
+        ensures { IfOk result IsExtent }
+    {
         let mut turned = self.turned.lock(rt);
         self.push_page(rt, source, &mut turned)
     }
@@ -87,7 +90,9 @@ impl Pages {
         rt: &R,
         source: &Source,
         turned: &mut VecDeque<Turned>,
-    ) -> Result<Extent, ServiceFault> {
+    ) -> Result<Extent, ServiceFault>
+        ensures { IfOk result IsExtent }
+    {
         turned.reserve(1)?;
         let next = source.turn_page(rt)?;
         let extent = next.page.extent();

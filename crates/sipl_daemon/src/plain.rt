@@ -2,6 +2,9 @@
 ghost use Rattle.std.specs.Prelude.{◌≡◌, IfOk};
 ghost use Rattle.sipl_plans.specs.Plan.{plan};
 ghost use Rattle.sipl_records.specs.Sets.{set_of};
+ghost use Rattle.sipl_zonestore.specs.Edited.{IsEdited};
+ghost use Rattle.sipl_book.specs.Machine.{zone_edit};
+ghost use Rattle.sipl_daemon.specs.Plain.{MakesEdit};
 
 use sipl_book::{Book, BookFault, Done, Edit, Extent, Handed};
 use sipl_choice::{Abilities, Endpoint};
@@ -11,7 +14,7 @@ use sipl_outages::{Board, Held};
 use sipl_plans::{Answer, plan_of};
 use sipl_srv::Draws;
 use sipl_uri::Question;
-use sipl_zonestore::ZoneStore;
+use sipl_zonestore::{Changed, StoreFault, ZoneStore};
 use std::alloc::{AllocError, Global};
 use std::marker::Model;
 
@@ -37,8 +40,17 @@ impl Plain {
         }
     }
 
+    // Makes an edit. Returns how many sets of records have changed.
+    fn make(&mut self, edit: &Edit) -> Result<u64, BookFault>
+        ensures { MakesEdit edit.now self.old self.new result }
+    {
+        Ok(edit_store(&mut self.store, edit)?.sets as u64)
+    }
+
     // The number of the next event.
-    fn count(&mut self) -> u64 {
+    fn count(&mut self) -> u64
+        ensures { self.new ≡ self.old }
+    {
         let number = self.next;
         self.next = number.saturating_add(1);
         number
@@ -78,16 +90,9 @@ impl Desk for Plain {
     }
 
     fn change(&mut self, edit: Edit) -> Result<Done, BookFault> {
-        let changed = match &edit {
-            Edit::Load(zone) => self.store.load(zone)?,
-            Edit::Unload(apex) => self.store.unload(apex)?,
-            Edit::Add(record) => self.store.add(record)?,
-            Edit::Remove(record) => self.store.remove(record)?,
-        };
-        Ok(Done {
-            number: self.count(),
-            changed: changed.sets as u64,
-        })
+        let changed = self.make(&edit)?;
+        let number = self.count();
+        Ok(Done { number, changed })
     }
 
     fn hold(&mut self, endpoint: &Endpoint, ms: u64) -> Result<u64, BookFault> {
@@ -126,6 +131,18 @@ impl Desk for Plain {
 
     fn write_fault(fault: BookFault, out: &mut Vec<u8>) {
         <Book as Desk>::write_fault(fault, out);
+    }
+}
+
+// Makes an edit at a store.
+fn edit_store(store: &mut ZoneStore, edit: &Edit) -> Result<Changed, StoreFault>
+    ensures { IsEdited (zone_edit edit.now) store.old store.new result }
+{
+    match edit {
+        Edit::Load(zone) => store.load(zone),
+        Edit::Unload(apex) => store.unload(apex),
+        Edit::Add(record) => store.add(record),
+        Edit::Remove(record) => store.remove(record),
     }
 }
 

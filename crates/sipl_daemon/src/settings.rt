@@ -1,5 +1,5 @@
 //! The settings of the daemon, read from a TOML document.
-ghost use Rattle.std.specs.Prelude.{IfOk};
+ghost use Rattle.std.specs.Prelude.{◌≤◌, IfOk, IfSome};
 ghost use Rattle.sipl_lines.specs.Settings.{IsWithinLimits};
 
 use crate::address::Address;
@@ -212,7 +212,9 @@ fn put_some<T: Drop>(place: &mut Option<T>, value: Option<T>) -> bool {
 }
 
 // A whole number from `min` to `max`.
-fn number(value: &Value, min: u64, max: u64) -> Option<u64> {
+fn number(value: &Value, min: u64, max: u64) -> Option<u64>
+    ensures { IfSome result (λ number. number ≤ max) }
+{
     let number = u64::try_from(value.as_integer()?).ok()?;
     if number < min || number > max {
         return None;

@@ -1,3 +1,6 @@
+ghost use Rattle.std.specs.Prelude.{IfOk};
+ghost use Rattle.sipl_book.specs.Pages.{IsPage};
+
 use crate::changes::Changes;
 use sipl_book::Page;
 use sipl_service::{Service, ServiceFault};
@@ -27,7 +30,9 @@ pub(crate) struct Turned {
 impl Source {
     /// Turns the page. Where the file of changes has become long it gets a mark there, and the state after
     /// the page is to be written.
-    pub(crate) fn turn_page<R: Wait>(&self, rt: &R) -> Result<Turned, ServiceFault> {
+    pub(crate) fn turn_page<R: Wait>(&self, rt: &R) -> Result<Turned, ServiceFault>
+        ensures { IfOk result (λ turned. IsPage turned.page) }
+    {
         let Some(changes) = &self.changes else {
             let page = self.service.turn_page(rt)?;
             return Ok(Turned { page, mark: None });
