@@ -33,11 +33,11 @@ pub sends_more : (old new : Option Octets) (digest : Sha256) (rest rest' text te
 sends_more old new digest rest rest' text text' more sends is_rest is_text =
     let joined : (sends.sent ++ rest) ++ more ≡ sends.sent ++ (rest ++ more) = simp append_assoc in
     record {
-  sent = sends.sent;
-  written = sends.written;
-  digested = sends.digested;
-  split = is_text ∙ ap (λ (begun : Octets). begun ++ more) sends.split ∙ joined ∙ ap (λ (left : Octets). sends.sent ++ left) (sym is_rest);
-}
+      sent = sends.sent;
+      written = sends.written;
+      digested = sends.digested;
+      split = is_text ∙ ap (λ (begun : Octets). begun ++ more) sends.split ∙ joined ∙ ap (λ (left : Octets). sends.sent ++ left) (sym is_rest);
+    }
 
 pub body_more : (head : Octets) (events : List Event) (i : ℕ) (event : Event) → i < length events → event ≡ get_or events i event
     → body_text head (take (i + 1) events) ≡ body_text head (take i events) ++ event_lines event

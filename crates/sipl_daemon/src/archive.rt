@@ -103,11 +103,7 @@ fn write_page<W: Write>(
 }
 
 // Writes a piece of a page's text, and empties it.
-fn write_piece<W: Write>(
-    out: &mut W,
-    digest: &mut Sha256,
-    text: &mut Vec<u8>,
-) -> io::Result<()>
+fn write_piece<W: Write>(out: &mut W, digest: &mut Sha256, text: &mut Vec<u8>) -> io::Result<()>
     ensures { OnOk result (WritesPiece (W.contents out.old) (W.contents out.new)
         digest.old digest.new text.old.items text.new.items) }
 {
@@ -158,12 +154,7 @@ pub(crate) fn digest_line(alloc: Global, digest: &[u8; 32]) -> Result<Vec<u8>, A
 }
 
 // The first lines of a page: its extent, the client and the policy as settings, and an empty line.
-fn page_head(
-    alloc: Global,
-    first: u64,
-    count: u64,
-    client: &str,
-) -> Result<Vec<u8>, AllocError>
+fn page_head(alloc: Global, first: u64, count: u64, client: &str) -> Result<Vec<u8>, AllocError>
     ensures { IfOk result (λ text. text.items ≡ page_head first count client.now) }
 {
     let mut text = Vec::new(alloc);

@@ -81,8 +81,23 @@ impl Claims {
         self.next.take()
     }
 
-    /// Claims the page that is to be claimed next, and then these, and archives them.
-    pub(crate) fn finish_all<R: Files<File = File>>(
+    /// Adds the last receipts, claims the page that is to be claimed next, these, and the last one, and
+    /// archives them.
+    pub(crate) fn end<R: Files<File = File>>(
+        &mut self,
+        rt: &R,
+        archive: Option<&Archive>,
+        handed: Vec<Receipts>,
+        turned: VecDeque<Turned>,
+        last: &Page,
+    ) -> Result<(), CloseFault> {
+        self.add(handed)?;
+        self.finish_all(rt, archive, turned)?;
+        self.finish(rt, archive, last)
+    }
+
+    // Claims the page that is to be claimed next, and then these, and archives them.
+    fn finish_all<R: Files<File = File>>(
         &mut self,
         rt: &R,
         archive: Option<&Archive>,
@@ -97,8 +112,8 @@ impl Claims {
         Ok(())
     }
 
-    /// Claims a page and archives it.
-    pub(crate) fn finish<R: Files<File = File>>(
+    // Claims a page and archives it.
+    fn finish<R: Files<File = File>>(
         &mut self,
         rt: &R,
         archive: Option<&Archive>,

@@ -165,9 +165,7 @@ impl Pages {
         last: &Page,
     ) -> Result<Claims, CloseFault> {
         let (mut claims, handed, turned) = self.into_parts();
-        claims.add(handed)?;
-        claims.finish_all(rt, archive, turned)?;
-        claims.finish(rt, archive, last)?;
+        claims.end(rt, archive, handed, turned, last)?;
         Ok(claims)
     }
 

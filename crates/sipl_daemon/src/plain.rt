@@ -84,7 +84,15 @@ impl Desk for Plain {
         draws: &Draws,
     ) -> Result<Handed, BookFault> {
         let (board, client, held) = (&self.board, &self.abilities, self.held);
-        let answer = plain_answer(alloc, &mut self.store, board, &question, client, draws, held)?;
+        let answer = plain_answer(
+            alloc,
+            &mut self.store,
+            board,
+            &question,
+            client,
+            draws,
+            held,
+        )?;
         let number = self.count();
         Ok(Handed { number, answer })
     }
@@ -158,7 +166,7 @@ fn plain_answer(
 ) -> Result<Answer, AllocError>
     ensures answer { IfOk result
         (λ answer. answer ≡ plan (set_of store.old.zones.records) board.now.holds question.now
-            client.now draws.now held) }
+        client.now draws.now held) }
     ensures zones { store.new.zones ≡ store.old.zones }
 {
     plan_of(alloc, store.records(), board, question, client, draws, held)

@@ -12,11 +12,11 @@ use crate::state::restore;
 use crate::stop::Stop;
 use crate::tell::tell;
 use std::alloc::Global;
+use std::io;
 use std::io::{ErrorKind, Input};
 use std::process::ExitCode;
 use std::rt::Env;
 use std::sync::{Arc, Wait};
-use std::io;
 
 const USAGE: &str =
     "usage: siplocd [SETTINGS] | tell ADDRESS LINE | replay FOLDER | --help | --version";
@@ -98,12 +98,7 @@ where
 }
 
 // Serves until the daemon is to stop, claims all pages, and prints how many events there were.
-fn serve<R, H, W>(
-    rt: &R,
-    host: &H,
-    watcher: &W,
-    settings: DaemonSettings,
-) -> Result<(), Fault>
+fn serve<R, H, W>(rt: &R, host: &H, watcher: &W, settings: DaemonSettings) -> Result<(), Fault>
 where
     R: Print + AllocGlobal,
     H: Host,

@@ -7,8 +7,8 @@ ghost use Rattle.sipl_daemon.specs.Text.{hold_line, hold_lines, mark_line, state
 ghost use Rattle.sipl_daemon.specs.Text.{release_line, without_last_zeros, words_field};
 ghost use Rattle.sipl_daemon.specs.Text.{zone_lines};
 
-use crate::record_text::write_record;
 use crate::holds::Holds;
+use crate::record_text::write_record;
 use indexmap::IndexMap;
 use sipl_book::{Edit, Event};
 use sipl_choice::Endpoint;
@@ -28,11 +28,7 @@ pub(crate) fn edit_text(alloc: Global, edit: &Edit) -> Result<Vec<u8>, AllocErro
 }
 
 /// Appends the line of an event, and of an answer those of its reply after it.
-pub(crate) fn write_event(
-    alloc: Global,
-    out: &mut Vec<u8>,
-    event: &Event,
-) -> Result<(), AllocError>
+pub(crate) fn write_event(alloc: Global, out: &mut Vec<u8>, event: &Event) -> Result<(), AllocError>
     ensures { OnOk result (out.new.items ≡ out.old.items ++ event_lines event.now) }
 {
     match event {
@@ -101,11 +97,7 @@ fn write_answer(alloc: Global, out: &mut Vec<u8>, answer: &Answer) -> Result<(),
 }
 
 // Appends a line for each target, and the line that counts them.
-fn write_targets(
-    alloc: Global,
-    out: &mut Vec<u8>,
-    targets: &[Endpoint],
-) -> Result<(), AllocError>
+fn write_targets(alloc: Global, out: &mut Vec<u8>, targets: &[Endpoint]) -> Result<(), AllocError>
     ensures { OnOk result (out.new.items ≡ out.old.items ++ (target_lines 1 targets.now
         ++ counts_line (codes "ok find") (length targets.now ∷ []))) }
 {
@@ -234,11 +226,7 @@ fn write_zone_line(
 }
 
 /// The line that holds an endpoint for some milliseconds.
-pub(crate) fn hold_text(
-    alloc: Global,
-    endpoint: &Endpoint,
-    ms: u64,
-) -> Result<Vec<u8>, AllocError>
+pub(crate) fn hold_text(alloc: Global, endpoint: &Endpoint, ms: u64) -> Result<Vec<u8>, AllocError>
     ensures { IfOk result (λ text. text.items ≡ hold_line endpoint.now ms) }
 {
     let mut out = Vec::new(alloc);
@@ -265,11 +253,7 @@ pub(crate) fn clock_text(alloc: Global, to: u64) -> Result<Vec<u8>, AllocError>
 }
 
 /// Appends a line for each endpoint that is held, with the milliseconds that are left of its hold.
-pub(crate) fn write_holds(
-    alloc: Global,
-    out: &mut Vec<u8>,
-    holds: &Holds,
-) -> Result<(), AllocError>
+pub(crate) fn write_holds(alloc: Global, out: &mut Vec<u8>, holds: &Holds) -> Result<(), AllocError>
     ensures { OnOk result
         (out.new.items ≡ out.old.items ++ hold_lines holds.now.time holds.now.ends.items) }
 {
@@ -325,11 +309,7 @@ fn write_hold(
     Ok(())
 }
 
-fn write_release(
-    alloc: Global,
-    out: &mut Vec<u8>,
-    endpoint: &Endpoint,
-) -> Result<(), AllocError>
+fn write_release(alloc: Global, out: &mut Vec<u8>, endpoint: &Endpoint) -> Result<(), AllocError>
     ensures { OnOk result (out.new.items ≡ out.old.items ++ release_line endpoint.now) }
 {
     write_endpoint(alloc, out, b"release ", endpoint)?;

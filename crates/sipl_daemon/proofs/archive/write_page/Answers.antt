@@ -20,6 +20,6 @@ loop-event-preserved g c =
     (body_more head events i event c.loop-event-test.true c.event-item.is) in
     elim c.if-len-ge-PIECE_LEN.branch [
       | then-len-ge-PIECE_LEN+in_ok-write_piece w ↦
-        rw (w.out-is, w.digest-is, w.text-is) (sends_piece _ _ _ _ _ _ _ _ more w.in_ok-write_piece.ensures)
+          rw (w.out-is, w.digest-is, w.text-is) (sends_piece _ _ _ _ _ _ _ _ more w.in_ok-write_piece.ensures)
       | else-len-ge-PIECE_LEN w ↦ rw (w.out-is, w.digest-is, w.text-is) more
     ]
