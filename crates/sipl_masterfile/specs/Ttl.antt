@@ -7,18 +7,18 @@ use Rattle.std.specs.Str.Parse.{digits_value}
 use Rattle.sipl_names.specs.Labels.{Octets}
 use Rattle.sipl_records.specs.Numbers.{number_of}
 
--- whether the octet is one of these
-abbrev pub is_one_of : Octets → ℕ → Bool
-is_one_of octets c = list_any (λ octet. c == octet) octets
+-- whether the octet is one of these letters
+abbrev pub is_letter_of : Octets → ℕ → Bool
+is_letter_of letters c = list_any (λ letter. c == letter) letters
 
 -- the seconds of a unit, in either case
 abbrev pub unit_of : ℕ → Option ℕ
 unit_of c =
-    if is_one_of (codes "sS") c then Some 1
-    else (if is_one_of (codes "mM") c then Some 60
-    else (if is_one_of (codes "hH") c then Some 3600
-    else (if is_one_of (codes "dD") c then Some 86400
-    else (if is_one_of (codes "wW") c then Some 604800 else None))))
+    if is_letter_of (codes "sS") c then Some 1
+    else (if is_letter_of (codes "mM") c then Some 60
+    else (if is_letter_of (codes "hH") c then Some 3600
+    else (if is_letter_of (codes "dD") c then Some 86400
+    else (if is_letter_of (codes "wW") c then Some 604800 else None))))
 
 -- digits, and the octet after them, if there is one
 abbrev pub Duration : Type 0

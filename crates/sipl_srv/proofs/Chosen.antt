@@ -4,7 +4,7 @@ use Rattle.std.specs.Option.{is_some, IsSome}
 use Rattle.std.proofs.lemmas.Bool.{cases_Bool, cases_lt, eqb-true, leb-false, le-leb, lt-leb}
 use Rattle.std.proofs.lemmas.List.Sums.{sum_by-append, sum_by-cons}
 use Rattle.std.proofs.lemmas.List.Filters.{sum_by-filter_both}
-use Rattle.sipl_srv.specs.Order.{Rank, weight_at, weightless, weighted, weightless_first, of_priority, of_least_priority, total_weight, first_reaching, chosen}
+use Rattle.sipl_srv.specs.Order.{Rank, weight_at, weightless, weighted, weightless_first, of_priority, of_least_priority, total_weight, first_reaching, chosen_place}
 
 -- the order of the places does not change the sum of their weights
 pub total-weightless_first : (ranks : List Rank) (places : List ℕ) → total_weight ranks (weightless_first ranks places) ≡ total_weight ranks places
@@ -83,9 +83,9 @@ reaching-some ranks number sum (place ∷ next ∷ places) some' within = elim (
 ]
 
 -- what a word chooses, by the priority and the total that the loops find
-pub chosen-by_priority : (ranks : List Rank) (places : List ℕ) (word priority total : ℕ) → of_least_priority ranks places ≡ of_priority ranks priority places → total ≡ total_weight ranks (of_priority ranks priority places)
-    → chosen ranks places word ≡ first_reaching ranks (word % (total + 1)) 0 (weightless_first ranks (of_priority ranks priority places))
-chosen-by_priority ranks places word priority total least is =
+pub chosen_place-by_priority : (ranks : List Rank) (places : List ℕ) (word priority total : ℕ) → of_least_priority ranks places ≡ of_priority ranks priority places → total ≡ total_weight ranks (of_priority ranks priority places)
+    → chosen_place ranks places word ≡ first_reaching ranks (word % (total + 1)) 0 (weightless_first ranks (of_priority ranks priority places))
+chosen_place-by_priority ranks places word priority total least is =
     ap (λ ps. first_reaching ranks (word % (total_weight ranks (weightless_first ranks ps) + 1)) 0 (weightless_first ranks ps)) least
     ∙ ap (λ n. first_reaching ranks (word % (n + 1)) 0 (weightless_first ranks (of_priority ranks priority places))) (total-weightless_first ranks (of_priority ranks priority places) ∙ sym is)
 

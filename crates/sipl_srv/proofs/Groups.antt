@@ -11,11 +11,11 @@ use Rattle.std.proofs.lemmas.List.Elements.{All-head, All-tail, All-weaker, All-
 use Rattle.std.proofs.lemmas.List.FromFn.{length-range_with_len, get_or-range_with_len}
 use Rattle.std.proofs.lemmas.List.Sums.{sum_by-cons, sum_by-remove, count_by-le-length, list_all-from_AllPass}
 use Rattle.sipl_records.proofs.Public.{filter-weaker, filter-all, list_any-filter}
-use Rattle.sipl_srv.specs.Order.{Rank, all_places, priority_at, weight_at, of_priority, of_least_priority, weightless_first, total_weight, chosen, without, AreDistinct, order_of}
+use Rattle.sipl_srv.specs.Order.{Rank, all_places, priority_at, weight_at, of_priority, of_least_priority, weightless_first, total_weight, chosen_place, without, AreDistinct, order_of}
 use Rattle.sipl_srv.specs.Shares.{is_place, group_of, first_of_priority, words_before}
 use Rattle.sipl_srv.proofs.Ranks.{filter_least}
-use Rattle.sipl_srv.proofs.Places.{without-remove, AreDistinct-without, AreDistinct-range, order_of-chosen}
-use Rattle.sipl_srv.proofs.Orders.{chosen-Contains, chosen-least, chosen-some}
+use Rattle.sipl_srv.proofs.Places.{without-remove, AreDistinct-without, AreDistinct-range, order_of-chosen_place}
+use Rattle.sipl_srv.proofs.Orders.{chosen_place-Contains, chosen_place-least, chosen_place-some}
 use Rattle.sipl_srv.proofs.Shares.{share-least, count-same}
 
 not_false : (b : Bool) → not b ≡ false → b ≡ true
@@ -73,23 +73,23 @@ Has-All P places place all has = All-contains P places place all (Has-Contains p
 
 -- the first of a priority in the order is chosen by the word after those of the lesser priorities
 pub first-chosen : (ranks : List Rank) (priority place : ℕ) (places words : List ℕ) → AreDistinct places → length places ≤ length words → Has places place → priority_at ranks place ≡ priority
-    → slice_get (of_priority ranks priority (order_of ranks places words)) 0 ≡ chosen ranks (not_before ranks priority places) (get_or words (count_before ranks priority places) 0)
+    → slice_get (of_priority ranks priority (order_of ranks places words)) 0 ≡ chosen_place ranks (not_before ranks priority places) (get_or words (count_before ranks priority places) 0)
 first-chosen ranks priority place places [] apart enough has is = let at = Has-Contains places place has in absurd (omega (arith, at.1))
 first-chosen ranks priority place places (word ∷ words) apart enough has is =
-    from (chosen ranks places word) refl (λ c short there. first-chosen ranks priority place (without c places) words (AreDistinct-without c places apart) short there is)
+    from (chosen_place ranks places word) refl (λ c short there. first-chosen ranks priority place (without c places) words (AreDistinct-without c places apart) short there is)
   where
     some' : 0 < length places
     some' = let at = Has-Contains places place has in omega (arith, at.1)
 
-    from : (o : Option ℕ) → chosen ranks places word ≡ o
-        → ((c : ℕ) → length (without c places) ≤ length words → Has (without c places) place → slice_get (of_priority ranks priority (order_of ranks (without c places) words)) 0 ≡ chosen ranks (not_before ranks priority (without c places)) (get_or words (count_before ranks priority (without c places)) 0))
-        → slice_get (of_priority ranks priority (order_of ranks places (word ∷ words))) 0 ≡ chosen ranks (not_before ranks priority places) (get_or (word ∷ words) (count_before ranks priority places) 0)
-    from None chose later = let never : true ≡ false = sym (chosen-some ranks places word some') ∙ ap is_some chose in cc
+    from : (o : Option ℕ) → chosen_place ranks places word ≡ o
+        → ((c : ℕ) → length (without c places) ≤ length words → Has (without c places) place → slice_get (of_priority ranks priority (order_of ranks (without c places) words)) 0 ≡ chosen_place ranks (not_before ranks priority (without c places)) (get_or words (count_before ranks priority (without c places)) 0))
+        → slice_get (of_priority ranks priority (order_of ranks places (word ∷ words))) 0 ≡ chosen_place ranks (not_before ranks priority places) (get_or (word ∷ words) (count_before ranks priority places) 0)
+    from None chose later = let never : true ≡ false = sym (chosen_place-some ranks places word some') ∙ ap is_some chose in cc
     from (Some c) chose later =
-        let at = chosen-Contains ranks places word c chose in
-        let least = chosen-least ranks places word c chose in
+        let at = chosen_place-Contains ranks places word c chose in
+        let least = chosen_place-least ranks places word c chose in
         let here : get_or places at.0 0 ≡ c = get_or_default places at.0 0 c at.1 ∙ at.2 in
-        let order = order_of-chosen ranks places words word c chose in
+        let order = order_of-chosen_place ranks places words word c chose in
         elim (cases_lt (priority_at ranks c) priority) [
           | inl less ↦
               let other : (eqb (priority_at ranks c) priority) ≡ false = ne_eqb (priority_at ranks c) priority (omega arith) in
@@ -104,16 +104,16 @@ first-chosen ranks priority place places (word ∷ words) apart enough has is =
               omega (arith, step, ap (count_before ranks priority) same) in
               ap (λ os. slice_get (of_priority ranks priority os) 0) order
               ∙ rw other (later c short there)
-              ∙ ap (λ ps. chosen ranks ps (get_or words (count_before ranks priority (without c places)) 0)) (not_before-without ranks priority c places less)
-              ∙ ap (λ n. chosen ranks (not_before ranks priority places) (get_or (word ∷ words) n 0)) (sym counts)
+              ∙ ap (λ ps. chosen_place ranks ps (get_or words (count_before ranks priority (without c places)) 0)) (not_before-without ranks priority c places less)
+              ∙ ap (λ n. chosen_place ranks (not_before ranks priority places) (get_or (word ∷ words) n 0)) (sym counts)
           | inr more ↦
               let most : priority_at ranks c ≤ priority_at ranks place = Has-All (λ j. priority_at ranks c ≤ priority_at ranks j) places place least has in
               let same : (eqb (priority_at ranks c) priority) ≡ true = eq-eqb (priority_at ranks c) priority (omega arith) in
               let all : All (λ j. priority ≤ priority_at ranks j) places = All-weaker (λ j. priority_at ranks c ≤ priority_at ranks j) (λ j. priority ≤ priority_at ranks j) (λ j h. omega arith) places least in
               ap (λ os. slice_get (of_priority ranks priority os) 0) order
               ∙ rw same (sym chose)
-              ∙ ap (λ ps. chosen ranks ps word) (sym (not_before-all ranks priority places all))
-              ∙ ap (λ n. chosen ranks (not_before ranks priority places) (get_or (word ∷ words) n 0)) (sym (count_before-none ranks priority places all))
+              ∙ ap (λ ps. chosen_place ranks ps word) (sym (not_before-all ranks priority places all))
+              ∙ ap (λ n. chosen_place ranks (not_before ranks priority places) (get_or (word ∷ words) n 0)) (sym (count_before-none ranks priority places all))
         ]
 
 -- a place of the list is one of all places
@@ -170,14 +170,14 @@ share-in_order ranks words place within enough =
     let alone : AreDistinct later = AllPairs-filter (λ x y. x ≡ y → ⊥) (λ i. leb priority (priority_at ranks i)) all apart in
     let share' = share-least ranks later place alone among in
     let p : ℕ → Bool = λ word. is_place place (first_of_priority ranks (set words k word) priority) in
-    let q : ℕ → Bool = λ word. is_place place (chosen ranks later word) in
+    let q : ℕ → Bool = λ word. is_place place (chosen_place ranks later word) in
     let same : (x : ℕ) → 0 ≤ x → x < 0 + (total_weight ranks group + 1) → p x ≡ q x = λ x low high.
     let long : length all ≤ length (set words k x ++ zeros) = omega (arith, length-range_with_len 0 (length ranks), length-append (set words k x) zeros, length-set words k x) in
     let fits : k < length (set words k x) = omega (arith, length-set words k x) in
     let here : k < length words = omega arith in
     ap (is_place place)
     (first-chosen ranks priority place all (set words k x ++ zeros) apart long has refl
-    ∙ ap (chosen ranks later) (get_or_append_left (set words k x) zeros 0 k fits ∙ get_or-set_same words k x 0 here)) in
+    ∙ ap (chosen_place ranks later) (get_or_append_left (set words k x) zeros 0 k fits ∙ get_or-set_same words k x 0 here)) in
     count-same p q 0 (total_weight ranks group + 1) same
     ∙ ap (λ ps. count_by q (range_with_len 0 (total_weight ranks (weightless_first ranks ps) + 1))) (sym least)
     ∙ share'

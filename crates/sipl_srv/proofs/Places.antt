@@ -7,7 +7,7 @@ use Rattle.std.proofs.lemmas.List.Elements.{All-head, All-tail, All-filter}
 use Rattle.std.proofs.lemmas.List.FromFn.{length-range_with_len, get_or-range_with_len}
 use Rattle.std.proofs.lemmas.List.Kept.{AllPairs-filter}
 use borrow.Rule.Slice.PartMut.{put_mid}
-use Rattle.sipl_srv.specs.Order.{Rank, AreDistinct, without, chosen, order_of}
+use Rattle.sipl_srv.specs.Order.{Rank, AreDistinct, without, chosen_place, order_of}
 
 AllPairs-first : (x : ℕ) (xs : List ℕ) → AreDistinct (x ∷ xs) → All (λ y. x ≢ y) xs
 AllPairs-first x xs apart k d within = apart 0 (suc k) d (omega arith) (omega arith)
@@ -55,8 +55,8 @@ order_of-nil ranks [] = refl
 order_of-nil ranks (word ∷ words) = refl
 
 -- one choice
-pub order_of-chosen : (ranks : List Rank) (places words : List ℕ) (word place : ℕ) → chosen ranks places word ≡ Some place → order_of ranks places (word ∷ words) ≡ place ∷ order_of ranks (without place places) words
-order_of-chosen ranks places words word place is = rw (is, order_of) refl
+pub order_of-chosen_place : (ranks : List Rank) (places words : List ℕ) (word place : ℕ) → chosen_place ranks places word ≡ Some place → order_of ranks places (word ∷ words) ≡ place ∷ order_of ranks (without place places) words
+order_of-chosen_place ranks places words word place is = rw (is, order_of) refl
 
 -- after the place at i of what is left from k on has moved to k
 pub moved : (order ys : List ℕ) (k i : ℕ) → k < length order → ys ≡ get_or (take (length order - k) (drop k order)) i 0 ∷ remove (take (length order - k) (drop k order)) i
@@ -79,7 +79,7 @@ moved order ys k i below is =
 -- what the loop keeps, after one choice
 pub ordered_more : (ranks : List Rank) (order order' words more start : List ℕ) (k i : ℕ) → k < length words → i < length (drop k order) → AreDistinct (drop k order)
     → take (k + 1) order' ≡ take k order ++ get_or (drop k order) i 0 ∷ [] → drop (k + 1) order' ≡ remove (drop k order) i
-    → chosen ranks (drop k order) (get_or words k 0) ≡ Some (get_or (drop k order) i 0)
+    → chosen_place ranks (drop k order) (get_or words k 0) ≡ Some (get_or (drop k order) i 0)
     → take k order ++ order_of ranks (drop k order) (drop k words ++ more) ≡ start
     → take (k + 1) order' ++ order_of ranks (drop (k + 1) order') (drop (k + 1) words ++ more) ≡ start
 ordered_more ranks order order' words more start k i below within apart first second next before =
@@ -88,7 +88,7 @@ ordered_more ranks order order' words more start k i below within apart first se
     let later = order_of ranks (remove rest i) (drop (k + 1) words ++ more) in
     let left : drop (k + 1) order' ≡ without place rest = second ∙ sym (without-remove rest i within apart) in
     let split : drop k words ≡ get_or words k 0 ∷ drop (k + 1) words = rw add-one (drop-cons words k 0 below) in
-    let chose = order_of-chosen ranks rest (drop (k + 1) words ++ more) (get_or words k 0) place next in
+    let chose = order_of-chosen_place ranks rest (drop (k + 1) words ++ more) (get_or words k 0) place next in
     ap (λ zs. zs ++ order_of ranks (drop (k + 1) order') (drop (k + 1) words ++ more)) first
     ∙ append_assoc (take k order) (place ∷ []) (order_of ranks (drop (k + 1) order') (drop (k + 1) words ++ more))
     ∙ ap (λ zs. take k order ++ (place ∷ order_of ranks zs (drop (k + 1) words ++ more))) left

@@ -8,7 +8,7 @@ use Rattle.std.proofs.lemmas.List.Elements.{All-append, All-filter, All-contains
 use Rattle.std.proofs.lemmas.List.Filters.{sum_by-filter_both}
 use Rattle.std.proofs.lemmas.List.Kept.{AllPairs-filter}
 use Rattle.std.proofs.lemmas.List.Sums.{sum_by-cons, sum_by-append, sum_by-remove}
-use Rattle.sipl_srv.specs.Order.{Rank, priority_at, weight_at, of_least_priority, weightless, weighted, candidates, total_weight, first_reaching, chosen, without, AreDistinct}
+use Rattle.sipl_srv.specs.Order.{Rank, priority_at, weight_at, of_least_priority, weightless, weighted, candidates, total_weight, first_reaching, chosen_place, without, AreDistinct}
 use Rattle.sipl_srv.specs.Shares.{is_place, is_first_candidate, share}
 use Rattle.sipl_srv.proofs.Places.{without-remove}
 
@@ -92,7 +92,7 @@ share-least ranks places place apart at =
     let least = of_least_priority ranks places in
     let total = total_weight ranks from in
     let g : ℕ → ℕ = λ x. cond (eqb x place) (weight_at ranks x) 0 in
-    let p : ℕ → Bool = λ word. is_place place (chosen ranks places word) in
+    let p : ℕ → Bool = λ word. is_place place (chosen_place ranks places word) in
     let q : ℕ → Bool = λ number. is_place place (first_reaching ranks number 0 from) in
     let same : (x : ℕ) → 0 ≤ x → x < 0 + (total + 1) → p x ≡ q x =
     λ x low high. let within : x < total + 1 = omega arith in ap (λ number. is_place place (first_reaching ranks number 0 from)) (mod-eq_of_lt within) in

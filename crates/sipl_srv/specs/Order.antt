@@ -63,8 +63,8 @@ abbrev pub number_of_word : ℕ → ℕ → ℕ
 number_of_word total word = word % (total + 1)
 
 -- the place that a word chooses
-abbrev pub chosen : List Rank → List ℕ → ℕ → Option ℕ
-chosen ranks places word =
+abbrev pub chosen_place : List Rank → List ℕ → ℕ → Option ℕ
+chosen_place ranks places word =
     let from = candidates ranks places in
     first_reaching ranks (number_of_word (total_weight ranks from) word) 0 from
 
@@ -76,7 +76,7 @@ without place places = filter (λ i. not (i == place)) places
 abbrev pub order_of : List Rank → List ℕ → List ℕ → List ℕ
 order_of ranks places [] = []
 order_of ranks places (word ∷ words) =
-    elim (chosen ranks places word) [
+    elim (chosen_place ranks places word) [
       | None ↦ []
       | Some place ↦ place ∷ order_of ranks (without place places) words
     ]

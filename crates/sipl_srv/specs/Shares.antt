@@ -3,7 +3,7 @@
 use Rattle.std.specs.Prelude.{ℕ, ◌+◌, Bool, false, List, Option, slice_get, count_by, nat_lt, ◌==◌}
 use Rattle.std.specs.List.{range_with_len}
 use Rattle.std.specs.Option.{option_map_or}
-use Rattle.sipl_srv.specs.Order.{Rank, priority_at, of_priority, weightless_first, candidates, total_weight, chosen, all_places, ordered}
+use Rattle.sipl_srv.specs.Order.{Rank, priority_at, of_priority, weightless_first, candidates, total_weight, chosen_place, all_places, ordered}
 
 -- whether there is a place, and it is this one
 abbrev pub is_place : ℕ → Option ℕ → Bool
@@ -16,7 +16,7 @@ is_first_candidate ranks places place = is_place place (slice_get (candidates ra
 -- of the words from 0 to the sum of the weights, how many choose a place
 abbrev pub share : List Rank → List ℕ → ℕ → ℕ
 share ranks places place =
-    count_by (λ word. is_place place (chosen ranks places word))
+    count_by (λ word. is_place place (chosen_place ranks places word))
     (range_with_len 0 (total_weight ranks (candidates ranks places) + 1))
 
 -- all records of a priority, those of weight 0 first

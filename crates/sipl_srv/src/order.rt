@@ -1,6 +1,6 @@
 ghost use Rattle.std.specs.Prelude.{◌≡◌, ℕ, ◌*◌, ◌<◌, ◌≤◌, List, ◌∷◌, ◌++◌, length, map, option_map, slice_get, slice_index, IfOk, IfSome};
 ghost use Rattle.std.specs.List.{All, remove};
-ghost use Rattle.sipl_srv.specs.Order.{of_priority, of_least_priority, weightless, total_weight, first_reaching, chosen, AreDistinct, order_of, ordered};
+ghost use Rattle.sipl_srv.specs.Order.{of_priority, of_least_priority, weightless, total_weight, first_reaching, chosen_place, AreDistinct, order_of, ordered};
 
 use crate::draws::Draws;
 use crate::rank::Ranked;
@@ -61,7 +61,7 @@ fn next_index<T: Ranked>(picks: &[T], places: &[usize], word: u32) -> usize
     requires few { length places.now ≤ 32 }
     requires valid { All (λ place. place < length picks.now) places.now }
     ensures within { result < length places.now }
-    ensures chosen { chosen (map T.rank picks.now) places.now word
+    ensures chosen { chosen_place (map T.rank picks.now) places.now word
         ≡ Some (slice_index places.now result) }
 {
     let priority = least_priority(picks, places);

@@ -1,6 +1,6 @@
 use Rattle.std.proofs.Common.{◌≡◌, ◌+◌, ◌%◌, ◌≤◌, None, map, option_map, slice_get, slice_index, sym, ap, ◌∙◌, arith}
 use Rattle.sipl_srv.specs.Order.{of_priority, weightless, weightless_first, total_weight, first_reaching}
-use Rattle.sipl_srv.proofs.Chosen.{chosen-by_priority, reaching-zero, reaching-in_order, reaching-some, some-from_map, none-from_map}
+use Rattle.sipl_srv.proofs.Chosen.{chosen_place-by_priority, reaching-zero, reaching-in_order, reaching-some, some-from_map, none-from_map}
 use Rattle.sipl_srv.proofs.order.next_index.Goals as goal
 use Rattle.sipl_srv.proofs.order.next_index.Goals.{else-number-eq0-via-else-number-eq0, else-number-eq0-via-then-number-eq0+in-None-1}
 
@@ -10,7 +10,7 @@ returns-clause-chosen g c =
     let places = c.args.places.now in
     let priority = c.least_priority-priority.result in
     let from = of_priority ranks priority places in
-    chosen-by_priority ranks places c.args.word priority c.total_weight.result c.least_priority-priority.ensures.least c.total_weight.ensures.total
+    chosen_place-by_priority ranks places c.args.word priority c.total_weight.result c.least_priority-priority.ensures.least c.total_weight.ensures.total
     ∙ ap (λ n. first_reaching ranks n 0 (weightless_first ranks from)) c.if-number-eq0.true
     ∙ reaching-zero ranks from (slice_index places c.in-Some.i) (sym c.in-Some.ensures.first)
 
@@ -37,7 +37,7 @@ returns-2-clause-chosen g c =
       | else-number-eq0-via-then-number-eq0+in-None-1 w ↦
           none-from_map (slice_index places) w.first_weightless.result (slice_get (weightless ranks from) 0) w.first_weightless.ensures.first (cc)
     ] in
-    chosen-by_priority ranks places c.args.word priority c.total_weight.result c.least_priority-priority.ensures.least c.total_weight.ensures.total
+    chosen_place-by_priority ranks places c.args.word priority c.total_weight.result c.least_priority-priority.ensures.least c.total_weight.ensures.total
     ∙ reaching-in_order ranks number from none
     ∙ sym c.first_reaching.ensures.first
     ∙ ap (option_map (slice_index places)) c.unwrap.ensures

@@ -1,7 +1,7 @@
 use Rattle.std.proofs.Common.{◌≡◌, ◌-◌, ◌<◌, ◌++◌, map, length, get_or, drop, sym, subst, ◌∙◌, arith, Some}
 use Rattle.std.specs.List.{All}
 use Rattle.std.proofs.lemmas.List.{length-drop, take_all}
-use Rattle.sipl_srv.specs.Order.{AreDistinct, chosen, order_of}
+use Rattle.sipl_srv.specs.Order.{AreDistinct, chosen_place, order_of}
 use Rattle.sipl_srv.proofs.Places.{without-remove, AreDistinct-without, All-without, moved, ordered_more, ordered_all}
 use Rattle.sipl_srv.proofs.order.put_in_order.Goals as goal
 
@@ -16,7 +16,7 @@ loop-k-preserved g c =
     let words = c.args.words.now in
     let whole = take_all (length order - k) rest (omega (arith, length-drop k order)) in
     let within : i < length rest = subst (λ ps. i < length ps) whole c.next_index-i.ensures.within in
-    let next : chosen ranks rest (get_or words k 0) ≡ Some (get_or rest i 0) = subst (λ ps. chosen ranks ps (get_or words k 0) ≡ Some (get_or ps i 0)) whole c.next_index-i.ensures.chosen in
+    let next : chosen_place ranks rest (get_or words k 0) ≡ Some (get_or rest i 0) = subst (λ ps. chosen_place ranks ps (get_or words k 0) ≡ Some (get_or ps i 0)) whole c.next_index-i.ensures.chosen in
     let parts = moved order c.move_to_front.new.places k i (omega arith) c.move_to_front.ensures in
     let left = parts.1 ∙ sym (without-remove rest i within c.loop-k.invariant.distinct) in
     record {
