@@ -187,13 +187,34 @@ fn close(service: Box<Service>) -> anyhow::Result<Page> {
 fn new_claim<R: Wait>(rt: &R, alloc: Global) -> anyhow::Result<Claim> {
     let service = service(alloc)?;
     let mut pass = service.pass();
-    load_zone(rt, alloc, &service, &mut pass)?;
+    let turned = turn_loaded(rt, alloc, &service, &mut pass)?;
+    claim_of(alloc, turned, service, pass)
+}
+
+// Loads the zone, turns the page, and moves the clock.
+fn turn_loaded<R: Wait>(
+    rt: &R,
+    alloc: Global,
+    service: &Service,
+    pass: &mut Pass,
+) -> anyhow::Result<Page> {
+    load_zone(rt, alloc, service, pass)?;
     let turned = service.turn_page(rt)?;
-    service.advance(rt, &mut pass, 1)?;
-    let mut passes = Vec::new(alloc);
-    passes.push(pass)?;
+    service.advance(rt, pass, 1)?;
+    Ok(turned)
+}
+
+// The claim of a turned page and the last one.
+fn claim_of(
+    alloc: Global,
+    turned: Page,
+    service: Box<Service>,
+    pass: Pass,
+) -> anyhow::Result<Claim> {
+    let passes = vec![in alloc; pass]?;
+    let last = close(service)?;
     Ok(Claim {
-        pages: [turned, close(service)?],
+        pages: [turned, last],
         passes,
     })
 }
@@ -202,14 +223,28 @@ fn new_claim<R: Wait>(rt: &R, alloc: Global) -> anyhow::Result<Claim> {
 fn page_of_two<R: Wait>(rt: &R, alloc: Global, is_last: bool) -> anyhow::Result<(Page, Pass)> {
     let service = service(alloc)?;
     let mut pass = service.pass();
-    load_zone(rt, alloc, &service, &mut pass)?;
-    service.advance(rt, &mut pass, 1)?;
-    let page = if is_last {
-        close(service)?
-    } else {
-        service.turn_page(rt)?
-    };
+    load_and_advance(rt, alloc, &service, &mut pass)?;
+    let page = page_of(rt, service, is_last)?;
     Ok((page, pass))
+}
+
+fn load_and_advance<R: Wait>(
+    rt: &R,
+    alloc: Global,
+    service: &Service,
+    pass: &mut Pass,
+) -> anyhow::Result<()> {
+    load_zone(rt, alloc, service, pass)?;
+    service.advance(rt, pass, 1)?;
+    Ok(())
+}
+
+// The page of a service, which is turned or the last one.
+fn page_of<R: Wait>(rt: &R, service: Box<Service>, is_last: bool) -> anyhow::Result<Page> {
+    if is_last {
+        return close(service);
+    }
+    Ok(service.turn_page(rt)?)
 }
 
 fn new_add<R: Wait>(rt: &R, alloc: Global) -> anyhow::Result<AddToLedger> {

@@ -6,10 +6,9 @@ ghost use Rattle.sipl_service.specs.Passes.{GetsReceipt, IsOutcomeOf};
 use crate::fault::ServiceFault;
 use crate::pass::Pass;
 use crate::receipt::Receipt;
-use crate::shared::Shared;
+use crate::shared::{Shared, new_versions};
 use crate::steps;
 use crate::steps::NewEdit;
-use crate::versions::Versions;
 use crossbeam_utils::CachePadded;
 use sipl_book::{Book, BookFault, Done, Edit, Event, Limits, Page};
 use sipl_choice::{Abilities, Endpoint};
@@ -18,7 +17,7 @@ use sipl_records::Key;
 use std::alloc::{AllocError, Global};
 use std::hint::spin_loop;
 use std::marker::Model;
-use std::sync::{Arc, Condvar, Mutex, MutexGuard, Wait};
+use std::sync::{Condvar, Mutex, MutexGuard, Wait};
 
 /// The greatest number of tries of a lookup.
 pub const MAX_TRIES: u64 = 16;
@@ -82,13 +81,14 @@ impl Service {
         ensures { IfOk result
             (λ service. service ≡ record { client = abilities; held = held; tries = tries }) }
     {
+        let versions = new_versions(alloc)?;
         let book = Book::new(alloc, abilities.dup(alloc)?, limits, held);
         Ok(Service {
             alloc,
             abilities,
             held,
             tries,
-            shared: CachePadded::new(Mutex::new(Shared::new(alloc, book)?)),
+            shared: CachePadded::new(Mutex::new(Shared::new(alloc, book, versions))),
             woken: Condvar::new(),
         })
     }
@@ -243,7 +243,7 @@ impl Service {
             ⊎ ((fault ≡ ServiceFault.OtherBook) ⊎ ((fault ≡ ServiceFault.Book BookFault.PagesSpent)
             ⊎ (fault ≡ ServiceFault.Memory)))) }
     {
-        let versions = Arc::new(self.alloc, Versions::new(self.alloc)?)?;
+        let versions = new_versions(self.alloc)?;
         let mut shared = self.lock(rt);
         shared.check(&self.abilities, self.held)?;
         let (page, _read) = shared.turn_page(self.alloc, versions)?;

@@ -66,18 +66,17 @@ impl Model for Shared {
 }
 
 impl Shared {
-    // A book, of which no set was read.
-    pub fn new(alloc: Global, book: Book) -> Result<Self, AllocError>
-        ensures { IfOk result
-            (λ shared. shared ≡ record { book = book; marks = []; is_stopped = false }) }
+    // A book, of which no set was read, with versions of which there is none.
+    pub fn new(alloc: Global, book: Book, versions: Arc<Versions>) -> Self
+        ensures { result ≡ record { book = book; marks = []; is_stopped = false } }
     {
-        Ok(Shared {
+        Shared {
             book,
             is_stopped: false,
             edits: 0,
-            versions: Arc::new(alloc, Versions::new(alloc)?)?,
+            versions,
             marks: Marks::new(alloc),
-        })
+        }
     }
 
     // How many versions there are, as far as this thread sees.
@@ -178,4 +177,9 @@ impl Shared {
         };
         Ok((page, read))
     }
+}
+
+// Versions of which there is none, for a page's callers to share.
+pub(crate) fn new_versions(alloc: Global) -> Result<Arc<Versions>, AllocError> {
+    Ok(Arc::new(alloc, Versions::new(alloc)?)?)
 }
