@@ -273,6 +273,20 @@ impl Book {
         Ok(())
     }
 
+    /// How many questions have an entry, current or outdated.
+    pub fn kept(&self) -> u64
+        ensures { result ≡ length self.now.entries }
+    {
+        self.cache.len() as u64
+    }
+
+    /// How many entries are current. Linear in the number of entries. Does not allocate.
+    pub fn current(&self) -> u64
+        ensures { result ≡ count_by (λ e. e.is_current) self.now.entries }
+    {
+        self.cache.current() as u64
+    }
+
     /// How many entries are queued. No id is queued twice, or both queued and leased; what is queued is
     /// outdated, and each outdated entry is queued or leased.
     pub fn queued(&self) -> u64

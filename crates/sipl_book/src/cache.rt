@@ -79,6 +79,20 @@ impl Cache {
         self.entries.entries().get(question)
     }
 
+    /// How many entries there are.
+    pub(crate) fn len(&self) -> usize
+        ensures { result ≡ length self.now.entries }
+    {
+        self.entries.entries().len()
+    }
+
+    /// How many entries are current. Linear in their number.
+    pub(crate) fn current(&self) -> usize
+        ensures { result ≡ count_by (λ e. e.is_current) self.now.entries }
+    {
+        self.entries.entries().current()
+    }
+
     /// How many entries are queued.
     pub(crate) fn queued(&self) -> usize
         ensures count { result ≡ length self.now.queue.queued }

@@ -81,6 +81,14 @@ impl Entries {
         self.table.len()
     }
 
+    /// How many current entries there are. Linear in the number of entries. Does not allocate.
+    pub(crate) fn current(&self) -> usize
+        ensures { result ≡ count_by (λ e. e.is_current) self.now }
+    {
+        let entries = self.table.values().as_slice();
+        entries.iter().filter(|entry| entry.is_current()).count()
+    }
+
     /// How many current entries have the key in their evidence. Linear in the number of entries. Does
     /// not allocate.
     pub(crate) fn dependents(&self, key: &Key) -> usize

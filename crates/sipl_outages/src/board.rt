@@ -8,6 +8,7 @@ ghost use Rattle.sipl_outages.specs.Board.{IsConsistent, Makes};
 
 use crate::fault::BoardFault;
 use indexmap::IndexMap;
+use indexmap::map::Slice;
 use sipl_choice::Endpoint;
 use std::alloc::{AllocError, Global};
 use std::marker::Model;
@@ -95,6 +96,15 @@ impl Board {
         ensures consistent { IsConsistent self.now }
     {
         self.ends.contains_key(endpoint)
+    }
+
+    /// The held endpoints with the ends of their holds, in milliseconds, in the order in which the holds
+    /// began.
+    pub fn ends(&self) -> Slice<'_, Endpoint, u64>
+        ensures ends { result ≡ self.now.holds.ends }
+        ensures consistent { IsConsistent self.now }
+    {
+        self.ends.as_slice()
     }
 
     /// Whether the two boards have the same time, and hold the same endpoints to the same ends, in the

@@ -37,6 +37,6 @@ pub use ledger::Ledger;
 pub use pass::Pass;
 pub use receipt::Receipt;
 pub use receipts::Receipts;
-pub use service::{MAX_TRIES, Service};
+pub use service::{EntryCounts, MAX_TRIES, Service};
 pub use told::Told;
 pub use versions::{AreSets, Versions};

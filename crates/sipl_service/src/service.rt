@@ -29,6 +29,17 @@ const LOOKS: u32 = 400;
 
 const PAUSES: u32 = 8;
 
+/// How many answers a service keeps.
+#[derive(Clone, Copy, Debug, PartialEq, Eq)]
+pub struct EntryCounts {
+    /// The questions that have an answer, current or outdated.
+    pub kept: u64,
+    /// Those whose answer is current.
+    pub current: u64,
+    /// Those that are to be looked up again, and that no worker has leased.
+    pub queued: u64,
+}
+
 /// A book that threads share (RFC 3263, 4), for one client and one policy on held endpoints. Contracts
 /// see the client's abilities, the policy, and how often a lookup tries to commit.
 #[derive(Drop)]
@@ -122,6 +133,17 @@ impl Service {
     /// It is only a measure of the memory that they use, so it has no contract.
     pub fn version_count<R: Wait>(&self, rt: &R) -> usize {
         self.lock(rt).version_count()
+    }
+
+    /// How many answers are kept, and how many of them are current or queued. Linear in the number of
+    /// kept answers, with the lock held. They are only measures, so this has no contract.
+    pub fn entry_counts<R: Wait>(&self, rt: &R) -> EntryCounts {
+        let shared = self.lock(rt);
+        EntryCounts {
+            kept: shared.book.kept(),
+            current: shared.book.current(),
+            queued: shared.book.queued(),
+        }
     }
 
     /// A pass for one caller, which has seen nothing. Does not allocate.
