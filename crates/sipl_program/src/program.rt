@@ -204,7 +204,9 @@ fn serve_new_book<R: Input + Print + AllocGlobal>(
 {
     let limits = settings.limits();
     let mut book = Book::new(rt.alloc(), settings.abilities, &limits, settings.held);
-    serve_streams(rt, &mut book)
+    let ended = serve_streams(rt, &mut book);
+    drop(book);
+    ended
 }
 
 // Serves a session at a book on standard input and output.
