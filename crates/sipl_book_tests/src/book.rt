@@ -64,6 +64,7 @@ fn play(rt: &impl Abort, alloc: Global, entries: usize, journal: usize, scenario
     };
     let mut book = new_book(rt, alloc, entries, journal, held);
     run(rt, alloc, &mut book, scenario);
+    drop(book);
 }
 
 // A book for a client of TCP and UDP over IPv4.

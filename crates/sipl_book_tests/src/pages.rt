@@ -56,6 +56,7 @@ fn play(rt: &impl Abort, alloc: Global, journal: usize, first: u64, scenario: Sc
     };
     let mut book = Book::new(alloc, abilities(rt, alloc), &limits, Held::Out);
     run(rt, alloc, &mut book, scenario);
+    drop(book);
 }
 
 fn run(rt: &impl Abort, alloc: Global, book: &mut Book, scenario: Scenario) {

@@ -22,7 +22,9 @@ fn find(alloc: Global, book: &mut Book, uri: &[u8]) -> anyhow::Result<Answer> {
 fn targets(alloc: Global, uri: &[u8]) -> anyhow::Result<Answer> {
     let abilities = Abilities::new(vec![in alloc; Transport::Udp]?, Families::V4)?;
     let mut book = Book::new(alloc, abilities, &Limits::greatest(), Held::Out);
-    find(alloc, &mut book, uri)
+    let answer = find(alloc, &mut book, uri);
+    drop(book);
+    answer
 }
 
 #[test]

@@ -305,6 +305,7 @@ fn play_by_chance(rt: &impl Abort, alloc: Global, seed: u64, workers: usize, cou
     let held = numbers.held();
     let mut world = new_world(rt, alloc, abilities, workers, held);
     play_beside(rt, alloc, numbers, workers, &mut world, counts);
+    drop(world);
 }
 
 fn new_world(

@@ -84,6 +84,7 @@ fn run(
 {
     let mut world = new_world(rt, alloc, entries, journal, workers);
     make(rt, alloc, &mut world, scenario);
+    drop(world);
 }
 
 fn make(rt: &impl Abort, alloc: Global, world: &mut World, scenario: Scenario) {

@@ -307,6 +307,7 @@ struct Counts {
 fn play_order(rt: &impl Abort, materials: &Materials, order: &Order, counts: &mut Counts) {
     let mut world = new_world(rt, materials.alloc, MAX_ENTRIES, MAX_EVENTS, 2);
     play_in(rt, materials, &mut world, order, counts);
+    drop(world);
 }
 
 fn play_in(

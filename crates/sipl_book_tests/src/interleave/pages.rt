@@ -58,6 +58,7 @@ fn run(
         "out of memory",
     );
     make(rt, alloc, &mut world, is_one_play, script, left);
+    drop(world);
 }
 
 fn make(

@@ -214,7 +214,9 @@ fn first_of(rt: &impl Abort, alloc: Global, form: Form) -> Page
     requires { form.first ≤ 2 ^ 52 - 2 ^ 20 }
 {
     let mut book = book_of(rt, alloc, form);
-    page_of(rt, alloc, &mut book, form.record)
+    let page = page_of(rt, alloc, &mut book, form.record);
+    drop(book);
+    page
 }
 
 // The second page of a book, taken as the book ends.
