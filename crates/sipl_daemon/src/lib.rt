@@ -1,0 +1,48 @@
+//! The daemon: sessions without end over TCP and Unix sockets, at one service, until it is told to stop.
+#![tactic(auto)]
+
+mod address;
+mod archive;
+mod arguments;
+mod changes;
+mod claimer;
+mod claims;
+mod clients;
+mod close;
+mod control;
+mod counts;
+mod daemon;
+mod descriptors;
+mod desk;
+mod edits;
+mod fault;
+mod holds;
+mod input;
+mod items;
+mod listener;
+mod meter;
+mod output;
+mod pages;
+mod plain;
+mod program;
+mod record_text;
+mod replay;
+mod report;
+mod server;
+mod session;
+mod settings;
+mod source;
+mod state;
+mod stop;
+mod stream;
+mod tally;
+mod tell;
+mod text;
+mod time;
+
+pub use address::Address;
+pub use fault::{ConnectionFault, DeskFault};
+pub use program::{WatchesInput, start, stop_at_end};
+pub use server::Host;
+pub use settings::{Clocks, DaemonSettings};
+pub use stop::Stop;
