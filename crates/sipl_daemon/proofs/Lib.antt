@@ -1,3 +1,1 @@
 pub mod Holding
-pub mod Paging
-pub mod Words

@@ -1,10 +1,8 @@
--- The holds that the events of a journal lead to.
+-- The holds that calls lead to.
 use Rattle.std.specs.Prelude.{ℕ, ◌+◌, ◌-◌, ◌^◌, max, min, List, [], ◌∷◌, if◌then◌else◌, ◌==◌}
 use Rattle.sipl_choice.specs.Endpoints.{same_endpoint}
 use Rattle.sipl_choice.specs.declared.endpoint.Endpoint.{Endpoint}
-use Rattle.sipl_outages.specs.Holds.{Holds, after_advance, after_release}
-use Rattle.sipl_book.specs.declared.event.Event.{Event}
-use Rattle.sipl_book.specs.declared.event.Event.TheVariants.{Change, Hold, Release, Advance, Answer}
+use Rattle.sipl_outages.specs.Holds.{Holds}
 use Rattle.sipl_daemon.specs.declared.holds.Holds.{Holds as HoldsOfDaemon}
 
 -- the time, and the holds with their ends
@@ -23,11 +21,3 @@ abbrev pub after_hold : Endpoint → ℕ → Holds → Holds
 after_hold endpoint ms holds =
     if ms == 0 then holds
     else record holds { ends = held_to endpoint (min (holds.now + ms) (2 ^ 64 - 1)) holds.ends }
-
--- the holds and the time after an event that was accepted
-abbrev pub after_event : Holds → Event → Holds
-after_event holds (Change edit) = holds
-after_event holds (Hold endpoint ms) = after_hold endpoint ms holds
-after_event holds (Release endpoint) = after_release endpoint holds
-after_event holds (Advance to) = after_advance to holds
-after_event holds (Answer question words answer) = holds

@@ -1,7 +1,3 @@
-pub mod Archive
 pub mod Faults
 pub mod Holding
-pub mod Plain
-pub mod Replies
 pub mod SessionDesk
-pub mod Text

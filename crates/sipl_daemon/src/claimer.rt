@@ -1,5 +1,5 @@
 //! The thread that claims pages, and writes states.
-use crate::claims::{Claimed, Claims};
+use crate::claims::Claimed;
 use crate::close::CloseFault;
 use crate::daemon::Daemon;
 use crate::server::Host;
@@ -21,7 +21,7 @@ pub(crate) fn claim_pages<H: Host>(host: &H, daemon: &Daemon) {
             return;
         }
         match daemon.pages.claim_next(host, &mut claims) {
-            Ok(Claimed::Page(turned)) => keep_page(host, daemon, &claims, &turned),
+            Ok(Claimed::Page(turned)) => keep_page(host, daemon, &turned),
             Ok(Claimed::NotYet) => daemon.stop.pause(host, Duration::from_millis(PATIENCE)),
             Ok(Claimed::Nothing) => daemon.pages.wait_for_page(host),
             Err(fault) => daemon.fail(host, CloseFault::Claim(fault)),
@@ -31,7 +31,7 @@ pub(crate) fn claim_pages<H: Host>(host: &H, daemon: &Daemon) {
 }
 
 // Archives a page that was claimed, and writes the state after it, if these are to be.
-fn keep_page<H: Host>(host: &H, daemon: &Daemon, claims: &Claims, turned: &Turned) {
+fn keep_page<H: Host>(host: &H, daemon: &Daemon, turned: &Turned) {
     if let Some(archive) = &daemon.archive {
         if let Err(error) = archive.keep(host, &turned.page) {
             daemon.fail(host, CloseFault::Archive(error));
@@ -41,32 +41,19 @@ fn keep_page<H: Host>(host: &H, daemon: &Daemon, claims: &Claims, turned: &Turne
     let Some(mark) = turned.mark else {
         return;
     };
-    if let Err(error) = write_at(host, daemon, claims, &turned.page, mark) {
+    if let Err(error) = write_at(host, daemon, &turned.page, mark) {
         daemon.fail(host, CloseFault::State(error));
     }
 }
 
 // Writes the state after a page, and drops the changes before it. First the mark is in the file of changes.
-fn write_at<H: Host>(
-    host: &H,
-    daemon: &Daemon,
-    claims: &Claims,
-    page: &Page,
-    mark: Mark,
-) -> io::Result<()> {
+fn write_at<H: Host>(host: &H, daemon: &Daemon, page: &Page, mark: Mark) -> io::Result<()> {
     let (Some(changes), Some(path)) = (&daemon.source.changes, &daemon.state) else {
         return Ok(());
     };
     changes.sync(host, mark.begin)?;
     let (alloc, state) = (daemon.alloc, page.result());
-    let len = write_state(
-        host,
-        alloc,
-        path.as_str(),
-        mark.number,
-        state,
-        &claims.holds,
-    )?;
+    let len = write_state(host, alloc, path.as_str(), mark.number, state)?;
     changes.lock(host).set_state_len(len);
     changes.trim(host, mark.number, mark.begin)
 }

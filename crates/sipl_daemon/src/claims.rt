@@ -1,8 +1,7 @@
 //! What was claimed.
-use crate::archive::Archive;
 use crate::close::CloseFault;
-use crate::holds::Holds;
 use crate::source::Turned;
+use sipl_archive::Archive;
 use sipl_book::Page;
 use sipl_service::{ClaimFault, Ledger, Receipts};
 use std::alloc::Global;
@@ -10,12 +9,11 @@ use std::collections::VecDeque;
 use std::fs::File;
 use std::rt::Files;
 
-/// What was claimed, the page that is to be claimed next, and the holds after what was claimed.
+/// What was claimed, and the page that is to be claimed next.
 #[derive(Drop)]
 pub(crate) struct Claims {
     ledger: Ledger,
     next: Option<Turned>,
-    pub(crate) holds: Holds,
 }
 
 /// What became of a try to claim the next page.
@@ -35,7 +33,6 @@ impl Claims {
         Claims {
             ledger: Ledger::new(alloc),
             next: None,
-            holds: Holds::new(alloc),
         }
     }
 
@@ -64,7 +61,7 @@ impl Claims {
         let Some(turned) = self.next.take() else {
             return Ok(Claimed::Nothing);
         };
-        match self.claim_page(&turned.page) {
+        match self.ledger.claim(&turned.page) {
             Ok(()) => Ok(Claimed::Page(turned)),
             Err(fault) => {
                 self.next = Some(turned);
@@ -119,22 +116,13 @@ impl Claims {
         archive: Option<&Archive>,
         page: &Page,
     ) -> Result<(), CloseFault> {
-        self.claim_page(page)?;
+        self.ledger.claim(page)?;
         let Some(archive) = archive else {
             return Ok(());
         };
         match archive.keep(rt, page) {
             Ok(()) => Ok(()),
             Err(error) => Err(CloseFault::Archive(error)),
-        }
-    }
-
-    // Claims a page.
-    fn claim_page(&mut self, page: &Page) -> Result<(), ClaimFault> {
-        self.ledger.claim(page)?;
-        match self.holds.follow(page.events()) {
-            Ok(()) => Ok(()),
-            Err(_) => Err(ClaimFault::Memory),
         }
     }
 }

@@ -1,11 +1,10 @@
 //! The end of a daemon: its service is closed, all pages are claimed, and the state is written.
-use crate::archive::Archive;
 use crate::changes::Changes;
-use crate::claims::Claims;
 use crate::daemon::Daemon;
 use crate::pages::Pages;
 use crate::source::Source;
 use crate::state::end_state;
+use sipl_archive::Archive;
 use sipl_book::Page;
 use sipl_service::{ClaimFault, Pass, Service, ServiceFault};
 use std::alloc::Global;
@@ -48,30 +47,30 @@ impl Daemon {
             ..
         } = self;
         let Source { service, changes } = source;
-        let (last, claims) = match fault.into_inner() {
+        let last = match fault.into_inner() {
             Some(fault) => return Err(fault),
             None => close_pages(rt, service, pages, mover.into_inner(), archive.as_ref())?,
         };
-        end_changes(rt, alloc, changes.as_ref(), state.as_ref(), &last, &claims)
+        end_changes(rt, alloc, changes.as_ref(), state.as_ref(), &last)
     }
 }
 
-// Closes a service, and claims the events of all pages. Returns the last page, and what was claimed.
+// Closes a service, and claims the events of all pages. Returns the last page.
 fn close_pages<R: Files<File = File> + Wait>(
     rt: &R,
     service: Service,
     pages: Pages,
     mover: Pass,
     archive: Option<&Archive>,
-) -> Result<(Page, Claims), CloseFault> {
+) -> Result<Page, CloseFault> {
     let last = match service.close() {
         Ok(last) => last,
         Err((fault, _service)) => return Err(CloseFault::Close(fault)),
     };
     let mut mover = mover;
     let _ = pages.hand_over(rt, &mut mover);
-    let claims = pages.close(rt, archive, &last)?;
-    Ok((last, claims))
+    pages.close(rt, archive, &last)?;
+    Ok(last)
 }
 
 // Writes the last state, where there is a file of changes. Returns how many events there were.
@@ -81,14 +80,13 @@ fn end_changes<R: Files<File = File> + Wait>(
     changes: Option<&Changes>,
     path: Option<&String>,
     last: &Page,
-    claims: &Claims,
 ) -> Result<u64, CloseFault> {
     // The first event has the number 0.
     let events = last.next();
     let (Some(changes), Some(path)) = (changes, path) else {
         return Ok(events);
     };
-    match end_state(rt, alloc, changes, path.as_str(), last, &claims.holds) {
+    match end_state(rt, alloc, changes, path.as_str(), last) {
         Ok(()) => Ok(events),
         Err(error) => Err(CloseFault::State(error)),
     }

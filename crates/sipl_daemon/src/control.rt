@@ -3,7 +3,7 @@ use crate::clients::Client;
 use crate::daemon::Daemon;
 use crate::server::Host;
 use crate::stream::Stream;
-use crate::text::hold_text;
+use sipl_archive::hold_text;
 use std::alloc::{AllocError, Global};
 use std::fmt::Write as _;
 use std::io::{BufRead, BufReader, Read, Write};

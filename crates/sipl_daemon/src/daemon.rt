@@ -3,7 +3,6 @@ ghost use Rattle.std.specs.Prelude.{IfOk};
 ghost use Rattle.sipl_service.specs.Passes.{GetsReceipt};
 ghost use Rattle.sipl_service.specs.Telling.{IsToldFor, event_of};
 
-use crate::archive::Archive;
 use crate::changes::Changes;
 use crate::clients::Clients;
 use crate::close::CloseFault;
@@ -16,6 +15,7 @@ use crate::stop::Stop;
 use crate::stream::Stream;
 use crate::tally::Tally;
 use crate::time::HostTime;
+use sipl_archive::Archive;
 use sipl_book::BookFault;
 use sipl_service::{OpenGate, Pass, Service, ServiceFault, Told};
 use sipl_srv::Draws;

@@ -6,7 +6,7 @@ ghost use Rattle.sipl_service.specs.Passes.{GetsReceipt};
 
 use crate::daemon::Daemon;
 use crate::tally::Step;
-use crate::text::{clock_text, edit_text, hold_text, release_text};
+use sipl_archive::{clock_text, edit_text, hold_text, release_text};
 use sipl_book::{Done, Edit};
 use sipl_choice::Endpoint;
 use sipl_service::{Pass, ServiceFault};

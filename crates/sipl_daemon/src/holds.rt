@@ -1,15 +1,14 @@
-ghost use Rattle.std.specs.Prelude.{◌≡◌, ◌<◌, fold, nat_lt, not, position, vec_capacity, vec_len};
+ghost use Rattle.std.specs.Prelude.{◌≡◌, ◌<◌, nat_lt, not, position, vec_capacity, vec_len};
 ghost use Rattle.std.specs.Prelude.{IfSome, OnOk};
 ghost use Rattle.sipl_choice.specs.Endpoints.{same_endpoint};
 ghost use Rattle.sipl_outages.specs.Holds.{after_advance, after_release, no_holds};
-ghost use Rattle.sipl_daemon.specs.Holding.{after_event, after_hold, holds_of};
+ghost use Rattle.sipl_daemon.specs.Holding.{after_hold, holds_of};
 
-use sipl_book::Event;
 use sipl_choice::Endpoint;
 use std::alloc::{AllocError, Global};
 
-/// The endpoints that are held, each until a time, and the present time, as the events of a journal leave
-/// them.
+/// The endpoints that are held, each until a time, and the present time, as the calls that
+/// were accepted leave them.
 #[derive(Drop)]
 pub(crate) struct Holds {
     pub(crate) ends: Vec<(Endpoint, u64)>,
@@ -24,31 +23,6 @@ impl Holds {
         Holds {
             ends: Vec::new(alloc),
             time: 0,
-        }
-    }
-
-    /// Goes on with events that were accepted.
-    pub(crate) fn follow(&mut self, events: &[Event]) -> Result<(), AllocError>
-        ensures { OnOk result (holds_of self.new
-            ≡ fold after_event (holds_of self.old) events.now) }
-    {
-        for event in events {
-            self.reserve()?;
-            self.follow_event(event);
-        }
-        Ok(())
-    }
-
-    // Goes on with an event that was accepted.
-    fn follow_event(&mut self, event: &Event)
-        requires space { vec_len self.old.ends < vec_capacity self.old.ends }
-        ensures { holds_of self.new ≡ after_event (holds_of self.old) event.now }
-    {
-        match event {
-            Event::Hold(endpoint, ms) => self.hold(endpoint, *ms),
-            Event::Release(endpoint) => self.release(endpoint),
-            Event::Advance(to) => self.advance(*to),
-            Event::Change(_) | Event::Answer(..) => {}
         }
     }
 

@@ -2,7 +2,6 @@
 #![tactic(auto)]
 
 mod address;
-mod archive;
 mod arguments;
 mod changes;
 mod claimer;
@@ -18,15 +17,11 @@ mod edits;
 mod fault;
 mod holds;
 mod input;
-mod items;
 mod listener;
 mod meter;
 mod output;
 mod pages;
-mod plain;
 mod program;
-mod record_text;
-mod replay;
 mod report;
 mod server;
 mod session;
@@ -37,7 +32,6 @@ mod stop;
 mod stream;
 mod tally;
 mod tell;
-mod text;
 mod time;
 
 pub use address::Address;

@@ -1,8 +1,8 @@
 //! The limit on the lines that a `zone` line takes.
 ghost use Rattle.std.specs.Prelude.{◌<◌, length, IfOk, IfSome};
 
-use crate::items::taken_by;
 use memchr::memchr;
+use sipl_archive::taken_by;
 use sipl_lines::MAX_LINE_LEN;
 use std::alloc::{AllocError, Global};
 

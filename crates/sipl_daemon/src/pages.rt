@@ -3,10 +3,10 @@
 ghost use Rattle.std.specs.Prelude.{IfOk};
 ghost use Rattle.sipl_daemon.specs.SessionDesk.{IsExtent, IsHandedOver};
 
-use crate::archive::Archive;
 use crate::claims::{Claimed, Claims};
 use crate::close::CloseFault;
 use crate::source::{Source, Turned};
+use sipl_archive::Archive;
 use sipl_book::{Extent, Page};
 use sipl_service::{ClaimFault, Pass, Receipts, ServiceFault};
 use std::alloc::Global;
@@ -157,16 +157,15 @@ impl Pages {
     }
 
     /// Claims all pages that were turned, and then the last one, when all receipts were handed over, and
-    /// archives them. Returns what was claimed.
+    /// archives them.
     pub(crate) fn close<R: Files<File = File>>(
         self,
         rt: &R,
         archive: Option<&Archive>,
         last: &Page,
-    ) -> Result<Claims, CloseFault> {
+    ) -> Result<(), CloseFault> {
         let (mut claims, handed, turned) = self.into_parts();
-        claims.end(rt, archive, handed, turned, last)?;
-        Ok(claims)
+        claims.end(rt, archive, handed, turned, last)
     }
 
     // What was claimed, the receipts that were handed over since then, and the pages that were turned.

@@ -1,16 +1,15 @@
 //! The program: its arguments, its settings, and the daemon from its start to its end.
 use crate::address::Address;
-use crate::archive::Archive;
 use crate::arguments::{Call, read_arguments};
 use crate::daemon::Daemon;
 use crate::listener::Listener;
-use crate::replay::replay;
 use crate::report::{Fault, report};
 use crate::server::{Host, serve_all};
 use crate::settings::DaemonSettings;
 use crate::state::restore;
 use crate::stop::Stop;
 use crate::tell::tell;
+use sipl_archive::{Archive, replay};
 use std::alloc::Global;
 use std::io;
 use std::io::{ErrorKind, Input};

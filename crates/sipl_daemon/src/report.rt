@@ -1,8 +1,8 @@
 //! Faults of the program, and what is said of them.
 use crate::address::Address;
 use crate::close::CloseFault;
-use crate::replay::ReplayFault;
 use crate::state::StateFault;
+use sipl_archive::ReplayFault;
 use sipl_lines::SettingsFault;
 use std::alloc::{AllocError, AllocFailed};
 use std::io;

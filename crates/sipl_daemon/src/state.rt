@@ -2,13 +2,12 @@
 use crate::changes::{Changes, replace};
 use crate::daemon::Daemon;
 use crate::desk::SessionDesk;
-use crate::holds::Holds;
-use crate::items::{is_change, item_of, replies_to, reply_of, split_line};
 use crate::listener::take_lock;
 use crate::server::Host;
-use crate::text::{mark_text, state_head, write_holds, write_zones};
+use sipl_archive::{
+    Made, find_mark, made_of, mark_of, mark_text, replies_to, split_line, state_text, whole_len,
+};
 use sipl_book::{Page, State};
-use sipl_records::read_number;
 use std::alloc::{AllocError, Global};
 use std::fs::File;
 use std::io::ErrorKind;
@@ -108,11 +107,8 @@ pub(crate) fn write_state<R: Files<File = File>>(
     path: &str,
     mark: u64,
     state: &State,
-    holds: &Holds,
 ) -> io::Result<u64> {
-    let mut text = state_head(alloc, mark, holds.time)?;
-    write_zones(alloc, &mut text, state.apexes(), state.records())?;
-    write_holds(alloc, &mut text, holds)?;
+    let text = state_text(alloc, mark, state)?;
     replace(rt, alloc, path, &text, &[])?;
     Ok(text.len() as u64)
 }
@@ -124,22 +120,11 @@ pub(crate) fn end_state<R: Files<File = File> + Wait>(
     changes: &Changes,
     path: &str,
     last: &Page,
-    holds: &Holds,
 ) -> io::Result<()> {
     let mark = changes.lock(rt).push_mark()?;
     changes.sync(rt, mark.begin)?;
-    write_state(rt, alloc, path, mark.number, last.result(), holds)?;
+    write_state(rt, alloc, path, mark.number, last.result())?;
     changes.trim(rt, mark.number, mark.begin)
-}
-
-// What the changes of a text came to: how many octets and lines those that were made have, the last mark, and
-// whether the next one was refused.
-#[derive(Drop)]
-struct Made {
-    octets: usize,
-    lines: u64,
-    mark: Option<u64>,
-    is_refused: bool,
 }
 
 // Makes the changes of a text, but for the last one where that is not whole.
@@ -150,68 +135,9 @@ fn make_lines<H: Host>(host: &H, daemon: &Daemon, text: &[u8]) -> Made {
     let replies = replies_to(daemon.alloc, &mut desk, whole);
     desk.end();
     match replies {
-        Some(replies) => accepted(whole, &replies),
-        None => accepted(whole, &[]),
+        Some(replies) => made_of(whole, &replies),
+        None => made_of(whole, &[]),
     }
-}
-
-// How many octets the whole items of a text have.
-fn whole_len(text: &[u8]) -> usize {
-    let mut octets = 0usize;
-    for _ in 0..text.len() {
-        let Some((len, _)) = item_of(text.get(octets..).unwrap_or(&[])) else {
-            break;
-        };
-        octets = octets.saturating_add(len);
-    }
-    octets
-}
-
-// What the changes of a text came to, by the replies to them.
-fn accepted(text: &[u8], replies: &[u8]) -> Made {
-    let mut made = Made {
-        octets: 0,
-        lines: 0,
-        mark: None,
-        is_refused: false,
-    };
-    let mut replies = replies;
-    for _ in 0..text.len() {
-        let rest = text.get(made.octets..).unwrap_or(&[]);
-        let Some((len, lines)) = item_of(rest) else {
-            break;
-        };
-        let line = split_line(rest).0;
-        match (mark_of(line), reply_of(replies)) {
-            (Some(mark), _) => made.mark = Some(mark),
-            (None, Some(end)) if is_change(line) && replies.starts_with(b"ok ") => {
-                replies = replies.get(end..).unwrap_or(&[]);
-            }
-            _ => {
-                made.is_refused = true;
-                break;
-            }
-        }
-        made.octets = made.octets.saturating_add(len);
-        made.lines = made.lines.saturating_add(lines);
-    }
-    made
-}
-
-// How many octets and lines there are up to the mark of this number, with it.
-fn find_mark(text: &[u8], mark: u64) -> Option<(usize, u64)> {
-    let mut octets = 0usize;
-    let mut count = 0u64;
-    for _ in 0..text.len() {
-        let rest = text.get(octets..)?;
-        let (len, lines) = item_of(rest)?;
-        octets = octets.saturating_add(len);
-        count = count.saturating_add(lines);
-        if mark_of(split_line(rest).0) == Some(mark) {
-            return Some((octets, count));
-        }
-    }
-    None
 }
 
 // The octets of a file; none where there is no file.
@@ -221,9 +147,4 @@ fn read_file<R: Files<File = File>>(rt: &R, alloc: Global, path: &str) -> io::Re
         Err(error) if error.kind() == ErrorKind::NotFound => Ok(Vec::new(alloc)),
         Err(error) => Err(error),
     }
-}
-
-// The number of a mark.
-fn mark_of(line: &[u8]) -> Option<u64> {
-    read_number(line.strip_prefix(b"# page ".as_slice())?, u64::MAX)
 }

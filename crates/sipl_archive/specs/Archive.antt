@@ -1,0 +1,47 @@
+-- The first and the last lines of an archived page.
+use Rattle.std.specs.Prelude.{◌≡◌, ℕ, ◌^◌, ◌-◌, List, [], ◌∷◌, ◌++◌, Option, None, Some, codes, flat_map}
+use Rattle.std.specs.Io.KnownBytes.{Appends}
+use Rattle.sha2.specs.Hashers.{Holds256}
+use Rattle.sha2.specs.Sha256.{sha256}
+use Rattle.sha2.specs.declared.Sha256.{Sha256}
+use Rattle.hex.specs.Hex.{encode_lower}
+use Rattle.sipl_names.specs.Labels.{Octets}
+use Rattle.sipl_records.specs.Numbers.{number_of}
+use Rattle.sipl_book.specs.declared.event.Event.{Event}
+use Rattle.sipl_lines.specs.ReplyText.{number_field}
+use Rattle.sipl_archive.specs.Text.{event_lines}
+
+-- `siplocd page FIRST COUNT`, the client and the policy as settings, and an empty line
+abbrev pub page_head : ℕ → ℕ → Octets → Octets
+page_head first count client =
+    codes "siplocd page" ++ number_field first ++ number_field count ++ 10 ∷ client ++ 10 ∷ []
+
+-- `sha256 DIGEST`
+abbrev pub digest_line : List ℕ → Octets
+digest_line digest = codes "sha256 " ++ encode_lower digest ++ 10 ∷ []
+
+-- the text of a page that begins with these lines, without the digest: the lines of its events
+abbrev pub body_text : Octets → List Event → Octets
+body_text head events = head ++ flat_map event_lines events
+
+-- the text of a page that begins with these lines: the last one is the digest of all before it
+abbrev pub page_text : Octets → List Event → Octets
+page_text head events = body_text head events ++ digest_line (sha256 (body_text head events))
+
+-- a piece of a text is written, and digested; nothing of it is left
+pub record WritesPiece (old new : Option Octets) (before after : Sha256) (piece left : Octets)
+    : Type 0 where
+  pub written : Appends old new piece
+  pub digested : (text : Octets) → Holds256 before text → Holds256 after (text ++ piece)
+  pub empty : left ≡ []
+
+-- two numbers, if both are numbers
+abbrev pub both : Option ℕ → Option ℕ → Option (ℕ × ℕ)
+both (Some first) (Some count) = Some (first, count)
+both _ _ = None
+
+-- the number of a page's first event and of its events, by the fields of its first line after the first two
+abbrev pub extent_in : List Octets → Option (ℕ × ℕ)
+extent_in (first ∷ count ∷ []) =
+    both (number_of first (2 ^ 64 - 1)) (number_of count (2 ^ 64 - 1))
+extent_in _ = None

@@ -1,0 +1,4 @@
+pub mod Archive
+pub mod Plain
+pub mod Replies
+pub mod Text

@@ -1,0 +1,188 @@
+//! The archive: each page of the journal in a file of its own, once it is claimed.
+ghost use Rattle.std.specs.Prelude.{◌≡◌, IfOk, OnOk};
+ghost use Rattle.std.specs.Io.KnownBytes.{Appends};
+ghost use Rattle.sipl_archive.specs.Archive.{WritesPiece, digest_line, page_head, page_text};
+
+use crate::text::{write_event, write_number};
+use sha2::{Digest, Sha256};
+use sipl_book::{Event, Page};
+use sipl_choice::{Abilities, Families};
+use sipl_outages::Held;
+use std::alloc::{AllocError, Global};
+use std::fmt::Write as _;
+use std::fs::{File, OpenOptions};
+use std::io::{ErrorKind, Write};
+use std::os::unix::fs::OpenOptionsExt;
+use std::rt::Files;
+use std::{fs, io};
+
+// How many octets of a page are written at a time.
+const PIECE_LEN: usize = 1 << 20;
+
+// The greatest number of a run, one for each start of a daemon.
+const MAX_RUN: u64 = 999_999;
+
+/// The folder of the pages. This daemon's are those of one run, of a number that no earlier run has.
+#[derive(Drop)]
+pub struct Archive {
+    alloc: Global,
+    // The folder, whose lock the daemon has.
+    file: File,
+    folder: String,
+    run: u64,
+    // The client and the policy of each page, as settings.
+    client: String,
+}
+
+impl Archive {
+    /// The archive in a folder, of a service for this client and policy.
+    pub fn open<R: Files<File = File>>(
+        rt: &R,
+        alloc: Global,
+        folder: &str,
+        abilities: &Abilities,
+        held: Held,
+    ) -> io::Result<Archive> {
+        let file = File::open(rt, folder)?;
+        if file.try_lock().is_err() {
+            return Err(io::Error::from(ErrorKind::ResourceBusy));
+        }
+        Ok(Archive {
+            alloc,
+            file,
+            folder: String::from_str(alloc, folder)?,
+            run: next_run(rt, alloc, folder)?,
+            client: client_text(alloc, abilities, held)?,
+        })
+    }
+
+    /// Writes a page into its file, which is there whole or not at all. One without events has none.
+    pub fn keep<R: Files<File = File>>(&self, rt: &R, page: &Page) -> io::Result<()> {
+        if page.events().is_empty() {
+            return Ok(());
+        }
+        let new = new_path(self.alloc, self.folder.as_str())?;
+        let path = page_path(self.alloc, self.folder.as_str(), self.run, page.first())?;
+        let mut file = OpenOptions::new()
+            .write(true)
+            .create(true)
+            .truncate(true)
+            .mode(0o600)
+            .open(rt, new.as_str())?;
+        let extent = page.extent();
+        let client = self.client.as_str();
+        let head = page_head(self.alloc, extent.first, extent.count, client)?;
+        write_page(self.alloc, &mut file, head, page.events())?;
+        file.sync_all()?;
+        drop(file);
+        fs::rename(rt, new.as_str(), path.as_str())?;
+        self.file.sync_all()
+    }
+}
+
+// Writes the text of a page in pieces, and its digest.
+fn write_page<W: Write>(
+    alloc: Global,
+    out: &mut W,
+    head: Vec<u8>,
+    events: &[Event],
+) -> io::Result<()>
+    ensures { OnOk result (Appends (W.contents out.old) (W.contents out.new)
+        (page_text head.items events.now)) }
+{
+    let mut digest = Sha256::new();
+    let mut text = head;
+    for event in events {
+        write_event(alloc, &mut text, event)?;
+        if text.len() >= PIECE_LEN {
+            write_piece(out, &mut digest, &mut text)?;
+        }
+    }
+    write_piece(out, &mut digest, &mut text)?;
+    out.write_all(&digest_line(alloc, &digest.finalize())?)
+}
+
+// Writes a piece of a page's text, and empties it.
+fn write_piece<W: Write>(out: &mut W, digest: &mut Sha256, text: &mut Vec<u8>) -> io::Result<()>
+    ensures { OnOk result (WritesPiece (W.contents out.old) (W.contents out.new)
+        digest.old digest.new text.old.items text.new.items) }
+{
+    digest.update(text.as_slice());
+    out.write_all(text)?;
+    text.clear();
+    Ok(())
+}
+
+// The least number that no run in a folder has.
+fn next_run<R: Files<File = File>>(rt: &R, alloc: Global, folder: &str) -> io::Result<u64> {
+    for run in 1..=MAX_RUN {
+        let path = page_path(alloc, folder, run, 0)?;
+        match fs::symlink_metadata(rt, path.as_str()) {
+            Ok(_) => {}
+            Err(error) if error.kind() == ErrorKind::NotFound => return Ok(run),
+            Err(error) => return Err(error),
+        }
+    }
+    Err(io::Error::from(ErrorKind::StorageFull))
+}
+
+// The path of a page of a run, by the number of its first event.
+fn page_path(alloc: Global, folder: &str, run: u64, first: u64) -> Result<String, AllocError> {
+    format!(in alloc; "{folder}/{run:06}-{first:016}")
+}
+
+// The path of the page that is being written. What is there was cut off.
+fn new_path(alloc: Global, folder: &str) -> Result<String, AllocError> {
+    format!(in alloc; "{folder}/new")
+}
+
+/// The last line of a page: the SHA-256 of all lines before it.
+pub(crate) fn digest_line(alloc: Global, digest: &[u8; 32]) -> Result<Vec<u8>, AllocError>
+    ensures { IfOk result (λ line. line.items ≡ digest_line digest.now) }
+{
+    let digits = hex::encode(alloc, digest.as_slice())?;
+    let mut line = Vec::new(alloc);
+    line.extend_from_slice(b"sha256 ")?;
+    line.extend_from_slice(digits.as_bytes())?;
+    line.push(b'\n')?;
+    Ok(line)
+}
+
+// The first lines of a page: its extent, the client and the policy as settings, and an empty line.
+fn page_head(alloc: Global, first: u64, count: u64, client: &str) -> Result<Vec<u8>, AllocError>
+    ensures { IfOk result (λ text. text.items ≡ page_head first count client.now) }
+{
+    let mut text = Vec::new(alloc);
+    text.extend_from_slice(b"siplocd page")?;
+    write_number(alloc, &mut text, first)?;
+    write_number(alloc, &mut text, count)?;
+    text.push(b'\n')?;
+    text.extend_from_slice(client.as_bytes())?;
+    text.push(b'\n')?;
+    Ok(text)
+}
+
+// The client and the policy, as settings.
+fn client_text(alloc: Global, abilities: &Abilities, held: Held) -> Result<String, AllocError> {
+    let mut text = String::new(alloc);
+    text.push_str("transports = [")?;
+    let mut is_first = true;
+    for transport in abilities.preference() {
+        text.push_str(if is_first { "\"" } else { ", \"" })?;
+        text.push_str(transport.name())?;
+        text.push('"')?;
+        is_first = false;
+    }
+    let families = match abilities.families() {
+        Families::V4 => "v4",
+        Families::V6 => "v6",
+        Families::V4ThenV6 => "v4v6",
+        Families::V6ThenV4 => "v6v4",
+    };
+    let held = match held {
+        Held::Out => "out",
+        Held::Last => "last",
+    };
+    write!(text, "]\nfamilies = \"{families}\"\nheld = \"{held}\"\n")?;
+    Ok(text)
+}

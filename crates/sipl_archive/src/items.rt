@@ -1,0 +1,99 @@
+//! The lines of a session, and which of them belong to one command or reply.
+ghost use Rattle.std.specs.Prelude.{◌≡◌, ◌⊎◌, ℕ, ◌<◌, ◌≤◌, [], ◌∷◌, ◌++◌, length, get_or, IfSome};
+ghost use Rattle.sipl_archive.specs.Replies.{AreReplies};
+
+use memchr::memchr;
+use sipl_lines::{Desk, MAX_LINE_LEN, MAX_ZONE_LINES, Tapped, serve};
+use sipl_records::{next_field, read_number};
+use std::alloc::Global;
+
+/// The first line of a text, without its end, and the rest; the whole and nothing where no line ends.
+pub fn split_line(text: &[u8]) -> (&[u8], &[u8])
+    ensures whole { (text.now ≡ result.0.now ++ 10 ∷ result.1.now)
+        ⊎ ((text.now ≡ result.0.now) × (result.1.now ≡ [])) }
+    ensures line { (i : ℕ) → i < length result.0.now → get_or result.0.now i 0 ≡ 10 → ⊥ }
+{
+    match memchr(b'\n', text) {
+        Some(end) => (&text[..end], &text[end + 1..]),
+        None => (text, &[]),
+    }
+}
+
+/// How many octets and lines the first command of a text has: a line, and after a `zone` line those that
+/// it takes. `None` where it is not whole.
+pub(crate) fn item_of(text: &[u8]) -> Option<(usize, u64)>
+    ensures some { IfSome result (λ item. 0 < item.0) }
+    ensures within { IfSome result (λ item. item.0 ≤ length text.now) }
+{
+    let end = memchr(b'\n', text)?;
+    let mut len = end.saturating_add(1);
+    let count = taken_by(text.get(..end)?);
+    for _ in 0..count {
+        let rest = text.get(len..)?;
+        len = len.saturating_add(memchr(b'\n', rest)?).saturating_add(1);
+    }
+    Some((len, count.saturating_add(1)))
+}
+
+/// How many lines after it a line takes, which has no LF: those of a zone's text after `zone APEX COUNT`,
+/// and else none.
+pub fn taken_by(line: &[u8]) -> u64 {
+    let line = line.strip_suffix(b"\r".as_slice()).unwrap_or(line);
+    if line.len() > MAX_LINE_LEN {
+        return 0;
+    }
+    match next_field(line) {
+        Some((b"zone", rest)) => zone_lines(rest).unwrap_or(0),
+        _ => 0,
+    }
+}
+
+// The count of `APEX COUNT`.
+fn zone_lines(fields: &[u8]) -> Option<u64> {
+    let (_apex, rest) = next_field(fields)?;
+    let (count, rest) = next_field(rest)?;
+    if next_field(rest).is_some() {
+        return None;
+    }
+    read_number(count, MAX_ZONE_LINES)
+}
+
+/// Whether a line is that of a change: an edit, a hold, a release, or a move of the clock.
+pub(crate) fn is_change(line: &[u8]) -> bool {
+    match next_field(line) {
+        Some((word, _)) => matches!(
+            word,
+            b"zone" | b"drop" | b"add" | b"del" | b"hold" | b"release" | b"clock"
+        ),
+        None => false,
+    }
+}
+
+/// How many octets the first reply of a text has: its lines up to the one that ends it. `None` where it is
+/// not whole.
+pub(crate) fn reply_of(text: &[u8]) -> Option<usize>
+    ensures { IfSome result (λ len. len ≤ length text.now) }
+{
+    let mut len = 0usize;
+    for _ in 0..text.len() {
+        let rest = text.get(len..)?;
+        len = len.saturating_add(memchr(b'\n', rest)?).saturating_add(1);
+        if let Some((b"ok" | b"none" | b"err", _)) = next_field(rest) {
+            return Some(len);
+        }
+    }
+    None
+}
+
+/// Serves a session on a text, and returns the replies. `None` where an allocation fails.
+pub fn replies_to<D: Desk>(alloc: Global, desk: &mut D, text: &[u8]) -> Option<Vec<u8>>
+    ensures { IfSome result
+        (λ replies. AreReplies D.rules text.now desk.old desk.new replies.items) }
+{
+    let mut reader = Tapped::new(text);
+    let mut writer = Tapped::new(Vec::new(alloc));
+    match serve(alloc, &mut reader, &mut writer, desk) {
+        Ok(_) => Some(writer.into_inner()),
+        Err(_) => None,
+    }
+}

@@ -1,0 +1,17 @@
+//! What a daemon writes and reads again: its changes as lines of a session, its state, and the pages of its
+//! journal, which are replayed.
+#![tactic(auto)]
+
+mod archive;
+mod items;
+mod plain;
+mod record_text;
+mod replay;
+mod state_text;
+mod text;
+
+pub use archive::Archive;
+pub use items::{replies_to, split_line, taken_by};
+pub use replay::{ReplayFault, replay};
+pub use state_text::{Made, find_mark, made_of, mark_of, state_text, whole_len};
+pub use text::{clock_text, edit_text, hold_text, mark_text, release_text};
