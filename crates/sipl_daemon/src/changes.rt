@@ -2,7 +2,8 @@
 ghost use Rattle.std.specs.Prelude.{◌≡◌, ◌≤◌, ◌+◌, ◌++◌, length, OnOk, vec_len, vec_capacity};
 
 use crate::source::Mark;
-use sipl_archive::mark_text;
+use sipl_archive::{mark_text, state_text};
+use sipl_book::State;
 use std::alloc::{AllocError, Global};
 use std::fs::{File, OpenOptions};
 use std::io::{ErrorKind, Read, Write};
@@ -14,15 +15,23 @@ use std::{fs, io, mem};
 // A state is written where the file of changes is longer than this, and longer than the state.
 const MIN_LEN: u64 = 1 << 20;
 
-/// The file of changes. Changes are made and appended under one lock, so they are in their order.
+/// The file of a state, and that of the changes since then. Changes are made and appended under one lock, so
+/// they are in their order.
 #[derive(Drop)]
 pub(crate) struct Changes {
     alloc: Global,
-    path: String,
-    // It has the lock of the state for as long as it is open.
-    _lock: File,
+    files: StateFiles,
     pending: Mutex<Pending>,
     written: Mutex<Written>,
+}
+
+/// Where a state is, and the changes since then.
+#[derive(Drop)]
+pub(crate) struct StateFiles {
+    pub(crate) state: String,
+    pub(crate) log: String,
+    // It has the lock of the state for as long as it is open.
+    pub(crate) lock: File,
 }
 
 /// The changes that are not in the file yet. All places are counted in octets from the first one that was
@@ -50,20 +59,18 @@ struct Written {
 }
 
 impl Changes {
-    /// The file, which has these octets, of which the last mark is this one, with the lock of its state.
+    /// The files of a state. That of the changes has these octets, of which the last mark is this one.
     pub(crate) fn open<R: Files<File = File>>(
         rt: &R,
         alloc: Global,
-        path: String,
-        lock: File,
+        files: StateFiles,
         len: u64,
         mark: u64,
     ) -> io::Result<Changes> {
-        let file = open_to_append(rt, path.as_str())?;
+        let file = open_to_append(rt, files.log.as_str())?;
         Ok(Changes {
             alloc,
-            path,
-            _lock: lock,
+            files,
             pending: Mutex::new(Pending {
                 alloc,
                 text: Vec::new(alloc),
@@ -89,31 +96,86 @@ impl Changes {
     /// Returns once all octets up to a place are in the file, and survive the end of the machine.
     pub(crate) fn sync<R: Wait>(&self, rt: &R, place: u64) -> io::Result<()> {
         let mut written = self.written.lock(rt);
-        if written.synced >= place {
-            return Ok(());
+        if written.synced < place {
+            self.write(rt, &mut written)
+        } else {
+            Ok(())
         }
+    }
+
+    /// Writes the state after a mark, and drops the changes before it. First the mark is in the file of changes.
+    pub(crate) fn write_state<R: Files<File = File> + Wait>(
+        &self,
+        rt: &R,
+        mark: Mark,
+        state: &State,
+    ) -> io::Result<()> {
+        self.sync(rt, mark.begin)?;
+        let len = self.replace_state(rt, mark, state)?;
+        self.lock(rt).set_state_len(len);
+        self.trim(rt, mark)
+    }
+
+    /// Writes the last state, after which there are no changes.
+    pub(crate) fn end<R: Files<File = File> + Wait>(
+        &self,
+        rt: &R,
+        state: &State,
+    ) -> io::Result<()> {
+        let mark = self.push_mark(rt)?;
+        self.write_state(rt, mark, state)
+    }
+
+    fn push_mark<R: Wait>(&self, rt: &R) -> Result<Mark, AllocError> {
+        self.lock(rt).push_mark()
+    }
+
+    // Appends the changes that are not in the file yet.
+    fn write<R: Wait>(&self, rt: &R, written: &mut Written) -> io::Result<()> {
         let (text, end) = self.pending.lock(rt).take();
         written.write(&text, end)
     }
 
-    /// Drops what is before the mark of this number, which the state has.
-    pub(crate) fn trim<R: Files<File = File> + Wait>(
+    // Replaces the state. Returns its length.
+    fn replace_state<R: Files<File = File>>(
         &self,
         rt: &R,
-        mark: u64,
-        begin: u64,
-    ) -> io::Result<()> {
+        mark: Mark,
+        state: &State,
+    ) -> io::Result<u64> {
+        let text = state_text(self.alloc, mark.number, state)?;
+        replace(rt, self.alloc, self.files.state.as_str(), &text, &[])?;
+        Ok(text.len() as u64)
+    }
+
+    // Drops what is before a mark, which the state has.
+    fn trim<R: Files<File = File> + Wait>(&self, rt: &R, mark: Mark) -> io::Result<()> {
         let mut written = self.written.lock(rt);
-        let (text, end) = self.pending.lock(rt).take();
-        written.write(&text, end)?;
-        let all = fs::read(&(rt, self.alloc), self.path.as_str())?;
-        let skipped = usize::try_from(begin.saturating_sub(written.start)).unwrap_or(usize::MAX);
-        let rest = all.as_slice().get(skipped..).unwrap_or(&[]);
-        let head = mark_text(self.alloc, mark)?;
-        replace(rt, self.alloc, self.path.as_str(), &head, rest)?;
-        written.file = open_to_append(rt, self.path.as_str())?;
-        written.start = begin.saturating_sub(head.len() as u64);
+        self.trim_written(rt, &mut written, mark)
+    }
+
+    fn trim_written<R: Files<File = File> + Wait>(
+        &self,
+        rt: &R,
+        written: &mut Written,
+        mark: Mark,
+    ) -> io::Result<()> {
+        self.write(rt, written)?;
+        let head_len = self.trim_file(rt, written.start, mark)?;
+        written.file = open_to_append(rt, self.files.log.as_str())?;
+        written.start = mark.begin.saturating_sub(head_len);
         Ok(())
+    }
+
+    // Drops what is before a mark of the file whose first octet has this place. Returns the length of the mark.
+    fn trim_file<R: Files<File = File>>(&self, rt: &R, start: u64, mark: Mark) -> io::Result<u64> {
+        let log = self.files.log.as_str();
+        let all = fs::read(&(rt, self.alloc), log)?;
+        let head = mark_text(self.alloc, mark.number)?;
+        let skipped = usize::try_from(mark.begin.saturating_sub(start)).unwrap_or(usize::MAX);
+        let rest = all.as_slice().get(skipped..).unwrap_or(&[]);
+        replace(rt, self.alloc, log, &head, rest)?;
+        Ok(head.len() as u64)
     }
 }
 
@@ -202,17 +264,35 @@ pub(crate) fn replace<R: Files<File = File>>(
     rest: &[u8],
 ) -> io::Result<()> {
     let new = format!(in alloc; "{path}.new")?;
+    write_new(rt, new.as_str(), text, rest)?;
+    fs::rename(rt, new.as_str(), path)?;
+    sync_folder(rt, path)
+}
+
+// Makes a file of a text and the rest of it, and syncs it.
+fn write_new<R: Files<File = File>>(
+    rt: &R,
+    path: &str,
+    text: &[u8],
+    rest: &[u8],
+) -> io::Result<()> {
     let mut file = OpenOptions::new()
         .write(true)
         .create(true)
         .truncate(true)
         .mode(0o600)
-        .open(rt, new.as_str())?;
+        .open(rt, path)?;
+    write_synced(&mut file, text, rest)
+}
+
+fn write_synced(file: &mut File, text: &[u8], rest: &[u8]) -> io::Result<()> {
     file.write_all(text)?;
     file.write_all(rest)?;
-    file.sync_all()?;
-    drop(file);
-    fs::rename(rt, new.as_str(), path)?;
+    file.sync_all()
+}
+
+// Syncs the folder of a path.
+fn sync_folder<R: Files<File = File>>(rt: &R, path: &str) -> io::Result<()> {
     let folder = match path.rfind('/') {
         Some(0) => "/",
         Some(end) => &path[..end],

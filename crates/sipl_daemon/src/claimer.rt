@@ -1,12 +1,9 @@
 //! The thread that claims pages, and writes states.
-use crate::claims::Claimed;
+use crate::claims::{Claimed, Claims, archive_page};
 use crate::close::CloseFault;
 use crate::daemon::Daemon;
 use crate::server::Host;
-use crate::source::{Mark, Turned};
-use crate::state::write_state;
-use sipl_book::Page;
-use std::io;
+use crate::source::Turned;
 use std::time::Duration;
 
 // How long a claim waits for receipts that are on their way, in milliseconds.
@@ -16,44 +13,51 @@ const PATIENCE: u64 = 20;
 /// told, or a page can't be archived, or the state can't be written.
 pub(crate) fn claim_pages<H: Host>(host: &H, daemon: &Daemon) {
     let mut claims = daemon.pages.claims().lock(host);
+    claim_until_stop(host, daemon, &mut claims);
+}
+
+fn claim_until_stop<H: Host>(host: &H, daemon: &Daemon, claims: &mut Claims) {
     for _ in host.forever() {
         if daemon.stop.is_asked() {
-            return;
+            break;
         }
-        match daemon.pages.claim_next(host, &mut claims) {
-            Ok(Claimed::Page(turned)) => keep_page(host, daemon, &turned),
-            Ok(Claimed::NotYet) => daemon.stop.pause(host, Duration::from_millis(PATIENCE)),
-            Ok(Claimed::Nothing) => daemon.pages.wait_for_page(host),
-            Err(fault) => daemon.fail(host, CloseFault::Claim(fault)),
+        claim_once(host, daemon, claims);
+    }
+}
+
+// Tries to claim the next page, and waits where that is not to be claimed yet.
+fn claim_once<H: Host>(host: &H, daemon: &Daemon, claims: &mut Claims) {
+    match daemon.pages.claim_next(host, claims) {
+        Ok(Claimed::Page) => keep_claimed(host, daemon, claims),
+        Ok(Claimed::NotYet) => daemon.stop.pause(host, Duration::from_millis(PATIENCE)),
+        Ok(Claimed::Nothing) => daemon.pages.wait_for_page(host),
+        Err(fault) => fail(host, daemon, claims, CloseFault::Claim(fault)),
+    }
+}
+
+// Keeps the page that was claimed.
+fn keep_claimed<H: Host>(host: &H, daemon: &Daemon, claims: &mut Claims) {
+    if let Some(turned) = claims.take() {
+        if let Err(fault) = keep(host, daemon, &turned) {
+            fail(host, daemon, claims, fault);
         }
     }
-    unreachable!()
+}
+
+// Keeps a fault, and asks for the stop.
+fn fail<H: Host>(host: &H, daemon: &Daemon, claims: &mut Claims, fault: CloseFault) {
+    claims.fail(fault);
+    daemon.stop.ask(host);
 }
 
 // Archives a page that was claimed, and writes the state after it, if these are to be.
-fn keep_page<H: Host>(host: &H, daemon: &Daemon, turned: &Turned) {
-    if let Some(archive) = &daemon.archive {
-        if let Err(error) = archive.keep(host, &turned.page) {
-            daemon.fail(host, CloseFault::Archive(error));
-            return;
-        }
-    }
-    let Some(mark) = turned.mark else {
-        return;
-    };
-    if let Err(error) = write_at(host, daemon, &turned.page, mark) {
-        daemon.fail(host, CloseFault::State(error));
-    }
-}
-
-// Writes the state after a page, and drops the changes before it. First the mark is in the file of changes.
-fn write_at<H: Host>(host: &H, daemon: &Daemon, page: &Page, mark: Mark) -> io::Result<()> {
-    let (Some(changes), Some(path)) = (&daemon.source.changes, &daemon.state) else {
+fn keep<H: Host>(host: &H, daemon: &Daemon, turned: &Turned) -> Result<(), CloseFault> {
+    archive_page(host, daemon.archive.as_ref(), &turned.page)?;
+    let (Some(changes), Some(mark)) = (&daemon.source.changes, turned.mark) else {
         return Ok(());
     };
-    changes.sync(host, mark.begin)?;
-    let (alloc, state) = (daemon.alloc, page.result());
-    let len = write_state(host, alloc, path.as_str(), mark.number, state)?;
-    changes.lock(host).set_state_len(len);
-    changes.trim(host, mark.number, mark.begin)
+    match changes.write_state(host, mark, turned.page.result()) {
+        Ok(()) => Ok(()),
+        Err(error) => Err(CloseFault::State(error)),
+    }
 }

@@ -5,22 +5,22 @@ use sipl_archive::Archive;
 use sipl_book::Page;
 use sipl_service::{ClaimFault, Ledger, Receipts};
 use std::alloc::Global;
-use std::collections::VecDeque;
 use std::fs::File;
 use std::rt::Files;
 
-/// What was claimed, and the page that is to be claimed next.
+/// What was claimed, the page that is to be claimed next, and why no more is claimed, if that is so.
 #[derive(Drop)]
 pub(crate) struct Claims {
     ledger: Ledger,
     next: Option<Turned>,
+    fault: Option<CloseFault>,
 }
 
 /// What became of a try to claim the next page.
-#[derive(Drop)]
+#[derive(Clone, Copy)]
 pub(crate) enum Claimed {
     /// It is claimed.
-    Page(Turned),
+    Page,
     /// Receipts of it are on their way, or an allocation failed.
     NotYet,
     /// No page waits.
@@ -33,6 +33,7 @@ impl Claims {
         Claims {
             ledger: Ledger::new(alloc),
             next: None,
+            fault: None,
         }
     }
 
@@ -46,6 +47,21 @@ impl Claims {
         self.next = turned;
     }
 
+    /// Takes the page out that is to be claimed next, or was claimed last.
+    pub(crate) fn take(&mut self) -> Option<Turned> {
+        self.next.take()
+    }
+
+    /// Keeps a fault. All that is claimed later is refused for it.
+    pub(crate) fn fail(&mut self, fault: CloseFault) {
+        self.fault = Some(fault);
+    }
+
+    /// The fault, if there is one.
+    pub(crate) fn take_fault(&mut self) -> Option<CloseFault> {
+        self.fault.take()
+    }
+
     /// Adds receipts.
     pub(crate) fn add(&mut self, handed: Vec<Receipts>) -> Result<(), ClaimFault> {
         for receipts in handed {
@@ -56,73 +72,55 @@ impl Claims {
         Ok(())
     }
 
-    /// Tries to claim the page, if there is one.
+    /// Tries to claim the page, if there is one. It stays here until it is taken out.
     pub(crate) fn claim(&mut self) -> Result<Claimed, ClaimFault> {
-        let Some(turned) = self.next.take() else {
+        let Some(turned) = &self.next else {
             return Ok(Claimed::Nothing);
         };
         match self.ledger.claim(&turned.page) {
-            Ok(()) => Ok(Claimed::Page(turned)),
-            Err(fault) => {
-                self.next = Some(turned);
-                match fault {
-                    ClaimFault::Unclaimed(_) | ClaimFault::Memory => Ok(Claimed::NotYet),
-                    fault => Err(fault),
-                }
-            }
+            Ok(()) => Ok(Claimed::Page),
+            Err(ClaimFault::Unclaimed(_) | ClaimFault::Memory) => Ok(Claimed::NotYet),
+            Err(fault) => Err(fault),
         }
     }
 
-    /// Takes the page out that is to be claimed next, if there is one.
-    fn take(&mut self) -> Option<Turned> {
-        self.next.take()
-    }
-
-    /// Adds the last receipts, claims the page that is to be claimed next, these, and the last one, and
-    /// archives them.
-    pub(crate) fn end<R: Files<File = File>>(
+    /// Claims the page that is to be claimed next, if there is one, and archives it.
+    pub(crate) fn finish_next<R: Files<File = File>>(
         &mut self,
         rt: &R,
         archive: Option<&Archive>,
-        handed: Vec<Receipts>,
-        turned: VecDeque<Turned>,
-        last: &Page,
     ) -> Result<(), CloseFault> {
-        self.add(handed)?;
-        self.finish_all(rt, archive, turned)?;
-        self.finish(rt, archive, last)
-    }
-
-    // Claims the page that is to be claimed next, and then these, and archives them.
-    fn finish_all<R: Files<File = File>>(
-        &mut self,
-        rt: &R,
-        archive: Option<&Archive>,
-        turned: VecDeque<Turned>,
-    ) -> Result<(), CloseFault> {
-        if let Some(next) = self.take() {
-            self.finish(rt, archive, &next.page)?;
+        if let Some(turned) = &self.next {
+            self.ledger.claim(&turned.page)?;
+            archive_page(rt, archive, &turned.page)?;
         }
-        for next in turned {
-            self.finish(rt, archive, &next.page)?;
-        }
+        self.next = None;
         Ok(())
     }
 
-    // Claims a page and archives it.
-    fn finish<R: Files<File = File>>(
+    /// Claims the last page, and archives it.
+    pub(crate) fn finish<R: Files<File = File>>(
         &mut self,
         rt: &R,
         archive: Option<&Archive>,
-        page: &Page,
+        last: &Page,
     ) -> Result<(), CloseFault> {
-        self.ledger.claim(page)?;
-        let Some(archive) = archive else {
-            return Ok(());
-        };
-        match archive.keep(rt, page) {
-            Ok(()) => Ok(()),
-            Err(error) => Err(CloseFault::Archive(error)),
-        }
+        self.ledger.claim(last)?;
+        archive_page(rt, archive, last)
+    }
+}
+
+/// Archives a page, if there is an archive.
+pub(crate) fn archive_page<R: Files<File = File>>(
+    rt: &R,
+    archive: Option<&Archive>,
+    page: &Page,
+) -> Result<(), CloseFault> {
+    let Some(archive) = archive else {
+        return Ok(());
+    };
+    match archive.keep(rt, page) {
+        Ok(()) => Ok(()),
+        Err(error) => Err(CloseFault::Archive(error)),
     }
 }

@@ -3,11 +3,9 @@ use crate::changes::Changes;
 use crate::daemon::Daemon;
 use crate::pages::Pages;
 use crate::source::Source;
-use crate::state::end_state;
 use sipl_archive::Archive;
 use sipl_book::Page;
-use sipl_service::{ClaimFault, Pass, Service, ServiceFault};
-use std::alloc::Global;
+use sipl_service::{ClaimFault, ServiceFault};
 use std::fs::File;
 use std::io;
 use std::rt::Files;
@@ -37,56 +35,34 @@ impl Daemon {
     // many events there were. The fault is the first one, from the start of the daemon on.
     pub(crate) fn close<R: Files<File = File> + Wait>(self, rt: &R) -> Result<u64, CloseFault> {
         let Daemon {
-            alloc,
             source,
-            state,
             archive,
             pages,
-            mover,
-            fault,
             ..
         } = self;
         let Source { service, changes } = source;
-        let last = match fault.into_inner() {
-            Some(fault) => return Err(fault),
-            None => close_pages(rt, service, pages, mover.into_inner(), archive.as_ref())?,
-        };
-        end_changes(rt, alloc, changes.as_ref(), state.as_ref(), &last)
+        match service.close() {
+            Ok(last) => end(rt, &pages, archive.as_ref(), changes.as_ref(), &last),
+            Err((fault, _service)) => Err(CloseFault::Close(fault)),
+        }
     }
 }
 
-// Closes a service, and claims the events of all pages. Returns the last page.
-fn close_pages<R: Files<File = File> + Wait>(
+// Claims the events of all pages, archives them, and writes the state. Returns how many events there were.
+fn end<R: Files<File = File> + Wait>(
     rt: &R,
-    service: Service,
-    pages: Pages,
-    mover: Pass,
+    pages: &Pages,
     archive: Option<&Archive>,
-) -> Result<Page, CloseFault> {
-    let last = match service.close() {
-        Ok(last) => last,
-        Err((fault, _service)) => return Err(CloseFault::Close(fault)),
-    };
-    let mut mover = mover;
-    let _ = pages.hand_over(rt, &mut mover);
-    pages.close(rt, archive, &last)?;
-    Ok(last)
-}
-
-// Writes the last state, where there is a file of changes. Returns how many events there were.
-fn end_changes<R: Files<File = File> + Wait>(
-    rt: &R,
-    alloc: Global,
     changes: Option<&Changes>,
-    path: Option<&String>,
     last: &Page,
 ) -> Result<u64, CloseFault> {
+    pages.end(rt, archive, last)?;
     // The first event has the number 0.
     let events = last.next();
-    let (Some(changes), Some(path)) = (changes, path) else {
+    let Some(changes) = changes else {
         return Ok(events);
     };
-    match end_state(rt, alloc, changes, path.as_str(), last) {
+    match changes.end(rt, last.result()) {
         Ok(()) => Ok(events),
         Err(error) => Err(CloseFault::State(error)),
     }

@@ -1,11 +1,11 @@
 //! What the threads of a daemon share.
 ghost use Rattle.std.specs.Prelude.{IfOk};
+ghost use Rattle.sipl_lines.specs.Settings.{IsWithinLimits};
 ghost use Rattle.sipl_service.specs.Passes.{GetsReceipt};
 ghost use Rattle.sipl_service.specs.Telling.{IsToldFor, event_of};
 
 use crate::changes::Changes;
 use crate::clients::Clients;
-use crate::close::CloseFault;
 use crate::counts::Counts;
 use crate::descriptors::max_clients;
 use crate::pages::Pages;
@@ -17,6 +17,7 @@ use crate::tally::Tally;
 use crate::time::HostTime;
 use sipl_archive::Archive;
 use sipl_book::BookFault;
+use sipl_lines::Settings;
 use sipl_service::{OpenGate, Pass, Service, ServiceFault, Told};
 use sipl_srv::Draws;
 use sipl_uri::Question;
@@ -35,8 +36,6 @@ const MAX_CONTROLS: usize = 8;
 pub(crate) struct Daemon {
     pub(crate) alloc: Global,
     pub(crate) source: Source,
-    // The path of the state.
-    pub(crate) state: Option<String>,
     // Where the pages are kept that were claimed.
     pub(crate) archive: Option<Archive>,
     // How many octets the lines of a zone may have.
@@ -51,13 +50,11 @@ pub(crate) struct Daemon {
     // The time of the host, if that is the book's.
     time: Option<HostTime>,
     // The pass of the moves of the clock.
-    pub(crate) mover: Mutex<Pass>,
+    mover: Mutex<Pass>,
     // For how many seconds a client may send nothing.
     pub(crate) idle: Option<u64>,
     // The connections that asked for the stop, which stay open until the process ends.
     open: Mutex<Vec<Arc<Stream, Global>>>,
-    // Why the daemon is to stop, if it is for a fault.
-    pub(crate) fault: Mutex<Option<CloseFault>>,
 }
 
 impl Daemon {
@@ -67,52 +64,53 @@ impl Daemon {
         alloc: Global,
         settings: &DaemonSettings,
         stop: Arc<Stop, Global>,
-    ) -> io::Result<Daemon> {
-        let own = &settings.service;
-        let limits = own.limits();
-        let tries = own.tries as u64;
+    ) -> io::Result<Box<Daemon>> {
         let time = match settings.clock {
             Clocks::Host => Some(HostTime::new(rt, 0)?),
             Clocks::Lines => None,
         };
-        let service = Service::new(alloc, own.abilities.dup(alloc)?, &limits, tries, own.held)?;
+        let clients = Clients::new(alloc, max_clients(rt, alloc, settings.clients))?;
+        let controls = Clients::new(alloc, MAX_CONTROLS)?;
+        let service = new_service(alloc, &settings.service)?;
+        let daemon = Daemon::over(service, alloc, settings, stop, time, clients, controls);
+        Ok(Box::new(alloc, daemon)?)
+    }
+
+    // A daemon over this service.
+    fn over(
+        service: Service,
+        alloc: Global,
+        settings: &DaemonSettings,
+        stop: Arc<Stop, Global>,
+        time: Option<HostTime>,
+        clients: Clients,
+        controls: Clients,
+    ) -> Daemon {
         let mover = Mutex::new(service.pass());
-        Ok(Daemon {
+        Daemon {
             alloc,
             source: Source {
                 service,
                 changes: None,
             },
-            state: None,
             archive: None,
             zone_octets: settings.zone_octets,
             tally: Mutex::new(Tally::new(alloc)),
-            pages: Pages::new(alloc, own.journal as u64),
+            pages: Pages::new(alloc, settings.service.journal as u64),
             stop,
-            clients: Clients::new(alloc, max_clients(rt, alloc, settings.clients))?,
-            controls: Clients::new(alloc, MAX_CONTROLS)?,
+            clients,
+            controls,
             counts: Counts::new(),
             time,
             mover,
             idle: settings.idle,
             open: Mutex::new(Vec::new(alloc)),
-            fault: Mutex::new(None),
-        })
+        }
     }
 
     // Keeps a connection open until the process ends.
     pub(crate) fn keep_open<R: Wait>(&self, rt: &R, stream: Arc<Stream, Global>) {
         let _ = self.open.lock(rt).push(stream);
-    }
-
-    // Keeps the first fault, and asks for the stop.
-    pub(crate) fn fail<R: Wait>(&self, rt: &R, fault: CloseFault) {
-        let mut first = self.fault.lock(rt);
-        if first.is_none() {
-            *first = Some(fault);
-        }
-        drop(first);
-        self.stop.ask(rt);
     }
 
     // Moves the book's time to that of the host, if it is the host's and an endpoint may be held. The move
@@ -168,22 +166,24 @@ impl Daemon {
         }
     }
 
-    // Goes on from a state that was read: the changes after it are in a file, and the time of the host goes
-    // on from that of the book.
-    pub(crate) fn go_on<R: Wait + Clock>(
-        &mut self,
-        rt: &R,
-        path: String,
-        changes: Changes,
-    ) -> io::Result<()> {
-        if let Some(before) = self.time.take() {
-            let time = HostTime::new(rt, self.source.service.now(rt))?;
-            time.note_end(before.end());
-            self.time = Some(time);
-        }
-        self.state = Some(path);
+    // Hands the receipts of the moves of the clock over that were not: at the end, since each move does.
+    pub(crate) fn end_moves<R: Wait>(&self, rt: &R) {
+        let mut mover = self.mover.lock(rt);
+        let _ = self.pages.hand_over(rt, &mut mover);
+    }
+
+    // Goes on from a state that was read: the changes after it are in a file.
+    pub(crate) fn put_changes(&mut self, changes: Changes) {
         self.source.changes = Some(changes);
-        Ok(())
+    }
+
+    // The time of the host goes on from that of the book.
+    pub(crate) fn restart_time<R: Wait + Clock>(&mut self, rt: &R) -> io::Result<()> {
+        let now = self.source.service.now(rt);
+        match &mut self.time {
+            Some(time) => time.restart(rt, now),
+            None => Ok(()),
+        }
     }
 
     // The answer to a question. Where the journal is full the page is turned, and it is tried again.
@@ -217,4 +217,14 @@ impl Daemon {
         self.counts.count_event(number);
         self.pages.turn_if_due(rt, &self.source, number);
     }
+}
+
+// A service with these settings, without zones, holds or events.
+fn new_service(alloc: Global, settings: &Settings) -> io::Result<Service>
+    requires { IsWithinLimits settings.now }
+{
+    let abilities = settings.abilities.dup(alloc)?;
+    let limits = settings.limits();
+    let tries = settings.tries as u64;
+    Ok(Service::new(alloc, abilities, &limits, tries, settings.held)?)
 }

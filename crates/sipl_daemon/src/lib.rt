@@ -18,6 +18,7 @@ mod fault;
 mod holds;
 mod input;
 mod listener;
+mod listeners;
 mod meter;
 mod output;
 mod pages;

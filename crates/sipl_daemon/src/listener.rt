@@ -29,13 +29,13 @@ pub struct Listener {
 
 impl Listener {
     /// Listens at an address; the file of a Unix socket has these permissions.
-    pub fn bind<R>(rt: &R, alloc: Global, address: Address, mode: u32) -> io::Result<Listener>
+    pub fn bind<R>(rt: &R, alloc: Global, address: &Address, mode: u32) -> io::Result<Listener>
     where
         R: Files<File = File> + Net<Listener = TcpListener, Stream = TcpStream>,
     {
         match address {
-            Address::Tcp(address) => bind_tcp(rt, address),
-            Address::Unix(path) => bind_unix(rt, alloc, path, mode),
+            Address::Tcp(address) => bind_tcp(rt, *address),
+            Address::Unix(path) => bind_unix(rt, alloc, path.as_str(), mode),
         }
     }
 
@@ -80,31 +80,53 @@ where
 }
 
 // Listens at a path. Whoever has the lock of the file beside it listens there, so a socket that is found
-// is stale and is replaced. The new one is bound in a folder that only its owner may enter, and moved: it
-// has its permissions from the first moment at which others can see it.
+// is stale and is replaced.
 fn bind_unix<R: Files<File = File> + Net>(
     rt: &R,
     alloc: Global,
-    path: String,
+    path: &str,
     mode: u32,
 ) -> io::Result<Listener> {
+    let address = Address::Unix(String::from_str(alloc, path)?);
     let lock = take_lock(rt, format!(in alloc; "{path}.lock")?.as_str())?;
-    check_free(rt, path.as_str())?;
-    let folder = format!(in alloc; "{path}.d")?;
-    let bound = format!(in alloc; "{path}.d/s")?;
-    let _ = fs::remove_file(rt, bound.as_str());
-    let _ = fs::remove_dir(rt, folder.as_str());
-    DirBuilder::new().mode(0o700).create(rt, folder.as_str())?;
-    let listener = bind_in(rt, alloc, folder.as_str(), bound.as_str())?;
-    fs::set_permissions(rt, bound.as_str(), Permissions::from_mode(mode))?;
-    fs::rename(rt, bound.as_str(), path.as_str())?;
-    fs::remove_dir(rt, folder.as_str())?;
+    let listener = bind_at(rt, alloc, path, mode)?;
     let waker = UnixStream::from(OwnedFd::from(listener.try_clone()?));
     Ok(Listener {
-        address: Address::Unix(path),
+        address,
         socket: Socket::Unix(listener, lock),
         waker: Stream::Unix(waker),
     })
+}
+
+// Listens at a path whose lock is taken. The socket is bound in a folder that only its owner may enter, and
+// moved: it has its permissions from the first moment at which others can see it.
+fn bind_at<R: Files<File = File> + Net>(
+    rt: &R,
+    alloc: Global,
+    path: &str,
+    mode: u32,
+) -> io::Result<UnixListener> {
+    check_free(rt, path)?;
+    let folder = format!(in alloc; "{path}.d")?;
+    let bound = format!(in alloc; "{path}.d/s")?;
+    make_folder(rt, folder.as_str(), bound.as_str())?;
+    let listener = bind_in(rt, alloc, folder.as_str(), bound.as_str())?;
+    show(rt, folder.as_str(), bound.as_str(), path, mode)?;
+    Ok(listener)
+}
+
+// Makes the folder in which a socket is bound, anew if it is there.
+fn make_folder<R: Files>(rt: &R, folder: &str, bound: &str) -> io::Result<()> {
+    let _ = fs::remove_file(rt, bound);
+    let _ = fs::remove_dir(rt, folder);
+    DirBuilder::new().mode(0o700).create(rt, folder)
+}
+
+// Moves a socket to its path, with its permissions.
+fn show<R: Files>(rt: &R, folder: &str, bound: &str, path: &str, mode: u32) -> io::Result<()> {
+    fs::set_permissions(rt, bound, Permissions::from_mode(mode))?;
+    fs::rename(rt, bound, path)?;
+    fs::remove_dir(rt, folder)
 }
 
 // Listens at a path in a folder. Where the system takes no path of that length, the folder has a shorter

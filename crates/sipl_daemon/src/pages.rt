@@ -128,18 +128,16 @@ impl Pages {
             .wait_timeout_while(rt, turned, longest, |turned| turned.is_empty());
     }
 
-    /// Tries to claim the next page.
+    /// Tries to claim the next page. It stays in the claims until it is taken out.
     pub(crate) fn claim_next<R: Wait>(
         &self,
         rt: &R,
         claims: &mut Claims,
     ) -> Result<Claimed, ClaimFault> {
-        if !claims.has_page() {
-            claims.put(self.turned.lock(rt).pop_front());
-        }
+        self.put_next(rt, claims);
         claims.add(self.take_handed(rt))?;
         let claimed = claims.claim()?;
-        if let Claimed::Page(_) = &claimed {
+        if let Claimed::Page = claimed {
             self.claimed.fetch_add(1, Ordering::SeqCst);
         }
         Ok(claimed)
@@ -150,6 +148,13 @@ impl Pages {
         &self.claims
     }
 
+    // Puts the next page that was turned into the claims, if they have none.
+    fn put_next<R: Wait>(&self, rt: &R, claims: &mut Claims) {
+        if !claims.has_page() {
+            claims.put(self.turned.lock(rt).pop_front());
+        }
+    }
+
     // The receipts that were handed over since the last call.
     fn take_handed<R: Wait>(&self, rt: &R) -> Vec<Receipts> {
         let mut handed = self.handed.lock(rt);
@@ -157,24 +162,34 @@ impl Pages {
     }
 
     /// Claims all pages that were turned, and then the last one, when all receipts were handed over, and
-    /// archives them.
-    pub(crate) fn close<R: Files<File = File>>(
-        self,
+    /// archives them. The fault is the first one, from the start of the daemon on.
+    pub(crate) fn end<R: Files<File = File> + Wait>(
+        &self,
         rt: &R,
         archive: Option<&Archive>,
         last: &Page,
     ) -> Result<(), CloseFault> {
-        let (mut claims, handed, turned) = self.into_parts();
-        claims.end(rt, archive, handed, turned, last)
+        let mut claims = self.claims.lock(rt);
+        match claims.take_fault() {
+            Some(fault) => Err(fault),
+            None => self.finish(rt, &mut claims, archive, last),
+        }
     }
 
-    // What was claimed, the receipts that were handed over since then, and the pages that were turned.
-    fn into_parts(self) -> (Claims, Vec<Receipts>, VecDeque<Turned>) {
-        (
-            self.claims.into_inner(),
-            self.handed.into_inner(),
-            self.turned.into_inner(),
-        )
+    // Claims all pages that were turned, and then the last one, and archives them.
+    fn finish<R: Files<File = File> + Wait>(
+        &self,
+        rt: &R,
+        claims: &mut Claims,
+        archive: Option<&Archive>,
+        last: &Page,
+    ) -> Result<(), CloseFault> {
+        claims.add(self.take_handed(rt))?;
+        for _ in 0..=self.waiting(rt) {
+            self.put_next(rt, claims);
+            claims.finish_next(rt, archive)?;
+        }
+        claims.finish(rt, archive, last)
     }
 }
 

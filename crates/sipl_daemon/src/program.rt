@@ -1,8 +1,8 @@
 //! The program: its arguments, its settings, and the daemon from its start to its end.
-use crate::address::Address;
 use crate::arguments::{Call, read_arguments};
+use crate::changes::Changes;
 use crate::daemon::Daemon;
-use crate::listener::Listener;
+use crate::listeners::Listeners;
 use crate::report::{Fault, report};
 use crate::server::{Host, serve_all};
 use crate::settings::DaemonSettings;
@@ -11,7 +11,6 @@ use crate::stop::Stop;
 use crate::tell::tell;
 use sipl_archive::{Archive, replay};
 use std::alloc::Global;
-use std::io;
 use std::io::{ErrorKind, Input};
 use std::process::ExitCode;
 use std::rt::Env;
@@ -50,14 +49,18 @@ where
     H: Host,
     W: WatchesInput,
 {
-    let outcome = match read_arguments(rt) {
-        Ok(Some(call)) => perform(rt, host, watcher, call),
-        Err(error) if error.kind() == ErrorKind::OutOfMemory => Err(Fault::Memory),
+    match read_arguments(rt) {
+        Ok(Some(call)) => status_of(rt, perform(rt, host, watcher, &call)),
+        Err(error) if error.kind() == ErrorKind::OutOfMemory => status_of(rt, Err(Fault::Memory)),
         _ => {
             let _ = eprintln!(rt; "{USAGE}");
-            return ExitCode::from(WRONG_ARGUMENTS);
+            ExitCode::from(WRONG_ARGUMENTS)
         }
-    };
+    }
+}
+
+// The status of what was done. A fault is reported.
+fn status_of<R: Eprint>(rt: &R, outcome: Result<bool, Fault>) -> ExitCode {
     match outcome {
         Ok(true) => ExitCode::SUCCESS,
         Ok(false) => ExitCode::FAILURE,
@@ -69,7 +72,7 @@ where
 }
 
 // Does what the arguments ask for. Returns whether a line that was told is not refused.
-fn perform<R, H, W>(rt: &R, host: &H, watcher: &W, call: Call) -> Result<bool, Fault>
+fn perform<R, H, W>(rt: &R, host: &H, watcher: &W, call: &Call) -> Result<bool, Fault>
 where
     R: Print + AllocGlobal,
     H: Host,
@@ -78,55 +81,78 @@ where
     match call {
         Call::Help => print!(rt; "{HELP}")?,
         Call::Version => println!(rt; "{VERSION}")?,
-        Call::Tell(address, line) => {
-            return match tell(rt, host, address.as_str(), line.as_str()) {
-                Ok(is_accepted) => Ok(is_accepted),
-                Err(error) => Err(Fault::Tell(address, error)),
-            };
-        }
+        Call::Tell(address, line) => return tell_line(rt, host, address.as_str(), line.as_str()),
         Call::Replay(folder) => {
             let events = replay(host, rt.alloc(), folder.as_str())?;
             println!(rt; "replayed {events}")?;
         }
-        Call::Serve(text) => {
-            let settings = DaemonSettings::from_toml(rt.alloc(), text.as_str())?;
-            serve(rt, host, watcher, settings)?;
-        }
+        Call::Serve(text) => serve(rt, host, watcher, text.as_str())?,
     }
     Ok(true)
 }
 
-// Serves until the daemon is to stop, claims all pages, and prints how many events there were.
-fn serve<R, H, W>(rt: &R, host: &H, watcher: &W, settings: DaemonSettings) -> Result<(), Fault>
+// Sends a line to a control address. Returns whether it is not refused.
+fn tell_line<R: Print + AllocGlobal, H: Host>(
+    rt: &R,
+    host: &H,
+    address: &str,
+    line: &str,
+) -> Result<bool, Fault> {
+    match tell(rt, host, address, line) {
+        Ok(is_accepted) => Ok(is_accepted),
+        Err(error) => Err(Fault::Tell(String::from_str(rt.alloc(), address)?, error)),
+    }
+}
+
+// Serves with the settings of a text until the daemon is to stop, claims all pages, and prints how many events
+// there were.
+fn serve<R, H, W>(rt: &R, host: &H, watcher: &W, text: &str) -> Result<(), Fault>
 where
     R: Print + AllocGlobal,
     H: Host,
     W: WatchesInput,
 {
-    let alloc = rt.alloc();
-    let stop = Arc::new(alloc, Stop::new())?;
-    let daemon = begin(host, alloc, &settings, Arc::try_clone(&stop)?)?;
-    serve_daemon(rt, host, watcher, &daemon, settings, stop)?;
-    let events = Box::into_inner(daemon).close(host)?;
+    let settings = Box::new(rt.alloc(), DaemonSettings::from_toml(rt.alloc(), text)?)?;
+    let events = serve_with(rt, host, watcher, &settings)?;
     println!(rt; "closed {events}")?;
     Ok(())
 }
 
-// A daemon with its archive, which goes on from its state, if it has them.
-fn begin<H: Host>(
+// Serves until the daemon is to stop, and claims all pages. Returns how many events there were.
+fn serve_with<R, H, W>(
+    rt: &R,
+    host: &H,
+    watcher: &W,
+    settings: &DaemonSettings,
+) -> Result<u64, Fault>
+where
+    R: Print + AllocGlobal,
+    H: Host,
+    W: WatchesInput,
+{
+    let stop = Arc::new(rt.alloc(), Stop::new())?;
+    let mut daemon = Daemon::new(host, rt.alloc(), settings, Arc::try_clone(&stop)?)?;
+    go_on(host, rt.alloc(), settings, &mut daemon)?;
+    serve_at(rt, host, watcher, settings, &daemon, stop)?;
+    Ok(Box::into_inner(daemon).close(host)?)
+}
+
+// Opens the archive and the state of the settings, if they have them, and goes on from the state.
+fn go_on<H: Host>(
     host: &H,
     alloc: Global,
     settings: &DaemonSettings,
-    stop: Arc<Stop, Global>,
-) -> Result<Box<Daemon>, Fault> {
-    let mut daemon = Box::new(alloc, Daemon::new(host, alloc, settings, stop)?)?;
+    daemon: &mut Daemon,
+) -> Result<(), Fault> {
     if let Some(path) = &settings.archive {
         daemon.archive = Some(open_archive(host, alloc, settings, path.as_str())?);
     }
     if let Some(path) = &settings.state {
-        go_on(host, alloc, &mut daemon, path.as_str())?;
+        let changes = open_state(host, alloc, daemon, path.as_str())?;
+        daemon.put_changes(changes);
+        daemon.restart_time(host)?;
     }
-    Ok(daemon)
+    Ok(())
 }
 
 // The archive of a path.
@@ -143,22 +169,26 @@ fn open_archive<H: Host>(
     }
 }
 
-// Goes on from the state of a path.
-fn go_on<H: Host>(host: &H, alloc: Global, daemon: &mut Daemon, path: &str) -> Result<(), Fault> {
-    let path = String::from_str(alloc, path)?;
-    match restore(host, daemon, path.as_str()) {
-        Ok(changes) => Ok(daemon.go_on(host, path, changes)?),
-        Err(fault) => Err(Fault::State(path, fault)),
+// The changes after the state of a path, from which the daemon goes on.
+fn open_state<H: Host>(
+    host: &H,
+    alloc: Global,
+    daemon: &Daemon,
+    path: &str,
+) -> Result<Changes, Fault> {
+    match restore(host, daemon, path) {
+        Ok(changes) => Ok(changes),
+        Err(fault) => Err(Fault::State(String::from_str(alloc, path)?, fault)),
     }
 }
 
 // Serves at the addresses of the settings until the daemon is to stop.
-fn serve_daemon<R, H, W>(
+fn serve_at<R, H, W>(
     rt: &R,
     host: &H,
     watcher: &W,
+    settings: &DaemonSettings,
     daemon: &Daemon,
-    settings: DaemonSettings,
     stop: Arc<Stop, Global>,
 ) -> Result<(), Fault>
 where
@@ -166,72 +196,14 @@ where
     H: Host,
     W: WatchesInput,
 {
-    let workers = settings.service.workers as u64;
-    let ends_with_input = settings.ends_with_input;
-    let (listeners, control) = listen_all(host, rt.alloc(), settings)?;
-    print_ready(rt, &listeners, control.as_ref())?;
-    if ends_with_input {
+    let listeners = Listeners::bind(host, rt.alloc(), settings)?;
+    listeners.print(rt)?;
+    if settings.ends_with_input {
         watcher.watch(stop);
     }
-    serve_all(host, daemon, &listeners, control.as_ref(), workers);
-    for listener in &listeners {
-        listener.remove(host);
-    }
-    if let Some(listener) = &control {
-        listener.remove(host);
-    }
+    serve_all(host, daemon, &listeners, settings.service.workers as u64);
+    listeners.remove(host);
     Ok(())
-}
-
-// Prints the addresses, that of control lines last.
-fn print_ready<R: Print>(
-    rt: &R,
-    listeners: &[Listener],
-    control: Option<&Listener>,
-) -> io::Result<()> {
-    for listener in listeners {
-        println!(rt; "ready {}", listener.address())?;
-    }
-    if let Some(listener) = control {
-        println!(rt; "ready {}", listener.address())?;
-    }
-    Ok(())
-}
-
-// Listens at all addresses, and at the control address, if there is one.
-fn listen_all<H: Host>(
-    host: &H,
-    alloc: Global,
-    settings: DaemonSettings,
-) -> Result<(Vec<Listener>, Option<Listener>), Fault> {
-    let DaemonSettings {
-        listen,
-        control,
-        mode,
-        ..
-    } = settings;
-    let mut listeners = Vec::new(alloc);
-    for address in listen {
-        listeners.push(listen_at(host, alloc, address, mode)?)?;
-    }
-    let control = match control {
-        Some(address) => Some(listen_at(host, alloc, address, mode)?),
-        None => None,
-    };
-    Ok((listeners, control))
-}
-
-fn listen_at<H: Host>(
-    host: &H,
-    alloc: Global,
-    address: Address,
-    mode: u32,
-) -> Result<Listener, Fault> {
-    let copy = address.dup(alloc)?;
-    match Listener::bind(host, alloc, address, mode) {
-        Ok(listener) => Ok(listener),
-        Err(error) => Err(Fault::Listen(copy, error)),
-    }
 }
 
 /// Reads standard input to its end, and then asks for the stop.

@@ -4,6 +4,7 @@ use crate::control::serve_control;
 use crate::daemon::Daemon;
 use crate::fault::ConnectionFault;
 use crate::listener::Listener;
+use crate::listeners::Listeners;
 use crate::session::serve_client;
 use crate::stream::Stream;
 use sipl_service::OpenGate;
@@ -45,15 +46,9 @@ const TICK: u64 = 100;
 // How long a session may write its last replies, in milliseconds.
 const GRACE: u64 = 1_000;
 
-/// Serves the clients of all listeners, and control lines at the other one, until the daemon is to stop.
-/// Then ends the sessions.
-pub(crate) fn serve_all<H: Host>(
-    host: &H,
-    daemon: &Daemon,
-    listeners: &[Listener],
-    control: Option<&Listener>,
-    workers: u64,
-) {
+/// Serves the clients of all listeners, and control lines, until the daemon is to stop. Then ends the
+/// sessions.
+pub(crate) fn serve_all<H: Host>(host: &H, daemon: &Daemon, listeners: &Listeners, workers: u64) {
     thread::scope(thread::scope_env(), host, |scope| {
         let _ = scope.spawn(move || daemon.source.service.run_workers(host, workers, &OpenGate));
         if scope.spawn(move || claim_pages(host, daemon)).is_err() {
@@ -62,7 +57,7 @@ pub(crate) fn serve_all<H: Host>(
         if scope.spawn(move || run_clock(host, daemon)).is_err() {
             daemon.stop.ask(host);
         }
-        for listener in listeners {
+        for listener in &listeners.clients {
             if scope
                 .spawn(move || accept_clients(host, daemon, listener))
                 .is_err()
@@ -70,7 +65,7 @@ pub(crate) fn serve_all<H: Host>(
                 daemon.stop.ask(host);
             }
         }
-        if let Some(listener) = control {
+        if let Some(listener) = &listeners.control {
             if scope
                 .spawn(move || accept_control(host, daemon, listener))
                 .is_err()
@@ -79,18 +74,14 @@ pub(crate) fn serve_all<H: Host>(
             }
         }
         daemon.stop.wait(host);
-        end_all(host, daemon, listeners, control);
+        end_all(host, daemon, listeners);
     });
+    daemon.end_moves(host);
 }
 
 // Ends all accepts and all sessions: each after the line that it is in.
-fn end_all<H: Host>(host: &H, daemon: &Daemon, listeners: &[Listener], control: Option<&Listener>) {
-    for listener in listeners {
-        listener.close();
-    }
-    if let Some(listener) = control {
-        listener.close();
-    }
+fn end_all<H: Host>(host: &H, daemon: &Daemon, listeners: &Listeners) {
+    listeners.close();
     daemon.clients.end(host, Duration::from_millis(GRACE));
     daemon.controls.end(host, Duration::from_millis(0));
     daemon.source.service.stop(host);

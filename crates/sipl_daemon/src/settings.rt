@@ -16,6 +16,20 @@ const MAX_IDLE: u64 = 86_400;
 // The greatest number of octets that the lines of a zone may have.
 const MAX_ZONE_OCTETS: u64 = 1 << 40;
 
+// The daemon's own keys, in the order of their octets.
+const OWN_KEYS: [&str; 10] = [
+    "archive",
+    "clients",
+    "clock",
+    "control",
+    "idle",
+    "listen",
+    "mode",
+    "state",
+    "stdin",
+    "zone_octets",
+];
+
 /// The settings of the daemon: those of a server of sessions, and its own, each by the name of its key.
 #[derive(Drop)]
 pub struct DaemonSettings {
@@ -68,13 +82,6 @@ struct Own {
     zone_octets: u64,
 }
 
-// Whether a key is one of the daemon's own.
-enum Taken {
-    Own,
-    Refused,
-    Other,
-}
-
 impl DaemonSettings {
     /// Reads the settings from a TOML document. `listen` is a list of addresses, not empty; `control` is
     /// an address; `clock` is `"host"` or `"lines"`; `stdin` is `"stop"` or `"ignore"`; `state` is the
@@ -85,37 +92,21 @@ impl DaemonSettings {
     /// daemon's own keys, in the order of their octets, that does not allow its value (G3); or else that
     /// of the other keys (G2, G3).
     pub fn from_toml(alloc: Global, text: &str) -> Result<DaemonSettings, SettingsFault> {
-        let table = read_table(alloc, text)?;
         let mut own = Own::defaults(alloc)?;
-        let mut others = Table::new(alloc);
-        for (key, value) in table {
-            match own.take(alloc, key.as_str(), &value)? {
-                Taken::Own => {}
-                Taken::Refused => return Err(SettingsFault::BadValue(key)),
-                Taken::Other => insert(&mut others, key, value)?,
-            }
-        }
-        let service = read_others(alloc, &others)?;
+        let service = own.read(alloc, text)?;
         Ok(own.beside(service))
     }
 }
 
-// The settings that `serve` has too.
+// The settings that `serve` has too, but for `sessions`.
 fn read_others(alloc: Global, others: &Table) -> Result<Settings, SettingsFault>
     ensures { IfOk result (λ settings. IsWithinLimits settings) }
 {
+    if others.contains_key("sessions") {
+        return Err(SettingsFault::UnknownKey(String::from_str(alloc, "sessions")?));
+    }
     match toml::table_to_string(alloc, others) {
         Ok(text) => Settings::from_toml(alloc, text.as_str()),
-        Err(_) => Err(SettingsFault::Memory),
-    }
-}
-
-fn insert(table: &mut Table, key: String, value: Value) -> Result<(), SettingsFault> {
-    if key.as_str() == "sessions" {
-        return Err(SettingsFault::UnknownKey(key));
-    }
-    match table.insert(key, value) {
-        Ok(_) => Ok(()),
         Err(_) => Err(SettingsFault::Memory),
     }
 }
@@ -149,9 +140,37 @@ impl Own {
         })
     }
 
-    // Takes the value of a key, if it is one of the daemon's own.
-    fn take(&mut self, alloc: Global, key: &str, value: &Value) -> Result<Taken, AllocError> {
-        let is_taken = match key {
+    // Reads the daemon's own keys of a TOML document. Returns the settings that `serve` has too.
+    fn read(&mut self, alloc: Global, text: &str) -> Result<Settings, SettingsFault>
+        ensures { IfOk result (λ settings. IsWithinLimits settings) }
+    {
+        let mut table = read_table(alloc, text)?;
+        for key in &OWN_KEYS {
+            self.take_out(alloc, key, &mut table)?;
+        }
+        read_others(alloc, &table)
+    }
+
+    // Takes one of the daemon's own keys out of a table, if it is there.
+    fn take_out(
+        &mut self,
+        alloc: Global,
+        key: &str,
+        table: &mut Table,
+    ) -> Result<(), SettingsFault> {
+        let Some(value) = table.get(key) else {
+            return Ok(());
+        };
+        if !self.take(alloc, key, value)? {
+            return Err(SettingsFault::BadValue(String::from_str(alloc, key)?));
+        }
+        table.remove(key);
+        Ok(())
+    }
+
+    // Takes the value of one of the daemon's own keys. Returns whether the key allows it.
+    fn take(&mut self, alloc: Global, key: &str, value: &Value) -> Result<bool, AllocError> {
+        Ok(match key {
             "archive" => put_some(&mut self.archive, path(alloc, value)?),
             "clients" => put(
                 &mut self.clients,
@@ -164,10 +183,8 @@ impl Own {
             "mode" => put(&mut self.mode, number(value, 0, 0o777).map(|n| n as u32)),
             "state" => put_some(&mut self.state, path(alloc, value)?),
             "stdin" => put(&mut self.ends_with_input, ends_with_input(value)),
-            "zone_octets" => put(&mut self.zone_octets, number(value, 0, MAX_ZONE_OCTETS)),
-            _ => return Ok(Taken::Other),
-        };
-        Ok(if is_taken { Taken::Own } else { Taken::Refused })
+            _ => put(&mut self.zone_octets, number(value, 0, MAX_ZONE_OCTETS)),
+        })
     }
 
     // The daemon's settings, with those that `serve` has too.

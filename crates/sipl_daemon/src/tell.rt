@@ -17,11 +17,7 @@ pub(crate) fn tell<R: Print + AllocGlobal, H: Host>(
     line: &str,
 ) -> io::Result<bool> {
     let stream = connect(host, rt.alloc(), address)?;
-    let mut connection = &stream;
-    connection.write_all(format!(in rt.alloc(); "{line}\n")?.as_bytes())?;
-    stream.shutdown(Shutdown::Write)?;
-    let mut reply = String::new(rt.alloc());
-    connection.read_to_string(&mut reply)?;
+    let reply = reply_to(rt.alloc(), &stream, line)?;
     print!(rt; "{reply}")?;
     let last = reply.as_str().lines().last().unwrap_or("err");
     Ok(!last.starts_with("err"))
@@ -33,4 +29,14 @@ fn connect<H: Host>(host: &H, alloc: Global, address: &str) -> io::Result<Stream
         Some(Address::Unix(path)) => Ok(Stream::Unix(UnixStream::connect(host, path.as_str())?)),
         None => Err(io::Error::from(ErrorKind::InvalidInput)),
     }
+}
+
+// Sends a line, and returns what comes back until the connection ends.
+fn reply_to(alloc: Global, stream: &Stream, line: &str) -> io::Result<String> {
+    let mut connection = stream;
+    connection.write_all(format!(in alloc; "{line}\n")?.as_bytes())?;
+    stream.shutdown(Shutdown::Write)?;
+    let mut reply = String::new(alloc);
+    connection.read_to_string(&mut reply)?;
+    Ok(reply)
 }

@@ -23,6 +23,13 @@ impl HostTime {
         })
     }
 
+    /// The clock goes on from a time of the book.
+    pub(crate) fn restart<R: Clock>(&mut self, rt: &R, base: u64) -> io::Result<()> {
+        self.start = Instant::now(rt)?;
+        self.base = base;
+        Ok(())
+    }
+
     /// The time, in milliseconds. Where the clock of the machine can't be read it is that of the start.
     pub(crate) fn now<R: Clock>(&self, rt: &R) -> u64 {
         let passed = match self.start.elapsed(rt) {
@@ -37,13 +44,8 @@ impl HostTime {
         self.end.fetch_max(end, Ordering::SeqCst);
     }
 
-    /// The latest end of a hold.
-    pub(crate) fn end(&self) -> u64 {
-        self.end.load(Ordering::SeqCst)
-    }
-
     /// Whether a hold may last at a time.
     pub(crate) fn may_be_held(&self, now: u64) -> bool {
-        now < self.end()
+        now < self.end.load(Ordering::SeqCst)
     }
 }
