@@ -1,6 +1,6 @@
 //! The replay of an archive: its pages follow one another, each event is accepted, and each answer is that
 //! of the plain machine.
-ghost use Rattle.std.specs.Prelude.{◌≡◌, IfOk};
+ghost use Rattle.std.specs.Prelude.{◌≡◌, ◌++◌, IfOk};
 ghost use Rattle.std.specs.Bool.{Decides};
 ghost use Rattle.sha2.specs.Sha256.{sha256};
 ghost use Rattle.sipl_records.specs.Fields.{fields_of};
@@ -10,7 +10,7 @@ use crate::archive::digest_line;
 use crate::items::{is_change, item_of, replies_to, reply_of, split_line};
 use crate::plain::Plain;
 use sha2::{Digest, Sha256};
-use sipl_lines::Settings;
+use sipl_lines::{Settings, SettingsFault};
 use sipl_records::{next_field, read_number};
 use std::alloc::{AllocError, AllocFailed, Global};
 use std::rt::Files;
@@ -48,6 +48,37 @@ impl<T: Drop> From<AllocFailed<T>> for ReplayFault {
     }
 }
 
+// Why a page is not replayed.
+#[derive(Drop)]
+enum PageFault {
+    File(io::Error),
+    Gap,
+    NotPage,
+    Event(u64),
+    Changed,
+    Memory,
+}
+
+impl PageFault {
+    // That of the page of a path.
+    fn at(self, path: String) -> ReplayFault {
+        match self {
+            PageFault::File(error) => ReplayFault::File(path, error),
+            PageFault::Gap => ReplayFault::Gap(path),
+            PageFault::NotPage => ReplayFault::NotPage(path),
+            PageFault::Event(number) => ReplayFault::Event(path, number),
+            PageFault::Changed => ReplayFault::Changed(path),
+            PageFault::Memory => ReplayFault::Memory,
+        }
+    }
+}
+
+impl From<AllocError> for PageFault {
+    fn from(_: AllocError) -> PageFault {
+        PageFault::Memory
+    }
+}
+
 // What a page says of itself.
 #[derive(Clone, Copy)]
 struct Head<'a> {
@@ -55,6 +86,13 @@ struct Head<'a> {
     count: u64,
     client: &'a [u8],
     events: &'a [u8],
+}
+
+// The runs of which pages were replayed: the last one, and how many events there were in all.
+#[derive(Drop)]
+struct Runs {
+    last: Option<Run>,
+    events: u64,
 }
 
 // A run of which pages were replayed: its number, that of its next event, its client, and what it has led to.
@@ -68,77 +106,184 @@ struct Run {
 
 /// Replays the pages in a folder, of all runs in their order. Returns how many events they have.
 pub fn replay<R: Files>(rt: &R, alloc: Global, folder: &str) -> Result<u64, ReplayFault> {
-    let mut events = 0u64;
-    let mut run: Option<Run> = None;
-    for name in page_names(rt, alloc, folder)? {
-        let path = format!(in alloc; "{folder}/{name}")?;
-        let text = match fs::read(&(rt, alloc), path.as_str()) {
-            Ok(text) => text,
-            Err(error) => return Err(ReplayFault::File(path, error)),
-        };
-        let (next, count) = replay_page(alloc, run, name.as_str(), &text, path)?;
-        run = Some(next);
-        events = events.saturating_add(count);
-    }
-    Ok(events)
+    let names = page_names(rt, alloc, folder)?;
+    let mut runs = Runs {
+        last: None,
+        events: 0,
+    };
+    runs.replay_all(rt, alloc, folder, &names)
 }
 
 // The names of the files in a folder, in the order of their octets, but for that of a page that was being
 // written.
 fn page_names<R: Files>(rt: &R, alloc: Global, folder: &str) -> Result<Vec<String>, ReplayFault> {
-    match list(rt, alloc, folder) {
-        Ok(names) => Ok(names),
+    let mut names = Vec::new(alloc);
+    match list(rt, alloc, folder, &mut names) {
+        Ok(()) => Ok(names),
         Err(error) => Err(ReplayFault::File(String::from_str(alloc, folder)?, error)),
     }
 }
 
-fn list<R: Files>(rt: &R, alloc: Global, folder: &str) -> io::Result<Vec<String>> {
-    let mut names = Vec::new(alloc);
+// Appends the names of the files in a folder, and sorts them all.
+fn list<R: Files>(rt: &R, alloc: Global, folder: &str, names: &mut Vec<String>) -> io::Result<()> {
     for entry in fs::read_dir(&(rt, alloc), folder)? {
-        let entry = entry?;
-        let path = entry.path().as_str();
-        let name = path.rsplit('/').next().unwrap_or(path);
-        if name != "new" {
-            names.push(String::from_str(alloc, name)?)?;
-        }
+        push_name(alloc, entry?.path().as_str(), names)?;
     }
     names.sort()?;
-    Ok(names)
+    Ok(())
 }
 
-// Replays a page after those of its run. Returns the run, and how many events the page has.
-fn replay_page(
-    alloc: Global,
-    run: Option<Run>,
-    name: &str,
-    text: &[u8],
-    path: String,
-) -> Result<(Run, u64), ReplayFault> {
-    let Some((number, first)) = read_name(name) else {
-        return Err(ReplayFault::NotPage(path));
-    };
-    let len = text.len().saturating_sub(DIGEST_LEN);
-    let (body, end) = (
-        text.get(..len).unwrap_or(&[]),
-        text.get(len..).unwrap_or(&[]),
-    );
-    let Some(head) = read_head(body) else {
-        return Err(ReplayFault::NotPage(path));
-    };
-    let Some(mut run) = run_of(alloc, run, number, &head)? else {
-        return Err(ReplayFault::Gap(path));
-    };
-    if head.first != first {
-        return Err(ReplayFault::Gap(path));
+// Appends the name of a file, by its path, unless it is that of a page that was being written.
+fn push_name(alloc: Global, path: &str, names: &mut Vec<String>) -> Result<(), AllocError> {
+    let name = path.rsplit('/').next().unwrap_or(path);
+    if name == "new" {
+        return Ok(());
     }
-    if let Some(number) = replay_events(alloc, &mut run.desk, &head)? {
-        return Err(ReplayFault::Event(path, number));
+    let name = String::from_str(alloc, name)?;
+    names.push(name)?;
+    Ok(())
+}
+
+impl Runs {
+    // Replays the pages of these names. Returns how many events there were in all.
+    fn replay_all<R: Files>(
+        &mut self,
+        rt: &R,
+        alloc: Global,
+        folder: &str,
+        names: &[String],
+    ) -> Result<u64, ReplayFault> {
+        for name in names {
+            self.replay_file(rt, alloc, folder, name.as_str())?;
+        }
+        Ok(self.events)
     }
-    if !is_digest(alloc, body, end)? {
-        return Err(ReplayFault::Changed(path));
+
+    // Replays the page of a name.
+    fn replay_file<R: Files>(
+        &mut self,
+        rt: &R,
+        alloc: Global,
+        folder: &str,
+        name: &str,
+    ) -> Result<(), ReplayFault> {
+        let path = format!(in alloc; "{folder}/{name}")?;
+        match self.read_page(rt, alloc, name, path.as_str()) {
+            Ok(()) => Ok(()),
+            Err(fault) => Err(fault.at(path)),
+        }
     }
-    run.next = first.saturating_add(head.count);
-    Ok((run, head.count))
+
+    // Reads a page from its file, and replays it.
+    fn read_page<R: Files>(
+        &mut self,
+        rt: &R,
+        alloc: Global,
+        name: &str,
+        path: &str,
+    ) -> Result<(), PageFault> {
+        match fs::read(&(rt, alloc), path) {
+            Ok(text) => self.replay_page(alloc, name, &text),
+            Err(error) => Err(PageFault::File(error)),
+        }
+    }
+
+    // Replays a page after those of its run.
+    fn replay_page(&mut self, alloc: Global, name: &str, text: &[u8]) -> Result<(), PageFault> {
+        let (body, end) = split_digest(text);
+        let (Some((number, first)), Some(head)) = (read_name(name), read_head(body)) else {
+            return Err(PageFault::NotPage);
+        };
+        if head.first != first {
+            return Err(PageFault::Gap);
+        }
+        let run = self.follow(alloc, number, &head)?;
+        run.replay_events(alloc, &head)?;
+        if !is_digest(alloc, body, end)? {
+            return Err(PageFault::Changed);
+        }
+        self.events = self.events.saturating_add(head.count);
+        Ok(())
+    }
+
+    // The run of a page, if it follows the one before it: the same run goes on for the same client, or a later
+    // one begins.
+    fn follow(
+        &mut self,
+        alloc: Global,
+        number: u64,
+        head: &Head<'_>,
+    ) -> Result<&mut Run, PageFault> {
+        let before = self.last.as_ref().map_or(0, |run| run.number);
+        if before < number && head.first == 0 {
+            self.last = Some(new_run(alloc, number, head.client)?);
+        }
+        match &mut self.last {
+            Some(run) if run.goes_on(number, head) => Ok(run),
+            _ => Err(PageFault::Gap),
+        }
+    }
+}
+
+impl Run {
+    // Whether a page is the next one of the run of this number.
+    fn goes_on(&self, number: u64, head: &Head<'_>) -> bool {
+        self.number == number && self.next == head.first && self.client.as_slice() == head.client
+    }
+
+    // Replays the events of a page. The fault is the first that differs, if there is one; what is left after
+    // the last is as one more.
+    fn replay_events(&mut self, alloc: Global, head: &Head<'_>) -> Result<(), PageFault> {
+        let mut commands = Vec::new(alloc);
+        write_commands(&mut commands, head)?;
+        let Some(replies) = replies_to(alloc, &mut self.desk, &commands) else {
+            return Err(PageFault::Memory);
+        };
+        match first_other(head, &replies) {
+            Some(number) => Err(PageFault::Event(number)),
+            None => {
+                self.next = head.first.saturating_add(head.count);
+                Ok(())
+            }
+        }
+    }
+}
+
+// A run of a client, of which no page was replayed. The client is as the settings of a service.
+fn new_run(alloc: Global, number: u64, client: &[u8]) -> Result<Run, PageFault> {
+    let Ok(text) = str::from_utf8(client) else {
+        return Err(PageFault::NotPage);
+    };
+    let desk = desk_of(alloc, text)?;
+    let client = Vec::from_slice(alloc, client)?;
+    Ok(Run {
+        number,
+        next: 0,
+        client,
+        desk,
+    })
+}
+
+// A machine without records for the client and the policy of these settings.
+fn desk_of(alloc: Global, text: &str) -> Result<Plain, PageFault> {
+    match Settings::from_toml(alloc, text) {
+        Ok(
+            Settings {
+                abilities,
+                held,
+                ..
+            },
+        ) => Ok(Plain::new(alloc, abilities, held)),
+        Err(SettingsFault::Memory) => Err(PageFault::Memory),
+        Err(_) => Err(PageFault::NotPage),
+    }
+}
+
+// A text without its last line, and that line, which has the digest of a page.
+fn split_digest(text: &[u8]) -> (&[u8], &[u8])
+    ensures { result.0.now ++ result.1.now ≡ text.now }
+{
+    text.split_at(text.len().saturating_sub(DIGEST_LEN))
 }
 
 // Whether a line is the last one of a page that has these lines before it.
@@ -148,68 +293,17 @@ fn is_digest(alloc: Global, body: &[u8], line: &[u8]) -> Result<bool, AllocError
     Ok(digest_line(alloc, &Sha256::digest(body))?.as_slice() == line)
 }
 
-// The run of a page, if it follows the one before it: the same run goes on for the same client, or a later
-// one begins.
-fn run_of(
-    alloc: Global,
-    run: Option<Run>,
-    number: u64,
-    head: &Head<'_>,
-) -> Result<Option<Run>, ReplayFault> {
-    let before = match run {
-        Some(run) if run.number == number => {
-            let follows = run.next == head.first && run.client.as_slice() == head.client;
-            return Ok(if follows { Some(run) } else { None });
-        }
-        Some(run) => run.number,
-        None => 0,
-    };
-    let Ok(text) = str::from_utf8(head.client) else {
-        return Ok(None);
-    };
-    let settings = match Settings::from_toml(alloc, text) {
-        Ok(settings) if head.first == 0 && before < number => settings,
-        _ => return Ok(None),
-    };
-    let Settings {
-        abilities,
-        held,
-        ..
-    } = settings;
-    Ok(Some(Run {
-        number,
-        next: 0,
-        client: Vec::from_slice(alloc, head.client)?,
-        desk: Plain::new(alloc, abilities, held),
-    }))
-}
-
-// Replays the events of a page. Returns the number of the first that differs, if there is one; what is left
-// after the last is as one more.
-fn replay_events(
-    alloc: Global,
-    desk: &mut Plain,
-    head: &Head<'_>,
-) -> Result<Option<u64>, ReplayFault> {
-    let commands = commands_of(alloc, head)?;
-    match replies_to(alloc, desk, &commands) {
-        Some(replies) => Ok(first_other(head, &replies)),
-        None => Err(ReplayFault::Memory),
-    }
-}
-
-// The lines of the events of a page, without the replies, up to the first that is no event.
-fn commands_of(alloc: Global, head: &Head<'_>) -> Result<Vec<u8>, AllocError> {
-    let mut commands = Vec::new(alloc);
+// Appends the lines of the events of a page, without the replies, up to the first that is no event.
+fn write_commands(out: &mut Vec<u8>, head: &Head<'_>) -> Result<(), AllocError> {
     let mut rest = head.events;
     for _ in 0..head.count {
         let Some((len, reply)) = event_of(rest) else {
             break;
         };
-        commands.extend_from_slice(rest.get(..len).unwrap_or(&[]))?;
+        out.extend_from_slice(rest.get(..len).unwrap_or(&[]))?;
         rest = rest.get(len.saturating_add(reply)..).unwrap_or(&[]);
     }
-    Ok(commands)
+    Ok(())
 }
 
 // How many octets the first event of a text has, and of an answer how many its reply after it has.
