@@ -1,4 +1,6 @@
 pub mod Archive
+pub mod Commands
 pub mod Plain
+pub mod Replay
 pub mod Replies
 pub mod Text

@@ -1,12 +1,13 @@
 //! The archive: each page of the journal in a file of its own, once it is claimed.
-ghost use Rattle.std.specs.Prelude.{◌≡◌, IfOk, OnOk};
+ghost use Rattle.std.specs.Prelude.{◌≡◌, ◌++◌, IfOk, OnOk};
 ghost use Rattle.std.specs.Io.KnownBytes.{Appends};
-ghost use Rattle.sipl_archive.specs.Archive.{WritesPiece, digest_line, page_head, page_text};
+ghost use Rattle.sipl_archive.specs.Archive.{WritesPiece, client_text, digest_line, families_text};
+ghost use Rattle.sipl_archive.specs.Archive.{held_text, page_head, page_text, quoted, transports_text};
 
 use crate::text::{write_event, write_number};
 use sha2::{Digest, Sha256};
 use sipl_book::{Event, Extent, Page};
-use sipl_choice::{Abilities, Families};
+use sipl_choice::{Abilities, Families, Transport};
 use sipl_outages::Held;
 use std::alloc::{AllocError, Global};
 use std::fs::{File, OpenOptions};
@@ -30,7 +31,7 @@ pub struct Archive {
     folder: String,
     run: u64,
     // The client and the policy of each page, as settings.
-    client: String,
+    client: Vec<u8>,
 }
 
 impl Archive {
@@ -51,7 +52,7 @@ impl Archive {
             file,
             folder: String::new(alloc),
             run: 0,
-            client: String::new(alloc),
+            client: Vec::new(alloc),
         };
         match archive.begin(rt, folder, abilities, held) {
             Ok(()) => Ok(archive),
@@ -94,7 +95,7 @@ impl Archive {
             .open(rt, path)?;
         let extent = page.extent();
         let mut text = Vec::new(self.alloc);
-        write_head(self.alloc, &mut text, extent, self.client.as_str())?;
+        write_head(self.alloc, &mut text, extent, &self.client)?;
         write_page(self.alloc, &mut file, &mut text, page.events())?;
         file.sync_all()
     }
@@ -178,7 +179,7 @@ fn write_head(
     alloc: Global,
     out: &mut Vec<u8>,
     extent: Extent,
-    client: &str,
+    client: &[u8],
 ) -> Result<(), AllocError>
     ensures { OnOk result (out.new.items
         ≡ out.old.items ++ page_head extent.first extent.count client.now) }
@@ -187,30 +188,52 @@ fn write_head(
     write_number(alloc, out, extent.first)?;
     write_number(alloc, out, extent.count)?;
     out.push(b'\n')?;
-    out.extend_from_slice(client.as_bytes())?;
+    out.extend_from_slice(client)?;
     out.push(b'\n')?;
     Ok(())
 }
 
 // Appends the client and the policy, as settings.
-fn write_client(out: &mut String, abilities: &Abilities, held: Held) -> Result<(), AllocError> {
-    out.push_str("transports = [")?;
-    let mut separator = "\"";
-    for transport in abilities.preference() {
-        out.push_str(separator)?;
-        out.push_str(transport.name())?;
-        out.push('"')?;
-        separator = ", \"";
+fn write_client(out: &mut Vec<u8>, abilities: &Abilities, held: Held) -> Result<(), AllocError>
+    ensures { OnOk result (out.new.items ≡ out.old.items ++ client_text abilities.now held) }
+{
+    out.extend_from_slice(b"transports = [")?;
+    write_transports(out, abilities.preference())?;
+    write_quoted(out, b"]\nfamilies = ", families_name(abilities.families()))?;
+    write_quoted(out, b"\nheld = ", held_name(held))?;
+    out.push(b'\n')?;
+    Ok(())
+}
+
+// Appends the names of transports, with a comma and a space between them.
+fn write_transports(out: &mut Vec<u8>, transports: &[Transport]) -> Result<(), AllocError>
+    ensures { OnOk result (out.new.items ≡ out.old.items ++ transports_text transports.now) }
+{
+    let Some((first, others)) = transports.split_first() else {
+        return Ok(());
+    };
+    write_quoted(out, b"", first.name())?;
+    for other in others {
+        write_quoted(out, b", ", other.name())?;
     }
-    out.push_str("]\nfamilies = \"")?;
-    out.push_str(families_name(abilities.families()))?;
-    out.push_str("\"\nheld = \"")?;
-    out.push_str(held_name(held))?;
-    out.push_str("\"\n")
+    Ok(())
+}
+
+// Appends a text, and a name in quotes.
+fn write_quoted(out: &mut Vec<u8>, text: &[u8], name: &str) -> Result<(), AllocError>
+    ensures { OnOk result (out.new.items ≡ out.old.items ++ text.now ++ quoted name.now) }
+{
+    out.extend_from_slice(text)?;
+    out.push(b'"')?;
+    out.extend_from_slice(name.as_bytes())?;
+    out.push(b'"')?;
+    Ok(())
 }
 
 // The name of families in the settings.
-fn families_name(families: Families) -> &'static str {
+fn families_name(families: Families) -> &'static str
+    ensures { result.now ≡ families_text families }
+{
     match families {
         Families::V4 => "v4",
         Families::V6 => "v6",
@@ -220,7 +243,9 @@ fn families_name(families: Families) -> &'static str {
 }
 
 // The name of a policy on held endpoints in the settings.
-fn held_name(held: Held) -> &'static str {
+fn held_name(held: Held) -> &'static str
+    ensures { result.now ≡ held_text held }
+{
     match held {
         Held::Out => "out",
         Held::Last => "last",

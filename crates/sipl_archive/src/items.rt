@@ -1,5 +1,8 @@
 //! The lines of a session, and which of them belong to one command or reply.
 ghost use Rattle.std.specs.Prelude.{◌≡◌, ◌⊎◌, ℕ, ◌<◌, ◌≤◌, [], ◌∷◌, ◌++◌, length, get_or, IfSome};
+ghost use Rattle.sipl_records.specs.Fields.{fields_of};
+ghost use Rattle.sipl_lines.specs.Lines.{without_cr};
+ghost use Rattle.sipl_archive.specs.Commands.{taken_by, zone_count};
 ghost use Rattle.sipl_archive.specs.Replies.{AreReplies};
 
 use memchr::memchr;
@@ -37,8 +40,10 @@ pub(crate) fn item_of(text: &[u8]) -> Option<(usize, u64)>
 
 /// How many lines after it a line takes, which has no LF: those of a zone's text after `zone APEX COUNT`,
 /// and else none.
-pub fn taken_by(line: &[u8]) -> u64 {
-    let line = line.strip_suffix(b"\r".as_slice()).unwrap_or(line);
+pub fn taken_by(line: &[u8]) -> u64
+    ensures { result ≡ taken_by line.now }
+{
+    let line = trim_cr(line);
     if line.len() > MAX_LINE_LEN {
         return 0;
     }
@@ -48,8 +53,22 @@ pub fn taken_by(line: &[u8]) -> u64 {
     }
 }
 
+// A line without the CR at its end.
+fn trim_cr(line: &[u8]) -> &[u8]
+    ensures { result.now ≡ without_cr line.now }
+{
+    let count = line.len();
+    if count > 0 && line[count - 1] == b'\r' {
+        &line[..count - 1]
+    } else {
+        line
+    }
+}
+
 // The count of `APEX COUNT`.
-fn zone_lines(fields: &[u8]) -> Option<u64> {
+fn zone_lines(fields: &[u8]) -> Option<u64>
+    ensures { result ≡ zone_count (fields_of fields.now) }
+{
     let (_apex, rest) = next_field(fields)?;
     let (count, rest) = next_field(rest)?;
     if next_field(rest).is_some() {

@@ -1,10 +1,11 @@
 //! The replay of an archive: its pages follow one another, each event is accepted, and each answer is that
 //! of the plain machine.
-ghost use Rattle.std.specs.Prelude.{◌≡◌, ◌++◌, IfOk};
+ghost use Rattle.std.specs.Prelude.{◌≡◌, ◌≤◌, ◌+◌, [], ◌++◌, length, IfOk, IfSome, OnOk};
 ghost use Rattle.std.specs.Bool.{Decides};
 ghost use Rattle.sha2.specs.Sha256.{sha256};
 ghost use Rattle.sipl_records.specs.Fields.{fields_of};
 ghost use Rattle.sipl_archive.specs.Archive.{digest_line, extent_in};
+ghost use Rattle.sipl_archive.specs.Replay.{RepeatsFirst, RepeatsSome, is_expected};
 
 use crate::archive::digest_line;
 use crate::items::{is_change, item_of, replies_to, reply_of, split_line};
@@ -231,22 +232,62 @@ impl Run {
         self.number == number && self.next == head.first && self.client.as_slice() == head.client
     }
 
-    // Replays the events of a page. The fault is the first that differs, if there is one; what is left after
-    // the last is as one more.
-    fn replay_events(&mut self, alloc: Global, head: &Head<'_>) -> Result<(), PageFault> {
-        let mut commands = Vec::new(alloc);
-        write_commands(&mut commands, head)?;
-        let Some(replies) = replies_to(alloc, &mut self.desk, &commands) else {
-            return Err(PageFault::Memory);
-        };
-        match first_other(head, &replies) {
-            Some(number) => Err(PageFault::Event(number)),
-            None => {
-                self.next = head.first.saturating_add(head.count);
-                Ok(())
+    // Replays the events of a page. The fault has the number of the first that is not accepted, or whose answer
+    // is another one; what is left after the last is as one more.
+    fn replay_events(&mut self, alloc: Global, head: &Head<'_>) -> Result<(), PageFault>
+        ensures { OnOk result
+            (RepeatsSome head.now.events.now [] head.now.count self.old.desk self.new.desk) }
+    {
+        let mut rest = head.events;
+        for place in 0..head.count {
+            match replay_event(alloc, &mut self.desk, rest)? {
+                Some(others) => rest = others,
+                None => return Err(PageFault::Event(head.first.saturating_add(place))),
             }
         }
+        self.next = head.first.saturating_add(head.count);
+        if rest.is_empty() {
+            Ok(())
+        } else {
+            Err(PageFault::Event(self.next))
+        }
     }
+}
+
+// Replays the first event of a text. Returns the rest of the text; `None` where the event is not accepted, or
+// its answer is another one.
+fn replay_event<'a>(
+    alloc: Global,
+    desk: &mut Plain,
+    text: &'a [u8],
+) -> Result<Option<&'a [u8]>, PageFault>
+    ensures { IfOk result (λ rest. IfSome rest
+        (λ rest. RepeatsFirst text.now rest.now desk.old desk.new)) }
+{
+    let Some((len, reply_len)) = event_of(text) else {
+        return Ok(None);
+    };
+    let (command, after) = text.split_at(len);
+    let (reply, rest) = after.split_at(reply_len);
+    let Some(told) = replies_to(alloc, desk, command) else {
+        return Err(PageFault::Memory);
+    };
+    if is_expected(reply, &told) {
+        Ok(Some(rest))
+    } else {
+        Ok(None)
+    }
+}
+
+// Whether the reply to an event is as its page has it: a change, which has none there, is accepted, and an answer
+// is the same.
+fn is_expected(reply: &[u8], told: &[u8]) -> bool
+    ensures { result ≡ is_expected reply.now told.now }
+{
+    if reply.is_empty() {
+        return told.starts_with(b"ok ");
+    }
+    reply == told && !told.starts_with(b"err")
 }
 
 // A run of a client, of which no page was replayed. The client is as the settings of a service.
@@ -293,57 +334,18 @@ fn is_digest(alloc: Global, body: &[u8], line: &[u8]) -> Result<bool, AllocError
     Ok(digest_line(alloc, &Sha256::digest(body))?.as_slice() == line)
 }
 
-// Appends the lines of the events of a page, without the replies, up to the first that is no event.
-fn write_commands(out: &mut Vec<u8>, head: &Head<'_>) -> Result<(), AllocError> {
-    let mut rest = head.events;
-    for _ in 0..head.count {
-        let Some((len, reply)) = event_of(rest) else {
-            break;
-        };
-        out.extend_from_slice(rest.get(..len).unwrap_or(&[]))?;
-        rest = rest.get(len.saturating_add(reply)..).unwrap_or(&[]);
-    }
-    Ok(())
-}
-
 // How many octets the first event of a text has, and of an answer how many its reply after it has.
-fn event_of(text: &[u8]) -> Option<(usize, usize)> {
+fn event_of(text: &[u8]) -> Option<(usize, usize)>
+    ensures { IfSome result (λ lens. lens.0 + lens.1 ≤ length text.now) }
+{
     let (len, _) = item_of(text)?;
     if is_change(text) {
         return Some((len, 0));
     }
     match next_field(text) {
-        Some((b"find", _)) => Some((len, reply_of(text.get(len..)?)?)),
+        Some((b"find", _)) => Some((len, reply_of(&text[len..])?)),
         _ => None,
     }
-}
-
-// The number of the first event whose reply is another one: that of an answer to the octet, and each other
-// event is accepted.
-fn first_other(head: &Head<'_>, replies: &[u8]) -> Option<u64> {
-    let (mut rest, mut replies) = (head.events, replies);
-    for place in 0..head.count {
-        let number = head.first.saturating_add(place);
-        let (Some((len, own)), Some(end)) = (event_of(rest), reply_of(replies)) else {
-            return Some(number);
-        };
-        let after = rest.get(len..).unwrap_or(&[]);
-        let (own, reply) = (
-            after.get(..own).unwrap_or(&[]),
-            replies.get(..end).unwrap_or(&[]),
-        );
-        if own != reply && !(own.is_empty() && reply.starts_with(b"ok "))
-            || reply.starts_with(b"err")
-        {
-            return Some(number);
-        }
-        rest = after.get(own.len()..).unwrap_or(&[]);
-        replies = replies.get(end..).unwrap_or(&[]);
-    }
-    if rest.is_empty() {
-        return None;
-    }
-    Some(head.first.saturating_add(head.count))
 }
 
 // The run and the first number of a page, by its name.

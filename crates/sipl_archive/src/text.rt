@@ -1,8 +1,8 @@
 //! Changes and records as the lines of a session.
-ghost use Rattle.std.specs.Prelude.{◌≡◌, [], ◌∷◌, ◌++◌, length, codes, decimal, IfOk, OnOk};
+ghost use Rattle.std.specs.Prelude.{◌≡◌, [], ◌∷◌, ◌++◌, length, map, codes, decimal, IfOk, OnOk};
 ghost use Rattle.sipl_lines.specs.ReplyText.{answer_text, counts_line, number_field};
 ghost use Rattle.sipl_lines.specs.ReplyText.{target_line, target_lines};
-ghost use Rattle.sipl_archive.specs.Text.{clock_line, edit_lines, endpoint_text, event_lines};
+ghost use Rattle.sipl_archive.specs.Text.{AppendsZones, clock_line, edit_lines, endpoint_text, event_lines};
 ghost use Rattle.sipl_archive.specs.Text.{hold_line, hold_lines, mark_line, state_head, zone_line};
 ghost use Rattle.sipl_archive.specs.Text.{release_line, without_last_zeros, words_field};
 ghost use Rattle.sipl_archive.specs.Text.{zone_lines};
@@ -157,20 +157,27 @@ pub(crate) fn write_zones(
     out: &mut Vec<u8>,
     apexes: &[Name],
     records: &[Record],
-) -> Result<(), AllocError> {
+) -> Result<(), AllocError>
+    ensures { OnOk result (AppendsZones out.old.items out.new.items) }
+{
     let mut zones = IndexMap::new(alloc);
+    sort_records(alloc, &mut zones, apexes, records)?;
+    write_sorted(alloc, out, &zones)
+}
+
+// Sorts records by the zones that they are in.
+fn sort_records<'a>(
+    alloc: Global,
+    zones: &mut IndexMap<Name, Vec<&'a Record>>,
+    apexes: &[Name],
+    records: &'a [Record],
+) -> Result<(), AllocError> {
     for apex in apexes {
         zones.insert(apex.dup(alloc)?, Vec::new(alloc))?;
     }
     for record in records {
-        if let Some(own) = zone_of(alloc, &mut zones, &record.owner)? {
+        if let Some(own) = zone_of(alloc, zones, &record.owner)? {
             own.push(record)?;
-        }
-    }
-    for (apex, own) in &zones {
-        write_zone_line(alloc, out, apex, own.len())?;
-        for record in own {
-            write_record(alloc, out, record)?;
         }
     }
     Ok(())
@@ -192,6 +199,37 @@ fn zone_of<'a, 'b>(
         }
     }
     Ok(None)
+}
+
+// Appends the lines that load zones, each with its records.
+fn write_sorted(
+    alloc: Global,
+    out: &mut Vec<u8>,
+    zones: &IndexMap<Name, Vec<&Record>>,
+) -> Result<(), AllocError>
+    ensures { OnOk result (AppendsZones out.old.items out.new.items) }
+{
+    for (apex, own) in zones {
+        write_zone_of(alloc, out, apex, own)?;
+    }
+    Ok(())
+}
+
+// Appends the lines that load a zone with these records.
+fn write_zone_of(
+    alloc: Global,
+    out: &mut Vec<u8>,
+    apex: &Name,
+    records: &[&Record],
+) -> Result<(), AllocError>
+    ensures { OnOk result (out.new.items
+        ≡ out.old.items ++ zone_lines apex.now (map (λ r. r.now) records.now)) }
+{
+    write_zone_line(alloc, out, apex, records.len())?;
+    for record in records {
+        write_record(alloc, out, record)?;
+    }
+    Ok(())
 }
 
 // Appends the lines that load a zone with these records.
@@ -269,21 +307,33 @@ pub fn mark_text(alloc: Global, mark: u64) -> Result<Vec<u8>, AllocError>
     ensures { IfOk result (λ text. text.items ≡ mark_line mark) }
 {
     let mut out = Vec::new(alloc);
-    out.extend_from_slice(b"# page")?;
-    write_number(alloc, &mut out, mark)?;
-    out.push(b'\n')?;
+    write_mark(alloc, &mut out, mark)?;
     Ok(out)
 }
 
-/// The first lines of a state: its mark, and the time, unless that is 0.
-pub(crate) fn state_head(alloc: Global, mark: u64, now: u64) -> Result<Vec<u8>, AllocError>
-    ensures { IfOk result (λ text. text.items ≡ state_head mark now) }
+fn write_mark(alloc: Global, out: &mut Vec<u8>, mark: u64) -> Result<(), AllocError>
+    ensures { OnOk result (out.new.items ≡ out.old.items ++ mark_line mark) }
 {
-    let mut out = mark_text(alloc, mark)?;
+    out.extend_from_slice(b"# page")?;
+    write_number(alloc, out, mark)?;
+    out.push(b'\n')?;
+    Ok(())
+}
+
+/// Appends the first lines of a state: its mark, and the time, unless that is 0.
+pub(crate) fn write_head(
+    alloc: Global,
+    out: &mut Vec<u8>,
+    mark: u64,
+    now: u64,
+) -> Result<(), AllocError>
+    ensures { OnOk result (out.new.items ≡ out.old.items ++ state_head mark now) }
+{
+    write_mark(alloc, out, mark)?;
     if now > 0 {
-        write_clock(alloc, &mut out, now)?;
+        return write_clock(alloc, out, now);
     }
-    Ok(out)
+    Ok(())
 }
 
 // Appends the line that sets the time.
