@@ -41,12 +41,19 @@ abbrev pub held_text : Held → Octets
 held_text Out = codes "out"
 held_text Last = codes "last"
 
+-- `transports = [NAMES]`
+abbrev pub transports_line : List Transport → Octets
+transports_line transports = codes "transports = [" ++ transports_text transports ++ 93 ∷ 10 ∷ []
+
+-- `KEY = NAME`
+abbrev pub setting_line : Octets → Octets → Octets
+setting_line key name = key ++ codes " = " ++ quoted name ++ 10 ∷ []
+
 -- the client and the policy, as settings of a line each
 abbrev pub client_text : Client → Held → Octets
 client_text client held =
-    codes "transports = [" ++ transports_text client.preference ++ codes "]" ++ 10
-    ∷ codes "families = " ++ quoted (families_text client.families) ++ 10
-    ∷ codes "held = " ++ quoted (held_text held) ++ 10 ∷ []
+    transports_line client.preference ++ setting_line (codes "families") (families_text client.families)
+    ++ setting_line (codes "held") (held_text held)
 
 -- `siplocd page FIRST COUNT`, the client and the policy as settings, and an empty line
 abbrev pub page_head : ℕ → ℕ → Octets → Octets

@@ -2,7 +2,8 @@
 ghost use Rattle.std.specs.Prelude.{◌≡◌, ◌++◌, IfOk, OnOk};
 ghost use Rattle.std.specs.Io.KnownBytes.{Appends};
 ghost use Rattle.sipl_archive.specs.Archive.{WritesPiece, client_text, digest_line, families_text};
-ghost use Rattle.sipl_archive.specs.Archive.{held_text, page_head, page_text, quoted, transports_text};
+ghost use Rattle.sipl_archive.specs.Archive.{held_text, page_head, page_text, quoted, setting_line, transports_line};
+ghost use Rattle.sipl_archive.specs.Archive.{transports_text};
 
 use crate::text::{write_event, write_number};
 use sha2::{Digest, Sha256};
@@ -197,11 +198,32 @@ fn write_head(
 fn write_client(out: &mut Vec<u8>, abilities: &Abilities, held: Held) -> Result<(), AllocError>
     ensures { OnOk result (out.new.items ≡ out.old.items ++ client_text abilities.now held) }
 {
-    out.extend_from_slice(b"transports = [")?;
-    write_transports(out, abilities.preference())?;
-    write_quoted(out, b"]\nfamilies = ", families_name(abilities.families()))?;
-    write_quoted(out, b"\nheld = ", held_name(held))?;
+    write_transports_line(out, abilities.preference())?;
+    write_setting(out, b"families", families_name(abilities.families()))?;
+    write_setting(out, b"held", held_name(held))?;
+    Ok(())
+}
+
+// Appends a setting whose value is a name.
+fn write_setting(out: &mut Vec<u8>, key: &[u8], name: &str) -> Result<(), AllocError>
+    ensures { OnOk result (out.new.items ≡ out.old.items ++ setting_line key.now name.now) }
+{
+    out.extend_from_slice(key)?;
+    write_quoted(out, b" = ", name)?;
     out.push(b'\n')?;
+    Ok(())
+}
+
+// Appends the setting of a client's transports.
+fn write_transports_line(
+    out: &mut Vec<u8>,
+    transports: &[Transport],
+) -> Result<(), AllocError>
+    ensures { OnOk result (out.new.items ≡ out.old.items ++ transports_line transports.now) }
+{
+    out.extend_from_slice(b"transports = [")?;
+    write_transports(out, transports)?;
+    out.extend_from_slice(b"]\n")?;
     Ok(())
 }
 
