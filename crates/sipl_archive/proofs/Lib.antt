@@ -1,6 +1,6 @@
 pub mod Appending
 pub mod Lines
-pub mod Loading
 pub mod Paging
 pub mod Replay
+pub mod Sorting
 pub mod Words

@@ -3,4 +3,5 @@ pub mod Commands
 pub mod Plain
 pub mod Replay
 pub mod Replies
+pub mod Sorting
 pub mod Text

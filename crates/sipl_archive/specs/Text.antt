@@ -1,5 +1,5 @@
 -- Edits, holds, times and answers as the lines of a session; records as entries of a master file.
-use Rattle.std.specs.Prelude.{◌≡◌, ℕ, ◌+◌, ◌-◌, List, [], ◌∷◌, ◌++◌, length, codes, decimal, flat_map, nat_lt, if◌then◌else◌, ◌==◌}
+use Rattle.std.specs.Prelude.{ℕ, ◌+◌, ◌-◌, List, [], ◌∷◌, ◌++◌, length, codes, decimal, flat_map, nat_lt, if◌then◌else◌, ◌==◌}
 use Rattle.sipl_names.specs.Labels.{Octets, Labels}
 use Rattle.sipl_names.specs.NamePrint.{text_of}
 use Rattle.sipl_records.specs.Addresses.{text_of_address}
@@ -8,13 +8,14 @@ use Rattle.sipl_records.specs.declared.record.Record.{Record}
 use Rattle.sipl_masterfile.specs.RecordPrint.{printed_string, quoted, record_text, spelled, written_data}
 use Rattle.sipl_choice.specs.Transports.{transport_text}
 use Rattle.sipl_choice.specs.declared.endpoint.Endpoint.{Endpoint}
-use Rattle.sipl_outages.specs.Holds.{Holds}
 use Rattle.sipl_uri.specs.QuestionText.{question_text}
+use Rattle.sipl_book.specs.Machine.{State}
 use Rattle.sipl_book.specs.declared.edit.Edit.{Edit}
 use Rattle.sipl_book.specs.declared.edit.Edit.TheVariants as edit
 use Rattle.sipl_book.specs.declared.event.Event.{Event}
 use Rattle.sipl_book.specs.declared.event.Event.TheVariants as event
 use Rattle.sipl_lines.specs.ReplyText.{answer_text, number_field, word_field}
+use Rattle.sipl_archive.specs.Sorting.{listed, zones_of}
 
 -- the line of a record, which reads back to it (`printing_records_reads_back` of `sipl_masterfile`)
 abbrev pub record_line : Record → Octets
@@ -39,11 +40,6 @@ zone_lines apex records = zone_line apex (length records) ++ flat_map record_lin
 -- the lines that load zones
 abbrev pub zones_lines : List (Labels × List Record) → Octets
 zones_lines zones = flat_map (λ zone. zone_lines zone.0 zone.1) zones
-
--- a text has the lines after it that load some zones
-pub record AppendsZones (old new : Octets) : Type 0 where
-  pub zones : List (Labels × List Record)
-  pub text_is : new ≡ old ++ zones_lines zones
 
 -- the lines of an edit
 abbrev pub edit_lines : Edit → Octets
@@ -82,15 +78,13 @@ mark_line mark = codes "# page" ++ number_field mark ++ 10 ∷ []
 abbrev pub state_head : ℕ → ℕ → Octets
 state_head mark now = mark_line mark ++ (if nat_lt 0 now then clock_line now else [])
 
--- a text has those of a state after it: its first lines, those of some zones, and those of its holds
-pub record AppendsState (mark : ℕ) (holds : Holds) (old new : Octets) : Type 0 where
-  pub zones : List (Labels × List Record)
-  pub text_is : new
-      ≡ old ++ state_head mark holds.now ++ zones_lines zones ++ hold_lines holds.now holds.ends
-
--- the text of a state
-abbrev pub IsStateText : ℕ → Holds → Octets → Type 0
-IsStateText mark holds text = AppendsState mark holds [] text
+-- the text of a state after a mark: its first lines, those that load its zones, each with the records within it,
+-- and those of its holds
+abbrev pub state_text : ℕ → State → Octets
+state_text mark state =
+    state_head mark state.holds.now
+    ++ zones_lines (zones_of (listed state.zones.apexes) state.zones.records)
+    ++ hold_lines state.holds.now state.holds.ends
 
 -- a word before others, where it is 0 and none is after it not
 abbrev pub before_zeros : ℕ → List ℕ → List ℕ

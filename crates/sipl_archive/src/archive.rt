@@ -215,10 +215,7 @@ fn write_setting(out: &mut Vec<u8>, key: &[u8], name: &str) -> Result<(), AllocE
 }
 
 // Appends the setting of a client's transports.
-fn write_transports_line(
-    out: &mut Vec<u8>,
-    transports: &[Transport],
-) -> Result<(), AllocError>
+fn write_transports_line(out: &mut Vec<u8>, transports: &[Transport]) -> Result<(), AllocError>
     ensures { OnOk result (out.new.items ≡ out.old.items ++ transports_line transports.now) }
 {
     out.extend_from_slice(b"transports = [")?;

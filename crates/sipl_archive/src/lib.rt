@@ -9,6 +9,7 @@ mod record_text;
 mod replay;
 mod state_text;
 mod text;
+mod zones;
 
 pub use archive::Archive;
 pub use items::{replies_to, split_line, taken_by};

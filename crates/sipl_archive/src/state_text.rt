@@ -1,10 +1,11 @@
 //! The text of a state, and the changes after it.
-ghost use Rattle.std.specs.Prelude.{◌≡◌, IfOk, OnOk};
+ghost use Rattle.std.specs.Prelude.{◌≡◌, ◌++◌, IfOk, OnOk};
 ghost use Rattle.sipl_archive.specs.Commands.{mark_in};
-ghost use Rattle.sipl_archive.specs.Text.{AppendsState, IsStateText};
+ghost use Rattle.sipl_archive.specs.Text.{state_text};
 
 use crate::items::{is_change, item_of, reply_of, split_line};
-use crate::text::{write_head, write_holds, write_zones};
+use crate::text::{write_head, write_holds};
+use crate::zones::write_zones;
 use sipl_book::State;
 use sipl_records::read_number;
 use std::alloc::{AllocError, Global};
@@ -12,7 +13,7 @@ use std::alloc::{AllocError, Global};
 /// The text of a state: its mark, the time, the zones with their records, and the holds with what is left of
 /// them. The only error is an allocation failure.
 pub fn state_text(alloc: Global, mark: u64, state: &State) -> Result<Vec<u8>, AllocError>
-    ensures { IfOk result (λ text. IsStateText mark state.now.holds text.items) }
+    ensures { IfOk result (λ text. text.items ≡ state_text mark state.now) }
 {
     let mut text = Vec::new(alloc);
     write_state(alloc, &mut text, mark, state)?;
@@ -21,7 +22,7 @@ pub fn state_text(alloc: Global, mark: u64, state: &State) -> Result<Vec<u8>, Al
 
 // Appends the text of a state.
 fn write_state(alloc: Global, out: &mut Vec<u8>, mark: u64, state: &State) -> Result<(), AllocError>
-    ensures { OnOk result (AppendsState mark state.now.holds out.old.items out.new.items) }
+    ensures { OnOk result (out.new.items ≡ out.old.items ++ state_text mark state.now) }
 {
     let Some(board) = state.board() else {
         write_head(alloc, out, mark, 0)?;

@@ -1,14 +1,13 @@
 //! Changes and records as the lines of a session.
-ghost use Rattle.std.specs.Prelude.{◌≡◌, [], ◌∷◌, ◌++◌, length, map, codes, decimal, IfOk, OnOk};
+ghost use Rattle.std.specs.Prelude.{◌≡◌, [], ◌∷◌, ◌++◌, length, codes, decimal, IfOk, OnOk};
 ghost use Rattle.sipl_lines.specs.ReplyText.{answer_text, counts_line, number_field};
 ghost use Rattle.sipl_lines.specs.ReplyText.{target_line, target_lines};
-ghost use Rattle.sipl_archive.specs.Text.{AppendsZones, clock_line, edit_lines, endpoint_text, event_lines};
+ghost use Rattle.sipl_archive.specs.Text.{clock_line, edit_lines, endpoint_text, event_lines};
 ghost use Rattle.sipl_archive.specs.Text.{hold_line, hold_lines, mark_line, state_head, zone_line};
 ghost use Rattle.sipl_archive.specs.Text.{release_line, without_last_zeros, words_field};
 ghost use Rattle.sipl_archive.specs.Text.{zone_lines};
 
 use crate::record_text::write_record;
-use indexmap::IndexMap;
 use sipl_book::{Edit, Event};
 use sipl_choice::Endpoint;
 use sipl_names::Name;
@@ -151,87 +150,6 @@ fn write_edit(alloc: Global, out: &mut Vec<u8>, edit: &Edit) -> Result<(), Alloc
     }
 }
 
-/// Appends the lines that load zones with the records that are within their apexes.
-pub(crate) fn write_zones(
-    alloc: Global,
-    out: &mut Vec<u8>,
-    apexes: &[Name],
-    records: &[Record],
-) -> Result<(), AllocError>
-    ensures { OnOk result (AppendsZones out.old.items out.new.items) }
-{
-    let mut zones = IndexMap::new(alloc);
-    sort_records(alloc, &mut zones, apexes, records)?;
-    write_sorted(alloc, out, &zones)
-}
-
-// Sorts records by the zones that they are in.
-fn sort_records<'a>(
-    alloc: Global,
-    zones: &mut IndexMap<Name, Vec<&'a Record>>,
-    apexes: &[Name],
-    records: &'a [Record],
-) -> Result<(), AllocError> {
-    for apex in apexes {
-        zones.insert(apex.dup(alloc)?, Vec::new(alloc))?;
-    }
-    for record in records {
-        if let Some(own) = zone_of(alloc, zones, &record.owner)? {
-            own.push(record)?;
-        }
-    }
-    Ok(())
-}
-
-// The records of the zone that an owner is within, if there is one.
-fn zone_of<'a, 'b>(
-    alloc: Global,
-    zones: &'a mut IndexMap<Name, Vec<&'b Record>>,
-    owner: &Name,
-) -> Result<Option<&'a mut Vec<&'b Record>>, AllocError> {
-    let mut name = owner.dup(alloc)?;
-    for _ in 0..=owner.wire_len() {
-        if zones.contains_key(&name) {
-            return Ok(zones.get_mut(&name));
-        }
-        if !name.pop_label() {
-            break;
-        }
-    }
-    Ok(None)
-}
-
-// Appends the lines that load zones, each with its records.
-fn write_sorted(
-    alloc: Global,
-    out: &mut Vec<u8>,
-    zones: &IndexMap<Name, Vec<&Record>>,
-) -> Result<(), AllocError>
-    ensures { OnOk result (AppendsZones out.old.items out.new.items) }
-{
-    for (apex, own) in zones {
-        write_zone_of(alloc, out, apex, own)?;
-    }
-    Ok(())
-}
-
-// Appends the lines that load a zone with these records.
-fn write_zone_of(
-    alloc: Global,
-    out: &mut Vec<u8>,
-    apex: &Name,
-    records: &[&Record],
-) -> Result<(), AllocError>
-    ensures { OnOk result (out.new.items
-        ≡ out.old.items ++ zone_lines apex.now (map (λ r. r.now) records.now)) }
-{
-    write_zone_line(alloc, out, apex, records.len())?;
-    for record in records {
-        write_record(alloc, out, record)?;
-    }
-    Ok(())
-}
-
 // Appends the lines that load a zone with these records.
 fn write_zone(
     alloc: Global,
@@ -248,7 +166,8 @@ fn write_zone(
     Ok(())
 }
 
-fn write_zone_line(
+/// Appends the first line of those that load a zone.
+pub(crate) fn write_zone_line(
     alloc: Global,
     out: &mut Vec<u8>,
     apex: &Name,

@@ -85,8 +85,7 @@ impl Entries {
     pub(crate) fn current(&self) -> usize
         ensures { result ≡ count_by (λ e. e.is_current) self.now }
     {
-        let entries = self.table.values().as_slice();
-        entries.iter().filter(|entry| entry.is_current()).count()
+        count_current(self.table.values().as_slice())
     }
 
     /// How many current entries have the key in their evidence. Linear in the number of entries. Does
@@ -161,4 +160,11 @@ impl Entries {
         let entry = self.table.shift_remove(question)?;
         Some(entry.id())
     }
+}
+
+// How many of the entries are current.
+fn count_current(entries: &[Entry]) -> usize
+    ensures { result ≡ count_by (λ e. e.is_current) entries.now }
+{
+    entries.iter().filter(|entry| entry.is_current()).count()
 }
