@@ -6,6 +6,7 @@ use Rattle.sha2.specs.Sha256.{sha256}
 use Rattle.sha2.specs.declared.Sha256.{Sha256}
 use Rattle.hex.specs.Hex.{encode_lower}
 use Rattle.sipl_names.specs.Labels.{Octets}
+use Rattle.sipl_records.specs.Fields.{fields_of}
 use Rattle.sipl_records.specs.Numbers.{number_of}
 use Rattle.sipl_choice.specs.Abilities.{Client}
 use Rattle.sipl_choice.specs.Transports.{transport_text}
@@ -89,3 +90,10 @@ abbrev pub extent_in : List Octets → Option (ℕ × ℕ)
 extent_in (first ∷ count ∷ []) =
     both (number_of first (2 ^ 64 - 1)) (number_of count (2 ^ 64 - 1))
 extent_in _ = None
+
+-- a text begins with the head of a page: its first line, its client's settings up to an empty line; then there
+-- are its events
+pub record IsHead (text : Octets) (first count : ℕ) (client events : Octets) : Type 0 where
+  pub fields : Octets
+  pub extent : extent_in (fields_of fields) ≡ Some (first, count)
+  pub text_is : text ≡ codes "siplocd page " ++ fields ++ 10 ∷ client ++ 10 ∷ events

@@ -1,8 +1,12 @@
 -- The events of an archived page, carried out again one after another.
-use Rattle.std.specs.Prelude.{◌≡◌, ℕ, Bool, ◌&&◌, not, List, [], ◌∷◌, ◌++◌, length, codes, flat_map, nat_eq, IsTrue}
+use Rattle.std.specs.Prelude.{◌≡◌, ℕ, Bool, ◌&&◌, not, List, [], ◌∷◌, ◌++◌, length, codes, flat_map, nat_eq, Ok, IsTrue}
 use Rattle.std.specs.List.{starts_with}
 use lib.Pointwise.{pointwise}
 use Rattle.sipl_names.specs.Labels.{Octets}
+use Rattle.sipl_outages.specs.Holds.{no_holds}
+use Rattle.sipl_zonestore.specs.Store.{no_zones}
+use Rattle.sipl_lines.specs.Settings.{settings_of}
+use Rattle.sipl_lines.specs.declared.settings.Settings.{Settings}
 use Rattle.sipl_archive.specs.Plain.{PlainState, plain_rules}
 use Rattle.sipl_archive.specs.Replies.{AreReplies}
 
@@ -46,3 +50,12 @@ pub record RepeatsSome (text rest : Octets) (count : ℕ) (before after : PlainS
   pub len : length exchanges ≡ count
   pub text_is : text ≡ flat_map exchange_text exchanges ++ rest
   pub repeats : RepeatsAll exchanges before after
+
+-- a machine without zones and holds, at time 0, for the client and the policy of these settings
+pub record IsFresh (text : Octets) (plain : PlainState) : Type 0 where
+  pub settings : Settings
+  pub read : settings_of text ≡ Ok settings
+  pub zones : plain.store.zones ≡ no_zones
+  pub holds : plain.board.holds ≡ no_holds
+  pub client : plain.client ≡ settings.abilities
+  pub held : plain.held ≡ settings.held

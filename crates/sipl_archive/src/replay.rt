@@ -1,15 +1,17 @@
 //! The replay of an archive: its pages follow one another, each event is accepted, and each answer is that
 //! of the plain machine.
-ghost use Rattle.std.specs.Prelude.{◌≡◌, ◌≤◌, ◌+◌, [], ◌++◌, length, IfOk, IfSome, OnOk};
+ghost use Rattle.std.specs.Prelude.{◌≡◌, ◌≤◌, ◌+◌, [], ◌++◌, length, IfOk, IfSome, IsTrue, OnOk};
 ghost use Rattle.std.specs.Bool.{Decides};
 ghost use Rattle.sha2.specs.Sha256.{sha256};
 ghost use Rattle.sipl_records.specs.Fields.{fields_of};
-ghost use Rattle.sipl_archive.specs.Archive.{digest_line, extent_in};
-ghost use Rattle.sipl_archive.specs.Replay.{RepeatsFirst, RepeatsSome, is_expected};
+ghost use Rattle.sipl_archive.specs.Archive.{IsHead, digest_line, extent_in};
+ghost use Rattle.sipl_archive.specs.Replay.{RepeatsFirst, RepeatsSome, IsFresh, is_expected};
+ghost use Rattle.sipl_archive.specs.Runs.{Follows, IsBegun, ReplaysEvents, ReplaysPage};
 
 use crate::archive::digest_line;
 use crate::items::{is_change, item_of, replies_to, reply_of, split_line};
 use crate::plain::Plain;
+use memchr::memmem;
 use sha2::{Digest, Sha256};
 use sipl_lines::{Settings, SettingsFault};
 use sipl_records::{next_field, read_number};
@@ -190,7 +192,9 @@ impl Runs {
     }
 
     // Replays a page after those of its run.
-    fn replay_page(&mut self, alloc: Global, name: &str, text: &[u8]) -> Result<(), PageFault> {
+    fn replay_page(&mut self, alloc: Global, name: &str, text: &[u8]) -> Result<(), PageFault>
+        ensures { OnOk result (ReplaysPage text.now self.old.last self.new.last) }
+    {
         let (body, end) = split_digest(text);
         let (Some((number, first)), Some(head)) = (read_name(name), read_head(body)) else {
             return Err(PageFault::NotPage);
@@ -198,8 +202,8 @@ impl Runs {
         if head.first != first {
             return Err(PageFault::Gap);
         }
-        let run = self.follow(alloc, number, &head)?;
-        run.replay_events(alloc, &head)?;
+        self.follow(alloc, number, &head)?;
+        self.replay_events(alloc, &head)?;
         if !is_digest(alloc, body, end)? {
             return Err(PageFault::Changed);
         }
@@ -207,32 +211,48 @@ impl Runs {
         Ok(())
     }
 
-    // The run of a page, if it follows the one before it: the same run goes on for the same client, or a later
-    // one begins.
-    fn follow(
-        &mut self,
-        alloc: Global,
-        number: u64,
-        head: &Head<'_>,
-    ) -> Result<&mut Run, PageFault> {
-        let before = self.last.as_ref().map_or(0, |run| run.number);
-        if before < number && head.first == 0 {
+    // Begins the run of a page, if it is a later one than the last. The page has to be the next of its run.
+    fn follow(&mut self, alloc: Global, number: u64, head: &Head<'_>) -> Result<(), PageFault>
+        ensures { OnOk result (Follows head.now.first head.now.client.now self.old.last self.new.last) }
+    {
+        if head.first == 0 && self.last_number() < number {
             self.last = Some(new_run(alloc, number, head.client)?);
         }
-        match &mut self.last {
-            Some(run) if run.goes_on(number, head) => Ok(run),
+        match &self.last {
+            Some(run) if run.goes_on(number, head) => Ok(()),
             _ => Err(PageFault::Gap),
+        }
+    }
+
+    // The number of the last run; 0 where there is none.
+    fn last_number(&self) -> u64 {
+        match &self.last {
+            Some(run) => run.number,
+            None => 0,
+        }
+    }
+
+    // Replays the events of a page of the last run.
+    fn replay_events(&mut self, alloc: Global, head: &Head<'_>) -> Result<(), PageFault>
+        ensures { OnOk result (ReplaysEvents head.now.events.now head.now.count self.old.last self.new.last) }
+    {
+        match &mut self.last {
+            Some(run) => run.replay_events(alloc, head),
+            None => Err(PageFault::Gap),
         }
     }
 }
 
 impl Run {
     // Whether a page is the next one of the run of this number.
-    fn goes_on(&self, number: u64, head: &Head<'_>) -> bool {
+    fn goes_on(&self, number: u64, head: &Head<'_>) -> bool
+        ensures { IsTrue result → (self.now.next ≡ head.now.first)
+            × (self.now.client.items ≡ head.now.client.now) }
+    {
         self.number == number && self.next == head.first && self.client.as_slice() == head.client
     }
 
-    // Replays the events of a page. The fault has the number of the first that is not accepted, or whose answer
+    // Replays the events of a page of this run. The fault has the number of the first that is not accepted, or whose answer
     // is another one; what is left after the last is as one more.
     fn replay_events(&mut self, alloc: Global, head: &Head<'_>) -> Result<(), PageFault>
         ensures { OnOk result
@@ -291,7 +311,9 @@ fn is_expected(reply: &[u8], told: &[u8]) -> bool
 }
 
 // A run of a client, of which no page was replayed. The client is as the settings of a service.
-fn new_run(alloc: Global, number: u64, client: &[u8]) -> Result<Run, PageFault> {
+fn new_run(alloc: Global, number: u64, client: &[u8]) -> Result<Run, PageFault>
+    ensures { IfOk result (λ run. IsBegun client.now run) }
+{
     let Ok(text) = str::from_utf8(client) else {
         return Err(PageFault::NotPage);
     };
@@ -306,7 +328,9 @@ fn new_run(alloc: Global, number: u64, client: &[u8]) -> Result<Run, PageFault> 
 }
 
 // A machine without records for the client and the policy of these settings.
-fn desk_of(alloc: Global, text: &str) -> Result<Plain, PageFault> {
+fn desk_of(alloc: Global, text: &str) -> Result<Plain, PageFault>
+    ensures { IfOk result (λ desk. IsFresh text.now desk) }
+{
     match Settings::from_toml(alloc, text) {
         Ok(
             Settings {
@@ -361,25 +385,19 @@ fn read_name(name: &str) -> Option<(u64, u64)> {
 }
 
 // The head of a page: its first line, and its client's settings up to an empty line.
-fn read_head(text: &[u8]) -> Option<Head<'_>> {
+fn read_head(text: &[u8]) -> Option<Head<'_>>
+    ensures { IfSome result (λ head. IsHead text.now head.first head.count head.client.now
+        head.events.now) }
+{
     let (line, rest) = split_line(text);
     let (first, count) = read_extent(line.strip_prefix(b"siplocd page ".as_slice())?)?;
-    let mut events = rest;
-    let mut len = 0usize;
-    for _ in 0..rest.len() {
-        let (line, after) = split_line(events);
-        events = after;
-        if line.is_empty() {
-            return Some(Head {
-                first,
-                count,
-                client: rest.get(..len)?,
-                events,
-            });
-        }
-        len = len.saturating_add(line.len()).saturating_add(1);
-    }
-    None
+    let end = memmem::find(rest, b"\n\n")?;
+    Some(Head {
+        first,
+        count,
+        client: &rest[..end + 1],
+        events: &rest[end + 2..],
+    })
 }
 
 // `FIRST COUNT`.
