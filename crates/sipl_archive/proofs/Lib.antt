@@ -2,6 +2,6 @@ pub mod Appending
 pub mod Heads
 pub mod Lines
 pub mod Paging
-pub mod Replay
+pub mod Repeating
 pub mod Sorting
 pub mod Words

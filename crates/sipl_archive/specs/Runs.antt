@@ -4,7 +4,7 @@ use Rattle.sha2.specs.Sha256.{sha256}
 use Rattle.sipl_names.specs.Labels.{Octets}
 use Rattle.sipl_archive.specs.Archive.{IsHead, digest_line}
 use Rattle.sipl_archive.specs.Replay.{IsFresh, RepeatsSome}
-use Rattle.sipl_archive.specs.declared.replay.Run.{Run}
+use Rattle.sipl_archive.specs.declared.runs.Run.{Run}
 
 -- a run of which no page was replayed
 pub record IsBegun (client : Octets) (run : Run) : Type 0 where

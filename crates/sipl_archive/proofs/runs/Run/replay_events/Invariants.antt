@@ -1,5 +1,5 @@
 use Rattle.sipl_archive.specs.Replay.{RepeatsSome}
-use Rattle.sipl_archive.proofs.replay.Run.replay_events.Given as goal
+use Rattle.sipl_archive.proofs.runs.Run.replay_events.Given as goal
 
 -- the events so far were carried out again, and the others are left
 abbrev pub invariant-loop-place : goal.invariant-loop-place

@@ -3,7 +3,7 @@ use Rattle.std.proofs.lemmas.Bool.Decides.{Decides-eqb}
 use Rattle.std.proofs.lemmas.List.{take_rest}
 use Rattle.std.proofs.lemmas.Slice.Eq.{strip_prefix_is}
 use Rattle.sipl_archive.proofs.Heads.{cut_at, first_and_rest, head_is}
-use Rattle.sipl_archive.proofs.replay.read_head.Goals as goal
+use Rattle.sipl_archive.proofs.runs.read_head.Goals as goal
 
 pub returns : goal.returns
 returns c =
