@@ -1,7 +1,7 @@
 -- Events that are carried out again, one more.
 use Rattle.std.proofs.Common.{◌≡◌, ℕ, ◌+◌, List, [], ◌∷◌, ◌++◌, length, length-append, append_assoc, append-nil, refl, sym, ap, ◌∙◌, arith}
 use Rattle.std.specs.List.{flat_map}
-use Rattle.std.proofs.lemmas.List.{flat_map-append}
+use Rattle.std.proofs.lemmas.List.Concat.{flat_map-append}
 use Rattle.sipl_names.specs.Labels.{Octets}
 use Rattle.sipl_archive.specs.Plain.{PlainState}
 use Rattle.sipl_archive.specs.Replay.{Exchange, Repeats, RepeatsAll, RepeatsFirst, RepeatsSome, exchange_text}
@@ -10,7 +10,7 @@ repeats_last : (exchanges : List Exchange) (last : Exchange) (before between aft
     → RepeatsAll exchanges before between → Repeats last between after → RepeatsAll (exchanges ++ last ∷ []) before after
 repeats_last [] last before between after none repeats = (after, rw none at repeats, refl)
 repeats_last (exchange ∷ others) last before between after all repeats =
-    (all.0, all.1.0, repeats_last others last all.0 between after all.1.1 repeats)
+    (all.0, all.1, repeats_last others last all.0 between after all.2 repeats)
 
 -- one event more
 pub repeats_more : (text rest left : Octets) (count : ℕ) (before between after : PlainState)

@@ -12,11 +12,15 @@ pub record IsBegun (client : Octets) (run : Run) : Type 0 where
   pub client_is : run.client.items ≡ client
   pub fresh : IsFresh client run.desk
 
--- the last run is the one before, or begins; the page of this number and client is its next one
+-- the last run is the one before, or one that begins
+abbrev pub MayBegin : Octets → Option Run → Option Run → Type 0
+MayBegin client old new = (new ≡ old) ⊎ ((run : Run) × (new ≡ Some run) × IsBegun client run)
+
+-- the last run is the one before, or one that begins, and the page of this number and client is its next one
 pub record Follows (first : ℕ) (client : Octets) (old new : Option Run) : Type 0 where
+  pub begins : MayBegin client old new
   pub run : Run
   pub last : new ≡ Some run
-  pub begins : (old ≡ Some run) ⊎ IsBegun client run
   pub next : run.next ≡ first
   pub client_is : run.client.items ≡ client
 

@@ -6,7 +6,7 @@ ghost use Rattle.sha2.specs.Sha256.{sha256};
 ghost use Rattle.sipl_records.specs.Fields.{fields_of};
 ghost use Rattle.sipl_archive.specs.Archive.{IsHead, digest_line, extent_in};
 ghost use Rattle.sipl_archive.specs.Replay.{RepeatsFirst, RepeatsSome, IsFresh, is_expected};
-ghost use Rattle.sipl_archive.specs.Runs.{Follows, IsBegun, ReplaysEvents, ReplaysPage};
+ghost use Rattle.sipl_archive.specs.Runs.{Follows, IsBegun, MayBegin, ReplaysEvents, ReplaysPage};
 
 use crate::archive::digest_line;
 use crate::items::{is_change, item_of, replies_to, reply_of, split_line};
@@ -213,15 +213,25 @@ impl Runs {
 
     // Begins the run of a page, if it is a later one than the last. The page has to be the next of its run.
     fn follow(&mut self, alloc: Global, number: u64, head: &Head<'_>) -> Result<(), PageFault>
-        ensures { OnOk result (Follows head.now.first head.now.client.now self.old.last self.new.last) }
+        ensures { OnOk result
+            (Follows head.now.first head.now.client.now self.old.last self.new.last) }
     {
-        if head.first == 0 && self.last_number() < number {
-            self.last = Some(new_run(alloc, number, head.client)?);
-        }
+        self.begin(alloc, number, head)?;
         match &self.last {
             Some(run) if run.goes_on(number, head) => Ok(()),
             _ => Err(PageFault::Gap),
         }
+    }
+
+    // Begins the run of a page that is the first one of a later run than the last.
+    fn begin(&mut self, alloc: Global, number: u64, head: &Head<'_>) -> Result<(), PageFault>
+        ensures { OnOk result (MayBegin head.now.client.now self.old.last self.new.last) }
+    {
+        if head.first == 0 && self.last_number() < number {
+            let run = new_run(alloc, number, head.client)?;
+            drop(self.last.replace(run));
+        }
+        Ok(())
     }
 
     // The number of the last run; 0 where there is none.
@@ -234,7 +244,8 @@ impl Runs {
 
     // Replays the events of a page of the last run.
     fn replay_events(&mut self, alloc: Global, head: &Head<'_>) -> Result<(), PageFault>
-        ensures { OnOk result (ReplaysEvents head.now.events.now head.now.count self.old.last self.new.last) }
+        ensures { OnOk result (ReplaysEvents head.now.events.now head.now.count
+            self.old.last self.new.last) }
     {
         match &mut self.last {
             Some(run) => run.replay_events(alloc, head),
