@@ -1,2 +1,7 @@
+pub mod Appending
+pub mod Heads
+pub mod Lines
 pub mod Paging
+pub mod Repeating
+pub mod Sorting
 pub mod Words

@@ -9,11 +9,13 @@ use Rattle.sipl_masterfile.specs.RecordPrint.{printed_string, quoted, record_tex
 use Rattle.sipl_choice.specs.Transports.{transport_text}
 use Rattle.sipl_choice.specs.declared.endpoint.Endpoint.{Endpoint}
 use Rattle.sipl_uri.specs.QuestionText.{question_text}
+use Rattle.sipl_book.specs.Machine.{State}
 use Rattle.sipl_book.specs.declared.edit.Edit.{Edit}
 use Rattle.sipl_book.specs.declared.edit.Edit.TheVariants as edit
 use Rattle.sipl_book.specs.declared.event.Event.{Event}
 use Rattle.sipl_book.specs.declared.event.Event.TheVariants as event
 use Rattle.sipl_lines.specs.ReplyText.{answer_text, number_field, word_field}
+use Rattle.sipl_archive.specs.Sorting.{listed, zones_of}
 
 -- the line of a record, which reads back to it (`printing_records_reads_back` of `sipl_masterfile`)
 abbrev pub record_line : Record → Octets
@@ -34,6 +36,10 @@ zone_line apex count = codes "zone " ++ text_of apex ++ number_field count ++ 10
 -- the lines that load a zone
 abbrev pub zone_lines : Labels → List Record → Octets
 zone_lines apex records = zone_line apex (length records) ++ flat_map record_line records
+
+-- the lines that load zones
+abbrev pub zones_lines : List (Labels × List Record) → Octets
+zones_lines zones = flat_map (λ zone. zone_lines zone.0 zone.1) zones
 
 -- the lines of an edit
 abbrev pub edit_lines : Edit → Octets
@@ -71,6 +77,14 @@ mark_line mark = codes "# page" ++ number_field mark ++ 10 ∷ []
 -- the first lines of a state: its mark, and the time, unless that is 0
 abbrev pub state_head : ℕ → ℕ → Octets
 state_head mark now = mark_line mark ++ (if nat_lt 0 now then clock_line now else [])
+
+-- the text of a state after a mark: its first lines, those that load its zones, each with the records within it,
+-- and those of its holds
+abbrev pub state_text : ℕ → State → Octets
+state_text mark state =
+    state_head mark state.holds.now
+    ++ zones_lines (zones_of (listed state.zones.apexes) state.zones.records)
+    ++ hold_lines state.holds.now state.holds.ends
 
 -- a word before others, where it is 0 and none is after it not
 abbrev pub before_zeros : ℕ → List ℕ → List ℕ

@@ -1,15 +1,16 @@
 //! The archive: each page of the journal in a file of its own, once it is claimed.
-ghost use Rattle.std.specs.Prelude.{◌≡◌, IfOk, OnOk};
+ghost use Rattle.std.specs.Prelude.{◌≡◌, ◌++◌, IfOk, OnOk};
 ghost use Rattle.std.specs.Io.KnownBytes.{Appends};
-ghost use Rattle.sipl_archive.specs.Archive.{WritesPiece, digest_line, page_head, page_text};
+ghost use Rattle.sipl_archive.specs.Archive.{WritesPiece, client_text, digest_line, families_text};
+ghost use Rattle.sipl_archive.specs.Archive.{held_text, page_head, page_text, quoted, setting_line, transports_line};
+ghost use Rattle.sipl_archive.specs.Archive.{transports_text};
 
 use crate::text::{write_event, write_number};
 use sha2::{Digest, Sha256};
-use sipl_book::{Event, Page};
-use sipl_choice::{Abilities, Families};
+use sipl_book::{Event, Extent, Page};
+use sipl_choice::{Abilities, Families, Transport};
 use sipl_outages::Held;
 use std::alloc::{AllocError, Global};
-use std::fmt::Write as _;
 use std::fs::{File, OpenOptions};
 use std::io::{ErrorKind, Write};
 use std::os::unix::fs::OpenOptionsExt;
@@ -31,7 +32,7 @@ pub struct Archive {
     folder: String,
     run: u64,
     // The client and the policy of each page, as settings.
-    client: String,
+    client: Vec<u8>,
 }
 
 impl Archive {
@@ -47,13 +48,31 @@ impl Archive {
         if file.try_lock().is_err() {
             return Err(io::Error::from(ErrorKind::ResourceBusy));
         }
-        Ok(Archive {
+        let mut archive = Archive {
             alloc,
             file,
-            folder: String::from_str(alloc, folder)?,
-            run: next_run(rt, alloc, folder)?,
-            client: client_text(alloc, abilities, held)?,
-        })
+            folder: String::new(alloc),
+            run: 0,
+            client: Vec::new(alloc),
+        };
+        match archive.begin(rt, folder, abilities, held) {
+            Ok(()) => Ok(archive),
+            Err(error) => Err(error),
+        }
+    }
+
+    // Begins a run in the folder.
+    fn begin<R: Files<File = File>>(
+        &mut self,
+        rt: &R,
+        folder: &str,
+        abilities: &Abilities,
+        held: Held,
+    ) -> io::Result<()> {
+        self.run = next_run(rt, self.alloc, folder)?;
+        self.folder.push_str(folder)?;
+        write_client(&mut self.client, abilities, held)?;
+        Ok(())
     }
 
     /// Writes a page into its file, which is there whole or not at all. One without events has none.
@@ -61,44 +80,52 @@ impl Archive {
         if page.events().is_empty() {
             return Ok(());
         }
-        let new = new_path(self.alloc, self.folder.as_str())?;
-        let path = page_path(self.alloc, self.folder.as_str(), self.run, page.first())?;
+        let path = new_path(self.alloc, self.folder.as_str())?;
+        self.write_file(rt, path.as_str(), page)?;
+        self.take_place(rt, path.as_str(), page.first())?;
+        self.file.sync_all()
+    }
+
+    // Writes a page into a new file.
+    fn write_file<R: Files<File = File>>(&self, rt: &R, path: &str, page: &Page) -> io::Result<()> {
         let mut file = OpenOptions::new()
             .write(true)
             .create(true)
             .truncate(true)
             .mode(0o600)
-            .open(rt, new.as_str())?;
+            .open(rt, path)?;
         let extent = page.extent();
-        let client = self.client.as_str();
-        let head = page_head(self.alloc, extent.first, extent.count, client)?;
-        write_page(self.alloc, &mut file, head, page.events())?;
-        file.sync_all()?;
-        drop(file);
-        fs::rename(rt, new.as_str(), path.as_str())?;
-        self.file.sync_all()
+        let mut text = Vec::new(self.alloc);
+        write_head(self.alloc, &mut text, extent, &self.client)?;
+        write_page(self.alloc, &mut file, &mut text, page.events())?;
+        file.sync_all()
+    }
+
+    // Moves the file of a page to its place, by the number of the page's first event.
+    fn take_place<R: Files<File = File>>(&self, rt: &R, from: &str, first: u64) -> io::Result<()> {
+        let path = page_path(self.alloc, self.folder.as_str(), self.run, first)?;
+        fs::rename(rt, from, path.as_str())
     }
 }
 
-// Writes the text of a page in pieces, and its digest.
+// Writes the text of a page, of which the head is there, in pieces, and its digest. Nothing of it is left.
 fn write_page<W: Write>(
     alloc: Global,
     out: &mut W,
-    head: Vec<u8>,
+    text: &mut Vec<u8>,
     events: &[Event],
 ) -> io::Result<()>
     ensures { OnOk result (Appends (W.contents out.old) (W.contents out.new)
-        (page_text head.items events.now)) }
+        (page_text text.old.items events.now)) }
 {
     let mut digest = Sha256::new();
-    let mut text = head;
     for event in events {
-        write_event(alloc, &mut text, event)?;
+        write_event(alloc, text, event)?;
         if text.len() >= PIECE_LEN {
-            write_piece(out, &mut digest, &mut text)?;
+            write_piece(out, &mut digest, text)?;
         }
     }
-    write_piece(out, &mut digest, &mut text)?;
+    write_piece(out, &mut digest, text)?;
     out.write_all(&digest_line(alloc, &digest.finalize())?)
 }
 
@@ -148,41 +175,98 @@ pub(crate) fn digest_line(alloc: Global, digest: &[u8; 32]) -> Result<Vec<u8>, A
     Ok(line)
 }
 
-// The first lines of a page: its extent, the client and the policy as settings, and an empty line.
-fn page_head(alloc: Global, first: u64, count: u64, client: &str) -> Result<Vec<u8>, AllocError>
-    ensures { IfOk result (λ text. text.items ≡ page_head first count client.now) }
+// Appends the first lines of a page: its extent, the client and the policy as settings, and an empty line.
+fn write_head(
+    alloc: Global,
+    out: &mut Vec<u8>,
+    extent: Extent,
+    client: &[u8],
+) -> Result<(), AllocError>
+    ensures { OnOk result (out.new.items
+        ≡ out.old.items ++ page_head extent.first extent.count client.now) }
 {
-    let mut text = Vec::new(alloc);
-    text.extend_from_slice(b"siplocd page")?;
-    write_number(alloc, &mut text, first)?;
-    write_number(alloc, &mut text, count)?;
-    text.push(b'\n')?;
-    text.extend_from_slice(client.as_bytes())?;
-    text.push(b'\n')?;
-    Ok(text)
+    out.extend_from_slice(b"siplocd page")?;
+    write_number(alloc, out, extent.first)?;
+    write_number(alloc, out, extent.count)?;
+    out.push(b'\n')?;
+    out.extend_from_slice(client)?;
+    out.push(b'\n')?;
+    Ok(())
 }
 
-// The client and the policy, as settings.
-fn client_text(alloc: Global, abilities: &Abilities, held: Held) -> Result<String, AllocError> {
-    let mut text = String::new(alloc);
-    text.push_str("transports = [")?;
-    let mut is_first = true;
-    for transport in abilities.preference() {
-        text.push_str(if is_first { "\"" } else { ", \"" })?;
-        text.push_str(transport.name())?;
-        text.push('"')?;
-        is_first = false;
+// Appends the client and the policy, as settings.
+fn write_client(out: &mut Vec<u8>, abilities: &Abilities, held: Held) -> Result<(), AllocError>
+    ensures { OnOk result (out.new.items ≡ out.old.items ++ client_text abilities.now held) }
+{
+    write_transports_line(out, abilities.preference())?;
+    write_setting(out, b"families", families_name(abilities.families()))?;
+    write_setting(out, b"held", held_name(held))?;
+    Ok(())
+}
+
+// Appends a setting whose value is a name.
+fn write_setting(out: &mut Vec<u8>, key: &[u8], name: &str) -> Result<(), AllocError>
+    ensures { OnOk result (out.new.items ≡ out.old.items ++ setting_line key.now name.now) }
+{
+    out.extend_from_slice(key)?;
+    write_quoted(out, b" = ", name)?;
+    out.push(b'\n')?;
+    Ok(())
+}
+
+// Appends the setting of a client's transports.
+fn write_transports_line(out: &mut Vec<u8>, transports: &[Transport]) -> Result<(), AllocError>
+    ensures { OnOk result (out.new.items ≡ out.old.items ++ transports_line transports.now) }
+{
+    out.extend_from_slice(b"transports = [")?;
+    write_transports(out, transports)?;
+    out.extend_from_slice(b"]\n")?;
+    Ok(())
+}
+
+// Appends the names of transports, with a comma and a space between them.
+fn write_transports(out: &mut Vec<u8>, transports: &[Transport]) -> Result<(), AllocError>
+    ensures { OnOk result (out.new.items ≡ out.old.items ++ transports_text transports.now) }
+{
+    let Some((first, others)) = transports.split_first() else {
+        return Ok(());
+    };
+    write_quoted(out, b"", first.name())?;
+    for other in others {
+        write_quoted(out, b", ", other.name())?;
     }
-    let families = match abilities.families() {
+    Ok(())
+}
+
+// Appends a text, and a name in quotes.
+fn write_quoted(out: &mut Vec<u8>, text: &[u8], name: &str) -> Result<(), AllocError>
+    ensures { OnOk result (out.new.items ≡ out.old.items ++ text.now ++ quoted name.now) }
+{
+    out.extend_from_slice(text)?;
+    out.push(b'"')?;
+    out.extend_from_slice(name.as_bytes())?;
+    out.push(b'"')?;
+    Ok(())
+}
+
+// The name of families in the settings.
+fn families_name(families: Families) -> &'static str
+    ensures { result.now ≡ families_text families }
+{
+    match families {
         Families::V4 => "v4",
         Families::V6 => "v6",
         Families::V4ThenV6 => "v4v6",
         Families::V6ThenV4 => "v6v4",
-    };
-    let held = match held {
+    }
+}
+
+// The name of a policy on held endpoints in the settings.
+fn held_name(held: Held) -> &'static str
+    ensures { result.now ≡ held_text held }
+{
+    match held {
         Held::Out => "out",
         Held::Last => "last",
-    };
-    write!(text, "]\nfamilies = \"{families}\"\nheld = \"{held}\"\n")?;
-    Ok(text)
+    }
 }

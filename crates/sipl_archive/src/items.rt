@@ -1,5 +1,9 @@
 //! The lines of a session, and which of them belong to one command or reply.
-ghost use Rattle.std.specs.Prelude.{◌≡◌, ◌⊎◌, ℕ, ◌<◌, ◌≤◌, [], ◌∷◌, ◌++◌, length, get_or, IfSome};
+ghost use Rattle.std.specs.Prelude.{◌≡◌, ◌<◌, ◌≤◌, ◌+◌, [], drop, length, None, Some, IfSome};
+ghost use Rattle.std.specs.Prelude.{MatchOption, unwrap_or};
+ghost use Rattle.sipl_records.specs.Fields.{fields_of};
+ghost use Rattle.sipl_lines.specs.Lines.{without_cr};
+ghost use Rattle.sipl_archive.specs.Commands.{after_command, after_line, first_line, taken_by, zone_count};
 ghost use Rattle.sipl_archive.specs.Replies.{AreReplies};
 
 use memchr::memchr;
@@ -9,9 +13,8 @@ use std::alloc::Global;
 
 /// The first line of a text, without its end, and the rest; the whole and nothing where no line ends.
 pub fn split_line(text: &[u8]) -> (&[u8], &[u8])
-    ensures whole { (text.now ≡ result.0.now ++ 10 ∷ result.1.now)
-        ⊎ ((text.now ≡ result.0.now) × (result.1.now ≡ [])) }
-    ensures line { (i : ℕ) → i < length result.0.now → get_or result.0.now i 0 ≡ 10 → ⊥ }
+    ensures line { result.0.now ≡ first_line text.now }
+    ensures rest { result.1.now ≡ unwrap_or (after_line text.now) [] }
 {
     match memchr(b'\n', text) {
         Some(end) => (&text[..end], &text[end + 1..]),
@@ -19,26 +22,35 @@ pub fn split_line(text: &[u8]) -> (&[u8], &[u8])
     }
 }
 
+// How many octets the first line of a text has, with its LF, if there is one.
+fn line_len(text: &[u8]) -> Option<usize>
+    ensures { MatchOption result (after_line text.now ≡ None) (λ len. (0 < len)
+        × (len ≤ length text.now) × (after_line text.now ≡ Some (drop len text.now))) }
+{
+    Some(memchr(b'\n', text)? + 1)
+}
+
 /// How many octets and lines the first command of a text has: a line, and after a `zone` line those that
 /// it takes. `None` where it is not whole.
 pub(crate) fn item_of(text: &[u8]) -> Option<(usize, u64)>
-    ensures some { IfSome result (λ item. 0 < item.0) }
-    ensures within { IfSome result (λ item. item.0 ≤ length text.now) }
+    ensures octets { MatchOption result (after_command text.now ≡ None) (λ item. (0 < item.0)
+        × (item.0 ≤ length text.now) × (after_command text.now ≡ Some (drop item.0 text.now))) }
+    ensures lines { IfSome result (λ item. item.1 ≡ taken_by (first_line text.now) + 1) }
 {
-    let end = memchr(b'\n', text)?;
-    let mut len = end.saturating_add(1);
-    let count = taken_by(text.get(..end)?);
+    let count = taken_by(split_line(text).0);
+    let mut len = line_len(text)?;
     for _ in 0..count {
-        let rest = text.get(len..)?;
-        len = len.saturating_add(memchr(b'\n', rest)?).saturating_add(1);
+        len += line_len(&text[len..])?;
     }
-    Some((len, count.saturating_add(1)))
+    Some((len, count + 1))
 }
 
 /// How many lines after it a line takes, which has no LF: those of a zone's text after `zone APEX COUNT`,
 /// and else none.
-pub fn taken_by(line: &[u8]) -> u64 {
-    let line = line.strip_suffix(b"\r".as_slice()).unwrap_or(line);
+pub fn taken_by(line: &[u8]) -> u64
+    ensures { result ≡ taken_by line.now }
+{
+    let line = trim_cr(line);
     if line.len() > MAX_LINE_LEN {
         return 0;
     }
@@ -48,8 +60,22 @@ pub fn taken_by(line: &[u8]) -> u64 {
     }
 }
 
+// A line without the CR at its end.
+fn trim_cr(line: &[u8]) -> &[u8]
+    ensures { result.now ≡ without_cr line.now }
+{
+    let count = line.len();
+    if count > 0 && line[count - 1] == b'\r' {
+        &line[..count - 1]
+    } else {
+        line
+    }
+}
+
 // The count of `APEX COUNT`.
-fn zone_lines(fields: &[u8]) -> Option<u64> {
+fn zone_lines(fields: &[u8]) -> Option<u64>
+    ensures { result ≡ zone_count (fields_of fields.now) }
+{
     let (_apex, rest) = next_field(fields)?;
     let (count, rest) = next_field(rest)?;
     if next_field(rest).is_some() {

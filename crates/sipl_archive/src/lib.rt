@@ -6,12 +6,13 @@ mod archive;
 mod items;
 mod plain;
 mod record_text;
-mod replay;
-mod state_text;
+mod runs;
+mod state;
 mod text;
+mod zones;
 
 pub use archive::Archive;
 pub use items::{replies_to, split_line, taken_by};
-pub use replay::{ReplayFault, replay};
-pub use state_text::{Made, find_mark, made_of, mark_of, state_text, whole_len};
+pub use runs::{ReplayFault, replay};
+pub use state::{Made, find_mark, made_of, mark_of, state_text, whole_len};
 pub use text::{clock_text, edit_text, hold_text, mark_text, release_text};

@@ -2,7 +2,9 @@
 ghost use Rattle.std.specs.Prelude.{◌≡◌, IfOk};
 ghost use Rattle.sipl_plans.specs.Plan.{plan};
 ghost use Rattle.sipl_records.specs.Sets.{set_of};
+ghost use Rattle.sipl_outages.specs.Holds.{no_holds};
 ghost use Rattle.sipl_zonestore.specs.Edited.{IsEdited};
+ghost use Rattle.sipl_zonestore.specs.Store.{no_zones};
 ghost use Rattle.sipl_book.specs.Machine.{zone_edit};
 ghost use Rattle.sipl_archive.specs.Plain.{MakesEdit};
 
@@ -30,7 +32,12 @@ pub(crate) struct Plain {
 
 impl Plain {
     /// Nothing is loaded or held, at time 0.
-    pub(crate) fn new(alloc: Global, abilities: Abilities, held: Held) -> Plain {
+    pub(crate) fn new(alloc: Global, abilities: Abilities, held: Held) -> Plain
+        ensures zones { result.store.zones ≡ no_zones }
+        ensures holds { result.board.holds ≡ no_holds }
+        ensures client { result.client ≡ abilities }
+        ensures held { result.held ≡ held }
+    {
         Plain {
             store: ZoneStore::new(alloc),
             board: Board::new(alloc),

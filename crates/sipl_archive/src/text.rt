@@ -8,7 +8,6 @@ ghost use Rattle.sipl_archive.specs.Text.{release_line, without_last_zeros, word
 ghost use Rattle.sipl_archive.specs.Text.{zone_lines};
 
 use crate::record_text::write_record;
-use indexmap::IndexMap;
 use sipl_book::{Edit, Event};
 use sipl_choice::Endpoint;
 use sipl_names::Name;
@@ -151,49 +150,6 @@ fn write_edit(alloc: Global, out: &mut Vec<u8>, edit: &Edit) -> Result<(), Alloc
     }
 }
 
-/// Appends the lines that load zones with the records that are within their apexes.
-pub(crate) fn write_zones(
-    alloc: Global,
-    out: &mut Vec<u8>,
-    apexes: &[Name],
-    records: &[Record],
-) -> Result<(), AllocError> {
-    let mut zones = IndexMap::new(alloc);
-    for apex in apexes {
-        zones.insert(apex.dup(alloc)?, Vec::new(alloc))?;
-    }
-    for record in records {
-        if let Some(own) = zone_of(alloc, &mut zones, &record.owner)? {
-            own.push(record)?;
-        }
-    }
-    for (apex, own) in &zones {
-        write_zone_line(alloc, out, apex, own.len())?;
-        for record in own {
-            write_record(alloc, out, record)?;
-        }
-    }
-    Ok(())
-}
-
-// The records of the zone that an owner is within, if there is one.
-fn zone_of<'a, 'b>(
-    alloc: Global,
-    zones: &'a mut IndexMap<Name, Vec<&'b Record>>,
-    owner: &Name,
-) -> Result<Option<&'a mut Vec<&'b Record>>, AllocError> {
-    let mut name = owner.dup(alloc)?;
-    for _ in 0..=owner.wire_len() {
-        if zones.contains_key(&name) {
-            return Ok(zones.get_mut(&name));
-        }
-        if !name.pop_label() {
-            break;
-        }
-    }
-    Ok(None)
-}
-
 // Appends the lines that load a zone with these records.
 fn write_zone(
     alloc: Global,
@@ -210,7 +166,8 @@ fn write_zone(
     Ok(())
 }
 
-fn write_zone_line(
+/// Appends the first line of those that load a zone.
+pub(crate) fn write_zone_line(
     alloc: Global,
     out: &mut Vec<u8>,
     apex: &Name,
@@ -269,21 +226,33 @@ pub fn mark_text(alloc: Global, mark: u64) -> Result<Vec<u8>, AllocError>
     ensures { IfOk result (λ text. text.items ≡ mark_line mark) }
 {
     let mut out = Vec::new(alloc);
-    out.extend_from_slice(b"# page")?;
-    write_number(alloc, &mut out, mark)?;
-    out.push(b'\n')?;
+    write_mark(alloc, &mut out, mark)?;
     Ok(out)
 }
 
-/// The first lines of a state: its mark, and the time, unless that is 0.
-pub(crate) fn state_head(alloc: Global, mark: u64, now: u64) -> Result<Vec<u8>, AllocError>
-    ensures { IfOk result (λ text. text.items ≡ state_head mark now) }
+fn write_mark(alloc: Global, out: &mut Vec<u8>, mark: u64) -> Result<(), AllocError>
+    ensures { OnOk result (out.new.items ≡ out.old.items ++ mark_line mark) }
 {
-    let mut out = mark_text(alloc, mark)?;
+    out.extend_from_slice(b"# page")?;
+    write_number(alloc, out, mark)?;
+    out.push(b'\n')?;
+    Ok(())
+}
+
+/// Appends the first lines of a state: its mark, and the time, unless that is 0.
+pub(crate) fn write_head(
+    alloc: Global,
+    out: &mut Vec<u8>,
+    mark: u64,
+    now: u64,
+) -> Result<(), AllocError>
+    ensures { OnOk result (out.new.items ≡ out.old.items ++ state_head mark now) }
+{
+    write_mark(alloc, out, mark)?;
     if now > 0 {
-        write_clock(alloc, &mut out, now)?;
+        return write_clock(alloc, out, now);
     }
-    Ok(out)
+    Ok(())
 }
 
 // Appends the line that sets the time.

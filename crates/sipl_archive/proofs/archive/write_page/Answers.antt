@@ -9,7 +9,7 @@ pub loop-event-preserved : goal.loop-event-preserved
 loop-event-preserved g c =
     let contents = g.W.Write.contents in
     let before = contents c.args.out.now in
-    let head = c.args.head.items in
+    let head = c.args.text.now.items in
     let events = c.args.events.now in
     let i = c.loop-event.event-index in
     let event = c.event-item.result in

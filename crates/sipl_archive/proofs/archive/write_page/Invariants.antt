@@ -7,4 +7,4 @@ use Rattle.sipl_archive.proofs.archive.write_page.Given as goal
 abbrev pub invariant-loop-event : goal.invariant-loop-event
 invariant-loop-event g l =
     Sends (g.W.Write.contents l.fn.out) (g.W.Write.contents l.out) l.digest l.text.items
-    (body_text l.fn.head.items (take l.event-index l.events))
+    (body_text l.fn.text.items (take l.event-index l.events))

@@ -1,21 +1,36 @@
 //! The text of a state, and the changes after it.
+ghost use Rattle.std.specs.Prelude.{◌≡◌, ◌++◌, IfOk, OnOk};
+ghost use Rattle.sipl_archive.specs.Commands.{mark_in};
+ghost use Rattle.sipl_archive.specs.Text.{state_text};
+
 use crate::items::{is_change, item_of, reply_of, split_line};
-use crate::text::{state_head, write_holds, write_zones};
+use crate::text::{write_head, write_holds};
+use crate::zones::write_zones;
 use sipl_book::State;
 use sipl_records::read_number;
 use std::alloc::{AllocError, Global};
 
 /// The text of a state: its mark, the time, the zones with their records, and the holds with what is left of
 /// them. The only error is an allocation failure.
-pub fn state_text(alloc: Global, mark: u64, state: &State) -> Result<Vec<u8>, AllocError> {
-    let board = state.board();
-    let now = board.map_or(0, |board| board.now());
-    let mut text = state_head(alloc, mark, now)?;
-    write_zones(alloc, &mut text, state.apexes(), state.records())?;
-    if let Some(board) = board {
-        write_holds(alloc, &mut text, board)?;
-    }
+pub fn state_text(alloc: Global, mark: u64, state: &State) -> Result<Vec<u8>, AllocError>
+    ensures { IfOk result (λ text. text.items ≡ state_text mark state.now) }
+{
+    let mut text = Vec::new(alloc);
+    write_state(alloc, &mut text, mark, state)?;
     Ok(text)
+}
+
+// Appends the text of a state.
+fn write_state(alloc: Global, out: &mut Vec<u8>, mark: u64, state: &State) -> Result<(), AllocError>
+    ensures { OnOk result (out.new.items ≡ out.old.items ++ state_text mark state.now) }
+{
+    let Some(board) = state.board() else {
+        write_head(alloc, out, mark, 0)?;
+        return write_zones(alloc, out, state.apexes(), state.records());
+    };
+    write_head(alloc, out, mark, board.now())?;
+    write_zones(alloc, out, state.apexes(), state.records())?;
+    write_holds(alloc, out, board)
 }
 
 /// What the changes of a text came to: how many octets and lines those that were made have, the last mark, and
@@ -88,6 +103,8 @@ pub fn find_mark(text: &[u8], mark: u64) -> Option<(usize, u64)> {
 }
 
 /// The number of a mark, by its line without the end.
-pub fn mark_of(line: &[u8]) -> Option<u64> {
+pub fn mark_of(line: &[u8]) -> Option<u64>
+    ensures { result ≡ mark_in line.now }
+{
     read_number(line.strip_prefix(b"# page ".as_slice())?, u64::MAX)
 }
