@@ -1,4 +1,5 @@
 pub mod Appending
+pub mod Beginning
 pub mod Heads
 pub mod Lines
 pub mod Paging

@@ -1,5 +1,5 @@
 -- The lines of a text: which of them are one command.
-use Rattle.std.specs.Prelude.{ℕ, zero, suc, Some, option_and_then, ◌==◌, Bool, false, ◌||◌, ◌^◌, ◌-◌, List, [], ◌∷◌, length, drop, codes, nat_eq, nat_lt, Option, None, unwrap_or, if◌then◌else◌}
+use Rattle.std.specs.Prelude.{◌≡◌, ◌++◌, ℕ, zero, suc, Some, option_and_then, ◌==◌, Bool, false, ◌||◌, ◌^◌, ◌-◌, List, [], ◌∷◌, length, drop, codes, nat_eq, nat_lt, Option, None, unwrap_or, if◌then◌else◌}
 use Rattle.std.specs.List.{starts_with}
 use lib.Pointwise.{pointwise}
 use Rattle.sipl_names.specs.Labels.{Octets}
@@ -47,3 +47,23 @@ after_command text = after_lines (suc (taken_by (first_line text))) text
 abbrev pub mark_in : Octets → Option ℕ
 mark_in line =
     if starts_with nat_eq line (codes "# page ") then number_of (drop 7 line) (2 ^ 64 - 1) else None
+
+-- a text begins with whole commands, and then there is the rest
+abbrev pub Begins : List Octets → Octets → Octets → Type 0
+Begins [] text rest = rest ≡ text
+Begins (command ∷ others) text rest =
+    (after : Octets) × (after_command text ≡ Some after) × (text ≡ command ++ after) × Begins others after rest
+
+-- so many octets of a text are whole commands, and no whole one follows
+pub record IsWhole (text : Octets) (len : ℕ) : Type 0 where
+  pub commands : List Octets
+  pub begins : Begins commands text (drop len text)
+  pub last : after_command (drop len text) ≡ None
+
+-- a text has a mark of this number after whole commands, and then there is the rest
+pub record HasMark (mark : ℕ) (text rest : Octets) : Type 0 where
+  pub commands : List Octets
+  pub marked : Octets
+  pub begins : Begins commands text marked
+  pub number : mark_in (first_line marked) ≡ Some mark
+  pub after : after_command marked ≡ Some rest

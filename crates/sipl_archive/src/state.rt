@@ -1,6 +1,7 @@
 //! The text of a state, and the changes after it.
-ghost use Rattle.std.specs.Prelude.{◌≡◌, ◌++◌, IfOk, OnOk};
-ghost use Rattle.sipl_archive.specs.Commands.{mark_in};
+ghost use Rattle.std.specs.Prelude.{◌≡◌, ◌≤◌, ◌++◌, drop, length, IfOk, IfSome, OnOk};
+ghost use Rattle.sipl_archive.specs.Commands.{HasMark, IsWhole, mark_in};
+ghost use Rattle.sipl_archive.specs.Restoring.{IsMade};
 ghost use Rattle.sipl_archive.specs.Text.{state_text};
 
 use crate::items::{is_change, item_of, reply_of, split_line};
@@ -35,7 +36,7 @@ fn write_state(alloc: Global, out: &mut Vec<u8>, mark: u64, state: &State) -> Re
 
 /// What the changes of a text came to: how many octets and lines those that were made have, the last mark, and
 /// whether the next one was refused.
-#[derive(Drop)]
+#[derive(Clone, Copy)]
 pub struct Made {
     pub octets: usize,
     pub lines: u64,
@@ -44,19 +45,22 @@ pub struct Made {
 }
 
 /// How many octets the whole commands of a text have: the last one may be cut off.
-pub fn whole_len(text: &[u8]) -> usize {
-    let mut octets = 0usize;
-    for _ in 0..text.len() {
-        let Some((len, _)) = item_of(text.get(octets..).unwrap_or(&[])) else {
-            break;
-        };
-        octets = octets.saturating_add(len);
+pub fn whole_len(text: &[u8]) -> usize
+    ensures within { result ≤ length text.now }
+    ensures whole { IsWhole text.now result }
+{
+    let mut octets = 0;
+    while let Some((len, _)) = item_of(&text[octets..]) {
+        octets += len;
     }
     octets
 }
 
-/// What the changes of a text came to, by the replies to them.
-pub fn made_of(text: &[u8], replies: &[u8]) -> Made {
+/// What the changes of a text came to, by the replies to them: marks have none, and each change that was made has one
+/// that begins with `ok`.
+pub fn made_of(text: &[u8], replies: &[u8]) -> Made
+    ensures { IsMade text.now result }
+{
     let mut made = Made {
         octets: 0,
         lines: 0,
@@ -64,39 +68,46 @@ pub fn made_of(text: &[u8], replies: &[u8]) -> Made {
         is_refused: false,
     };
     let mut replies = replies;
-    for _ in 0..text.len() {
-        let rest = text.get(made.octets..).unwrap_or(&[]);
-        let Some((len, lines)) = item_of(rest) else {
-            break;
-        };
-        let line = split_line(rest).0;
-        match (mark_of(line), reply_of(replies)) {
-            (Some(mark), _) => made.mark = Some(mark),
-            (None, Some(end)) if is_change(line) && replies.starts_with(b"ok ") => {
-                replies = replies.get(end..).unwrap_or(&[]);
-            }
-            _ => {
-                made.is_refused = true;
-                break;
-            }
+    while let Some((len, lines)) = item_of(&text[made.octets..]) {
+        let line = split_line(&text[made.octets..]).0;
+        if let Some(mark) = mark_of(line) {
+            made.mark = Some(mark);
+        } else if let Some(end) = accepted_len(line, replies) {
+            replies = &replies[end..];
+        } else {
+            made.is_refused = true;
+            return made;
         }
-        made.octets = made.octets.saturating_add(len);
+        made.octets += len;
         made.lines = made.lines.saturating_add(lines);
     }
     made
 }
 
-/// How many octets and lines there are up to the mark of this number, with it.
-pub fn find_mark(text: &[u8], mark: u64) -> Option<(usize, u64)> {
-    let mut octets = 0usize;
-    let mut count = 0u64;
-    for _ in 0..text.len() {
-        let rest = text.get(octets..)?;
-        let (len, lines) = item_of(rest)?;
-        octets = octets.saturating_add(len);
-        count = count.saturating_add(lines);
-        if mark_of(split_line(rest).0) == Some(mark) {
-            return Some((octets, count));
+// How many octets the first reply of a text has, if it is to a change that was made.
+fn accepted_len(line: &[u8], replies: &[u8]) -> Option<usize>
+    ensures { IfSome result (λ end. end ≤ length replies.now) }
+{
+    if is_change(line) && replies.starts_with(b"ok ") {
+        reply_of(replies)
+    } else {
+        None
+    }
+}
+
+/// How many octets and lines there are up to the first mark of this number, with it.
+pub fn find_mark(text: &[u8], mark: u64) -> Option<(usize, u64)>
+    ensures within { IfSome result (λ found. found.0 ≤ length text.now) }
+    ensures marked { IfSome result (λ found. HasMark mark text.now (drop found.0 text.now)) }
+{
+    let mut octets = 0;
+    let mut lines = 0u64;
+    while let Some((len, count)) = item_of(&text[octets..]) {
+        let is_mark = mark_of(split_line(&text[octets..]).0) == Some(mark);
+        octets += len;
+        lines = lines.saturating_add(count);
+        if is_mark {
+            return Some((octets, lines));
         }
     }
     None
