@@ -8,7 +8,8 @@ use std::alloc::Global;
 use std::fs::File;
 use std::rt::Files;
 
-/// What was claimed, the page that is to be claimed next, and why no more is claimed, if that is so.
+/// What was claimed, the page that is to be claimed next, and the fault with which the daemon is to end, if
+/// there is one.
 #[derive(Drop)]
 pub(crate) struct Claims {
     ledger: Ledger,
@@ -52,12 +53,12 @@ impl Claims {
         self.next.take()
     }
 
-    /// Keeps a fault. All that is claimed later is refused for it.
+    /// Keeps the fault with which the daemon is to end.
     pub(crate) fn fail(&mut self, fault: CloseFault) {
         self.fault = Some(fault);
     }
 
-    /// The fault, if there is one.
+    /// Takes the fault out with which the daemon is to end, if there is one.
     pub(crate) fn take_fault(&mut self) -> Option<CloseFault> {
         self.fault.take()
     }
