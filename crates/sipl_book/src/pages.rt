@@ -59,13 +59,25 @@ impl Book {
         ensures page { result ≡ page_of self }
         ensures is_page { IsPage result }
     {
+        let Book {
+            first,
+            base,
+            journal,
+            store,
+            board,
+            abilities,
+            held,
+            cache,
+            ..
+        } = self;
+        drop(cache);
         Page {
-            first: self.first,
-            base: self.base,
-            events: Sequence::from_vec(self.journal),
-            result: State::of(self.store.into_zones(), self.board.into_board()),
-            abilities: self.abilities,
-            held: self.held,
+            first,
+            base,
+            events: Sequence::from_vec(journal),
+            result: State::of(store.into_zones(), board.into_board()),
+            abilities,
+            held,
         }
     }
 }

@@ -22,7 +22,7 @@ use sipl_book::{Book, BookFault, Done, Edit, Event, Uncommitted};
 use sipl_choice::{Abilities, Endpoint};
 use sipl_evidence::Evidence;
 use sipl_outages::{Board, Held, SharedBoard};
-use sipl_plans::Finding;
+use sipl_plans::{Answer, Finding};
 use sipl_srv::Draws;
 use sipl_uri::Question;
 use std::alloc::{AllocError, Global};
@@ -295,12 +295,35 @@ fn record(
     ensures memory { IfErr result (λ fault. fault ≡ ServiceFault.Memory) }
     ensures unchanged { OnErr result (book.new ≡ book.old) }
 {
+    let answer = told.answer().dup(alloc)?;
+    let kept = told.answer().dup(alloc)?;
+    record_copies(book, told.draws(), copies, answer, kept)
+}
+
+// Records an answer with the copy of its question for the event. Returns the receipt, which has the other
+// copy of the question, and this one of the answer.
+#[tactic(auto, using(crate::proofs::FirstFault::refused_for_memory))]
+fn record_copies(
+    book: &mut Book,
+    draws: &Draws,
+    copies: Copies,
+    answer: Answer,
+    kept: Answer,
+) -> Result<Receipt, ServiceFault>
+    requires answer { answer ≡ answer_now book.old copies.event draws.now }
+    requires space { is_full book.old ≡ false }
+    ensures journal { OnOk result
+        (book.new ≡ recorded (Event.Answer copies.event draws.now answer) book.old) }
+    ensures receipt { IfOk result (λ receipt. receipt
+        ≡ receipt_of (next_event book.old) (Event.Answer copies.receipt draws.now kept)) }
+    ensures memory { IfErr result (λ fault. fault ≡ ServiceFault.Memory) }
+    ensures unchanged { OnErr result (book.new ≡ book.old) }
+{
     let Copies { event, receipt } = copies;
-    let event_of_receipt = Event::Answer(receipt, *told.draws(), told.answer().dup(alloc)?);
-    let number = book.record_answer(event, told.draws(), told.answer().dup(alloc)?)?;
+    let number = book.record_answer(event, draws, answer)?;
     Ok(Receipt {
         number,
-        event: event_of_receipt,
+        event: Event::Answer(receipt, *draws, kept),
     })
 }
 
