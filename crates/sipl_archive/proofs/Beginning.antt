@@ -1,5 +1,5 @@
 -- A text that begins with whole commands, one more.
-use Rattle.std.proofs.Common.{◌≡◌, ℕ, ◌+◌, List, [], ◌∷◌, ◌++◌, Some, take, drop, length, refl, sym, ap, ◌∙◌, take-append-drop}
+use Rattle.std.proofs.Common.{◌≡◌, ℕ, ◌+◌, List, [], ◌∷◌, ◌++◌, Some, take, drop, refl, sym, take-append-drop}
 use Rattle.std.proofs.lemmas.List.{drop-drop}
 use Rattle.sipl_names.specs.Labels.{Octets}
 use Rattle.sipl_archive.specs.Commands.{Begins, after_command}

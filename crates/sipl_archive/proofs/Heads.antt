@@ -1,8 +1,7 @@
 -- The head of a page.
-use Rattle.std.proofs.Common.{◌≡◌, ℕ, suc, ◌+◌, ◌<◌, List, [], ◌∷◌, ◌++◌, true, false, if◌then◌else◌, ◌==◌, length, get_or, take, drop, codes, unwrap_or, Option, Some, None, refl, sym, ap, ◌∙◌, take-append-drop, append_assoc, arith}
+use Rattle.std.proofs.Common.{◌≡◌, ℕ, ◌+◌, ◌<◌, List, [], ◌∷◌, ◌++◌, true, false, if◌then◌else◌, ◌==◌, length, get_or, take, drop, codes, unwrap_or, Some, refl, sym, ap, ◌∙◌, take-append-drop, append_assoc, arith}
 use Rattle.std.proofs.lemmas.Bool.{eqb-true}
 use Rattle.std.proofs.lemmas.List.{drop_more}
-use Rattle.sipl_names.specs.Labels.{Octets}
 use Rattle.sipl_archive.specs.Commands.{after_line, first_line}
 
 -- a text whose first line has an end

@@ -1,5 +1,5 @@
 -- A line without the CR at its end.
-use Rattle.std.proofs.Common.{◌≡◌, ℕ, zero, suc, ◌+◌, ◌-◌, ◌<◌, List, [], ◌∷◌, true, false, if◌then◌else◌, ◌==◌, length, get_or, take, drop, Option, Some, None, refl, sym, ap, ◌∙◌, eq-eqb, ne_eqb, arith}
+use Rattle.std.proofs.Common.{◌≡◌, ℕ, zero, suc, ◌+◌, ◌-◌, ◌<◌, List, [], ◌∷◌, true, false, if◌then◌else◌, ◌==◌, length, get_or, take, drop, Some, None, refl, sym, ap, ◌∙◌, eq-eqb, ne_eqb, arith}
 use Rattle.std.specs.Option.{option_and_then}
 use Rattle.sipl_lines.specs.Lines.{without_cr}
 use Rattle.std.proofs.lemmas.List.{drop-drop}

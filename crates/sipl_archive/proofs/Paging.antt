@@ -2,7 +2,7 @@
 use Rattle.std.proofs.Common.{◌≡◌, ℕ, ◌+◌, ◌<◌, List, ◌∷◌, [], ◌++◌, length, take, get_or, Option, append_assoc, append-nil, sym, ap, ◌∙◌}
 use Rattle.std.proofs.lemmas.List.{flat_map_more, take_more}
 use Rattle.std.specs.Io.KnownBytes.{Appends}
-use Rattle.std.proofs.KnownBytes.{Appends-nil, Appends-trans}
+use Rattle.std.proofs.KnownBytes.{Appends-trans}
 use Rattle.sha2.specs.Hashers.{Holds256}
 use Rattle.sha2.specs.declared.Sha256.{Sha256}
 use Rattle.sipl_names.specs.Labels.{Octets}

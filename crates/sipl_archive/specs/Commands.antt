@@ -1,5 +1,5 @@
 -- The lines of a text: which of them are one command.
-use Rattle.std.specs.Prelude.{◌≡◌, ◌++◌, ℕ, zero, suc, Some, option_and_then, ◌==◌, Bool, false, ◌||◌, ◌^◌, ◌-◌, List, [], ◌∷◌, length, drop, codes, nat_eq, nat_lt, Option, None, unwrap_or, if◌then◌else◌}
+use Rattle.std.specs.Prelude.{◌≡◌, ◌++◌, ℕ, zero, suc, Some, option_and_then, ◌==◌, ◌^◌, ◌-◌, List, [], ◌∷◌, length, drop, codes, nat_eq, nat_lt, Option, None, unwrap_or, if◌then◌else◌}
 use Rattle.std.specs.List.{starts_with}
 use lib.Pointwise.{pointwise}
 use Rattle.sipl_names.specs.Labels.{Octets}

@@ -14,7 +14,6 @@ use Rattle.sipl_book.specs.BookFault.{code_of}
 use Rattle.sipl_book.specs.Machine.{zone_edit}
 use Rattle.sipl_book.specs.declared.edit.Edit.{Edit}
 use Rattle.sipl_book.specs.declared.fault.BookFault.{BookFault}
-use Rattle.sipl_book.specs.declared.outcome.Done.{Done}
 use Rattle.sipl_lines.specs.Desk.{DeskRules}
 
 -- the zones and the holds, the client's abilities, and what becomes of held endpoints

@@ -1,4 +1,4 @@
-use Rattle.std.proofs.Common.{codes, ap, subst, sym}
+use Rattle.std.proofs.Common.{codes}
 use Rattle.sipl_archive.specs.Archive.{families_text, held_text, setting_line, transports_line}
 use Rattle.sipl_archive.proofs.Appending.{appends_three}
 use Rattle.sipl_archive.proofs.archive.write_client.Goals as goal

@@ -1,4 +1,4 @@
-use Rattle.std.proofs.Common.{◌≡◌, ◌+◌, ◌-◌, ◌≤◌, ◌∙◌, List, ℕ, Some, None, length, drop, sym, arith, length-drop}
+use Rattle.std.proofs.Common.{◌≡◌, ◌+◌, ◌-◌, ◌∙◌, None, drop, sym, arith, length-drop}
 use Rattle.std.proofs.lemmas.List.{take_rest}
 use Rattle.sipl_archive.specs.Commands.{after_line}
 use Rattle.sipl_archive.proofs.Lines.{no_line, one_line}

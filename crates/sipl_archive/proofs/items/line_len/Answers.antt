@@ -1,4 +1,4 @@
-use Rattle.std.proofs.Common.{◌+◌, length, get_or, add-one, eq-eqb, arith}
+use Rattle.std.proofs.Common.{get_or, add-one, eq-eqb, arith}
 use Rattle.std.proofs.lemmas.Bool.{eqb-true}
 use Rattle.sipl_archive.proofs.Lines.{line_found, line_missing}
 use Rattle.sipl_archive.proofs.items.line_len.Goals as goal

@@ -1,4 +1,4 @@
-use Rattle.std.proofs.Common.{ℕ, List, [], suc, ◌+◌, ◌∙◌, length, get_or, drop, sym, ap, add-one, unwrap_or, eq-eqb, arith}
+use Rattle.std.proofs.Common.{[], ◌+◌, ◌∙◌, get_or, sym, ap, add-one, unwrap_or, eq-eqb, arith}
 use Rattle.std.proofs.lemmas.List.{take_rest}
 use Rattle.std.proofs.lemmas.Bool.{eqb-true}
 use Rattle.sipl_archive.proofs.Lines.{line_found, line_missing}

@@ -1,4 +1,4 @@
-use Rattle.std.proofs.Common.{◌≡◌, ◌≤◌, length, subst, sym}
+use Rattle.std.proofs.Common.{◌≤◌, length, subst, sym}
 use Rattle.sipl_records.specs.Sets.{set_of}
 use Rattle.sipl_book.proofs.Public.{set_is_set}
 use Rattle.sipl_archive.proofs.plain.plain_answer.Goals as goal

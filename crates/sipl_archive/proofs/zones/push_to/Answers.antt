@@ -1,6 +1,5 @@
-use Rattle.std.proofs.Common.{◌≡◌, ◌∷◌, [], ◌++◌, List, map, sym, ap, ◌∙◌, rules, arith}
+use Rattle.std.proofs.Common.{◌∷◌, [], map, sym, ap, ◌∙◌, arith}
 use Rattle.std.proofs.lemmas.List.{map-append}
-use Rattle.sipl_records.specs.declared.record.Record.{Record}
 use Rattle.sipl_archive.proofs.Sorting.{put_nowhere, put_to}
 use Rattle.sipl_archive.proofs.zones.push_to.Goals as goal
 

@@ -1,11 +1,5 @@
-use Rattle.std.proofs.Common.{◌≡◌, ◌++◌, [], List, length, map, sym, ap, subst, ◌∙◌, arith, rules}
 use Rattle.std.proofs.lemmas.Result.{on_ok_weaker}
-use Rattle.sipl_names.specs.Labels.{Labels}
-use Rattle.sipl_records.specs.declared.record.Record.{Record}
-use Rattle.sipl_zonestore.specs.Store.{records_within}
-use Rattle.sipl_archive.specs.Sorting.{paired, zones_of}
-use Rattle.sipl_archive.specs.Text.{zones_lines}
-use Rattle.sipl_archive.proofs.Sorting.{paired_zones, same_count}
+use Rattle.sipl_archive.proofs.Sorting.{paired_zones}
 use Rattle.sipl_archive.proofs.zones.write_listed.Goals as goal
 
 pub returns : goal.returns
