@@ -10,7 +10,10 @@
 #![tactic(auto)]
 
 mod answered;
+mod answers;
 mod asked;
+mod changes;
+mod checks;
 mod claims;
 mod due;
 mod fault;
@@ -26,7 +29,6 @@ mod receipts;
 mod repairs;
 mod service;
 mod shared;
-mod steps;
 mod told;
 mod versions;
 

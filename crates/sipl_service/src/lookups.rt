@@ -4,25 +4,27 @@ ghost use Rattle.std.specs.Prelude.{◌≡◌, [], None, false, true, IfOk, OnOk
 ghost use Rattle.sipl_records.specs.Sets.{is_existence};
 ghost use Rattle.sipl_plans.specs.Findings.{IsSound};
 ghost use Rattle.sipl_plans.specs.Runs.{IsSet, wanted};
+ghost use Rattle.sipl_service.specs.Answering.{IsDrawnFor};
 ghost use Rattle.sipl_service.specs.Passes.{GetsReceipt};
 ghost use Rattle.sipl_service.specs.Telling.{AreToldDependencies, IsToldFor, event_of};
 
+use crate::answers;
 use crate::asked::Asked;
 use crate::fault::ServiceFault;
 use crate::gate::{Gate, Go, OpenGate, Who};
 use crate::marks::Mark;
 use crate::pass::Pass;
 use crate::service::Service;
-use crate::steps;
-use crate::steps::{Copies, Prepared};
 use crate::told::Told;
 use crate::versions::Versions;
 use sipl_book::BookFault;
 use sipl_evidence::Evidence;
-use sipl_plans::{Finding, Run};
+use sipl_outages::Board;
+use sipl_plans::{Answer, Finding, Run, draw};
 use sipl_records::{Data, Key, Kind, Sequence};
 use sipl_srv::Draws;
 use sipl_uri::Question;
+use std::alloc::AllocError;
 use std::sync::{Arc, Wait};
 
 impl Service {
@@ -73,12 +75,11 @@ impl Service {
     {
         pass.receipts.reserve(1)?;
         let asked = Asked::of(self.alloc, question, &self.abilities, self.held, draws)?;
-        let copies = Copies::of(self.alloc, question)?;
         let mut shared = self.lock(rt);
         if shared.is_stopped {
             return Err(ServiceFault::Stopped);
         }
-        let answered = steps::hand(self.alloc, &mut shared.book, pass, asked, copies)?;
+        let answered = answers::hand(self.alloc, &mut shared.book, pass, asked)?;
         drop(shared);
         pass.receipts.push_reserved(answered.receipt);
         pass.front = answered.front;
@@ -116,16 +117,31 @@ impl Service {
             (λ told. IsToldFor finding.question self.now.client self.now.held draws.now told) }
     {
         pass.receipts.reserve(1)?;
-        let prepared = Prepared::of(self.alloc, &finding, self.held, draws)?;
+        let (asked, drawn) = self.drawn(&finding, draws)?;
         let mut shared = self.lock(rt);
         if shared.is_stopped {
             return Err(ServiceFault::Stopped);
         }
-        let answered = steps::commit(self.alloc, &mut shared.book, pass, prepared, finding)?;
+        let answered =
+            answers::commit(self.alloc, &mut shared.book, pass, asked, drawn, finding)?;
         drop(shared);
         pass.receipts.push_reserved(answered.receipt);
         pass.front = answered.front;
         Ok(answered.told)
+    }
+
+    // What is asked of a finding, and its answer where nothing is held.
+    fn drawn(&self, finding: &Finding, draws: &Draws) -> Result<(Asked, Answer), AllocError>
+        requires { finding.now.client ≡ self.now.client }
+        ensures drawn { IfOk result (λ drawn. IsDrawnFor finding.now drawn.0 drawn.1) }
+        ensures held { IfOk result (λ drawn. drawn.0.held ≡ self.now.held) }
+        ensures words { IfOk result (λ drawn. drawn.0.draws ≡ draws.now) }
+    {
+        let (alloc, question) = (self.alloc, finding.question());
+        let free = Board::with(alloc, 0);
+        let answer = draw(alloc, finding.layout(), draws, &free, self.held)?;
+        let asked = Asked::of(alloc, question, &self.abilities, self.held, draws)?;
+        Ok((asked, answer))
     }
 
     // The route of a question on the sets as they are read one after another, which may be of

@@ -1,10 +1,10 @@
 // Repairs: outdated entries are looked up again, by a caller or by workers of their own.
 ghost use Rattle.std.specs.Prelude.{◌≡◌};
 
+use crate::checks::check_client;
 use crate::fault::ServiceFault;
 use crate::gate::{Gate, OpenGate, Who};
 use crate::service::Service;
-use crate::steps;
 use indexmap::IndexSet;
 use sipl_book::BookFault;
 use sipl_plans::Finding;
@@ -135,7 +135,7 @@ impl Service {
         requires { finding.client ≡ self.now.client }
     {
         let mut shared = self.lock(rt);
-        if let Err(fault) = steps::check_client(&shared.book, &self.abilities, self.held) {
+        if let Err(fault) = check_client(&shared.book, &self.abilities, self.held) {
             shared.book.give_back(lease);
             return Err(fault);
         }

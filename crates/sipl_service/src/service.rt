@@ -3,12 +3,13 @@ ghost use Rattle.sipl_book.specs.Pages.{IsPage};
 ghost use Rattle.sipl_service.specs.Marks.{key_edited};
 ghost use Rattle.sipl_service.specs.Passes.{GetsReceipt, IsOutcomeOf};
 
+use crate::changes;
+use crate::changes::NewEdit;
+use crate::checks::is_for;
 use crate::fault::ServiceFault;
 use crate::pass::Pass;
 use crate::receipt::Receipt;
 use crate::shared::{Shared, new_versions};
-use crate::steps;
-use crate::steps::NewEdit;
 use crossbeam_utils::CachePadded;
 use sipl_book::{Book, BookFault, Done, Edit, Event, Limits, Page};
 use sipl_choice::{Abilities, Endpoint};
@@ -198,7 +199,7 @@ impl Service {
         if shared.is_stopped {
             return Err(ServiceFault::Stopped);
         }
-        steps::hold(&mut shared.book, pass, endpoint, ms)
+        changes::hold(&mut shared.book, pass, endpoint, ms)
     }
 
     /// Ends the hold of an endpoint. Returns the event's number.
@@ -218,7 +219,7 @@ impl Service {
         if shared.is_stopped {
             return Err(ServiceFault::Stopped);
         }
-        steps::release(&mut shared.book, pass, endpoint)
+        changes::release(&mut shared.book, pass, endpoint)
     }
 
     /// Sets the time, in milliseconds, at most to 2^52. Returns the event's number.
@@ -234,7 +235,7 @@ impl Service {
         if shared.is_stopped {
             return Err(ServiceFault::Stopped);
         }
-        steps::advance(&mut shared.book, pass, to)
+        changes::advance(&mut shared.book, pass, to)
     }
 
     /// The present time, in milliseconds, at most 2^52.
@@ -284,7 +285,7 @@ impl Service {
         ensures refused { IfErr result (λ refused. refused.1 ≡ self) }
     {
         let shared = self.shared.into_inner().into_inner();
-        if !steps::is_for(&shared.book, &self.abilities, self.held) {
+        if !is_for(&shared.book, &self.abilities, self.held) {
             let service = Service {
                 alloc: self.alloc,
                 abilities: self.abilities,

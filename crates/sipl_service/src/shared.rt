@@ -10,11 +10,12 @@ ghost use Rattle.sipl_service.specs.Marks.{book_after_mark, key_edited, mark_of,
 ghost use Rattle.sipl_service.specs.Passes.{GetsReceipt};
 ghost use Rattle.sipl_service.specs.Refusals.{unless_other, unless_stopped};
 
+use crate::changes;
+use crate::changes::NewEdit;
+use crate::checks::check_client;
 use crate::fault::ServiceFault;
 use crate::marks::{Mark, Marks};
 use crate::pass::Pass;
-use crate::steps;
-use crate::steps::NewEdit;
 use crate::versions::Versions;
 use sipl_book::{Book, BookFault, Done, Event, Page};
 use sipl_choice::Abilities;
@@ -97,7 +98,7 @@ impl Shared {
         if self.is_stopped {
             return Err(ServiceFault::Stopped);
         }
-        steps::check_client(&self.book, abilities, held)
+        check_client(&self.book, abilities, held)
     }
 
     // The versions that the marks are of, which outlast the turn of a page where they are read. Does not
@@ -146,7 +147,7 @@ impl Shared {
         ensures unchanged { OnErr result (self.new ≡ self.old) }
         ensures stopped { self.new.is_stopped ≡ self.old.is_stopped }
     {
-        let done = steps::change(&mut self.book, pass, new)?;
+        let done = changes::change(&mut self.book, pass, new)?;
         self.edits = self.edits.wrapping_add(1);
         if done.changed > 0 {
             self.marks.take_out_changed(&self.book, key);

@@ -3,7 +3,7 @@ use Rattle.std.specs.Arc.{arc_value}
 use Rattle.sipl_plans.specs.Findings.{Found, IsSound}
 use Rattle.sipl_plans.specs.Plan.{draw}
 use Rattle.sipl_service.proofs.Entries.{entry-sound, entry-answer}
-use Rattle.sipl_service.proofs.steps.tell_entry.Goals as goal
+use Rattle.sipl_service.proofs.answers.tell_entry.Goals as goal
 
 pub of-requires-clause-sound : goal.of-requires-clause-sound
 of-requires-clause-sound c =

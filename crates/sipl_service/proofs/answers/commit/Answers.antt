@@ -10,7 +10,7 @@ use Rattle.sipl_book.specs.declared.fault.BookFault.TheVariants.{Memory}
 use Rattle.sipl_service.specs.Telling.{ToldState, event_of}
 use Rattle.sipl_service.proofs.FirstFault.{commit_before, commit_refused}
 use Rattle.sipl_service.proofs.Committing.{journal-committed, stale-within}
-use Rattle.sipl_service.proofs.steps.commit.Goals as goal
+use Rattle.sipl_service.proofs.answers.commit.Goals as goal
 
 pub returns-in-Ok-clause-journal : goal.returns-in-Ok-clause-journal
 returns-in-Ok-clause-journal c =

@@ -3,7 +3,7 @@ use Rattle.std.proofs.lemmas.Bool.{cond-false, cond-true}
 use Rattle.sipl_service.specs.Refusals.{is_for}
 use Rattle.sipl_service.specs.declared.fault.ServiceFault.TheVariants.{OtherBook}
 use Rattle.sipl_service.proofs.Policies.{is_for-same}
-use Rattle.sipl_service.proofs.steps.check_client.Goals as goal
+use Rattle.sipl_service.proofs.checks.check_client.Goals as goal
 
 pub returns-clause-same : goal.returns-clause-same
 returns-clause-same c =

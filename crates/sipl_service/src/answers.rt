@@ -1,0 +1,242 @@
+// The answers that the book under the lock records: that of a current entry, and that of a finding, which
+// is committed. Copies of a question and of an answer share what they have, and are made there.
+ghost use Rattle.std.specs.Prelude.{◌≡◌, ◌≢◌, ◌⊎◌, ℕ, ◌<◌, ◌≤◌, ◌++◌, [], ◌∷◌, length, false, true, None, Some, Ok, IfOk, IfErr, OnOk, OnErr};
+ghost use Rattle.std.specs.Arc.{arc_value};
+ghost use Rattle.sipl_outages.specs.Holds.{no_holds};
+ghost use Rattle.sipl_plans.specs.Findings.{IsSound};
+ghost use Rattle.sipl_plans.specs.Plan.{draw};
+ghost use Rattle.sipl_book.specs.Book.{answer_now, next_event};
+ghost use Rattle.sipl_book.specs.Calls.{CommitsAnswer, IsHanded, after_check, is_full, recorded, store_with_looks};
+ghost use Rattle.sipl_book.specs.Entries.{has_current_entry};
+ghost use Rattle.sipl_service.specs.Answering.{IsDrawnFor, Records};
+ghost use Rattle.sipl_service.specs.Passes.{receipt_of};
+ghost use Rattle.sipl_service.specs.Refusals.{commit_fault, contended, early_fault, hand_fault};
+ghost use Rattle.sipl_service.specs.Telling.{IsAnswerTo, event_of, told_to};
+
+use crate::answered::Answered;
+use crate::asked::Asked;
+use crate::checks::next_answer;
+use crate::fault::ServiceFault;
+use crate::pass::Pass;
+use crate::receipt::Receipt;
+use crate::told::Told;
+use sipl_book::{Book, BookFault, Event, Uncommitted};
+use sipl_outages::{Board, Held, SharedBoard};
+use sipl_plans::{Answer, Finding, draw};
+use sipl_srv::Draws;
+use sipl_uri::Question;
+use std::alloc::{AllocError, Global};
+
+// The answer of the current entry of a question.
+#[tactic(auto, using(crate::proofs::FirstFault::hand_before, crate::proofs::FirstFault::hand_not_current,))]
+pub(crate) fn hand(
+    alloc: Global,
+    book: &mut Book,
+    pass: &Pass,
+    asked: Asked,
+) -> Result<Answered, ServiceFault>
+    ensures front { OnOk result (pass.now.front ≤ next_event book.old) }
+    ensures answered { IfOk result (λ answered. Records asked (next_event book.old) answered) }
+    ensures handed { IfOk result (λ answered. IsHanded asked.question asked.draws book.old book.new
+        (Ok (record { number = answered.told.number; answer = answered.told.answer }))) }
+    ensures store { book.new.store ≡ book.old.store }
+    ensures refused { IfErr result (λ fault. fault ≢ ServiceFault.Memory
+        → hand_fault pass.now asked book.old ≡ Some fault) }
+    ensures memory { IfErr result (λ fault. fault ≡ ServiceFault.Memory
+        → early_fault pass.now asked.abilities asked.held book.old ≡ None) }
+    ensures unchanged { OnErr result (book.new ≡ book.old) }
+{
+    let number = next_answer(book, pass, &asked.abilities, asked.held)?;
+    let holds = book.share_board()?;
+    let told = tell_entry(alloc, book, number, asked, holds)?;
+    let receipt = record(alloc, book, &told)?;
+    Ok(Answered {
+        told,
+        receipt,
+        front: book.next_event(),
+        released: None,
+    })
+}
+
+// Records the answer that is to be told. Returns the receipt for it.
+#[tactic(auto, using(crate::proofs::FirstFault::refused_for_memory))]
+fn record(alloc: Global, book: &mut Book, told: &Told) -> Result<Receipt, ServiceFault>
+    requires number { told.now.number ≡ next_event book.old }
+    requires answer { told.now.answer ≡ answer_now book.old told.now.question told.now.words }
+    requires space { is_full book.old ≡ false }
+    ensures journal { OnOk result (book.new ≡ recorded (event_of told.now) book.old) }
+    ensures receipt { IfOk result
+        (λ receipt. receipt ≡ receipt_of (next_event book.old) (event_of told.now)) }
+    ensures memory { IfErr result (λ fault. fault ≡ ServiceFault.Memory) }
+    ensures unchanged { OnErr result (book.new ≡ book.old) }
+{
+    let receipt = receipt_for(alloc, told)?;
+    let (question, answer) = copies_of(alloc, told)?;
+    book.record_answer(question, told.draws(), answer)?;
+    Ok(receipt)
+}
+
+// The receipt for an answer that is told, with copies of its own.
+fn receipt_for(alloc: Global, told: &Told) -> Result<Receipt, AllocError>
+    ensures { IfOk result
+        (λ receipt. receipt ≡ receipt_of told.now.number (event_of told.now)) }
+{
+    let (question, answer) = copies_of(alloc, told)?;
+    Ok(Receipt {
+        number: told.number(),
+        event: Event::Answer(question, *told.draws(), answer),
+    })
+}
+
+// Copies of the question and of the answer that are told.
+fn copies_of(alloc: Global, told: &Told) -> Result<(Question, Answer), AllocError>
+    ensures question { IfOk result (λ copies. copies.0 ≡ told.now.question) }
+    ensures answer { IfOk result (λ copies. copies.1 ≡ told.now.answer) }
+{
+    let question = told.question().dup(alloc)?;
+    let answer = told.answer().dup(alloc)?;
+    Ok((question, answer))
+}
+
+// The answer of the current entry of a question for these holds. B1 where there is none.
+fn tell_entry(
+    alloc: Global,
+    book: &Book,
+    number: u64,
+    asked: Asked,
+    holds: SharedBoard,
+) -> Result<Told, ServiceFault>
+    requires client { book.now.client ≡ asked.abilities }
+    requires held { book.now.held ≡ asked.held }
+    requires holds { holds ≡ book.now.board }
+    ensures number { IfOk result (λ told. told.number ≡ number) }
+    ensures asked { IfOk result (λ told. IsAnswerTo asked told) }
+    ensures answer { IfOk result
+        (λ told. told.answer ≡ answer_now book.now asked.question asked.draws) }
+    ensures current { OnOk result (has_current_entry book.now.entries asked.question ≡ true) }
+    ensures refused { IfErr result (λ fault. fault ≢ ServiceFault.Memory
+        → (fault ≡ ServiceFault.Book BookFault.NotCurrent)
+        × (has_current_entry book.now.entries asked.question ≡ false)) }
+{
+    let Some(entry) = book.entry(&asked.question) else {
+        return Err(ServiceFault::Book(BookFault::NotCurrent));
+    };
+    if !entry.is_current() {
+        return Err(ServiceFault::Book(BookFault::NotCurrent));
+    }
+    let evidence = entry.share_evidence()?;
+    Ok(Told::of(alloc, number, asked, entry.layout(), evidence, holds)?)
+}
+
+// The answer of a finding, where the sets that it read are as they were. L1 with the key of the first
+// that is not. What is asked is the question of the finding, and this is its answer where nothing is held.
+pub(crate) fn commit(
+    alloc: Global,
+    book: &mut Book,
+    pass: &Pass,
+    asked: Asked,
+    drawn: Answer,
+    finding: Finding,
+) -> Result<Answered, ServiceFault>
+    requires drawn { IsDrawnFor finding asked drawn }
+    requires sound { IsSound finding }
+    ensures front { OnOk result (pass.now.front ≤ next_event book.old) }
+    ensures answered { IfOk result (λ answered. Records asked (next_event book.old) answered) }
+    ensures journal { IfOk result
+        (λ answered. book.new.journal ≡ book.old.journal ++ event_of answered.told ∷ []) }
+    ensures store { book.new.store ≡ store_with_looks book.new.store.looks book.old.store }
+    ensures committed { IfOk result (λ answered. CommitsAnswer finding asked.draws
+        book.old book.new (Ok (record { number = answered.told.number; released = answered.released }))) }
+    ensures refused { IfErr result (λ fault. fault ≢ ServiceFault.Memory
+        → commit_fault pass.now asked finding book.old ≡ Some fault) }
+    ensures memory { IfErr result (λ fault. fault ≡ ServiceFault.Memory
+        → early_fault pass.now asked.abilities asked.held book.old ≡ None) }
+    ensures unchanged { OnErr result (book.new.journal ≡ book.old.journal) }
+    ensures looked { OnErr result
+        ((book.new ≡ book.old) ⊎ (book.new ≡ after_check finding book.old)) }
+{
+    let told = tell_finding(alloc, book, pass, asked, drawn, &finding)?;
+    let receipt = receipt_for(alloc, &told)?;
+    let (question, answer) = copies_of(alloc, &told)?;
+    match book.commit_answer(finding, question, told.draws(), answer) {
+        Ok(committed) => Ok(Answered {
+            told,
+            receipt,
+            front: book.next_event(),
+            released: committed.released,
+        }),
+        Err(uncommitted) => Err(fault_of(alloc, uncommitted)),
+    }
+}
+
+// The answer of a finding for the holds of the book, as it is told with the number of the next event. The
+// book is as it was.
+fn tell_finding(
+    alloc: Global,
+    book: &mut Book,
+    pass: &Pass,
+    asked: Asked,
+    drawn: Answer,
+    finding: &Finding,
+) -> Result<Told, ServiceFault>
+    requires drawn { IsDrawnFor finding.now asked drawn }
+    requires sound { IsSound finding.now }
+    ensures front { OnOk result (pass.now.front ≤ next_event book.old) }
+    ensures told { IfOk result (λ told. told ≡ told_to asked (next_event book.old)
+        (draw finding.now.layout book.old.board.holds asked.draws asked.held)
+        finding.now.items book.old.board) }
+    ensures client { OnOk result (book.old.client ≡ asked.abilities) }
+    ensures held { OnOk result (book.old.held ≡ asked.held) }
+    ensures accepted { OnOk result
+        (early_fault pass.now asked.abilities asked.held book.old ≡ None) }
+    ensures refused { IfErr result (λ fault. fault ≢ ServiceFault.Memory
+        → early_fault pass.now asked.abilities asked.held book.old ≡ Some fault) }
+    ensures memory { IfErr result (λ fault. fault ≡ ServiceFault.Memory
+        → early_fault pass.now asked.abilities asked.held book.old ≡ None) }
+    ensures unchanged { book.new ≡ book.old }
+{
+    let number = next_answer(book, pass, &asked.abilities, asked.held)?;
+    let evidence = finding.share_evidence()?;
+    let holds = book.share_board()?;
+    let answer = drawn_again(alloc, finding, &asked, holds.get(), drawn)?;
+    Ok(Told::drawn(number, asked, answer, evidence, holds))
+}
+
+// The answer of a finding for the holds of a board: where nothing is held, the one that is drawn.
+fn drawn_again(
+    alloc: Global,
+    finding: &Finding,
+    asked: &Asked,
+    board: &Board,
+    drawn: Answer,
+) -> Result<Answer, AllocError>
+    requires { IsDrawnFor finding.now asked.now drawn }
+    ensures { IfOk result (λ answer. answer
+        ≡ draw finding.now.layout board.now.holds asked.now.draws asked.now.held) }
+{
+    if board.is_empty() {
+        return Ok(drawn);
+    }
+    draw(alloc, finding.layout(), &asked.draws, board, asked.held)
+}
+
+// Why a finding was not committed.
+fn fault_of(alloc: Global, uncommitted: Uncommitted) -> ServiceFault
+    requires within { (place : ℕ) → uncommitted.fault ≡ BookFault.Stale place
+        → place < length uncommitted.finding.items }
+    ensures known { result ≢ ServiceFault.Memory → uncommitted.fault ≢ BookFault.Memory }
+    ensures contended { result ≢ ServiceFault.Memory
+        → result ≡ contended uncommitted.finding.items uncommitted.fault }
+{
+    let Uncommitted { fault, finding } = uncommitted;
+    let BookFault::Stale(place) = fault else {
+        return fault.into();
+    };
+    match finding.evidence().items().get(place) {
+        Some(item) => match item.key().dup(alloc) {
+            Ok(key) => ServiceFault::Contended(key),
+            Err(error) => error.into(),
+        },
+        None => unreachable!(),
+    }
+}
