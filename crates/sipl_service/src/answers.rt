@@ -61,7 +61,6 @@ pub(crate) fn hand(
 // Records the answer that is to be told. Returns the receipt for it.
 #[tactic(auto, using(crate::proofs::FirstFault::refused_for_memory))]
 fn record(alloc: Global, book: &mut Book, told: &Told) -> Result<Receipt, ServiceFault>
-    requires number { told.now.number ≡ next_event book.old }
     requires answer { told.now.answer ≡ answer_now book.old told.now.question told.now.words }
     requires space { is_full book.old ≡ false }
     ensures journal { OnOk result (book.new ≡ recorded (event_of told.now) book.old) }
@@ -70,21 +69,12 @@ fn record(alloc: Global, book: &mut Book, told: &Told) -> Result<Receipt, Servic
     ensures memory { IfErr result (λ fault. fault ≡ ServiceFault.Memory) }
     ensures unchanged { OnErr result (book.new ≡ book.old) }
 {
-    let receipt = receipt_for(alloc, told)?;
     let (question, answer) = copies_of(alloc, told)?;
-    book.record_answer(question, told.draws(), answer)?;
-    Ok(receipt)
-}
-
-// The receipt for an answer that is told, with copies of its own.
-fn receipt_for(alloc: Global, told: &Told) -> Result<Receipt, AllocError>
-    ensures { IfOk result
-        (λ receipt. receipt ≡ receipt_of told.now.number (event_of told.now)) }
-{
-    let (question, answer) = copies_of(alloc, told)?;
+    let (asked_again, kept) = copies_of(alloc, told)?;
+    let number = book.record_answer(question, told.draws(), answer)?;
     Ok(Receipt {
-        number: told.number(),
-        event: Event::Answer(question, *told.draws(), answer),
+        number,
+        event: Event::Answer(asked_again, *told.draws(), kept),
     })
 }
 
@@ -155,13 +145,18 @@ pub(crate) fn commit(
     ensures looked { OnErr result
         ((book.new ≡ book.old) ⊎ (book.new ≡ after_check finding book.old)) }
 {
+    let draws = asked.draws;
     let told = tell_finding(alloc, book, pass, asked, drawn, &finding)?;
-    let receipt = receipt_for(alloc, &told)?;
     let (question, answer) = copies_of(alloc, &told)?;
-    match book.commit_answer(finding, question, told.draws(), answer) {
+    let (asked_again, kept) = copies_of(alloc, &told)?;
+    let number = told.number();
+    match book.commit_answer(finding, question, &draws, answer) {
         Ok(committed) => Ok(Answered {
             told,
-            receipt,
+            receipt: Receipt {
+                number,
+                event: Event::Answer(asked_again, draws, kept),
+            },
             front: book.next_event(),
             released: committed.released,
         }),

@@ -55,7 +55,7 @@ pub(crate) fn check_client(
 
 // The number of the next event, where it may be an answer. L2 where the pass has seen it, L7 where the
 // book is for a client of other abilities, or for another policy, B3 where the journal is full.
-fn next_answer(
+pub(crate) fn next_answer(
     book: &Book,
     pass: &Pass,
     abilities: &Abilities,

@@ -122,8 +122,7 @@ impl Service {
         if shared.is_stopped {
             return Err(ServiceFault::Stopped);
         }
-        let answered =
-            answers::commit(self.alloc, &mut shared.book, pass, asked, drawn, finding)?;
+        let answered = answers::commit(self.alloc, &mut shared.book, pass, asked, drawn, finding)?;
         drop(shared);
         pass.receipts.push_reserved(answered.receipt);
         pass.front = answered.front;
