@@ -4,15 +4,17 @@ use crate::source::Turned;
 use sipl_archive::Archive;
 use sipl_book::Page;
 use sipl_service::{ClaimFault, Ledger, Receipts};
-use std::alloc::Global;
+use std::alloc::{AllocError, Global};
+use std::collections::VecDeque;
 use std::fs::File;
 use std::rt::Files;
 
-/// What was claimed, the page that is to be claimed next, and the fault with which the daemon is to end, if
-/// there is one.
+/// What was claimed, the receipts that are to be added to it, the page that is to be claimed next, and the
+/// fault with which the daemon is to end, if there is one.
 #[derive(Drop)]
 pub(crate) struct Claims {
     ledger: Ledger,
+    handed: VecDeque<Receipts>,
     next: Option<Turned>,
     fault: Option<CloseFault>,
 }
@@ -33,6 +35,7 @@ impl Claims {
     pub(crate) fn new(alloc: Global) -> Claims {
         Claims {
             ledger: Ledger::new(alloc),
+            handed: VecDeque::new(alloc),
             next: None,
             fault: None,
         }
@@ -63,11 +66,25 @@ impl Claims {
         self.fault.take()
     }
 
-    /// Adds receipts.
-    pub(crate) fn add(&mut self, handed: Vec<Receipts>) -> Result<(), ClaimFault> {
-        for receipts in handed {
-            if self.ledger.add(receipts).is_err() {
-                return Err(ClaimFault::Memory);
+    /// Whether receipts are to be added.
+    pub(crate) fn has_handed(&self) -> bool {
+        !self.handed.is_empty()
+    }
+
+    /// Receipts that are to be added, where none are yet.
+    pub(crate) fn put_handed(&mut self, handed: VecDeque<Receipts>) {
+        self.handed = handed;
+    }
+
+    /// Adds the receipts that are to be. Where an allocation fails, those that are left are added later.
+    pub(crate) fn add_handed(&mut self) -> Result<(), AllocError> {
+        for _ in 0..self.handed.len() {
+            let Some(receipts) = self.handed.pop_front() else {
+                break;
+            };
+            if let Err(receipts) = self.ledger.add(receipts) {
+                self.handed.push_front_reserved(receipts);
+                return Err(AllocError);
             }
         }
         Ok(())

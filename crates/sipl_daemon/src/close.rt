@@ -6,6 +6,7 @@ use crate::source::Source;
 use sipl_archive::Archive;
 use sipl_book::Page;
 use sipl_service::{ClaimFault, ServiceFault};
+use std::alloc::AllocError;
 use std::fs::File;
 use std::io;
 use std::rt::Files;
@@ -27,6 +28,12 @@ pub(crate) enum CloseFault {
 impl From<ClaimFault> for CloseFault {
     fn from(fault: ClaimFault) -> CloseFault {
         CloseFault::Claim(fault)
+    }
+}
+
+impl From<AllocError> for CloseFault {
+    fn from(_: AllocError) -> CloseFault {
+        CloseFault::Claim(ClaimFault::Memory)
     }
 }
 

@@ -34,7 +34,7 @@ pub(crate) struct Pages {
     // Wakes the thread that claims.
     woken: Condvar,
     // The receipts that were handed over since the last claim.
-    handed: Mutex<Vec<Receipts>>,
+    handed: Mutex<VecDeque<Receipts>>,
     claims: Mutex<Claims>,
     claimed: AtomicU64,
 }
@@ -48,7 +48,7 @@ impl Pages {
             due: AtomicU64::new(due_after(0, journal)),
             turned: Mutex::new(VecDeque::new(alloc)),
             woken: Condvar::new(),
-            handed: Mutex::new(Vec::new(alloc)),
+            handed: Mutex::new(VecDeque::new(alloc)),
             claims: Mutex::new(Claims::new(alloc)),
             claimed: AtomicU64::new(0),
         }
@@ -115,7 +115,7 @@ impl Pages {
         if handed.reserve(1).is_err() {
             return false;
         }
-        handed.push_reserved(pass.hand_over());
+        handed.push_back_reserved(pass.hand_over());
         true
     }
 
@@ -135,7 +135,10 @@ impl Pages {
         claims: &mut Claims,
     ) -> Result<Claimed, ClaimFault> {
         self.put_next(rt, claims);
-        claims.add(self.take_handed(rt))?;
+        self.put_handed(rt, claims);
+        if claims.add_handed().is_err() {
+            return Ok(Claimed::NotYet);
+        }
         let claimed = claims.claim()?;
         if let Claimed::Page = claimed {
             self.claimed.fetch_add(1, Ordering::SeqCst);
@@ -155,10 +158,12 @@ impl Pages {
         }
     }
 
-    // The receipts that were handed over since the last call.
-    fn take_handed<R: Wait>(&self, rt: &R) -> Vec<Receipts> {
-        let mut handed = self.handed.lock(rt);
-        mem::replace(&mut *handed, Vec::new(self.alloc))
+    // Puts the receipts that were handed over into the claims, if they have none to add.
+    fn put_handed<R: Wait>(&self, rt: &R, claims: &mut Claims) {
+        if !claims.has_handed() {
+            let mut handed = self.handed.lock(rt);
+            claims.put_handed(mem::replace(&mut *handed, VecDeque::new(self.alloc)));
+        }
     }
 
     /// Claims all pages that were turned, and then the last one, when all receipts were handed over, and
@@ -184,7 +189,9 @@ impl Pages {
         archive: Option<&Archive>,
         last: &Page,
     ) -> Result<(), CloseFault> {
-        claims.add(self.take_handed(rt))?;
+        claims.add_handed()?;
+        self.put_handed(rt, claims);
+        claims.add_handed()?;
         for _ in 0..=self.waiting(rt) {
             self.put_next(rt, claims);
             claims.finish_next(rt, archive)?;
