@@ -110,7 +110,9 @@ static const struct {
     {"B3", "the journal is full: a page makes room"},
     {"B6", "no number is left for another page"},
     {"L1", "a record set changed in each of the tries: ask again"},
-    {"Memory", "an allocation failed"}};
+    {"Memory", "an allocation failed"},
+    {"D1", "the time is the host's: holds end by themselves"},
+    {"Busy", "there are as many clients as the settings allow"}};
 
 /* A growable array. */
 typedef struct array {

@@ -436,7 +436,8 @@ static void keep_refusal(void *context, size_t place, const siploc_reply *reply)
     }
 }
 
-/* Each code once, by a batch: 47 of the 54 of docs/CODES.md; K2, L1, S8, B6, Memory, X1 and F1 are not in the file. */
+/* Each code once, by a batch: 47 of the 56 of docs/CODES.md; K2, L1, S8, B6, Memory, X1, F1 and the daemon's D1 and
+ * Busy are not in the file. */
 static void each_refusal(void)
 {
     static char input[1 << 16], want[1 << 16], replies[1 << 16], settings[512];

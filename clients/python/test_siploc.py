@@ -264,7 +264,7 @@ class Sessions(unittest.TestCase):
         refusals = [reply.refusal for reply in replies if reply.refusal]
         codes = [refusal.code for refusal in refusals]
         self.assertEqual(len(codes), len(set(codes)))
-        self.assertEqual(set(siploc.MEANINGS) - set(codes), {"K2", "L1", "S8", "B6", "Memory", "X1", "F1"})
+        self.assertEqual(set(siploc.MEANINGS) - set(codes), {"K2", "L1", "S8", "B6", "Memory", "X1", "F1", "D1", "Busy"})
         for refusal in refusals:
             self.assertEqual(refusal.meaning, siploc.MEANINGS[refusal.code])
         self.assertEqual({refusal.code: refusal.line for refusal in refusals if refusal.line},
@@ -597,7 +597,7 @@ class Faults(unittest.TestCase):
         text = text[:text.index("\n## Workers of a script")]
         codes = set(re.findall(r"^\| `([A-Z][0-9]+|Memory)` \|", text, re.MULTILINE))
         of_scripts_and_libraries = {"B1", "B2", "B4", "B5", "Q1", "X3"}
-        self.assertEqual(set(siploc.MEANINGS), codes - of_scripts_and_libraries | {"L1"})
+        self.assertEqual(set(siploc.MEANINGS), codes - of_scripts_and_libraries | {"L1", "D1", "Busy"})
 
 
 class Counting(unittest.TextTestResult):

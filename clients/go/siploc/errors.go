@@ -148,4 +148,6 @@ var meanings = map[string]string{
 	"B6":     "no number is left for another page",
 	"L1":     "a record set changed in each of the tries: ask again",
 	"Memory": "an allocation failed",
+	"D1":     "the time is the host's: holds end by themselves",
+	"Busy":   "there are as many clients as the settings allow",
 }

@@ -299,7 +299,8 @@ func TestEachRefusal(t *testing.T) {
 	session := connect(t, server.address, 30*time.Second)
 	replies := must[[]Reply](t)(session.Batch(commands(inputs)))
 	equal(t, allLines(replies), want)
-	codes := map[string]bool{"K2": true, "L1": true, "S8": true, "B6": true, "Memory": true, "X1": true, "F1": true}
+	codes := map[string]bool{"K2": true, "L1": true, "S8": true, "B6": true, "Memory": true, "X1": true, "F1": true,
+		"D1": true, "Busy": true}
 	for _, reply := range replies {
 		var refused *RefusedError
 		if errors.As(reply.Err(), &refused) {

@@ -1,0 +1,8 @@
+pub mod Appending
+pub mod Beginning
+pub mod Heads
+pub mod Lines
+pub mod Paging
+pub mod Repeating
+pub mod Sorting
+pub mod Words

@@ -1,0 +1,9 @@
+use Rattle.std.proofs.Common.{refl}
+use Rattle.std.proofs.lemmas.Result.{on_ok_weaker}
+use Rattle.sipl_archive.proofs.runs.Runs.replay_events.Goals as goal
+
+pub returns-in-Some : goal.returns-in-Some
+returns-in-Some c =
+    on_ok_weaker c.replay_events.result
+    (λ repeats. record { before = c.in-Some.run'; after = c.replay_events.new.self; old_is = c.in-Some.is; new_is = refl; repeats = repeats })
+    c.replay_events.ensures

@@ -1,0 +1,9 @@
+use Rattle.std.proofs.Common.{◌≡◌, ◌++◌, take}
+use Rattle.std.specs.List.{flat_map}
+use Rattle.sipl_archive.specs.Text.{record_line}
+use Rattle.sipl_archive.proofs.text.write_zone.Given as goal
+
+-- the lines of the records so far
+abbrev pub invariant-loop-record : goal.invariant-loop-record
+invariant-loop-record l =
+    l.out.items ≡ l.initial.out.items ++ flat_map record_line (take l.record-index l.records)

@@ -1,0 +1,9 @@
+pub mod Archive
+pub mod Commands
+pub mod Plain
+pub mod Replay
+pub mod Replies
+pub mod Restoring
+pub mod Runs
+pub mod Sorting
+pub mod Text

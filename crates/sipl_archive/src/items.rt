@@ -1,0 +1,125 @@
+//! The lines of a session, and which of them belong to one command or reply.
+ghost use Rattle.std.specs.Prelude.{◌≡◌, ◌<◌, ◌≤◌, ◌+◌, [], drop, length, None, Some, IfSome};
+ghost use Rattle.std.specs.Prelude.{MatchOption, unwrap_or};
+ghost use Rattle.sipl_records.specs.Fields.{fields_of};
+ghost use Rattle.sipl_lines.specs.Lines.{without_cr};
+ghost use Rattle.sipl_archive.specs.Commands.{after_command, after_line, first_line, taken_by, zone_count};
+ghost use Rattle.sipl_archive.specs.Replies.{AreReplies};
+
+use memchr::memchr;
+use sipl_lines::{Desk, MAX_LINE_LEN, MAX_ZONE_LINES, Tapped, serve};
+use sipl_records::{next_field, read_number};
+use std::alloc::Global;
+
+/// The first line of a text, without its end, and the rest; the whole and nothing where no line ends.
+pub fn split_line(text: &[u8]) -> (&[u8], &[u8])
+    ensures line { result.0.now ≡ first_line text.now }
+    ensures rest { result.1.now ≡ unwrap_or (after_line text.now) [] }
+{
+    match memchr(b'\n', text) {
+        Some(end) => (&text[..end], &text[end + 1..]),
+        None => (text, &[]),
+    }
+}
+
+// How many octets the first line of a text has, with its LF, if there is one.
+fn line_len(text: &[u8]) -> Option<usize>
+    ensures { MatchOption result (after_line text.now ≡ None) (λ len. (0 < len)
+        × (len ≤ length text.now) × (after_line text.now ≡ Some (drop len text.now))) }
+{
+    Some(memchr(b'\n', text)? + 1)
+}
+
+/// How many octets and lines the first command of a text has: a line, and after a `zone` line those that
+/// it takes. `None` where it is not whole.
+pub(crate) fn item_of(text: &[u8]) -> Option<(usize, u64)>
+    ensures octets { MatchOption result (after_command text.now ≡ None) (λ item. (0 < item.0)
+        × (item.0 ≤ length text.now) × (after_command text.now ≡ Some (drop item.0 text.now))) }
+    ensures lines { IfSome result (λ item. item.1 ≡ taken_by (first_line text.now) + 1) }
+{
+    let count = taken_by(split_line(text).0);
+    let mut len = line_len(text)?;
+    for _ in 0..count {
+        len += line_len(&text[len..])?;
+    }
+    Some((len, count + 1))
+}
+
+/// How many lines after it a line takes, which has no LF: those of a zone's text after `zone APEX COUNT`,
+/// and else none.
+pub fn taken_by(line: &[u8]) -> u64
+    ensures { result ≡ taken_by line.now }
+{
+    let line = trim_cr(line);
+    if line.len() > MAX_LINE_LEN {
+        return 0;
+    }
+    match next_field(line) {
+        Some((b"zone", rest)) => zone_lines(rest).unwrap_or(0),
+        _ => 0,
+    }
+}
+
+// A line without the CR at its end.
+fn trim_cr(line: &[u8]) -> &[u8]
+    ensures { result.now ≡ without_cr line.now }
+{
+    let count = line.len();
+    if count > 0 && line[count - 1] == b'\r' {
+        &line[..count - 1]
+    } else {
+        line
+    }
+}
+
+// The count of `APEX COUNT`.
+fn zone_lines(fields: &[u8]) -> Option<u64>
+    ensures { result ≡ zone_count (fields_of fields.now) }
+{
+    let (_apex, rest) = next_field(fields)?;
+    let (count, rest) = next_field(rest)?;
+    if next_field(rest).is_some() {
+        return None;
+    }
+    read_number(count, MAX_ZONE_LINES)
+}
+
+/// Whether a line is that of a change: an edit, a hold, a release, or a move of the clock.
+pub(crate) fn is_change(line: &[u8]) -> bool {
+    match next_field(line) {
+        Some((word, _)) => matches!(
+            word,
+            b"zone" | b"drop" | b"add" | b"del" | b"hold" | b"release" | b"clock"
+        ),
+        None => false,
+    }
+}
+
+/// How many octets the first reply of a text has: its lines up to the one that ends it. `None` where it is
+/// not whole.
+pub(crate) fn reply_of(text: &[u8]) -> Option<usize>
+    ensures { IfSome result (λ len. len ≤ length text.now) }
+{
+    let mut len = 0usize;
+    for _ in 0..text.len() {
+        let rest = text.get(len..)?;
+        len = len.saturating_add(memchr(b'\n', rest)?).saturating_add(1);
+        if let Some((b"ok" | b"none" | b"err", _)) = next_field(rest) {
+            return Some(len);
+        }
+    }
+    None
+}
+
+/// Serves a session on a text, and returns the replies. `None` where an allocation fails.
+pub fn replies_to<D: Desk>(alloc: Global, desk: &mut D, text: &[u8]) -> Option<Vec<u8>>
+    ensures { IfSome result
+        (λ replies. AreReplies D.rules text.now desk.old desk.new replies.items) }
+{
+    let mut reader = Tapped::new(text);
+    let mut writer = Tapped::new(Vec::new(alloc));
+    match serve(alloc, &mut reader, &mut writer, desk) {
+        Ok(_) => Some(writer.into_inner()),
+        Err(_) => None,
+    }
+}

@@ -1,0 +1,18 @@
+//! What a daemon writes and reads again: its changes as lines of a session, its state, and the pages of its
+//! journal, which are replayed.
+#![tactic(auto)]
+
+mod archive;
+mod items;
+mod plain;
+mod record_text;
+mod runs;
+mod state;
+mod text;
+mod zones;
+
+pub use archive::Archive;
+pub use items::{replies_to, split_line, taken_by};
+pub use runs::{ReplayFault, replay};
+pub use state::{Made, find_mark, made_of, mark_of, state_text, whole_len};
+pub use text::{clock_text, edit_text, hold_text, mark_text, release_text};

@@ -1,0 +1,180 @@
+//! The plain machine, by which an archive is replayed.
+ghost use Rattle.std.specs.Prelude.{◌≡◌, IfOk};
+ghost use Rattle.sipl_plans.specs.Plan.{plan};
+ghost use Rattle.sipl_records.specs.Sets.{set_of};
+ghost use Rattle.sipl_outages.specs.Holds.{no_holds};
+ghost use Rattle.sipl_zonestore.specs.Edited.{IsEdited};
+ghost use Rattle.sipl_zonestore.specs.Store.{no_zones};
+ghost use Rattle.sipl_book.specs.Machine.{zone_edit};
+ghost use Rattle.sipl_archive.specs.Plain.{MakesEdit};
+
+use sipl_book::{Book, BookFault, Done, Edit, Extent, Handed};
+use sipl_choice::{Abilities, Endpoint};
+use sipl_evidence::Evidence;
+use sipl_lines::Desk;
+use sipl_outages::{Board, Held};
+use sipl_plans::{Answer, plan_of};
+use sipl_srv::Draws;
+use sipl_uri::Question;
+use sipl_zonestore::{Changed, StoreFault, ZoneStore};
+use std::alloc::{AllocError, Global};
+use std::marker::Model;
+
+/// Records, holds and a clock, without any kept result: each answer is that of `plan_of`, from all records.
+#[derive(Drop)]
+pub(crate) struct Plain {
+    store: ZoneStore,
+    board: Board,
+    abilities: Abilities,
+    held: Held,
+    next: u64,
+}
+
+impl Plain {
+    /// Nothing is loaded or held, at time 0.
+    pub(crate) fn new(alloc: Global, abilities: Abilities, held: Held) -> Plain
+        ensures zones { result.store.zones ≡ no_zones }
+        ensures holds { result.board.holds ≡ no_holds }
+        ensures client { result.client ≡ abilities }
+        ensures held { result.held ≡ held }
+    {
+        Plain {
+            store: ZoneStore::new(alloc),
+            board: Board::new(alloc),
+            abilities,
+            held,
+            next: 0,
+        }
+    }
+
+    // Makes an edit. Returns how many sets of records have changed.
+    fn make(&mut self, edit: &Edit) -> Result<u64, BookFault>
+        ensures { MakesEdit edit.now self.old self.new result }
+    {
+        Ok(edit_store(&mut self.store, edit)?.sets as u64)
+    }
+
+    // The number of the next event.
+    fn count(&mut self) -> u64
+        ensures { self.new ≡ self.old }
+    {
+        let number = self.next;
+        self.next = number.saturating_add(1);
+        number
+    }
+}
+
+impl Model for Plain {
+    ghost use Rattle.sipl_archive.specs.Plain.{PlainState};
+
+    ghost Value = { PlainState };
+
+    ghost view = { λ plain. record {
+      store = plain.store;
+      board = plain.board;
+      client = plain.abilities;
+      held = plain.held;
+    } };
+}
+
+impl Desk for Plain {
+    ghost use Rattle.sipl_archive.specs.Plain.{plain_rules};
+
+    type Fault = BookFault;
+
+    ghost rules = { plain_rules };
+
+    fn find(
+        &mut self,
+        alloc: Global,
+        question: Question,
+        draws: &Draws,
+    ) -> Result<Handed, BookFault> {
+        let (board, client, held) = (&self.board, &self.abilities, self.held);
+        let answer = plain_answer(
+            alloc,
+            &mut self.store,
+            board,
+            &question,
+            client,
+            draws,
+            held,
+        )?;
+        let number = self.count();
+        Ok(Handed { number, answer })
+    }
+
+    fn change(&mut self, edit: Edit) -> Result<Done, BookFault> {
+        let changed = self.make(&edit)?;
+        let number = self.count();
+        Ok(Done { number, changed })
+    }
+
+    fn hold(&mut self, endpoint: &Endpoint, ms: u64) -> Result<u64, BookFault> {
+        self.board.hold(endpoint, ms)?;
+        Ok(self.count())
+    }
+
+    fn release(&mut self, endpoint: &Endpoint) -> Result<u64, BookFault> {
+        self.board.release(endpoint)?;
+        Ok(self.count())
+    }
+
+    fn advance(&mut self, to: u64) -> Result<u64, BookFault> {
+        self.board.advance(to)?;
+        Ok(self.count())
+    }
+
+    fn now(&self) -> u64 {
+        self.board.now()
+    }
+
+    // No page has such a line.
+    fn deps(&mut self, _alloc: Global, _question: Question) -> Result<Evidence, BookFault> {
+        Err(BookFault::NotCurrent)
+    }
+
+    fn repair(&mut self, _alloc: Global) -> Result<(), BookFault> {
+        Err(BookFault::NotCurrent)
+    }
+
+    fn page(&mut self) -> Result<Extent, BookFault> {
+        Err(BookFault::PagesSpent)
+    }
+
+    fn pause(&mut self) {}
+
+    fn write_fault(fault: BookFault, out: &mut Vec<u8>) {
+        <Book as Desk>::write_fault(fault, out);
+    }
+}
+
+// Makes an edit at a store.
+fn edit_store(store: &mut ZoneStore, edit: &Edit) -> Result<Changed, StoreFault>
+    ensures { IsEdited (zone_edit edit.now) store.old store.new result }
+{
+    match edit {
+        Edit::Load(zone) => store.load(zone),
+        Edit::Unload(apex) => store.unload(apex),
+        Edit::Add(record) => store.add(record),
+        Edit::Remove(record) => store.remove(record),
+    }
+}
+
+// The answer to a question, from all records of a store, of which one look is counted.
+fn plain_answer(
+    alloc: Global,
+    store: &mut ZoneStore,
+    board: &Board,
+    question: &Question,
+    client: &Abilities,
+    draws: &Draws,
+    held: Held,
+) -> Result<Answer, AllocError>
+    ensures answer { IfOk result
+        (λ answer. answer ≡ plan (set_of store.old.zones.records) board.now.holds question.now
+        client.now draws.now held) }
+    ensures zones { store.new.zones ≡ store.old.zones }
+{
+    plan_of(alloc, store.records(), board, question, client, draws, held)
+}

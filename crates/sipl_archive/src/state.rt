@@ -1,0 +1,121 @@
+//! The text of a state, and the changes after it.
+ghost use Rattle.std.specs.Prelude.{◌≡◌, ◌≤◌, ◌++◌, drop, length, IfOk, IfSome, OnOk};
+ghost use Rattle.sipl_archive.specs.Commands.{HasMark, IsWhole, mark_in};
+ghost use Rattle.sipl_archive.specs.Restoring.{IsMade};
+ghost use Rattle.sipl_archive.specs.Text.{state_text};
+
+use crate::items::{is_change, item_of, reply_of, split_line};
+use crate::text::{write_head, write_holds};
+use crate::zones::write_zones;
+use sipl_book::State;
+use sipl_records::read_number;
+use std::alloc::{AllocError, Global};
+
+/// The text of a state: its mark, the time, the zones with their records, and the holds with what is left of
+/// them. The only error is an allocation failure.
+pub fn state_text(alloc: Global, mark: u64, state: &State) -> Result<Vec<u8>, AllocError>
+    ensures { IfOk result (λ text. text.items ≡ state_text mark state.now) }
+{
+    let mut text = Vec::new(alloc);
+    write_state(alloc, &mut text, mark, state)?;
+    Ok(text)
+}
+
+// Appends the text of a state.
+fn write_state(alloc: Global, out: &mut Vec<u8>, mark: u64, state: &State) -> Result<(), AllocError>
+    ensures { OnOk result (out.new.items ≡ out.old.items ++ state_text mark state.now) }
+{
+    let Some(board) = state.board() else {
+        write_head(alloc, out, mark, 0)?;
+        return write_zones(alloc, out, state.apexes(), state.records());
+    };
+    write_head(alloc, out, mark, board.now())?;
+    write_zones(alloc, out, state.apexes(), state.records())?;
+    write_holds(alloc, out, board)
+}
+
+/// What the changes of a text came to: how many octets and lines those that were made have, the last mark, and
+/// whether the next one was refused.
+#[derive(Clone, Copy)]
+pub struct Made {
+    pub octets: usize,
+    pub lines: u64,
+    pub mark: Option<u64>,
+    pub is_refused: bool,
+}
+
+/// How many octets the whole commands of a text have: the last one may be cut off.
+pub fn whole_len(text: &[u8]) -> usize
+    ensures within { result ≤ length text.now }
+    ensures whole { IsWhole text.now result }
+{
+    let mut octets = 0;
+    while let Some((len, _)) = item_of(&text[octets..]) {
+        octets += len;
+    }
+    octets
+}
+
+/// What the changes of a text came to, by the replies to them: marks have none, and each change that was made has one
+/// that begins with `ok`.
+pub fn made_of(text: &[u8], replies: &[u8]) -> Made
+    ensures { IsMade text.now result }
+{
+    let mut made = Made {
+        octets: 0,
+        lines: 0,
+        mark: None,
+        is_refused: false,
+    };
+    let mut replies = replies;
+    while let Some((len, lines)) = item_of(&text[made.octets..]) {
+        let line = split_line(&text[made.octets..]).0;
+        if let Some(mark) = mark_of(line) {
+            made.mark = Some(mark);
+        } else if let Some(end) = accepted_len(line, replies) {
+            replies = &replies[end..];
+        } else {
+            made.is_refused = true;
+            return made;
+        }
+        made.octets += len;
+        made.lines = made.lines.saturating_add(lines);
+    }
+    made
+}
+
+// How many octets the first reply of a text has, if it is to a change that was made.
+fn accepted_len(line: &[u8], replies: &[u8]) -> Option<usize>
+    ensures { IfSome result (λ end. end ≤ length replies.now) }
+{
+    if is_change(line) && replies.starts_with(b"ok ") {
+        reply_of(replies)
+    } else {
+        None
+    }
+}
+
+/// How many octets and lines there are up to the first mark of this number, with it.
+pub fn find_mark(text: &[u8], mark: u64) -> Option<(usize, u64)>
+    ensures within { IfSome result (λ found. found.0 ≤ length text.now) }
+    ensures marked { IfSome result (λ found. HasMark mark text.now (drop found.0 text.now)) }
+{
+    let mut octets = 0;
+    let mut lines = 0u64;
+    while let Some((len, count)) = item_of(&text[octets..]) {
+        let is_mark = mark_of(split_line(&text[octets..]).0) == Some(mark);
+        octets += len;
+        lines = lines.saturating_add(count);
+        if is_mark {
+            return Some((octets, lines));
+        }
+    }
+    None
+}
+
+/// The number of a mark, by its line without the end.
+pub fn mark_of(line: &[u8]) -> Option<u64>
+    ensures { result ≡ mark_in line.now }
+{
+    read_number(line.strip_prefix(b"# page ".as_slice())?, u64::MAX)
+}

@@ -1,0 +1,73 @@
+-- What the desk of a daemon's session does: the calls are those of the service, with the session's pass.
+use Rattle.std.specs.Prelude.{◌≡◌, ◌⊎◌, ℕ, [], Result, Ok, Err, IfOk, OnErr, codes}
+use Rattle.std.specs.Result.{result_map_both}
+use Rattle.sipl_names.specs.Labels.{Octets}
+use Rattle.sipl_outages.specs.Holds.{BoardEvent}
+use Rattle.sipl_outages.specs.Holds.BoardEvent.{Hold, Release, Advance}
+use Rattle.sipl_book.specs.Calls.{board_event}
+use Rattle.sipl_book.specs.Pages.{IsPage, PageState, extent_of}
+use Rattle.sipl_book.specs.declared.event.Event.TheVariants.{Change}
+use Rattle.sipl_book.specs.declared.outcome.Done.{Done}
+use Rattle.sipl_book.specs.declared.outcome.Extent.{Extent}
+use Rattle.sipl_service.specs.Passes.{GetsReceipt, PassState}
+use Rattle.sipl_service.specs.Telling.{AreToldDependencies, ToldState}
+use Rattle.sipl_service.specs.declared.fault.ServiceFault.{ServiceFault}
+use Rattle.sipl_lines.specs.Desk.{DeskRules}
+use Rattle.sipl_lines.specs.ServiceDesk.{CallerState, IsTold, KeepsOthers, handed_of, service_text}
+use Rattle.sipl_daemon.specs.declared.fault.DeskFault.{DeskFault}
+use Rattle.sipl_daemon.specs.declared.fault.DeskFault.TheVariants.{HostTime, Service}
+
+-- the result of a call of the service, as the desk returns it
+abbrev pub of_service : {A : Type 0} → Result A ServiceFault → Result A DeskFault
+of_service result = result_map_both (λ value. value) Service result
+
+-- The service makes the event, and the pass gets the receipt of it; or it refuses.
+pub record MakesEvent (event : BoardEvent) (old new : CallerState)
+    (outcome : Result ℕ DeskFault) : Type 0 where
+  pub number : Result ℕ ServiceFault
+  pub receipt : GetsReceipt (λ number. number) (λ number. board_event event) old.pass new.pass number
+  pub others : KeepsOthers old new
+  pub outcome_is : outcome ≡ of_service number
+
+-- a move of the clock, where the time is the host's, is refused and changes nothing
+abbrev pub MovesBoard : BoardEvent → CallerState → Result ℕ DeskFault → CallerState → Type 0
+MovesBoard (Advance to) old outcome new =
+    MakesEvent (Advance to) old new outcome ⊎ ((outcome ≡ Err HostTime) × (new ≡ old))
+MovesBoard (Hold endpoint ms) old outcome new = MakesEvent (Hold endpoint ms) old new outcome
+MovesBoard (Release endpoint) old outcome new = MakesEvent (Release endpoint) old new outcome
+
+-- which events a page has that was turned
+abbrev pub IsExtent : Extent → Type 0
+IsExtent extent = (page : PageState) × IsPage page × (extent ≡ extent_of page)
+
+-- the pass has no receipts left, or all that it had; its front is as it was
+abbrev pub IsHandedOver : PassState → PassState → Type 0
+IsHandedOver old new = (new ≡ old) ⊎ (new ≡ record { receipts = []; front = old.front })
+
+-- the pass may be handed over, and all else is as it was
+abbrev pub HandsOver : CallerState → CallerState → Type 0
+HandsOver old new = IsHandedOver old.pass new.pass × KeepsOthers old new
+
+-- what a refusal says of a fault
+abbrev pub desk_text : DeskFault → Octets
+desk_text HostTime = codes "D1"
+desk_text (Service fault) = service_text fault
+
+-- What the calls of the desk do. The pages are the daemon's and not the session's.
+abbrev pub session_rules : DeskRules CallerState DeskFault
+session_rules =
+    record {
+      Finds = λ question words old outcome new. (told : Result ToldState ServiceFault)
+          × IsTold question words old new told × (outcome ≡ result_map_both handed_of Service told);
+      Changes = λ edit old outcome new. (done : Result Done ServiceFault)
+          × GetsReceipt (λ done. done.number) (λ done. Change edit) old.pass new.pass done
+          × KeepsOthers old new × (outcome ≡ of_service done);
+      Moves = λ event old outcome new. MovesBoard event old outcome new;
+      Depends = λ question old outcome new.
+          IfOk outcome (AreToldDependencies question old.client) × (new ≡ old);
+      Repairs = λ old outcome new. new ≡ old;
+      Pages = λ old outcome new. IfOk outcome IsExtent × (new ≡ old);
+      Pauses = λ old new. HandsOver old new;
+      IsTime = λ caller now. Unit {0};
+      fault_text = desk_text;
+    }

@@ -1,0 +1,102 @@
+ghost use Rattle.std.specs.Prelude.{◌≡◌, ◌<◌, IfSome, vec_len};
+
+use crate::stream::Stream;
+use std::alloc::{AllocError, Global};
+use std::net::Shutdown;
+use std::sync::{Arc, Condvar, CondvarTimeouts, Mutex, Wait};
+use std::time::{Clock, Duration};
+
+// The places of the clients: each is free, or has the stream of one.
+#[derive(Drop)]
+struct Places {
+    streams: Vec<Option<Arc<Stream, Global>>>,
+    taken: u64,
+}
+
+impl Places {
+    // Takes a free place, if there is one.
+    fn enter(&mut self, stream: Arc<Stream, Global>) -> Option<usize>
+        ensures place { IfSome result (λ place. place < vec_len self.old.streams) }
+        ensures as_many { vec_len self.new.streams ≡ vec_len self.old.streams }
+    {
+        let place = self.streams.iter().position(|it| it.is_none())?;
+        self.streams[place] = Some(stream);
+        self.taken = self.taken.saturating_add(1);
+        Some(place)
+    }
+
+    // Frees a place.
+    fn leave(&mut self, place: usize)
+        ensures as_many { vec_len self.new.streams ≡ vec_len self.old.streams }
+    {
+        if let Some(it) = self.streams.get_mut(place) {
+            *it = None;
+            self.taken = self.taken.saturating_sub(1);
+        }
+    }
+
+    // Ends the reads or the writes of all clients.
+    fn shut(&self, how: Shutdown) {
+        for stream in self.streams.iter().flatten() {
+            let _ = stream.shutdown(how);
+        }
+    }
+}
+
+/// The clients that are served at a time, at most so many.
+#[derive(Drop)]
+pub(crate) struct Clients {
+    places: Mutex<Places>,
+    left: Condvar,
+}
+
+/// A client that has a place.
+#[derive(Drop)]
+pub(crate) struct Client {
+    pub(crate) stream: Arc<Stream, Global>,
+    pub(crate) place: usize,
+}
+
+impl Clients {
+    /// Places for so many.
+    pub(crate) fn new(alloc: Global, max: usize) -> Result<Clients, AllocError> {
+        let mut streams = Vec::with_capacity(alloc, max)?;
+        for _ in 0..max {
+            streams.push(None)?;
+        }
+        Ok(Clients {
+            places: Mutex::new(Places { streams, taken: 0 }),
+            left: Condvar::new(),
+        })
+    }
+
+    /// Gives a place to a client, if one is free.
+    pub(crate) fn enter<R: Wait>(&self, rt: &R, stream: &Arc<Stream, Global>) -> Option<Client> {
+        let kept = Arc::try_clone(stream).ok()?;
+        let stream = Arc::try_clone(stream).ok()?;
+        let place = self.places.lock(rt).enter(kept)?;
+        Some(Client { stream, place })
+    }
+
+    /// Frees the place of a client.
+    pub(crate) fn leave<R: Wait>(&self, rt: &R, place: usize) {
+        self.places.lock(rt).leave(place);
+        self.left.notify_all();
+    }
+
+    /// How many there are.
+    pub(crate) fn count<R: Wait>(&self, rt: &R) -> u64 {
+        self.places.lock(rt).taken
+    }
+
+    /// Ends all sessions: each after the line that it is in, and one whose client takes no replies after
+    /// this time.
+    pub(crate) fn end<R: Wait + Clock>(&self, rt: &R, grace: Duration) {
+        self.places.lock(rt).shut(Shutdown::Read);
+        let places = self.places.lock(rt);
+        let (places, _) = self
+            .left
+            .wait_timeout_while(rt, places, grace, |places| places.taken > 0);
+        places.shut(Shutdown::Both);
+    }
+}

@@ -1,0 +1,215 @@
+//! Control lines: what an operator asks of the daemon, beside its clients.
+use crate::clients::Client;
+use crate::daemon::Daemon;
+use crate::holds::Holds;
+use crate::server::Host;
+use crate::stream::Stream;
+use crate::tally::Tally;
+use sipl_archive::hold_text;
+use sipl_names::Name;
+use std::alloc::{AllocError, Global};
+use std::fmt::Write as _;
+use std::io::{BufRead, BufReader, Read, Write};
+use std::rt::Files;
+use std::sync::Wait;
+use std::sync::atomic::{AtomicU64, Ordering};
+use std::time::Duration;
+use std::{fs, io};
+
+// How many octets one connection may send.
+const MAX_LEN: u64 = 65_536;
+
+// For how many seconds a connection may send nothing, or take no reply.
+const PATIENCE: u64 = 30;
+
+// Whether a connection goes on.
+#[derive(Clone, Copy)]
+enum Go {
+    On,
+    Stop,
+}
+
+/// Serves the control lines of a connection, and frees its place. The connection that asked for the stop
+/// stays open until the process ends.
+pub(crate) fn serve_control<H: Host>(host: &H, daemon: &Daemon, client: Client) {
+    let Client { stream, place } = client;
+    let is_to_stop = asks_for_stop(host, daemon, &stream);
+    daemon.controls.leave(host, place);
+    if is_to_stop {
+        daemon.keep_open(host, stream);
+        daemon.stop.ask(host);
+    }
+}
+
+// Serves the lines of a connection. Returns whether one of them asks for the stop.
+fn asks_for_stop<H: Host>(host: &H, daemon: &Daemon, stream: &Stream) -> bool {
+    let patience = Some(Duration::from_secs(PATIENCE));
+    if daemon.stop.is_asked() || stream.set_timeouts(patience, patience).is_err() {
+        return false;
+    }
+    matches!(serve_lines(host, daemon, stream), Ok(Go::Stop))
+}
+
+// Replies to each line until the connection ends, or a line asks for the stop.
+fn serve_lines<H: Host>(host: &H, daemon: &Daemon, stream: &Stream) -> io::Result<Go> {
+    let mut reader = BufReader::new(daemon.alloc, stream.take(MAX_LEN))?;
+    reply_to_all(host, daemon, &mut reader, stream)
+}
+
+fn reply_to_all<H: Host, B: BufRead>(
+    host: &H,
+    daemon: &Daemon,
+    reader: &mut B,
+    stream: &Stream,
+) -> io::Result<Go> {
+    for _ in 0..MAX_LEN {
+        match reply_to_next(host, daemon, reader, stream)? {
+            Some(Go::On) => {}
+            Some(Go::Stop) => return Ok(Go::Stop),
+            None => break,
+        }
+    }
+    Ok(Go::On)
+}
+
+// Replies to the next line, if there is one.
+fn reply_to_next<H: Host, B: BufRead>(
+    host: &H,
+    daemon: &Daemon,
+    reader: &mut B,
+    stream: &Stream,
+) -> io::Result<Option<Go>> {
+    let mut line = String::new(daemon.alloc);
+    if reader.read_line(&mut line)? == 0 {
+        return Ok(None);
+    }
+    Ok(Some(reply_to(host, daemon, line.as_str().trim(), stream)?))
+}
+
+// Replies to a line.
+fn reply_to<H: Host>(host: &H, daemon: &Daemon, line: &str, stream: &Stream) -> io::Result<Go> {
+    let mut reply = String::new(daemon.alloc);
+    let go = obey(host, daemon, line, &mut reply)?;
+    let mut writer = stream;
+    writer.write_all(reply.as_bytes())?;
+    Ok(go)
+}
+
+// Carries out a line and appends its reply.
+fn obey<H: Host>(
+    host: &H,
+    daemon: &Daemon,
+    line: &str,
+    reply: &mut String,
+) -> Result<Go, AllocError> {
+    match line {
+        "stats" => write_stats(host, daemon, reply)?,
+        "now" => writeln!(reply, "ok now {}", daemon.source.service.now(host))?,
+        "zones" => write_zones(host, daemon, reply)?,
+        "holds" => write_holds(host, daemon, reply)?,
+        "page" => turn_page(host, daemon, reply)?,
+        "stop" => {
+            reply.push_str("ok stop\n")?;
+            return Ok(Go::Stop);
+        }
+        "" => {}
+        _ => reply.push_str("err K1\n")?,
+    }
+    Ok(Go::On)
+}
+
+fn turn_page<H: Host>(host: &H, daemon: &Daemon, reply: &mut String) -> Result<(), AllocError> {
+    match daemon.pages.turn(host, &daemon.source) {
+        Ok(extent) => writeln!(reply, "ok page {} {}", extent.first, extent.count),
+        Err(fault) => writeln!(reply, "err {}", fault.code()),
+    }
+}
+
+fn write_stats<H: Host>(host: &H, daemon: &Daemon, reply: &mut String) -> Result<(), AllocError> {
+    let counts = &daemon.counts;
+    write_count(reply, "events", &counts.events)?;
+    write_count(reply, "targets", &counts.targets)?;
+    write_count(reply, "NoAddress", &counts.no_address)?;
+    write_count(reply, "NotAvailable", &counts.not_available)?;
+    write_count(reply, "NoTransport", &counts.no_transport)?;
+    write_count(reply, "AllHeld", &counts.all_held)?;
+    let entries = daemon.source.service.entry_counts(host);
+    write_stat(reply, "kept", entries.kept)?;
+    write_stat(reply, "current", entries.current)?;
+    write_stat(reply, "queued", entries.queued)?;
+    let (records, held) = totals(host, daemon);
+    write_stat(reply, "records", records)?;
+    write_stat(reply, "held", held)?;
+    write_stat(reply, "clients", daemon.clients.count(host))?;
+    write_stat(reply, "pages", daemon.pages.claimed())?;
+    write_stat(reply, "waiting", daemon.pages.waiting(host) as u64)?;
+    write_stat(reply, "resident", resident(host, daemon.alloc))?;
+    reply.push_str("ok stats\n")
+}
+
+// How many records there are, and how many held endpoints.
+fn totals<H: Host>(host: &H, daemon: &Daemon) -> (u64, u64) {
+    let tally = daemon.tally.lock(host);
+    (tally.records(), tally.holds().ends.len() as u64)
+}
+
+// The zones, and how many records each has.
+fn write_zones<H: Host>(host: &H, daemon: &Daemon, reply: &mut String) -> Result<(), AllocError> {
+    let tally = daemon.tally.lock(host);
+    write_tally_zones(daemon.alloc, &tally, reply)
+}
+
+fn write_tally_zones(alloc: Global, tally: &Tally, reply: &mut String) -> Result<(), AllocError> {
+    for (apex, count) in tally.zones() {
+        write_zone(alloc, apex, *count, reply)?;
+    }
+    writeln!(reply, "ok zones {}", tally.zones().len())
+}
+
+fn write_zone(
+    alloc: Global,
+    apex: &Name,
+    count: u64,
+    reply: &mut String,
+) -> Result<(), AllocError> {
+    let mut text = Vec::new(alloc);
+    apex.write(&mut text)?;
+    let apex = str::from_utf8(&text).unwrap_or("");
+    writeln!(reply, "zone {apex} {count}")
+}
+
+// The held endpoints, and for how many milliseconds each is held yet.
+fn write_holds<H: Host>(host: &H, daemon: &Daemon, reply: &mut String) -> Result<(), AllocError> {
+    daemon.move_clock(host);
+    let tally = daemon.tally.lock(host);
+    write_tally_holds(daemon.alloc, tally.holds(), reply)
+}
+
+fn write_tally_holds(alloc: Global, holds: &Holds, reply: &mut String) -> Result<(), AllocError> {
+    for (endpoint, end) in &holds.ends {
+        let text = hold_text(alloc, endpoint, end.saturating_sub(holds.time))?;
+        reply.push_str(str::from_utf8(&text).unwrap_or(""))?;
+    }
+    writeln!(reply, "ok holds {}", holds.ends.len())
+}
+
+fn write_count(reply: &mut String, name: &str, count: &AtomicU64) -> Result<(), AllocError> {
+    write_stat(reply, name, count.load(Ordering::SeqCst))
+}
+
+fn write_stat(reply: &mut String, name: &str, number: u64) -> Result<(), AllocError> {
+    writeln!(reply, "{name} {number}")
+}
+
+// How many octets of the process are in memory; 0 where that can't be read.
+fn resident<H: Files>(host: &H, alloc: Global) -> u64 {
+    match fs::read_to_string(&(host, alloc), "/proc/self/statm") {
+        Ok(text) => resident_in(text.as_str()).unwrap_or(0),
+        Err(_) => 0,
+    }
+}
+
+fn resident_in(statm: &str) -> Option<u64> {
+    let pages = statm.split(' ').nth(1)?.parse::<u64>().ok()?;
+    Some(pages.saturating_mul(4096))
+}

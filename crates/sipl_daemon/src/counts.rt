@@ -1,0 +1,45 @@
+use sipl_plans::{Answer, Reason};
+use std::sync::atomic::{AtomicU64, Ordering};
+
+/// How many answers ended in which way, and how many events there were.
+#[derive(Drop)]
+pub(crate) struct Counts {
+    pub(crate) events: AtomicU64,
+    pub(crate) targets: AtomicU64,
+    pub(crate) no_address: AtomicU64,
+    pub(crate) not_available: AtomicU64,
+    pub(crate) no_transport: AtomicU64,
+    pub(crate) all_held: AtomicU64,
+}
+
+impl Counts {
+    /// None yet.
+    pub(crate) fn new() -> Counts {
+        Counts {
+            events: AtomicU64::new(0),
+            targets: AtomicU64::new(0),
+            no_address: AtomicU64::new(0),
+            not_available: AtomicU64::new(0),
+            no_transport: AtomicU64::new(0),
+            all_held: AtomicU64::new(0),
+        }
+    }
+
+    /// Counts an answer.
+    pub(crate) fn count_answer(&self, answer: &Answer) {
+        let count = match answer {
+            Answer::Targets(_) => &self.targets,
+            Answer::None(Reason::NoAddress) => &self.no_address,
+            Answer::None(Reason::NotAvailable) => &self.not_available,
+            Answer::None(Reason::NoTransport) => &self.no_transport,
+            Answer::None(Reason::AllHeld) => &self.all_held,
+        };
+        count.fetch_add(1, Ordering::SeqCst);
+    }
+
+    /// Counts the events up to the one of this number.
+    pub(crate) fn count_event(&self, number: u64) {
+        self.events
+            .fetch_max(number.saturating_add(1), Ordering::SeqCst);
+    }
+}

@@ -1,0 +1,230 @@
+//! What the threads of a daemon share.
+ghost use Rattle.std.specs.Prelude.{IfOk};
+ghost use Rattle.sipl_lines.specs.Settings.{IsWithinLimits};
+ghost use Rattle.sipl_service.specs.Passes.{GetsReceipt};
+ghost use Rattle.sipl_service.specs.Telling.{IsToldFor, event_of};
+
+use crate::changes::Changes;
+use crate::clients::Clients;
+use crate::counts::Counts;
+use crate::descriptors::max_clients;
+use crate::pages::Pages;
+use crate::settings::{Clocks, DaemonSettings};
+use crate::source::Source;
+use crate::stop::Stop;
+use crate::stream::Stream;
+use crate::tally::Tally;
+use crate::time::HostTime;
+use sipl_archive::Archive;
+use sipl_book::BookFault;
+use sipl_lines::Settings;
+use sipl_service::{OpenGate, Pass, Service, ServiceFault, Told};
+use sipl_srv::Draws;
+use sipl_uri::Question;
+use std::alloc::Global;
+use std::io;
+use std::rt::Files;
+use std::sync::atomic::AtomicU64;
+use std::sync::{Arc, Mutex, Wait};
+use std::time::Clock;
+
+// How many control connections there may be at a time.
+const MAX_CONTROLS: usize = 8;
+
+/// What the threads of a daemon share.
+#[derive(Drop)]
+pub(crate) struct Daemon {
+    pub(crate) alloc: Global,
+    pub(crate) source: Source,
+    // Where the pages are kept that were claimed.
+    pub(crate) archive: Option<Archive>,
+    // How many octets the lines of a zone may have.
+    pub(crate) zone_octets: u64,
+    // The zones and the holds as they are. Its lock is taken before those of the changes and the service.
+    pub(crate) tally: Mutex<Tally>,
+    pub(crate) pages: Pages,
+    pub(crate) stop: Arc<Stop, Global>,
+    pub(crate) clients: Clients,
+    pub(crate) controls: Clients,
+    pub(crate) counts: Counts,
+    // The time of the host, if that is the book's.
+    time: Option<HostTime>,
+    // The pass of the moves of the clock.
+    mover: Mutex<Pass>,
+    // For how many seconds a client may send nothing.
+    pub(crate) idle: Option<u64>,
+    // The connections that asked for the stop, which stay open until the process ends.
+    open: Mutex<Vec<Arc<Stream, Global>>>,
+}
+
+impl Daemon {
+    // A daemon with these settings, over a service without zones, holds or events.
+    pub(crate) fn new<R: Clock + Files>(
+        rt: &R,
+        alloc: Global,
+        settings: &DaemonSettings,
+        stop: Arc<Stop, Global>,
+    ) -> io::Result<Box<Daemon>> {
+        let time = match settings.clock {
+            Clocks::Host => Some(HostTime::new(rt, 0)?),
+            Clocks::Lines => None,
+        };
+        let clients = Clients::new(alloc, max_clients(rt, alloc, settings.clients))?;
+        let controls = Clients::new(alloc, MAX_CONTROLS)?;
+        let service = new_service(alloc, &settings.service)?;
+        let daemon = Daemon::over(service, alloc, settings, stop, time, clients, controls);
+        Ok(Box::new(alloc, daemon)?)
+    }
+
+    // A daemon over this service.
+    fn over(
+        service: Service,
+        alloc: Global,
+        settings: &DaemonSettings,
+        stop: Arc<Stop, Global>,
+        time: Option<HostTime>,
+        clients: Clients,
+        controls: Clients,
+    ) -> Daemon {
+        let mover = Mutex::new(service.pass());
+        Daemon {
+            alloc,
+            source: Source {
+                service,
+                changes: None,
+            },
+            archive: None,
+            zone_octets: settings.zone_octets,
+            tally: Mutex::new(Tally::new(alloc)),
+            pages: Pages::new(alloc, settings.service.journal as u64),
+            stop,
+            clients,
+            controls,
+            counts: Counts::new(),
+            time,
+            mover,
+            idle: settings.idle,
+            open: Mutex::new(Vec::new(alloc)),
+        }
+    }
+
+    // Keeps a connection open until the process ends.
+    pub(crate) fn keep_open<R: Wait>(&self, rt: &R, stream: Arc<Stream, Global>) {
+        let _ = self.open.lock(rt).push(stream);
+    }
+
+    // Moves the book's time to that of the host, if it is the host's and an endpoint may be held. The move
+    // is not among the changes: the next one has the time. A move that is refused is made later.
+    pub(crate) fn move_clock<R: Wait + Clock>(&self, rt: &R) {
+        let Some(time) = &self.time else {
+            return;
+        };
+        let now = time.now(rt);
+        let mut mover = self.mover.lock(rt);
+        let before = self.source.service.now(rt);
+        if before < now && time.may_be_held(before) {
+            let mut tally = self.tally.lock(rt);
+            let moved = self.source.service.advance(rt, &mut mover, now);
+            if moved.is_ok() {
+                tally.advance(now);
+            }
+            drop(tally);
+            self.end_move(rt, &mut mover, moved);
+        }
+    }
+
+    // Moves the book's time to that of the host, if it is the host's.
+    pub(crate) fn set_clock<R: Wait + Clock>(&self, rt: &R) {
+        let Some(time) = &self.time else {
+            return;
+        };
+        let now = time.now(rt);
+        let mut mover = self.mover.lock(rt);
+        if self.source.service.now(rt) < now {
+            let moved = self.advance(rt, &mut mover, now, &AtomicU64::new(0));
+            self.end_move(rt, &mut mover, moved);
+        }
+    }
+
+    // Counts a move that was made, and hands its receipt over.
+    fn end_move<R: Wait>(&self, rt: &R, mover: &mut Pass, moved: Result<u64, ServiceFault>) {
+        if let Ok(number) = moved {
+            self.count_event(rt, number);
+        }
+        let _ = self.pages.hand_over(rt, mover);
+    }
+
+    // Whether the time is the host's.
+    pub(crate) fn has_host_time(&self) -> bool {
+        self.time.is_some()
+    }
+
+    // Notes a hold for some milliseconds from now.
+    pub(crate) fn note_hold<R: Wait>(&self, rt: &R, ms: u64) {
+        if let Some(time) = &self.time {
+            time.note_end(self.source.service.now(rt).saturating_add(ms));
+        }
+    }
+
+    // Hands the receipts of the moves of the clock over that were not: at the end, since each move does.
+    pub(crate) fn end_moves<R: Wait>(&self, rt: &R) {
+        let mut mover = self.mover.lock(rt);
+        let _ = self.pages.hand_over(rt, &mut mover);
+    }
+
+    // Goes on from a state that was read: the changes after it are in a file.
+    pub(crate) fn put_changes(&mut self, changes: Changes) {
+        self.source.changes = Some(changes);
+    }
+
+    // The time of the host goes on from that of the book.
+    pub(crate) fn restart_time<R: Wait + Clock>(&mut self, rt: &R) -> io::Result<()> {
+        let now = self.source.service.now(rt);
+        match &mut self.time {
+            Some(time) => time.restart(rt, now),
+            None => Ok(()),
+        }
+    }
+
+    // The answer to a question. Where the journal is full the page is turned, and it is tried again.
+    pub(crate) fn lookup<R: Wait>(
+        &self,
+        rt: &R,
+        pass: &mut Pass,
+        question: &Question,
+        draws: &Draws,
+    ) -> Result<Told, ServiceFault>
+        ensures receipt { GetsReceipt (λ told. told.number) event_of pass.old pass.new result }
+        ensures told { IfOk result (λ told. IsToldFor question.now self.now.source.service.client
+            self.now.source.service.held draws.now told) }
+    {
+        match self
+            .source
+            .service
+            .lookup(rt, pass, question, draws, &OpenGate)
+        {
+            Err(ServiceFault::Book(BookFault::JournalFull)) => {}
+            told => return told,
+        }
+        let _ = self.pages.turn(rt, &self.source);
+        self.source
+            .service
+            .lookup(rt, pass, question, draws, &OpenGate)
+    }
+
+    // Counts an event, and turns the page if it is nearly full.
+    pub(crate) fn count_event<R: Wait>(&self, rt: &R, number: u64) {
+        self.counts.count_event(number);
+        self.pages.turn_if_due(rt, &self.source, number);
+    }
+}
+
+// A service with these settings, without zones, holds or events.
+fn new_service(alloc: Global, settings: &Settings) -> io::Result<Service>
+    requires { IsWithinLimits settings.now }
+{
+    let abilities = settings.abilities.dup(alloc)?;
+    let limits = settings.limits();
+    let tries = settings.tries as u64;
+    Ok(Service::new(alloc, abilities, &limits, tries, settings.held)?)
+}

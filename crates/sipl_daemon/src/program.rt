@@ -1,0 +1,217 @@
+//! The program: its arguments, its settings, and the daemon from its start to its end.
+use crate::arguments::{Call, read_arguments};
+use crate::changes::Changes;
+use crate::daemon::Daemon;
+use crate::listeners::Listeners;
+use crate::report::{Fault, report};
+use crate::server::{Host, serve_all};
+use crate::settings::DaemonSettings;
+use crate::state::restore;
+use crate::stop::Stop;
+use crate::tell::tell;
+use sipl_archive::{Archive, replay};
+use std::alloc::Global;
+use std::io::{ErrorKind, Input};
+use std::process::ExitCode;
+use std::rt::Env;
+use std::sync::{Arc, Wait};
+
+const USAGE: &str =
+    "usage: siplocd [SETTINGS] | tell ADDRESS LINE | replay FOLDER | --help | --version";
+
+const HELP: &str = "siplocd [SETTINGS]           serves sessions until it is told to stop
+siplocd tell ADDRESS LINE    sends a line to the daemon's control address, and prints the reply
+siplocd replay FOLDER        checks the pages of an archive, and prints how many events they have
+siplocd --help               prints this
+siplocd --version            prints the version
+
+SETTINGS is the text of the settings, a TOML document.
+";
+
+const VERSION: &str = "siplocd 0.6";
+
+// The status of a call with wrong arguments.
+const WRONG_ARGUMENTS: u8 = 2;
+
+/// How a program begins a thread that reads standard input to its end. The library can't: no scope may have
+/// that thread, since nothing ends a read of standard input, and the process is not to wait for it.
+pub trait WatchesInput {
+    /// Begins a thread that does `stop_at_end`.
+    fn watch(&self, stop: Arc<Stop, Global>);
+}
+
+/// Does what the arguments of a process ask for. The status is 0, 1 after a fault, or where a line that
+/// was told is refused, or 2 where the arguments are wrong; for a fault and for 2 one line on standard
+/// error gives the reason.
+pub fn start<R, H, W>(rt: &R, host: &H, watcher: &W) -> ExitCode
+where
+    R: Env + Print + Eprint + AllocGlobal,
+    H: Host,
+    W: WatchesInput,
+{
+    match read_arguments(rt) {
+        Ok(Some(call)) => status_of(rt, perform(rt, host, watcher, &call)),
+        Err(error) if error.kind() == ErrorKind::OutOfMemory => status_of(rt, Err(Fault::Memory)),
+        _ => {
+            let _ = eprintln!(rt; "{USAGE}");
+            ExitCode::from(WRONG_ARGUMENTS)
+        }
+    }
+}
+
+// The status of what was done. A fault is reported.
+fn status_of<R: Eprint>(rt: &R, outcome: Result<bool, Fault>) -> ExitCode {
+    match outcome {
+        Ok(true) => ExitCode::SUCCESS,
+        Ok(false) => ExitCode::FAILURE,
+        Err(fault) => {
+            report(rt, &fault);
+            ExitCode::FAILURE
+        }
+    }
+}
+
+// Does what the arguments ask for. Returns whether a line that was told is not refused.
+fn perform<R, H, W>(rt: &R, host: &H, watcher: &W, call: &Call) -> Result<bool, Fault>
+where
+    R: Print + AllocGlobal,
+    H: Host,
+    W: WatchesInput,
+{
+    match call {
+        Call::Help => print!(rt; "{HELP}")?,
+        Call::Version => println!(rt; "{VERSION}")?,
+        Call::Tell(address, line) => return tell_line(rt, host, address.as_str(), line.as_str()),
+        Call::Replay(folder) => {
+            let events = replay(host, rt.alloc(), folder.as_str())?;
+            println!(rt; "replayed {events}")?;
+        }
+        Call::Serve(text) => serve(rt, host, watcher, text.as_str())?,
+    }
+    Ok(true)
+}
+
+// Sends a line to a control address. Returns whether it is not refused.
+fn tell_line<R: Print + AllocGlobal, H: Host>(
+    rt: &R,
+    host: &H,
+    address: &str,
+    line: &str,
+) -> Result<bool, Fault> {
+    match tell(rt, host, address, line) {
+        Ok(is_accepted) => Ok(is_accepted),
+        Err(error) => Err(Fault::Tell(String::from_str(rt.alloc(), address)?, error)),
+    }
+}
+
+// Serves with the settings of a text until the daemon is to stop, claims all pages, and prints how many events
+// there were.
+fn serve<R, H, W>(rt: &R, host: &H, watcher: &W, text: &str) -> Result<(), Fault>
+where
+    R: Print + AllocGlobal,
+    H: Host,
+    W: WatchesInput,
+{
+    let settings = Box::new(rt.alloc(), DaemonSettings::from_toml(rt.alloc(), text)?)?;
+    let events = serve_with(rt, host, watcher, &settings)?;
+    println!(rt; "closed {events}")?;
+    Ok(())
+}
+
+// Serves until the daemon is to stop, and claims all pages. Returns how many events there were.
+fn serve_with<R, H, W>(
+    rt: &R,
+    host: &H,
+    watcher: &W,
+    settings: &DaemonSettings,
+) -> Result<u64, Fault>
+where
+    R: Print + AllocGlobal,
+    H: Host,
+    W: WatchesInput,
+{
+    let stop = Arc::new(rt.alloc(), Stop::new())?;
+    let mut daemon = Daemon::new(host, rt.alloc(), settings, Arc::try_clone(&stop)?)?;
+    go_on(host, rt.alloc(), settings, &mut daemon)?;
+    serve_at(rt, host, watcher, settings, &daemon, stop)?;
+    Ok(Box::into_inner(daemon).close(host)?)
+}
+
+// Opens the archive and the state of the settings, if they have them, and goes on from the state.
+fn go_on<H: Host>(
+    host: &H,
+    alloc: Global,
+    settings: &DaemonSettings,
+    daemon: &mut Daemon,
+) -> Result<(), Fault> {
+    if let Some(path) = &settings.archive {
+        daemon.archive = Some(open_archive(host, alloc, settings, path.as_str())?);
+    }
+    if let Some(path) = &settings.state {
+        let changes = open_state(host, alloc, daemon, path.as_str())?;
+        daemon.put_changes(changes);
+        daemon.restart_time(host)?;
+    }
+    Ok(())
+}
+
+// The archive of a path.
+fn open_archive<H: Host>(
+    host: &H,
+    alloc: Global,
+    settings: &DaemonSettings,
+    path: &str,
+) -> Result<Archive, Fault> {
+    let own = &settings.service;
+    match Archive::open(host, alloc, path, &own.abilities, own.held) {
+        Ok(archive) => Ok(archive),
+        Err(error) => Err(Fault::Archive(String::from_str(alloc, path)?, error)),
+    }
+}
+
+// The changes after the state of a path, from which the daemon goes on.
+fn open_state<H: Host>(
+    host: &H,
+    alloc: Global,
+    daemon: &Daemon,
+    path: &str,
+) -> Result<Changes, Fault> {
+    match restore(host, daemon, path) {
+        Ok(changes) => Ok(changes),
+        Err(fault) => Err(Fault::State(String::from_str(alloc, path)?, fault)),
+    }
+}
+
+// Serves at the addresses of the settings until the daemon is to stop.
+fn serve_at<R, H, W>(
+    rt: &R,
+    host: &H,
+    watcher: &W,
+    settings: &DaemonSettings,
+    daemon: &Daemon,
+    stop: Arc<Stop, Global>,
+) -> Result<(), Fault>
+where
+    R: Print + AllocGlobal,
+    H: Host,
+    W: WatchesInput,
+{
+    let listeners = Listeners::bind(host, rt.alloc(), settings)?;
+    listeners.print(rt)?;
+    if settings.ends_with_input {
+        watcher.watch(stop);
+    }
+    serve_all(host, daemon, &listeners, settings.service.workers as u64);
+    listeners.remove(host);
+    Ok(())
+}
+
+/// Reads standard input to its end, and then asks for the stop.
+pub fn stop_at_end<R: Input + Wait>(rt: &R, alloc: Global, stop: &Stop) {
+    for line in rt.lines(alloc) {
+        if line.is_err() {
+            break;
+        }
+    }
+    stop.ask(rt);
+}

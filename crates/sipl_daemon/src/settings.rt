@@ -1,0 +1,292 @@
+//! The settings of the daemon, read from a TOML document.
+ghost use Rattle.std.specs.Prelude.{◌≤◌, IfOk, IfSome};
+ghost use Rattle.sipl_lines.specs.Settings.{IsWithinLimits};
+
+use crate::address::Address;
+use sipl_lines::{Settings, SettingsFault};
+use std::alloc::{AllocError, Global};
+use toml::{Table, Value};
+
+// The greatest number of clients at a time.
+const MAX_CLIENTS: u64 = 65_536;
+
+// The greatest number of seconds for which a client may send nothing: a day.
+const MAX_IDLE: u64 = 86_400;
+
+// The greatest number of octets that the lines of a zone may have.
+const MAX_ZONE_OCTETS: u64 = 1 << 40;
+
+// The daemon's own keys, in the order of their octets.
+const OWN_KEYS: [&str; 10] = [
+    "archive",
+    "clients",
+    "clock",
+    "control",
+    "idle",
+    "listen",
+    "mode",
+    "state",
+    "stdin",
+    "zone_octets",
+];
+
+/// The settings of the daemon: those of a server of sessions, and its own, each by the name of its key.
+#[derive(Drop)]
+pub struct DaemonSettings {
+    /// Those that `serve` has too. What it has of `sessions` and `listen` is not used.
+    pub service: Settings,
+    /// The folder of the pages that were claimed, by default none.
+    pub archive: Option<String>,
+    /// The greatest number of clients at a time: 1 to 65,536, by default 512.
+    pub clients: usize,
+    /// What the time is: the host's, or what clients set it to. By default the host's.
+    pub clock: Clocks,
+    /// Where control lines are accepted, by default nowhere.
+    pub control: Option<Address>,
+    /// For how many seconds a client may send nothing: 1 to 86,400, by default for ever.
+    pub idle: Option<u64>,
+    /// Where clients connect, by default at 127.0.0.1:5099.
+    pub listen: Vec<Address>,
+    /// The permissions of the files of Unix sockets: 0 to 0o777, by default 0o600.
+    pub mode: u32,
+    /// The file of the zones and the holds, by default none.
+    pub state: Option<String>,
+    /// Whether the end of standard input ends the daemon, by default not.
+    pub ends_with_input: bool,
+    /// How many octets the lines of a zone may have: 0 to 2^40, by default 256 MB.
+    pub zone_octets: u64,
+    ghost within_limits: { IsWithinLimits service },
+}
+
+/// What moves the time of holds.
+#[derive(Clone, Copy, Debug, PartialEq, Eq)]
+pub enum Clocks {
+    /// The clock of the machine.
+    Host,
+    /// The `clock` lines of clients.
+    Lines,
+}
+
+// The daemon's own keys.
+#[derive(Drop)]
+struct Own {
+    archive: Option<String>,
+    clients: usize,
+    clock: Clocks,
+    control: Option<Address>,
+    idle: Option<u64>,
+    listen: Vec<Address>,
+    mode: u32,
+    state: Option<String>,
+    ends_with_input: bool,
+    zone_octets: u64,
+}
+
+impl DaemonSettings {
+    /// Reads the settings from a TOML document. `listen` is a list of addresses, not empty; `control` is
+    /// an address; `clock` is `"host"` or `"lines"`; `stdin` is `"stop"` or `"ignore"`; `state` is the
+    /// path of a file, and `archive` that of a folder. `clients`, `idle`, `mode` and `zone_octets` are
+    /// integers. All other keys are those of `serve`, but for `sessions`.
+    ///
+    /// The fault is G1 where the text is not a TOML document. Otherwise it is that of the first of the
+    /// daemon's own keys, in the order of their octets, that does not allow its value (G3); or else that
+    /// of the other keys (G2, G3).
+    pub fn from_toml(alloc: Global, text: &str) -> Result<DaemonSettings, SettingsFault> {
+        let mut own = Own::defaults(alloc)?;
+        let service = own.read(alloc, text)?;
+        Ok(own.beside(service))
+    }
+}
+
+// The settings that `serve` has too, but for `sessions`.
+fn read_others(alloc: Global, others: &Table) -> Result<Settings, SettingsFault>
+    ensures { IfOk result (λ settings. IsWithinLimits settings) }
+{
+    if others.contains_key("sessions") {
+        return Err(SettingsFault::UnknownKey(String::from_str(alloc, "sessions")?));
+    }
+    match toml::table_to_string(alloc, others) {
+        Ok(text) => Settings::from_toml(alloc, text.as_str()),
+        Err(_) => Err(SettingsFault::Memory),
+    }
+}
+
+// The table of a TOML document.
+fn read_table(alloc: Global, text: &str) -> Result<Table, SettingsFault> {
+    match toml::table_from_str(alloc, text) {
+        Ok(table) => Ok(table),
+        Err(error) if error.is_memory() => Err(SettingsFault::Memory),
+        Err(_) => Err(SettingsFault::NotToml),
+    }
+}
+
+impl Own {
+    fn defaults(alloc: Global) -> Result<Own, AllocError> {
+        let mut listen = Vec::new(alloc);
+        if let Some(address) = Address::from_text(alloc, "127.0.0.1:5099")? {
+            listen.push(address)?;
+        }
+        Ok(Own {
+            archive: None,
+            clients: 512,
+            clock: Clocks::Host,
+            control: None,
+            idle: None,
+            listen,
+            mode: 0o600,
+            state: None,
+            ends_with_input: false,
+            zone_octets: 1 << 28,
+        })
+    }
+
+    // Reads the daemon's own keys of a TOML document. Returns the settings that `serve` has too.
+    fn read(&mut self, alloc: Global, text: &str) -> Result<Settings, SettingsFault>
+        ensures { IfOk result (λ settings. IsWithinLimits settings) }
+    {
+        let mut table = read_table(alloc, text)?;
+        for key in &OWN_KEYS {
+            self.take_out(alloc, key, &mut table)?;
+        }
+        read_others(alloc, &table)
+    }
+
+    // Takes one of the daemon's own keys out of a table, if it is there.
+    fn take_out(
+        &mut self,
+        alloc: Global,
+        key: &str,
+        table: &mut Table,
+    ) -> Result<(), SettingsFault> {
+        let Some(value) = table.get(key) else {
+            return Ok(());
+        };
+        if !self.take(alloc, key, value)? {
+            return Err(SettingsFault::BadValue(String::from_str(alloc, key)?));
+        }
+        table.remove(key);
+        Ok(())
+    }
+
+    // Takes the value of one of the daemon's own keys. Returns whether the key allows it.
+    fn take(&mut self, alloc: Global, key: &str, value: &Value) -> Result<bool, AllocError> {
+        Ok(match key {
+            "archive" => put_some(&mut self.archive, path(alloc, value)?),
+            "clients" => put(
+                &mut self.clients,
+                number(value, 1, MAX_CLIENTS).map(|n| n as usize),
+            ),
+            "clock" => put(&mut self.clock, read_clocks(value)),
+            "control" => put_some(&mut self.control, address(alloc, value)?),
+            "idle" => put_some(&mut self.idle, number(value, 1, MAX_IDLE)),
+            "listen" => put(&mut self.listen, addresses(alloc, value)?),
+            "mode" => put(&mut self.mode, number(value, 0, 0o777).map(|n| n as u32)),
+            "state" => put_some(&mut self.state, path(alloc, value)?),
+            "stdin" => put(&mut self.ends_with_input, ends_with_input(value)),
+            _ => put(&mut self.zone_octets, number(value, 0, MAX_ZONE_OCTETS)),
+        })
+    }
+
+    // The daemon's settings, with those that `serve` has too.
+    fn beside(self, service: Settings) -> DaemonSettings
+        requires { IsWithinLimits service }
+    {
+        DaemonSettings {
+            service,
+            archive: self.archive,
+            clients: self.clients,
+            clock: self.clock,
+            control: self.control,
+            idle: self.idle,
+            listen: self.listen,
+            mode: self.mode,
+            state: self.state,
+            ends_with_input: self.ends_with_input,
+            zone_octets: self.zone_octets,
+        }
+    }
+}
+
+// Puts a value in a place, if there is one. Returns whether there is.
+fn put<T: Drop>(place: &mut T, value: Option<T>) -> bool {
+    match value {
+        Some(value) => {
+            *place = value;
+            true
+        }
+        None => false,
+    }
+}
+
+fn put_some<T: Drop>(place: &mut Option<T>, value: Option<T>) -> bool {
+    match value {
+        Some(value) => {
+            *place = Some(value);
+            true
+        }
+        None => false,
+    }
+}
+
+// A whole number from `min` to `max`.
+fn number(value: &Value, min: u64, max: u64) -> Option<u64>
+    ensures { IfSome result (λ number. number ≤ max) }
+{
+    let number = u64::try_from(value.as_integer()?).ok()?;
+    if number < min || number > max {
+        return None;
+    }
+    Some(number)
+}
+
+fn read_clocks(value: &Value) -> Option<Clocks> {
+    match value.as_str()? {
+        "host" => Some(Clocks::Host),
+        "lines" => Some(Clocks::Lines),
+        _ => None,
+    }
+}
+
+fn ends_with_input(value: &Value) -> Option<bool> {
+    match value.as_str()? {
+        "stop" => Some(true),
+        "ignore" => Some(false),
+        _ => None,
+    }
+}
+
+// A path, which is not empty.
+fn path(alloc: Global, value: &Value) -> Result<Option<String>, AllocError> {
+    match value.as_str() {
+        Some(text) if !text.is_empty() && !text.contains('\0') => {
+            Ok(Some(String::from_str(alloc, text)?))
+        }
+        _ => Ok(None),
+    }
+}
+
+fn address(alloc: Global, value: &Value) -> Result<Option<Address>, AllocError> {
+    match value.as_str() {
+        Some(text) => Address::from_text(alloc, text),
+        None => Ok(None),
+    }
+}
+
+// A list of addresses, which is not empty.
+fn addresses(alloc: Global, value: &Value) -> Result<Option<Vec<Address>>, AllocError> {
+    let Some(words) = value.as_array() else {
+        return Ok(None);
+    };
+    let mut addresses = Vec::new(alloc);
+    for word in words {
+        match address(alloc, word)? {
+            Some(address) => addresses.push(address)?,
+            None => return Ok(None),
+        }
+    }
+    Ok(if addresses.is_empty() {
+        None
+    } else {
+        Some(addresses)
+    })
+}
