@@ -34,10 +34,12 @@ mod stream;
 mod tally;
 mod tell;
 mod time;
+mod watch;
 
 pub use address::Address;
 pub use fault::{ConnectionFault, DeskFault};
-pub use program::{WatchesInput, start, stop_at_end};
+pub use program::start;
 pub use server::Host;
 pub use settings::{Clocks, DaemonSettings};
 pub use stop::Stop;
+pub use watch::InputWatch;

@@ -9,12 +9,13 @@ use crate::settings::DaemonSettings;
 use crate::state::restore;
 use crate::stop::Stop;
 use crate::tell::tell;
+use crate::watch::InputWatch;
 use sipl_archive::{Archive, replay};
 use std::alloc::Global;
-use std::io::{ErrorKind, Input};
+use std::io::ErrorKind;
 use std::process::ExitCode;
 use std::rt::Env;
-use std::sync::{Arc, Wait};
+use std::sync::Arc;
 
 const USAGE: &str =
     "usage: siplocd [SETTINGS] | tell ADDRESS LINE | replay FOLDER | --help | --version";
@@ -33,24 +34,16 @@ const VERSION: &str = "siplocd 0.6";
 // The status of a call with wrong arguments.
 const WRONG_ARGUMENTS: u8 = 2;
 
-/// How a program begins a thread that reads standard input to its end. The library can't: no scope may have
-/// that thread, since nothing ends a read of standard input, and the process is not to wait for it.
-pub trait WatchesInput {
-    /// Begins a thread that does `stop_at_end`.
-    fn watch(&self, stop: Arc<Stop, Global>);
-}
-
 /// Does what the arguments of a process ask for. The status is 0, 1 after a fault, or where a line that
 /// was told is refused, or 2 where the arguments are wrong; for a fault and for 2 one line on standard
 /// error gives the reason.
-pub fn start<R, H, W>(rt: &R, host: &H, watcher: &W) -> ExitCode
+pub fn start<R, H>(rt: &R, host: &H, input: &InputWatch) -> ExitCode
 where
     R: Env + Print + Eprint + AllocGlobal,
     H: Host,
-    W: WatchesInput,
 {
     match read_arguments(rt) {
-        Ok(Some(call)) => status_of(rt, perform(rt, host, watcher, &call)),
+        Ok(Some(call)) => status_of(rt, perform(rt, host, input, &call)),
         Err(error) if error.kind() == ErrorKind::OutOfMemory => status_of(rt, Err(Fault::Memory)),
         _ => {
             let _ = eprintln!(rt; "{USAGE}");
@@ -72,11 +65,10 @@ fn status_of<R: Eprint>(rt: &R, outcome: Result<bool, Fault>) -> ExitCode {
 }
 
 // Does what the arguments ask for. Returns whether a line that was told is not refused.
-fn perform<R, H, W>(rt: &R, host: &H, watcher: &W, call: &Call) -> Result<bool, Fault>
+fn perform<R, H>(rt: &R, host: &H, input: &InputWatch, call: &Call) -> Result<bool, Fault>
 where
     R: Print + AllocGlobal,
     H: Host,
-    W: WatchesInput,
 {
     match call {
         Call::Help => print!(rt; "{HELP}")?,
@@ -86,7 +78,7 @@ where
             let events = replay(host, rt.alloc(), folder.as_str())?;
             println!(rt; "replayed {events}")?;
         }
-        Call::Serve(text) => serve(rt, host, watcher, text.as_str())?,
+        Call::Serve(text) => serve(rt, host, input, text.as_str())?,
     }
     Ok(true)
 }
@@ -106,34 +98,32 @@ fn tell_line<R: Print + AllocGlobal, H: Host>(
 
 // Serves with the settings of a text until the daemon is to stop, claims all pages, and prints how many events
 // there were.
-fn serve<R, H, W>(rt: &R, host: &H, watcher: &W, text: &str) -> Result<(), Fault>
+fn serve<R, H>(rt: &R, host: &H, input: &InputWatch, text: &str) -> Result<(), Fault>
 where
     R: Print + AllocGlobal,
     H: Host,
-    W: WatchesInput,
 {
     let settings = Box::new(rt.alloc(), DaemonSettings::from_toml(rt.alloc(), text)?)?;
-    let events = serve_with(rt, host, watcher, &settings)?;
+    let events = serve_with(rt, host, input, &settings)?;
     println!(rt; "closed {events}")?;
     Ok(())
 }
 
 // Serves until the daemon is to stop, and claims all pages. Returns how many events there were.
-fn serve_with<R, H, W>(
+fn serve_with<R, H>(
     rt: &R,
     host: &H,
-    watcher: &W,
+    input: &InputWatch,
     settings: &DaemonSettings,
 ) -> Result<u64, Fault>
 where
     R: Print + AllocGlobal,
     H: Host,
-    W: WatchesInput,
 {
     let stop = Arc::new(rt.alloc(), Stop::new())?;
     let mut daemon = Daemon::new(host, rt.alloc(), settings, Arc::try_clone(&stop)?)?;
     go_on(host, rt.alloc(), settings, &mut daemon)?;
-    serve_at(rt, host, watcher, settings, &daemon, stop)?;
+    serve_at(rt, host, input, settings, &daemon, stop)?;
     Ok(Box::into_inner(daemon).close(host)?)
 }
 
@@ -183,10 +173,10 @@ fn open_state<H: Host>(
 }
 
 // Serves at the addresses of the settings until the daemon is to stop.
-fn serve_at<R, H, W>(
+fn serve_at<R, H>(
     rt: &R,
     host: &H,
-    watcher: &W,
+    input: &InputWatch,
     settings: &DaemonSettings,
     daemon: &Daemon,
     stop: Arc<Stop, Global>,
@@ -194,24 +184,13 @@ fn serve_at<R, H, W>(
 where
     R: Print + AllocGlobal,
     H: Host,
-    W: WatchesInput,
 {
     let listeners = Listeners::bind(host, rt.alloc(), settings)?;
     listeners.print(rt)?;
     if settings.ends_with_input {
-        watcher.watch(stop);
+        input.begin(host, stop);
     }
     serve_all(host, daemon, &listeners, settings.service.workers as u64);
     listeners.remove(host);
     Ok(())
-}
-
-/// Reads standard input to its end, and then asks for the stop.
-pub fn stop_at_end<R: Input + Wait>(rt: &R, alloc: Global, stop: &Stop) {
-    for line in rt.lines(alloc) {
-        if line.is_err() {
-            break;
-        }
-    }
-    stop.ask(rt);
 }

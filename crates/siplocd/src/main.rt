@@ -1,27 +1,23 @@
 //! A locator of SIP servers (RFC 3263) that a proxy runs for months: sessions over TCP and Unix sockets.
 #![tactic(auto)]
 
-use sipl_daemon::{Stop, WatchesInput, stop_at_end};
-use std::alloc::Global;
-use std::io::Input;
+use sipl_daemon::{InputWatch, start};
+use std::alloc::AllocError;
+use std::fs::File;
+use std::marker::PhantomData;
+use std::net::{TcpListener, TcpStream};
 use std::process::ExitCode;
-use std::sync::{Arc, Wait};
+use std::rt::Files;
+use std::sync::Arc;
 use std::thread;
-use std::thread::Threads;
 
-// Standard input, which a thread reads to its end.
-#[derive(Drop)]
-struct Watcher<R> {
-    rt: R,
-}
+// The types that the host's handle stands for. The proof of `main` knows those alone that its values have.
+type HostTypes = PhantomData<(TcpListener, TcpStream, File, <HostRuntime as Files>::Dir)>;
 
-impl<R: Input + AllocGlobal + Threads + Wait + Copy + Send + 'static> WatchesInput for Watcher<R> {
-    fn watch(&self, stop: Arc<Stop, Global>) {
-        let rt = self.rt;
-        let _watching = thread::spawn(&rt, move || stop_at_end(&rt, rt.alloc(), &stop));
-    }
-}
-
-fn main(rt: HostRuntime) -> ExitCode {
-    sipl_daemon::start(&rt, &rt, &Watcher { rt })
+fn main(rt: HostRuntime) -> Result<ExitCode, AllocError> {
+    let input = Arc::new(rt.alloc(), InputWatch::new())?;
+    let watched = Arc::try_clone(&input)?;
+    let _watching = thread::spawn(&rt, move || watched.run(&rt, rt.alloc()));
+    let _types: HostTypes = PhantomData;
+    Ok(start(&rt, &rt, &input))
 }
