@@ -12,23 +12,27 @@ ghost use Rattle.sipl_records.specs.Sets.{conflicts, same_record, set_of, shares
 ghost use Rattle.sipl_masterfile.specs.Zones.{has_repeats};
 ghost use Rattle.sipl_zonestore.specs.BareOwners.{is_bare_at};
 ghost use Rattle.sipl_zonestore.specs.Content.{no_content};
+ghost use Rattle.sipl_zonestore.specs.Differences.{DifferAt};
 ghost use Rattle.sipl_zonestore.specs.SetTable.{content_of};
 ghost use Rattle.sipl_zonestore.specs.Store.{records_outside};
 ghost use Rattle.sipl_zonestore.specs.Edits.{records_without};
 ghost use Rattle.sipl_zonestore.specs.IndexedRecords.{IsReplaced, nothing};
 
 use crate::ancestors::with_ancestors;
-use crate::bare_owners::{bare_owner, bare_owners, insert_owner, remove_owner, replace_owners};
+use crate::bare_owners::{
+    bare_owner, bare_owners, insert_owner, remove_owner, remove_owners, replace_owners,
+};
 use crate::changed::Changed;
-use crate::compare::changed_within;
 use crate::comparison::{Comparison, has_conflict, has_value};
-use crate::existence::{LoadedNames, changed_by, changed_by_load, is_existence};
+use crate::differences::{changed_owners, records_of};
+use crate::existence::{changed_by, is_existence};
 use crate::fault::StoreFault;
+use crate::loaded_tables::{LoadedTables, loaded_tables};
 use crate::name_table::{count_in, count_of, count_out, replace_names};
+use crate::patches::patch_of;
 use crate::record_list::RecordList;
 use crate::set_numbers::{
-    added_count, check_numbers, count_numbered, number_sets, push_to_set, remove_from_set,
-    removed_count, sets_of,
+    added_count, check_numbers, push_to_set, remove_from_set, removed_count, sets_of,
 };
 use crate::sets::SetTable;
 use crate::unchanged::{is_loaded, no_change};
@@ -187,7 +191,10 @@ impl IndexedRecords {
         if self.has_loaded(apex, text) {
             return Ok(no_change(self.alloc));
         }
-        self.replace(apex, text)
+        match changed_owners(self.alloc, apex, self.records.as_slice(), text)? {
+            Some(owners) => self.replace_owners(apex, text, &owners),
+            None => self.replace(apex, text),
+        }
     }
 
     // Whether a text has the records within the apex, and they are last.
@@ -210,28 +217,67 @@ impl IndexedRecords {
         ensures { IsReplaced (records_outside apex.now self.old.records ++ text.now)
             self.old self.new result }
     {
-        let mut sets = sets_of(self.alloc, text, &self.sets)?;
-        let records = self.records.as_slice();
-        let keys = changed_within(self.alloc, apex, records, text, &self.sets, &sets)?;
-        let count = count_numbered(&keys, &sets);
-        check_numbers(self.next, count)?;
-        number_sets(&mut sets, &keys, self.next);
-        let LoadedNames { changed, old, new } = changed_by_load(
+        let LoadedTables { sets, count, names } = loaded_tables(
             self.alloc,
-            keys,
-            &self.names,
             apex,
-            records,
+            self.records.as_slice(),
             text,
+            &self.sets,
+            &self.names,
+            self.next,
         )?;
         let copies = copy_records(self.alloc, text)?;
         self.records.reserve(copies.len())?;
-        self.names.reserve(new.len())?;
+        self.names.reserve(names.new.len())?;
         replace_tables(self.alloc, &mut self.sets, &mut self.bare, apex, text, sets)?;
-        replace_names(&mut self.names, &old, new);
+        replace_names(&mut self.names, &names.old, names.new);
         self.records.replace_within(apex, copies);
         self.next += count as u64;
-        Ok(changed)
+        Ok(names.changed)
+    }
+
+    // Replaces the records within the apex by those of a text, which are last, where they differ in the
+    // records of these owners alone. Returns what they changed.
+    fn replace_owners(
+        &mut self,
+        apex: &Name,
+        text: &[Record],
+        owners: &IndexSet<Name>,
+    ) -> Result<Changed, StoreFault>
+        requires distinct { has_repeats self.old.records ≡ false }
+        requires text_distinct { has_repeats text.now ≡ false }
+        requires within { list_all (λ r. is_within r.owner apex.now) text.now ≡ true }
+        requires differ { DifferAt apex.now (contains same_name owners.now) self.old.records text.now }
+        ensures { IsReplaced (records_outside apex.now self.old.records ++ text.now)
+            self.old self.new result }
+    {
+        let old = records_of(self.alloc, self.records.as_slice(), owners)?;
+        let new = records_of(self.alloc, text, owners)?;
+        let old_sets = sets_of(self.alloc, &old, &self.sets)?;
+        let LoadedTables { sets, count, names } = loaded_tables(
+            self.alloc,
+            apex,
+            &old,
+            &new,
+            &old_sets,
+            &self.names,
+            self.next,
+        )?;
+        let patch = patch_of(self.alloc, self.records.as_slice(), apex, text)?;
+        self.records.reserve(patch.len())?;
+        self.names.reserve(names.new.len())?;
+        replace_owner_tables(
+            self.alloc,
+            &mut self.sets,
+            &mut self.bare,
+            owners,
+            &new,
+            sets,
+        )?;
+        replace_names(&mut self.names, &names.old, names.new);
+        self.records.apply(apex, patch);
+        self.next += count as u64;
+        Ok(names.changed)
     }
 
     // Appends a record. Returns what it changed. Nothing is allocated where too few
@@ -308,6 +354,35 @@ fn replace_tables(
     bare.reserve(owners.len())?;
     sets.replace_within(apex, text_sets)?;
     replace_owners(bare, apex, owners);
+    Ok(())
+}
+
+// Replaces what the tables have of the records of these owners by what those of a text have, whose sets are
+// these.
+fn replace_owner_tables(
+    alloc: Global,
+    sets: &mut SetTable,
+    bare: &mut IndexSet<Name>,
+    owners: &IndexSet<Name>,
+    text: &[Record],
+    text_sets: SetTable,
+) -> Result<(), AllocError>
+    requires { (key : Key) → contains same_name owners.now key.name ≡ false
+        → content_of text_sets key ≡ no_content }
+    ensures sets { OnOk result ((key : Key) → content_of sets.new key
+        ≡ (if contains same_name owners.now key.name then content_of text_sets key
+        else content_of sets.old key)) }
+    ensures bare { OnOk result ((name : Labels) → contains same_name bare.new name
+        ≡ (not (contains same_name owners.now name) && contains same_name bare.old name
+        || list_any (is_bare_at name) text.now)) }
+    ensures sets_left { OnErr result (sets.new ≡ sets.old) }
+    ensures bare_left { OnErr result (IsUnchanged bare.old bare.new) }
+{
+    let mut text_bare = bare_owners(alloc, text)?;
+    bare.reserve(text_bare.len())?;
+    sets.replace_owners(owners, text_sets)?;
+    remove_owners(bare, owners);
+    bare.append(&mut text_bare).unwrap();
     Ok(())
 }
 
