@@ -22,14 +22,14 @@ use Rattle.sipl_zonestore.proofs.Replacing.{accepted-numbers}
 use Rattle.sipl_zonestore.proofs.Recorded.{done, kept-number}
 
 -- records that are outside, and those after them
-outside : (apex : Labels) (others rest : List Record) → list_any (λ r. is_within r.owner apex) others ≡ false → records_outside apex (others ++ rest) ≡ others ++ records_outside apex rest
+pub outside : (apex : Labels) (others rest : List Record) → list_any (λ r. is_within r.owner apex) others ≡ false → records_outside apex (others ++ rest) ≡ others ++ records_outside apex rest
 outside apex [] rest none = refl
 outside apex (r ∷ others) rest none = elim (cases_Bool (is_within r.owner apex)) [
   | inl inside ↦ let never : true ≡ false = rw inside at none in cc
   | inr out ↦ rw out (ap (λ rs. r ∷ rs) (outside apex others rest (rw out at none)))
 ]
 
-none_outside : (apex : Labels) (text : List Record) → list_all (λ r. is_within r.owner apex) text ≡ true → records_outside apex text ≡ []
+pub none_outside : (apex : Labels) (text : List Record) → list_all (λ r. is_within r.owner apex) text ≡ true → records_outside apex text ≡ []
 none_outside apex [] all = refl
 none_outside apex (r ∷ text) all = elim (cases_Bool (is_within r.owner apex)) [
   | inl inside ↦ rw inside (none_outside apex text (rw inside at all))

@@ -1,27 +1,24 @@
--- How a text comes into the list of records.
-use Rattle.std.specs.Prelude.{◌≡◌, ◌≤◌, ◌×◌, ◌++◌, ⊤, List, length, take, drop}
+-- What a text changes in the list of records.
+use Rattle.std.specs.Prelude.{◌≡◌, ◌≤◌, ◌++◌, List, length, take, drop, slice_range, true, if◌then◌else◌}
 use Rattle.sipl_names.specs.Labels.{Labels}
 use Rattle.sipl_records.specs.declared.record.Record.{Record}
-use Rattle.sipl_zonestore.specs.Store.{records_outside}
+use Rattle.sipl_zonestore.specs.Store.{records_outside, records_within}
 use Rattle.sipl_zonestore.specs.declared.patches.Patch.{Patch}
-use Rattle.sipl_zonestore.specs.declared.patches.Patch.TheVariants.{Part, Zone}
 
--- the records that are added
-abbrev pub added_by : Patch → List Record
-added_by (Part start end new) = new.items
-added_by (Zone text) = text.items
+-- the list with new records in place of a part of it, or of those within the apex
+abbrev pub patched : Labels → List Record → Patch → List Record → List Record
+patched apex records patch new =
+    if patch.is_last then take patch.start records ++ new ++ drop patch.end records
+    else records_outside apex records ++ new
 
--- the list then
-abbrev pub patched : Labels → List Record → Patch → List Record
-patched apex records (Part start end new) = take start records ++ new.items ++ drop end records
-patched apex records (Zone text) = records_outside apex records ++ text.items
-
--- the start and the end are places of the list
-abbrev pub FitsIn : List Record → Patch → Type 0
-FitsIn records (Part start end new) = (start ≤ end) × (end ≤ length records)
-FitsIn records (Zone text) = ⊤
-
--- with the patch, the records of the text are in place of those within the apex, and last
+-- The parts are within the list and the text. With the part of the text the list is as the load leaves it, and
+-- the records of the zone are those of the text but for the parts.
 pub record IsPatch (apex : Labels) (records text : List Record) (patch : Patch) : Type 0 where
-  pub fits : FitsIn records patch
-  pub patched : patched apex records patch ≡ records_outside apex records ++ text
+  pub order : patch.start ≤ patch.end
+  pub limit : patch.end ≤ length records
+  pub text_order : patch.first ≤ patch.last
+  pub text_limit : patch.last ≤ length text
+  pub replaced : patched apex records patch (slice_range text patch.first patch.last)
+      ≡ records_outside apex records ++ text
+  pub zone : records_within apex records ≡ take patch.first text
+      ++ records_within apex (slice_range records patch.start patch.end) ++ drop patch.last text

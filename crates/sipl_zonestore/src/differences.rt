@@ -12,19 +12,19 @@ use sipl_names::Name;
 use sipl_records::Record;
 use std::alloc::{AllocError, Global};
 
-// The owners whose records within the apex are others in a text, or in another order. `None` where they
-// are more than a quarter of the text. Linear in the number of records, which are compared one by one.
+// The owners whose records within the apex are others in a text, or in another order. `None` where there
+// are more than so many. Linear in the number of records, which are compared one by one.
 pub(crate) fn changed_owners(
     alloc: Global,
     apex: &Name,
     records: &[Record],
     text: &[Record],
+    most: usize,
 ) -> Result<Option<IndexSet<Name>>, AllocError>
     requires within { list_all (λ r. is_within r.owner apex.now) text.now ≡ true }
     ensures { IfOk result (λ owners. IfSome owners
         (λ owners. DifferAt apex.now (contains same_name owners) records.now text.now)) }
 {
-    let most = text.len() / 4;
     let mut owners = IndexSet::new(alloc);
     let mut place = 0;
     for record in records {

@@ -13,6 +13,7 @@ ghost use Rattle.sipl_masterfile.specs.Zones.{has_repeats};
 ghost use Rattle.sipl_zonestore.specs.BareOwners.{is_bare_at};
 ghost use Rattle.sipl_zonestore.specs.Content.{no_content};
 ghost use Rattle.sipl_zonestore.specs.Differences.{DifferAt};
+ghost use Rattle.sipl_zonestore.specs.Patches.{IsPatch};
 ghost use Rattle.sipl_zonestore.specs.SetTable.{content_of};
 ghost use Rattle.sipl_zonestore.specs.Store.{records_outside};
 ghost use Rattle.sipl_zonestore.specs.Edits.{records_without};
@@ -29,7 +30,7 @@ use crate::existence::{changed_by, is_existence};
 use crate::fault::StoreFault;
 use crate::loaded_tables::{LoadedTables, loaded_tables};
 use crate::name_table::{count_in, count_of, count_out, replace_names};
-use crate::patches::patch_of;
+use crate::patches::{Patch, patch_of};
 use crate::record_list::RecordList;
 use crate::set_numbers::{
     added_count, check_numbers, push_to_set, remove_from_set, removed_count, sets_of,
@@ -191,8 +192,12 @@ impl IndexedRecords {
         if self.has_loaded(apex, text) {
             return Ok(no_change(self.alloc));
         }
-        match changed_owners(self.alloc, apex, self.records.as_slice(), text)? {
-            Some(owners) => self.replace_owners(apex, text, &owners),
+        let records = self.records.as_slice();
+        let patch = patch_of(records, apex, text);
+        let old = &records[patch.start..patch.end];
+        let new = &text[patch.first..patch.last];
+        match changed_owners(self.alloc, apex, old, new, text.len() / 4)? {
+            Some(owners) => self.replace_owners(apex, text, patch, &owners),
             None => self.replace(apex, text),
         }
     }
@@ -237,16 +242,18 @@ impl IndexedRecords {
     }
 
     // Replaces the records within the apex by those of a text, which are last, where they differ in the
-    // records of these owners alone. Returns what they changed.
+    // records of these owners alone. Returns what they changed. Of other owners nothing is looked up.
     fn replace_owners(
         &mut self,
         apex: &Name,
         text: &[Record],
+        patch: Patch,
         owners: &IndexSet<Name>,
     ) -> Result<Changed, StoreFault>
         requires distinct { has_repeats self.old.records ≡ false }
         requires text_distinct { has_repeats text.now ≡ false }
         requires within { list_all (λ r. is_within r.owner apex.now) text.now ≡ true }
+        requires patch { IsPatch apex.now self.old.records text.now patch }
         requires differ { DifferAt apex.now (contains same_name owners.now) self.old.records text.now }
         ensures { IsReplaced (records_outside apex.now self.old.records ++ text.now)
             self.old self.new result }
@@ -263,8 +270,8 @@ impl IndexedRecords {
             &self.names,
             self.next,
         )?;
-        let patch = patch_of(self.alloc, self.records.as_slice(), apex, text)?;
-        self.records.reserve(patch.len())?;
+        let copies = copy_records(self.alloc, &text[patch.first..patch.last])?;
+        self.records.reserve(copies.len())?;
         self.names.reserve(names.new.len())?;
         replace_owner_tables(
             self.alloc,
@@ -275,7 +282,7 @@ impl IndexedRecords {
             sets,
         )?;
         replace_names(&mut self.names, &names.old, names.new);
-        self.records.apply(apex, patch);
+        self.records.apply(apex, patch, copies);
         self.next += count as u64;
         Ok(names.changed)
     }

@@ -1,54 +1,50 @@
 //! What a text changes in the list of records.
-ghost use Rattle.std.specs.Prelude.{◌≡◌, ◌≤◌, ◌-◌, ◌×◌, length, take, drop, true, false, IfOk};
+ghost use Rattle.std.specs.Prelude.{◌≡◌, ◌≤◌, ◌-◌, ◌×◌, length, take, drop, true, false};
 ghost use Rattle.std.specs.List.{list_all, list_any};
 ghost use Rattle.sipl_names.specs.Labels.{is_within};
-ghost use Rattle.sipl_zonestore.specs.Patches.{IsPatch, added_by};
+ghost use Rattle.sipl_zonestore.specs.Patches.{IsPatch};
 
-use crate::indexed_records::copy_records;
 use sipl_names::Name;
 use sipl_records::Record;
-use std::alloc::{AllocError, Global};
 
-// How a text comes into the list of records.
-#[derive(Drop)]
-pub(crate) enum Patch {
-    // The records from a start to an end are replaced by these.
-    Part(usize, usize, Vec<Record>),
-    // The records within the apex are replaced by these, which are last.
-    Zone(Vec<Record>),
+// A part of a list of records, and the part of a text that takes its place.
+#[derive(Clone, Copy)]
+pub(crate) struct Patch {
+    pub(crate) start: usize,
+    pub(crate) end: usize,
+    pub(crate) first: usize,
+    pub(crate) last: usize,
+    // Whether the records of the zone are last, so that all others stay where they are. Else the parts are
+    // the whole list and the whole text.
+    pub(crate) is_last: bool,
 }
 
-impl Patch {
-    // How many records it adds.
-    pub(crate) fn len(&self) -> usize
-        ensures { result ≡ length (added_by self.now) }
-    {
-        match self {
-            Patch::Part(_, _, records) | Patch::Zone(records) => records.len(),
-        }
-    }
-}
-
-// How the text of a zone comes into the list of records. Where those of the zone are last, only the ones
-// from the first that differs to the last are replaced. Linear in the number of records.
-pub(crate) fn patch_of(
-    alloc: Global,
-    records: &[Record],
-    apex: &Name,
-    text: &[Record],
-) -> Result<Patch, AllocError>
+// What a text changes in the list of records. Where those of its zone are last, it is what lies between the
+// first record that differs and the last one. Linear in the number of records. Does not allocate.
+pub(crate) fn patch_of(records: &[Record], apex: &Name, text: &[Record]) -> Patch
     requires within { list_all (λ r. is_within r.owner apex.now) text.now ≡ true }
-    ensures { IfOk result (λ patch. IsPatch apex.now records.now text.now patch) }
+    ensures { IsPatch apex.now records.now text.now result }
 {
-    let first = first_within(records, apex);
-    let zone = &records[first..];
+    let place = first_within(records, apex);
+    let zone = &records[place..];
     let same = common_start(zone, text);
-    let rest = common_end(&zone[same..], &text[same..]);
-    if !are_within(&zone[same..zone.len() - rest], apex) {
-        return Ok(Patch::Zone(copy_records(alloc, text)?));
+    let ends = common_end(&zone[same..], &text[same..]);
+    if !are_within(&zone[same..zone.len() - ends], apex) {
+        return Patch {
+            start: 0,
+            end: records.len(),
+            first: 0,
+            last: text.len(),
+            is_last: false,
+        };
     }
-    let new = copy_records(alloc, &text[same..text.len() - rest])?;
-    Ok(Patch::Part(first + same, records.len() - rest, new))
+    Patch {
+        start: place + same,
+        end: records.len() - ends,
+        first: same,
+        last: text.len() - ends,
+        is_last: true,
+    }
 }
 
 // How many records come before the first that is within the apex.

@@ -1,15 +1,15 @@
 //! Records in the order of addition, of which one is removed without moving those after it.
-ghost use Rattle.std.specs.Prelude.{◌≡◌, ◌≤◌, ◌<◌, ◌+◌, ◌^◌, ◌++◌, ◌∷◌, [], length, take, drop, true, false, OnOk, vec_len, vec_capacity};
+ghost use Rattle.std.specs.Prelude.{◌≡◌, ◌≤◌, ◌<◌, ◌+◌, ◌^◌, ◌++◌, ◌∷◌, [], List, length, take, drop, true, false, OnOk, vec_len, vec_capacity};
 ghost use Rattle.std.specs.Borrow.{sem};
 ghost use Rattle.std.specs.Io.BufRead.{Rests};
 ghost use Rattle.std.specs.List.{list_any};
 ghost use Rattle.sipl_records.specs.Sets.{same_record};
 ghost use Rattle.sipl_masterfile.specs.Zones.{has_repeats};
 ghost use Rattle.sipl_zonestore.specs.Store.{records_outside};
-ghost use Rattle.sipl_zonestore.specs.Patches.{FitsIn, added_by, patched};
+ghost use Rattle.sipl_zonestore.specs.Patches.{patched};
 ghost use Rattle.sipl_zonestore.specs.Edits.{records_without};
 
-use crate::owner_codes::{other_code, write_codes};
+use crate::owner_codes::{other_code, push_codes, write_codes};
 use crate::patches::Patch;
 use crate::places::{compact, find_place};
 use sipl_names::Name;
@@ -131,20 +131,22 @@ impl RecordList {
         self.len = self.records.len();
     }
 
-    // Changes the list as a patch says. Does not allocate.
-    pub(crate) fn apply(&mut self, apex: &Name, patch: Patch)
-        requires fits { FitsIn self.old.records patch }
-        requires space { length (added_by patch) ≤ self.old.room }
-        ensures { self.new.records ≡ patched apex.now self.old.records patch }
+    // Replaces the part of the list that a patch names by new records. Does not allocate.
+    pub(crate) fn apply(&mut self, apex: &Name, patch: Patch, new: Vec<Record>)
+        requires order { patch.start ≤ patch.end }
+        requires limit { patch.end ≤ length self.old.records }
+        requires space { vec_len new ≤ self.old.room }
+        ensures { self.new.records ≡ patched apex.now self.old.records patch new.items }
     {
-        match patch {
-            Patch::Part(start, end, records) => self.replace_part(start, end, records),
-            Patch::Zone(text) => self.replace_within(apex, text),
+        if patch.is_last {
+            self.replace_part(patch.start, patch.end, new);
+        } else {
+            self.replace_within(apex, new);
         }
     }
 
     // Replaces the records from a start to an end by others. Does not allocate.
-    fn replace_part(&mut self, start: usize, end: usize, new: Vec<Record>)
+    fn replace_part(&mut self, start: usize, end: usize, mut new: Vec<Record>)
         requires space { vec_len new ≤ self.old.room }
         requires order { start ≤ end }
         requires limit { end ≤ length self.old.records }
@@ -152,25 +154,28 @@ impl RecordList {
             ≡ take start self.old.records ++ new.items ++ drop end self.old.records }
     {
         compact(&mut self.records, &mut self.codes, self.len);
-        splice_reserved(&mut self.records, start, end, new);
-        write_codes(&mut self.codes, &self.records);
+        let added = new.len();
+        push_codes(&mut self.codes, &new);
+        self.records.append(&mut new).unwrap();
+        move_last(&mut self.codes, start, end, added);
+        move_last(&mut self.records, start, end, added);
         self.len = self.records.len();
     }
 }
 
-// Replaces the records from a start to an end by others. Does not allocate.
-fn splice_reserved(records: &mut Vec<Record>, start: usize, end: usize, mut new: Vec<Record>)
-    requires space { vec_len records.old + vec_len new ≤ vec_capacity records.old }
+// Puts the last items, of which there are so many, in the place of those from a start to an end. Does not
+// allocate.
+fn move_last<T: Drop>(items: &mut Vec<T>, start: usize, end: usize, added: usize)
     requires order { start ≤ end }
-    requires limit { end ≤ vec_len records.old }
-    ensures items { records.new.items ≡ take start records.old.items ++ new.items ++ drop end records.old.items }
-    ensures capacity { vec_capacity records.old ≤ vec_capacity records.new }
+    requires limit { end + added ≤ vec_len items.old }
+    ensures items { (kept last : List T) → items.old.items ≡ kept ++ last → length last ≡ added
+        → items.new.items ≡ take start kept ++ last ++ drop end kept }
+    ensures capacity { vec_capacity items.new ≡ vec_capacity items.old }
 {
-    let (added, removed) = (new.len(), end - start);
-    records.append(&mut new).unwrap();
-    records[end..].rotate_right(added);
-    records[start..].rotate_left(removed);
-    records.truncate(records.len() - removed);
+    let removed = end - start;
+    items[end..].rotate_right(added);
+    items[start..].rotate_left(removed);
+    items.truncate(items.len() - removed);
 }
 
 // Appends the records of a text, which stay where they are if there are no others. Does not allocate.
