@@ -1,9 +1,9 @@
 -- Records beside codes, some of which were removed.
 use Rattle.std.proofs.Common.{◌≡◌, ℕ, zero, suc, ◌+◌, ◌≤◌, ◌<◌, Bool, true, false, not, ◌||◌, ◌&&◌, List, [], ◌∷◌, ◌++◌, length, take, drop, set, get_or, nat_eq, if◌then◌else◌, true≢false, refl, ap, sym, ◌∙◌, inl, inr, arith, append-nil}
-use Rattle.std.specs.List.{filter, list_any, SwappedAt}
+use Rattle.std.specs.List.{drop-map, filter, list_any, take-map, SwappedAt}
 use Rattle.std.proofs.lemmas.Bool.{cases_Bool}
 use Rattle.std.proofs.lemmas.Bool.Decides.{nat_tests}
-use Rattle.std.proofs.lemmas.List.{drop-map, length-set, map-append, take-map, take_all, take_more, take-set-le, drop_more, drop-set-lt}
+use Rattle.std.proofs.lemmas.List.{length-set, map-append, take_all, take_more, take-set-le, drop_more, drop-set-lt}
 use Rattle.sipl_records.specs.declared.record.Record.{Record}
 use Rattle.sipl_records.specs.Sets.{same_record}
 use Rattle.sipl_records.proofs.Public.{same_record-Decides}

@@ -1,14 +1,16 @@
 -- How a text comes into a list in which the records of its zone are last.
 use Rattle.std.proofs.Common.{◌≡◌, ℕ, ◌+◌, ◌-◌, ◌<◌, ◌≤◌, Bool, true, false, not, ◌&&◌, List, [], ◌∷◌, ◌++◌, length, take, drop, get_or, refl, ap, subst, sym, ◌∙◌, arith, append-nil, append_assoc, length-append, length-take}
 use Rattle.std.specs.List.{filter, list_any, list_all, slice_range}
-use Rattle.std.proofs.lemmas.List.{drop-append-le, drop-drop, drop_at, length-drop, take-append-drop, take-append-le, take_at, take_more}
+use Rattle.std.proofs.lemmas.List.{drop-append-le, drop-drop, drop_at, length-drop, take-append-drop, take-append-le, take_all, take_at, take_more}
 use Rattle.std.proofs.lemmas.List.Elements.{filter-append}
 use Rattle.std.proofs.lemmas.List.Folds.{drop_split, list_all-append, list_any_more}
-use Rattle.std.proofs.Math.Seq.{take-add}
+use Rattle.std.proofs.Math.Seq.{drop-length}
 use Rattle.sipl_names.specs.Labels.{Labels, is_within}
 use Rattle.sipl_records.specs.declared.record.Record.{Record}
 use Rattle.sipl_records.proofs.Public.{filter-all}
+use Rattle.sipl_zonestore.specs.Patches.{IsPatch}
 use Rattle.sipl_zonestore.specs.Store.{records_outside, records_within}
+use Rattle.sipl_zonestore.specs.declared.patches.Patch.{Patch}
 use Rattle.sipl_zonestore.proofs.Elements.{and_first, and_second}
 use Rattle.sipl_zonestore.proofs.NameTables.{filter-nothing}
 use Rattle.sipl_zonestore.proofs.SameRecords.{none_outside, outside}
@@ -40,7 +42,7 @@ pub record IsLast (apex : Labels) (records text others : List Record) (start end
   pub starts : take start records ≡ others ++ take first text
   pub ends : drop end records ≡ drop last text
 
-text-parts : (text : List Record) (first last : ℕ) → first ≤ last → take first text ++ (slice_range text first last ++ drop last text) ≡ text
+pub text-parts : (text : List Record) (first last : ℕ) → first ≤ last → take first text ++ (slice_range text first last ++ drop last text) ≡ text
 text-parts text first last order = ap (λ rs. take first text ++ rs) (sym (drop_split text first last order)) ∙ take-append-drop first text
 
 records-parts : (apex : Labels) (records text others : List Record) (start end first last : ℕ) → IsLast apex records text others start end first last → others ++ (take first text ++ (slice_range records start end ++ drop last text)) ≡ records
@@ -72,6 +74,41 @@ last-zone apex records text others start end first last is =
     ∙ within-first apex others (take first text ++ (slice_range records start end ++ drop last text)) is.none
     ∙ filter-append within (take first text) (slice_range records start end ++ drop last text)
     ∙ (λ i. filter-all within (take first text) (and_first (list_all within (take first text)) (list_all within (slice_range text first last ++ drop last text)) both) i ++ (filter-append within (slice_range records start end) (drop last text) ∙ ap (λ rs. records_within apex (slice_range records start end) ++ rs) (filter-all within (drop last text) (and_second (list_all within (slice_range text first last)) (list_all within (drop last text)) rest))) i)
+
+-- so that is what the text changes
+pub last-patch : (apex : Labels) (records text others : List Record) (patch : Patch) → patch.is_last ≡ true → patch.end ≤ length records → patch.last ≤ length text → IsLast apex records text others patch.start patch.end patch.first patch.last → IsPatch apex records text patch
+last-patch apex records text others patch last limit text_limit is =
+    record {
+      order = is.order;
+      limit = limit;
+      text_order = is.text_order;
+      text_limit = text_limit;
+      replaced = rw last (last-replaced apex records text others patch.start patch.end patch.first patch.last is);
+      zone = last-zone apex records text others patch.start patch.end patch.first patch.last is;
+    }
+
+whole-range : (xs : List Record) → slice_range xs 0 (length xs) ≡ xs
+whole-range xs = take_all (length xs - 0) xs (omega arith)
+
+-- or else all of it
+pub whole-patch : (apex : Labels) (records text : List Record) (patch : Patch) → patch ≡ record { start = 0; end = length records; first = 0; last = length text; is_last = false } → IsPatch apex records text patch
+whole-patch apex records text patch is =
+    subst (IsPatch apex records text) (sym is) record {
+      order = omega arith;
+      limit = omega arith;
+      text_order = omega arith;
+      text_limit = omega arith;
+      replaced = ap (λ rs. records_outside apex records ++ rs) (whole-range text);
+      zone = ap (records_within apex) (sym (whole-range records)) ∙ sym (append-nil (records_within apex (slice_range records 0 (length records)))) ∙ ap (λ rs. records_within apex (slice_range records 0 (length records)) ++ rs) (sym (drop-length text));
+    }
+
+-- a patch that changes nothing
+pub nothing-patched : (apex : Labels) (records text : List Record) (patch : Patch) → IsPatch apex records text patch → patch.is_last ≡ true → patch.start ≡ patch.end → patch.first ≡ patch.last → records_outside apex records ++ text ≡ records
+nothing-patched apex records text patch is last old new =
+    let none : slice_range text patch.first patch.last ≡ [] = no_part text patch.first patch.last new in
+    sym is.replaced ∙ rw last (ap (λ rs. take patch.start records ++ (rs ++ drop patch.end records)) none ∙ ap (λ n. take patch.start records ++ drop n records) (sym old) ∙ take-append-drop patch.start records) where
+      no_part : (xs : List Record) (first last : ℕ) → first ≡ last → slice_range xs first last ≡ []
+      no_part xs first last same = ap (λ n. take n (drop first xs)) (omega (arith, same))
 
 -- the place of the end
 pub end-is : (xs : List Record) (start rest : ℕ) → start ≤ length xs → rest ≤ length (drop start xs) → drop (length (drop start xs) - rest) (drop start xs) ≡ drop (length xs - rest) xs

@@ -36,18 +36,6 @@ none_outside apex (r ∷ text) all = elim (cases_Bool (is_within r.owner apex)) 
   | inr out ↦ let never : false ≡ true = rw out at all in cc
 ]
 
--- the last records are those of a text, and the others are outside
-loaded : (apex : Labels) (others last text : List Record) → last ≡ text → list_any (λ r. is_within r.owner apex) others ≡ false → list_all (λ r. is_within r.owner apex) text ≡ true → records_outside apex (others ++ last) ++ text ≡ others ++ last
-loaded apex others last text same none all =
-    let kept : records_outside apex (others ++ last) ≡ others = outside apex others last none ∙ ap (λ rs. others ++ records_outside apex rs) same ∙ ap (λ rs. others ++ rs) (none_outside apex text all) ∙ append-nil others in
-    ap (λ rs. rs ++ text) kept ∙ ap (λ rs. others ++ rs) (sym same)
-
-pub when_loaded : (apex : Labels) (records others last text : List Record) (n : ℕ) (has : Bool) → others ≡ take n records → last ≡ drop n records → last ≡ text → has ≡ list_any (λ r. is_within r.owner apex) others → list_all (λ r. is_within r.owner apex) text ≡ true → OnTrue (not has) (records_outside apex records ++ text ≡ records)
-when_loaded apex records others last text n true front back same none all = tt
-when_loaded apex records others last text n false front back same none all =
-    let whole : others ++ last ≡ records = (λ i. front i ++ back i) ∙ take-append-drop n records in
-    subst (λ rs. records_outside apex rs ++ text ≡ rs) whole (loaded apex others last text same (sym none) all)
-
 -- no set differs, and no name begins or ceases to exist
 same_set : (records : List Record) (key : Key) → is_changed records records key ≡ false
 same_set records key = ap not ((pointwise_decides same_data-Decides (data_of records key) (data_of records key)).1 refl)
@@ -88,8 +76,3 @@ unchanged records new sets next has last same =
 
       after : next ≡ next + length (numbered_keys records records)
       after = omega (arith, none)
-
-pub unchanged-OnTrue : (b : Bool) (records seen text : List Record) (apex : Labels) (sets : OwnerTable) (next : ℕ) → HasSets sets records → next ≤ 2 ^ 52 + 1 → seen ≡ records → OnTrue b (records_outside apex seen ++ text ≡ seen) → OnTrue b (IsReplaced (records_outside apex records ++ text) (record { records = records; numbers = numbers_of sets; next = next }) (record { records = records; numbers = numbers_of sets; next = next }) (Ok nothing))
-unchanged-OnTrue true records seen text apex sets next has last is same =
-    unchanged records (records_outside apex records ++ text) sets next has last (subst (λ rs. records_outside apex rs ++ text ≡ rs) is same)
-unchanged-OnTrue false records seen text apex sets next has last is _ = tt

@@ -1,6 +1,5 @@
 //! Records with an index of their sets.
 ghost use Rattle.std.specs.Prelude.{◌≡◌, ◌≤◌, ◌^◌, ◌+◌, ◌&&◌, ◌||◌, not, [], ◌∷◌, ◌++◌, length, true, false, None, Ok, if◌then◌else◌, IfOk, IfErr, OnOk, OnErr};
-ghost use Rattle.std.specs.Bool.{OnTrue};
 ghost use Rattle.std.specs.Borrow.{sem};
 ghost use Rattle.std.specs.Io.BufRead.{Rests};
 ghost use Rattle.std.specs.List.{count_by, list_all, list_any};
@@ -36,7 +35,7 @@ use crate::set_numbers::{
     added_count, check_numbers, push_to_set, remove_from_set, removed_count, sets_of,
 };
 use crate::sets::SetTable;
-use crate::unchanged::{is_loaded, no_change};
+use crate::unchanged::no_change;
 use indexmap::{IndexMap, IndexSet};
 use sipl_names::Name;
 use sipl_records::{Data, Key, Record};
@@ -189,28 +188,17 @@ impl IndexedRecords {
         ensures { IsReplaced (records_outside apex.now self.old.records ++ text.now)
             self.old self.new result }
     {
-        if self.has_loaded(apex, text) {
-            return Ok(no_change(self.alloc));
-        }
         let records = self.records.as_slice();
         let patch = patch_of(records, apex, text);
+        if patch.is_empty() {
+            return Ok(no_change(self.alloc));
+        }
         let old = &records[patch.start..patch.end];
         let new = &text[patch.first..patch.last];
         match changed_owners(self.alloc, apex, old, new, text.len() / 4)? {
             Some(owners) => self.replace_owners(apex, text, patch, &owners),
             None => self.replace(apex, text),
         }
-    }
-
-    // Whether a text has the records within the apex, and they are last.
-    fn has_loaded(&mut self, apex: &Name, text: &[Record]) -> bool
-        requires within { list_all (λ r. is_within r.owner apex.now) text.now ≡ true }
-        ensures loaded { OnTrue result
-            (IsReplaced (records_outside apex.now self.old.records ++ text.now)
-            self.old self.old (Ok nothing)) }
-        ensures unchanged { self.new ≡ self.old }
-    {
-        is_loaded(self.records.as_slice(), apex, text)
     }
 
     // Replaces the records within the apex by those of a text, which are last. Returns what they

@@ -1,5 +1,6 @@
 //! What a text changes in the list of records.
 ghost use Rattle.std.specs.Prelude.{◌≡◌, ◌≤◌, ◌-◌, ◌×◌, length, take, drop, true, false};
+ghost use Rattle.std.specs.Bool.{OnTrue};
 ghost use Rattle.std.specs.List.{list_all, list_any};
 ghost use Rattle.sipl_names.specs.Labels.{is_within};
 ghost use Rattle.sipl_zonestore.specs.Patches.{IsPatch};
@@ -17,6 +18,17 @@ pub(crate) struct Patch {
     // Whether the records of the zone are last, so that all others stay where they are. Else the parts are
     // the whole list and the whole text.
     pub(crate) is_last: bool,
+}
+
+impl Patch {
+    // Whether it changes nothing.
+    pub(crate) fn is_empty(self) -> bool
+        ensures last { OnTrue result (self.is_last ≡ true) }
+        ensures old { OnTrue result (self.start ≡ self.end) }
+        ensures new { OnTrue result (self.first ≡ self.last) }
+    {
+        self.is_last && self.start == self.end && self.first == self.last
+    }
 }
 
 // What a text changes in the list of records. Where those of its zone are last, it is what lies between the
