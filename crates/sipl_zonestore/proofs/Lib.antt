@@ -17,9 +17,9 @@ pub mod Scans
 pub mod TableSteps
 pub mod Numbering
 pub mod Replacing
-pub mod Differences
+pub mod DifferingRecords
 pub mod Parts
-pub mod Patches
+pub mod PatchedLists
 pub mod Recorded
 pub mod SameRecords
 pub mod Lookups

@@ -1,5 +1,5 @@
 //! Where the text of a zone differs from the records that are loaded.
-ghost use Rattle.std.specs.Prelude.{◌≡◌, ◌≤◌, ◌++◌, ◌+◌, ◌<◌, ◌×◌, ◌||◌, [], ◌∷◌, List, length, take, true, IfOk, IfSome, OnOk};
+ghost use Rattle.std.specs.Prelude.{◌≡◌, ◌≤◌, ◌++◌, ◌+◌, ◌<◌, ◌||◌, [], ◌∷◌, List, length, take, true, IfOk, IfSome, OnOk};
 ghost use Rattle.std.specs.Bool.{OnTrue};
 ghost use Rattle.std.specs.List.{list_all, list_any};
 ghost use Rattle.indexmap.specs.IndexSet.{contains};
@@ -47,7 +47,7 @@ pub(crate) fn changed_owners(
 fn pass_record(
     alloc: Global,
     owners: &mut IndexSet<Name>,
-    record: &Record,
+    old: &Record,
     text: &[Record],
     place: usize,
 ) -> Result<usize, AllocError>
@@ -56,32 +56,32 @@ fn pass_record(
     ensures same { IfOk result (λ next. (before : List Record)
         → records_besides (contains same_name owners.old) before
         ≡ records_besides (contains same_name owners.old) (take place text.now)
-        → records_besides (contains same_name owners.new) (before ++ record.now ∷ [])
+        → records_besides (contains same_name owners.new) (before ++ old.now ∷ [])
         ≡ records_besides (contains same_name owners.new) (take next text.now)) }
     ensures within { OnOk result ((apex : Labels)
         → list_all (λ r. is_within r.owner apex) text.now ≡ true
-        → is_within record.now.owner apex ≡ true
+        → is_within old.now.owner apex ≡ true
         → AreWithin apex (contains same_name owners.old)
         → AreWithin apex (contains same_name owners.new)) }
 {
-    if is_at(text, place, record) {
+    if is_at(text, place, old) {
         return Ok(place + 1);
     }
-    if owners.contains(&record.owner) {
+    if owners.contains(&old.owner) {
         return Ok(place);
     }
     let next = skip_owners(owners, text, place);
-    if is_at(text, next, record) {
+    if is_at(text, next, old) {
         return Ok(next + 1);
     }
-    pass_both(alloc, owners, record, text, next)
+    pass_both(alloc, owners, old, text, next)
 }
 
 // Goes past a record, and past that of a text at this place, if it has one, and adds the owners of both.
 fn pass_both(
     alloc: Global,
     owners: &mut IndexSet<Name>,
-    record: &Record,
+    old: &Record,
     text: &[Record],
     place: usize,
 ) -> Result<usize, AllocError>
@@ -90,15 +90,15 @@ fn pass_both(
     ensures same { IfOk result (λ next. (before : List Record)
         → records_besides (contains same_name owners.old) before
         ≡ records_besides (contains same_name owners.old) (take place text.now)
-        → records_besides (contains same_name owners.new) (before ++ record.now ∷ [])
+        → records_besides (contains same_name owners.new) (before ++ old.now ∷ [])
         ≡ records_besides (contains same_name owners.new) (take next text.now)) }
     ensures within { OnOk result ((apex : Labels)
         → list_all (λ r. is_within r.owner apex) text.now ≡ true
-        → is_within record.now.owner apex ≡ true
+        → is_within old.now.owner apex ≡ true
         → AreWithin apex (contains same_name owners.old)
         → AreWithin apex (contains same_name owners.new)) }
 {
-    add_owner(alloc, owners, record)?;
+    add_owner(alloc, owners, old)?;
     if place >= text.len() {
         return Ok(place);
     }
@@ -107,11 +107,11 @@ fn pass_both(
 }
 
 // Whether a text has the record at the place.
-fn is_at(text: &[Record], place: usize, record: &Record) -> bool
+fn is_at(text: &[Record], place: usize, sought: &Record) -> bool
     ensures { OnTrue result ((place < length text.now)
-        × (take (place + 1) text.now ≡ take place text.now ++ record.now ∷ [])) }
+        × (take (place + 1) text.now ≡ take place text.now ++ sought.now ∷ [])) }
 {
-    place < text.len() && text[place] == *record
+    place < text.len() && text[place] == *sought
 }
 
 // The first place from this one on whose record has none of the owners.
@@ -128,11 +128,11 @@ fn skip_owners(owners: &IndexSet<Name>, text: &[Record], mut place: usize) -> us
 }
 
 // Adds the owner of a record.
-fn add_owner(alloc: Global, owners: &mut IndexSet<Name>, record: &Record) -> Result<(), AllocError>
+fn add_owner(alloc: Global, owners: &mut IndexSet<Name>, added: &Record) -> Result<(), AllocError>
     ensures { OnOk result ((name : Labels) → contains same_name owners.new name
-        ≡ (same_name record.now.owner name || contains same_name owners.old name)) }
+        ≡ (same_name added.now.owner name || contains same_name owners.old name)) }
 {
-    owners.insert(record.owner.dup(alloc)?)?;
+    owners.insert(added.owner.dup(alloc)?)?;
     Ok(())
 }
 

@@ -25,7 +25,7 @@ use crate::bare_owners::{
 use crate::changed::Changed;
 use crate::comparison::{Comparison, has_conflict, has_value};
 use crate::differences::{changed_owners, records_of};
-use crate::existence::{changed_by, is_existence};
+use crate::existence::{LoadedNames, changed_by, is_existence};
 use crate::fault::StoreFault;
 use crate::loaded_tables::{LoadedTables, loaded_tables};
 use crate::name_table::{count_in, count_of, count_out, replace_names};
@@ -219,14 +219,15 @@ impl IndexedRecords {
             &self.names,
             self.next,
         )?;
+        let LoadedNames { changed, old, new } = names;
         let copies = copy_records(self.alloc, text)?;
         self.records.reserve(copies.len())?;
-        self.names.reserve(names.new.len())?;
+        self.names.reserve(new.len())?;
         replace_tables(self.alloc, &mut self.sets, &mut self.bare, apex, text, sets)?;
-        replace_names(&mut self.names, &names.old, names.new);
+        replace_names(&mut self.names, &old, new);
         self.records.replace_within(apex, copies);
         self.next += count as u64;
-        Ok(names.changed)
+        Ok(changed)
     }
 
     // Replaces the records within the apex by those of a text, which are last, where they differ in the
@@ -246,33 +247,34 @@ impl IndexedRecords {
         ensures { IsReplaced (records_outside apex.now self.old.records ++ text.now)
             self.old self.new result }
     {
-        let old = records_of(self.alloc, self.records.as_slice(), owners)?;
-        let new = records_of(self.alloc, text, owners)?;
-        let old_sets = sets_of(self.alloc, &old, &self.sets)?;
+        let gone = records_of(self.alloc, self.records.as_slice(), owners)?;
+        let come = records_of(self.alloc, text, owners)?;
+        let gone_sets = sets_of(self.alloc, &gone, &self.sets)?;
         let LoadedTables { sets, count, names } = loaded_tables(
             self.alloc,
             apex,
-            &old,
-            &new,
-            &old_sets,
+            &gone,
+            &come,
+            &gone_sets,
             &self.names,
             self.next,
         )?;
+        let LoadedNames { changed, old, new } = names;
         let copies = copy_records(self.alloc, &text[patch.first..patch.last])?;
         self.records.reserve(copies.len())?;
-        self.names.reserve(names.new.len())?;
+        self.names.reserve(new.len())?;
         replace_owner_tables(
             self.alloc,
             &mut self.sets,
             &mut self.bare,
             owners,
-            &new,
+            &come,
             sets,
         )?;
-        replace_names(&mut self.names, &names.old, names.new);
+        replace_names(&mut self.names, &old, new);
         self.records.apply(apex, patch, copies);
         self.next += count as u64;
-        Ok(names.changed)
+        Ok(changed)
     }
 
     // Appends a record. Returns what it changed. Nothing is allocated where too few

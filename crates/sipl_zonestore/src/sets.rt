@@ -189,6 +189,7 @@ fn remove_owners(owners: &mut IndexMap<Name, OwnerSets>, names: &IndexSet<Name>)
     ensures space { spare owners.old ≤ spare owners.new }
 {
     for name in names.as_slice() {
-        owners.swap_remove(name);
+        let removed = owners.swap_remove(name);
+        drop(removed);
     }
 }

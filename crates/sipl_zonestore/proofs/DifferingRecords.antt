@@ -4,11 +4,13 @@ use Rattle.std.specs.List.{filter, list_any, list_all}
 use Rattle.std.proofs.lemmas.Bool.{cases_Bool}
 use Rattle.std.proofs.lemmas.List.{take_more, take-append-drop}
 use Rattle.std.proofs.lemmas.List.Elements.{filter-append}
-use Rattle.std.proofs.lemmas.List.Folds.{list_any_more}
+use Rattle.std.proofs.lemmas.List.Folds.{list_all-append, list_any_more}
 use Rattle.sipl_names.specs.Labels.{Labels, is_within, same_name}
 use Rattle.sipl_names.proofs.Public.{same_name_decides}
 use Rattle.sipl_records.specs.declared.record.Record.{Record}
-use Rattle.sipl_records.proofs.Public.{filter-weaker}
+use Rattle.std.specs.Bool.{OnTrue}
+use Rattle.sipl_records.specs.Sets.{same_record}
+use Rattle.sipl_records.proofs.Public.{filter-weaker, same_record-Decides}
 use Rattle.sipl_zonestore.specs.Differences.{AreWithin, records_besides}
 use Rattle.sipl_zonestore.proofs.Elements.{and_first, and_second, or_first, or_second}
 
@@ -102,3 +104,13 @@ owners-more records i r name old before after inside here before_is after_is =
       moved true false c = refl
       moved false true c = refl
       moved false false c = refl
+
+pub drop-all : {X : Type 0} (p : X → Bool) (n : ℕ) (xs : List X) → list_all p xs ≡ true → list_all p (drop n xs) ≡ true
+drop-all p n xs all =
+    and_second (list_all p (take n xs)) (list_all p (drop n xs)) (sym (list_all-append p (take n xs) (drop n xs)) ∙ ap (list_all p) (take-append-drop n xs) ∙ all)
+
+-- the record that is sought is the next one of a text
+pub at-is : (b : Bool) (text : List Record) (place : ℕ) (found sought : Record) → place < length text → found ≡ get_or text place found → b ≡ same_record found sought → OnTrue b ((place < length text) × (take (place + 1) text ≡ take place text ++ sought ∷ []))
+at-is false text place found sought inside here is = tt
+at-is true text place found sought inside here is =
+    (inside, next-is text place found inside here ∙ ap (λ s. take place text ++ s ∷ []) ((same_record-Decides found sought).0 (sym is)))

@@ -1,16 +1,17 @@
 -- How a text comes into a list in which the records of its zone are last.
 use Rattle.std.proofs.Common.{◌≡◌, ℕ, ◌+◌, ◌-◌, ◌<◌, ◌≤◌, Bool, true, false, not, ◌&&◌, List, [], ◌∷◌, ◌++◌, length, take, drop, get_or, refl, ap, subst, sym, ◌∙◌, arith, append-nil, append_assoc, length-append, length-take}
 use Rattle.std.specs.List.{filter, list_any, list_all, slice_range}
-use Rattle.std.proofs.lemmas.List.{drop-append-le, drop-drop, drop_at, length-drop, take-append-drop, take-append-le, take_all, take_at, take_more}
+use Rattle.std.proofs.lemmas.List.{drop-append-le, drop-drop, drop_at, drop_more, length-drop, take-append-drop, take-append-le, take_all, take_at, take_more}
 use Rattle.std.proofs.lemmas.List.Elements.{filter-append}
 use Rattle.std.proofs.lemmas.List.Folds.{drop_split, list_all-append, list_any_more}
-use Rattle.std.proofs.Math.Seq.{drop-length}
+use Rattle.std.proofs.Math.Seq.{drop-length, take-add}
 use Rattle.sipl_names.specs.Labels.{Labels, is_within}
 use Rattle.sipl_records.specs.declared.record.Record.{Record}
 use Rattle.sipl_records.proofs.Public.{filter-all}
 use Rattle.sipl_zonestore.specs.Patches.{IsPatch}
 use Rattle.sipl_zonestore.specs.Store.{records_outside, records_within}
 use Rattle.sipl_zonestore.specs.declared.patches.Patch.{Patch}
+use Rattle.sipl_zonestore.proofs.DifferingRecords.{next-is}
 use Rattle.sipl_zonestore.proofs.Elements.{and_first, and_second}
 use Rattle.sipl_zonestore.proofs.NameTables.{filter-nothing}
 use Rattle.sipl_zonestore.proofs.SameRecords.{none_outside, outside}
@@ -114,6 +115,41 @@ nothing-patched apex records text patch is last old new =
 pub end-is : (xs : List Record) (start rest : ℕ) → start ≤ length xs → rest ≤ length (drop start xs) → drop (length (drop start xs) - rest) (drop start xs) ≡ drop (length xs - rest) xs
 end-is xs start rest within few =
     drop-drop (length (drop start xs) - rest) start xs ∙ ap (λ n. drop n xs) (omega (arith, length-drop start xs, within, few))
+
+-- what the lists have in common, and what is between
+pub found-patch : (apex : Labels) (records text zone a b old : List Record) (place same ends : ℕ) → zone ≡ drop place records → a ≡ drop same zone → b ≡ drop same text → old ≡ slice_range zone same (length zone - ends) → place ≤ length records → list_any (λ r. is_within r.owner apex) (take place records) ≡ false → same ≤ length zone → same ≤ length text → take same zone ≡ take same text → ends ≤ length a → ends ≤ length b → drop (length a - ends) a ≡ drop (length b - ends) b → list_all (λ r. is_within r.owner apex) old ≡ true → list_all (λ r. is_within r.owner apex) text ≡ true → IsPatch apex records text (record { start = place + same; end = length records - ends; first = same; last = length text - ends; is_last = true })
+found-patch apex records text zone a b old place same ends zone_is a_is b_is old_is limit none fits text_fits starts few text_few last olds all =
+    let a_at : a ≡ drop (place + same) records = a_is ∙ ap (drop same) zone_is ∙ drop-drop same place records in
+    let count : length zone ≡ length records - place = ap length zone_is ∙ length-drop place records in
+    let long : length a ≡ length records - (place + same) = ap length a_at ∙ length-drop (place + same) records in
+    let text_long : length b ≡ length text - same = ap length b_is ∙ length-drop same text in
+    let within : place + same ≤ length records = omega (arith, count, limit, fits) in
+    last-patch apex records text (take place records) (record { start = place + same; end = length records - ends; first = same; last = length text - ends; is_last = true }) refl (omega arith) (omega arith) record {
+      order = omega (arith, long, few, within);
+      text_order = omega (arith, text_long, text_few, text_fits);
+      all = all;
+      none = none;
+      olds = ap (list_all (λ r. is_within r.owner apex)) ((λ i. take (between (length records) (length zone) place same ends count limit i) (sym (ap (drop same) zone_is ∙ drop-drop same place records) i)) ∙ sym old_is) ∙ olds;
+      starts = take-add place same records ∙ ap (λ rs. take place records ++ rs) (ap (take same) (sym zone_is) ∙ starts);
+      ends = sym (end-is records (place + same) ends within (subst (λ rs. ends ≤ length rs) a_at few)) ∙ ap (λ rs. drop (length rs - ends) rs) (sym a_at) ∙ last ∙ ap (λ rs. drop (length rs - ends) rs) b_is ∙ end-is text same ends text_fits (subst (λ rs. ends ≤ length rs) b_is text_few);
+    }
+  where
+    between : (n zone place same ends : ℕ) → zone ≡ n - place → place ≤ n → (n - ends) - (place + same) ≡ (zone - ends) - same
+    between n zone place same ends count limit = omega (arith, count, limit)
+
+-- one record more that lists have in common at their starts
+pub take-both : (a b : List Record) (count : ℕ) (x y : Record) → count < length a → count < length b → x ≡ get_or a count x → y ≡ get_or b count y → x ≡ y → take count a ≡ take count b → take (count + 1) a ≡ take (count + 1) b
+take-both a b count x y in_a in_b x_is y_is equal same = next-is a count x in_a x_is ∙ (λ i. same i ++ equal i ∷ []) ∙ sym (next-is b count y in_b y_is)
+
+-- or at their ends
+end-more : (a : List Record) (count : ℕ) (x : Record) → count < length a → x ≡ get_or a (length a - 1 - count) x → drop (length a - (count + 1)) a ≡ x ∷ drop (length a - count) a
+end-more a count x inside here =
+    ap (λ n. drop n a) (omega (arith, inside)) ∙ drop_more a (length a - 1 - count) x (omega (arith, inside)) ∙ (λ i. sym here i ∷ drop (next i) a) where
+      next : (length a - 1 - count) + 1 ≡ length a - count
+      next = omega (arith, inside)
+
+pub drop-both : (a b : List Record) (count : ℕ) (x y : Record) → count < length a → count < length b → x ≡ get_or a (length a - 1 - count) x → y ≡ get_or b (length b - 1 - count) y → x ≡ y → drop (length a - count) a ≡ drop (length b - count) b → drop (length a - (count + 1)) a ≡ drop (length b - (count + 1)) b
+drop-both a b count x y in_a in_b x_is y_is equal same = end-more a count x in_a x_is ∙ (λ i. equal i ∷ same i) ∙ sym (end-more b count y in_b y_is)
 
 -- ---- a list that is changed in place
 
