@@ -36,7 +36,7 @@ filter-fails q p fails [] all = refl
 filter-fails q p fails (x ∷ xs) all =
     rw (fails x (and_first (q x) (list_all q xs) all)) (filter-fails q p fails xs (and_second (q x) (list_all q xs) all))
 
-all-filter : {X : Type 0} (q p : X → Bool) (xs : List X) → list_all q xs ≡ true → list_all q (filter p xs) ≡ true
+pub all-filter : {X : Type 0} (q p : X → Bool) (xs : List X) → list_all q xs ≡ true → list_all q (filter p xs) ≡ true
 all-filter q p [] all = refl
 all-filter q p (x ∷ xs) all = elim (cases_Bool (p x)) [
   | inl kept ↦ rw kept (rw (and_first (q x) (list_all q xs) all) (all-filter q p xs (and_second (q x) (list_all q xs) all)))

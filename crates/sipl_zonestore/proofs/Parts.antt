@@ -1,5 +1,5 @@
 -- A load that changes the records of some owners alone is worked out on these.
-use Rattle.std.proofs.Common.{◌≡◌, ℕ, ◌+◌, ◌-◌, ◌≤◌, Bool, true, false, not, ◌&&◌, ◌||◌, List, [], ◌∷◌, ◌++◌, length, map, nat_eq, if◌then◌else◌, refl, ap, sym, ◌∙◌, inl, inr, arith, append-nil}
+use Rattle.std.proofs.Common.{◌≡◌, ℕ, ◌+◌, ◌-◌, ◌^◌, ◌≤◌, Bool, true, false, not, ◌&&◌, ◌||◌, List, [], ◌∷◌, ◌++◌, length, map, nat_eq, nat_lt, None, Some, if◌then◌else◌, refl, ap, subst, sym, ◌∙◌, inl, inr, arith, append-nil}
 use Rattle.std.specs.List.{filter, filter_map, list_any, list_all, position_from}
 use Rattle.std.specs.Option.{unwrap_or}
 use lib.Pointwise.{pointwise}
@@ -9,6 +9,7 @@ use Rattle.std.proofs.lemmas.List.{map-append}
 use Rattle.std.proofs.lemmas.List.Concat.{flat_map-append}
 use Rattle.std.proofs.lemmas.List.Elements.{filter_agree, filter-append}
 use Rattle.std.proofs.lemmas.List.Folds.{list_any-append}
+use Rattle.std.proofs.lemmas.List.Sums.{count_by-le-length, length-filter}
 use Rattle.sipl_names.specs.Labels.{Labels, is_within, same_name}
 use Rattle.sipl_records.specs.declared.record.Record.{Record}
 use Rattle.sipl_records.specs.declared.record.Key.{Key}
@@ -16,20 +17,22 @@ use Rattle.sipl_records.specs.Sets.{data_of, exists_in, key_of, same_data, same_
 use Rattle.sipl_records.specs.Unique.{unique}
 use Rattle.sipl_records.proofs.Public.{data_of-filter_owner, filter-filter, filter-none, filter-swap, key_of-name, unique-filter}
 use Rattle.sipl_zonestore.specs.BareOwners.{HasBare, is_bare_at}
-use Rattle.sipl_zonestore.specs.Changes.{changed_existence, changed_names, changed_sets, existence_key, existing_names, is_changed, with_ancestors}
-use Rattle.sipl_zonestore.specs.Content.{Content, carried}
+use Rattle.sipl_zonestore.specs.Changes.{changed_count, changed_existence, changed_keys, changed_names, changed_sets, existence_key, existing_names, is_changed, with_ancestors}
+use Rattle.sipl_zonestore.specs.Content.{Content, carried, no_content}
 use Rattle.sipl_zonestore.specs.Differences.{DifferAt, records_besides, records_of}
-use Rattle.sipl_zonestore.specs.Loading.{existence_changed}
+use Rattle.sipl_zonestore.specs.Loading.{content_loaded, existence_changed}
 use Rattle.sipl_zonestore.specs.NameTable.{NameTable, HasNames, count_at, count_within}
-use Rattle.sipl_zonestore.specs.Numbers.{is_empty, numbered_keys, set_number_after}
+use Rattle.sipl_zonestore.specs.Numbers.{is_empty, number_refusal, numbered_keys, set_number_after}
 use Rattle.sipl_zonestore.specs.SetTable.{OwnerTable, HasSets, content_of}
 use Rattle.sipl_zonestore.specs.Store.{records_outside, records_within}
+use Rattle.sipl_zonestore.specs.declared.fault.StoreFault.{StoreFault}
+use Rattle.sipl_zonestore.specs.declared.fault.StoreFault.TheVariants.{NumberSpent}
 use Rattle.sipl_zonestore.proofs.AncestorCounts.{count-append, count-exists, count-parts}
 use Rattle.sipl_zonestore.proofs.BareOwners.{bare-filter}
 use Rattle.sipl_zonestore.proofs.ChangedKeys.{keys-part, respects, set-inside, set-outside}
 use Rattle.sipl_zonestore.proofs.ChangedNames.{changed-split, exists-filter, filter-fails, go-parts, is_absent, names-exist_in, names_of, respects_name}
 use Rattle.sipl_zonestore.proofs.NameTables.{both_zero}
-use Rattle.sipl_zonestore.proofs.Replacing.{empty-number}
+use Rattle.sipl_zonestore.proofs.Replacing.{IsReplacement, empty-number, loaded-none}
 use Rattle.sipl_zonestore.proofs.SameSets.{same_set-refl}
 
 -- the records after the load of a text
@@ -168,6 +171,10 @@ pub part-names : (apex : Labels) (q : Labels → Bool) (old text : List Record) 
 part-names apex q old text names gone come names' differ has has_gone has_come counted name =
     omega (arith, counted name, has name, has_gone name, has_come name, count-old q old name, count-new apex q old text differ name)
 
+pub few-filter : (q : Labels → Bool) (text seen : List Record) → seen ≡ records_of q text → length seen ≤ length text
+few-filter q text seen seen_is =
+    omega (arith, ap length seen_is, length-filter (λ r. q r.owner) text, count_by-le-length (λ r. q r.owner) text)
+
 -- ---- the names that change
 
 fewer : (m n : ℕ) → m ≤ n → nat_eq n 0 ≡ true → nat_eq m 0 ≡ true
@@ -267,3 +274,45 @@ part-differ apex q records text old new first last zone whole differ =
     besides-parts : (a b c : List Record) → records_besides q (a ++ (b ++ c)) ≡ records_besides q a ++ (records_besides q b ++ records_besides q c)
     besides-parts a b c =
         filter-append (λ r. not (q r.owner)) a (b ++ c) ∙ ap (λ rs. records_besides q a ++ rs) (filter-append (λ r. not (q r.owner)) b c)
+
+-- ---- what the load makes of the tables, worked out on the records of the owners
+
+-- the numbers that it takes are those that the whole load takes
+pub part-counted : (apex : Labels) (q : Labels → Bool) (old text : List Record) (count : ℕ) → list_all (λ r. is_within r.owner apex) text ≡ true → DifferAt apex q old text → count ≡ length (numbered_keys (records_of q old) (records_outside apex (records_of q old) ++ records_of q text)) → count ≡ length (numbered_keys old (after_text apex old text))
+part-counted apex q old text count all differ counted =
+    counted ∙ ap (λ rs. length (numbered_keys (records_of q old) (rs ++ records_of q text))) (part-outside_none apex q old text differ) ∙ ap length (sym (part-numbered apex q old text all differ))
+
+-- and where too few are left for it, too few are for the load
+pub part-refused : (apex : Labels) (q : Labels → Bool) (old text : List Record) (next : ℕ) (fault : StoreFault) → list_all (λ r. is_within r.owner apex) text ≡ true → DifferAt apex q old text → number_refusal (records_of q old) (records_outside apex (records_of q old) ++ records_of q text) next ≡ Some fault → number_refusal old (after_text apex old text) next ≡ Some fault
+part-refused apex q old text next fault all differ why =
+    ap (λ (keys : List Key). if nat_lt (2 ^ 52 + 1) (next + length keys) then Some NumberSpent else None) (part-numbered apex q old text all differ ∙ ap (λ rs. numbered_keys (records_of q old) (rs ++ records_of q text)) (sym (part-outside_none apex q old text differ))) ∙ why
+
+-- what it changes is what the load changes
+pub part-keys_changed : (apex : Labels) (q : Labels → Bool) (old text : List Record) (names gone_names come_names : NameTable) (keys : List Key) → list_all (λ r. is_within r.owner apex) text ≡ true → DifferAt apex q old text → HasNames names old → HasNames gone_names (records_within apex (records_of q old)) → HasNames come_names (records_of q text) → keys ≡ changed_sets (records_of q old) (records_outside apex (records_of q old) ++ records_of q text) ++ existence_changed names gone_names come_names (existing_names (records_within apex (records_of q old))) (existing_names (records_of q text)) → keys ≡ changed_keys old (after_text apex old text)
+part-keys_changed apex q old text names gone_names come_names keys all differ has has_gone has_come changed =
+    changed
+    ∙ (λ i. changed_sets (records_of q old) (part-outside_none apex q old text differ i ++ records_of q text) ++ existence_changed names gone_names come_names (existing_names (part-within apex q old text differ i)) (existing_names (records_of q text)))
+    ∙ (λ i. sym (part-changed apex q old text all differ) i ++ part-existence apex q old text names gone_names come_names differ has (subst (HasNames gone_names) (part-within apex q old text differ) has_gone) has_come i)
+
+pub part-sets_changed : (apex : Labels) (q : Labels → Bool) (old text : List Record) (sets : ℕ) → list_all (λ r. is_within r.owner apex) text ≡ true → DifferAt apex q old text → sets ≡ changed_count (records_of q old) (records_outside apex (records_of q old) ++ records_of q text) → sets ≡ changed_count old (after_text apex old text)
+part-sets_changed apex q old text sets all differ changed =
+    changed ∙ ap (λ rs. changed_count (records_of q old) (rs ++ records_of q text)) (part-outside_none apex q old text differ) ∙ ap length (sym (part-changed apex q old text all differ))
+
+-- the sets that it makes are those of the load
+pub part-replacement : (apex : Labels) (q : Labels → Bool) (old text : List Record) (next : ℕ) (sets part loaded replaced : OwnerTable) → list_all (λ r. is_within r.owner apex) text ≡ true → DifferAt apex q old text → HasSets sets old → ((key : Key) → content_of part key ≡ carried (content_of sets key).number (data_of (records_of q old) key)) → ((key : Key) → content_of loaded key ≡ content_loaded part (records_of q old) (records_outside apex (records_of q old) ++ records_of q text) (records_of q text) next key) → ((key : Key) → content_of replaced key ≡ (if q key.name then content_of loaded key else content_of sets key)) → IsReplacement q old (after_text apex old text) (records_of q text) next sets loaded replaced
+part-replacement apex q old text next sets part loaded replaced all differ has made taken put =
+    record {
+      of_text = part-new apex q old text differ;
+      kept = part-kept apex q old text all differ;
+      has_sets = has;
+      taken = λ key own.
+          taken key
+          ∙ ap (λ rs. content_loaded part (records_of q old) (rs ++ records_of q text) (records_of q text) next key) (part-outside_none apex q old text differ)
+          ∙ ap (λ n. carried n (data_of (records_of q text) key)) (part-number apex q old text next (λ key. (content_of part key).number) (λ key. (content_of sets key).number) all differ key own (part-numbers q old sets part has made key own));
+      put = put;
+    }
+
+-- and none of another owner
+pub part-none : (apex : Labels) (q : Labels → Bool) (old text : List Record) (next : ℕ) (part loaded : OwnerTable) → ((key : Key) → content_of loaded key ≡ content_loaded part (records_of q old) (records_outside apex (records_of q old) ++ records_of q text) (records_of q text) next key) → (key : Key) → q key.name ≡ false → content_of loaded key ≡ no_content
+part-none apex q old text next part loaded taken key other =
+    taken key ∙ loaded-none part (records_of q old) (records_outside apex (records_of q old) ++ records_of q text) (records_of q text) next key (data_of-filter_owner q text key ∙ rw other refl)
