@@ -238,8 +238,9 @@ part-bare apex q old text before after differ has put name =
       any : List Record → Bool
       any records = list_any (is_bare_at name) records
 
-      nothing : (b : Bool) → (false || b) ≡ b
-      nothing b = refl
+      last : (b : Bool) → (b || false) ≡ b
+      last true = refl
+      last false = refl
 
       by_case : (b c : Bool) → q name ≡ b → is_within name apex ≡ c → (not b && any old || any (records_of q text)) ≡ (any (records_outside apex old) || any text)
       by_case true c own is =
@@ -256,10 +257,6 @@ part-bare apex q old text before after differ has put name =
           ap (λ b. any old || b) (bare-filter q false name other text)
           ∙ ap (λ b. b || false) (sym (bare-filter (λ n. not (is_within n apex)) true name (ap not is) old))
           ∙ ap (λ b. any (records_outside apex old) || b) (sym (bare-filter (λ n. is_within n apex) false name is old) ∙ sym (bare-filter (λ n. not (q n)) true name (ap not other) (records_within apex old)) ∙ ap any differ.same ∙ bare-filter (λ n. not (q n)) true name (ap not other) text)
-
-      last : (b : Bool) → (b || false) ≡ b
-      last true = refl
-      last false = refl
 
 -- ---- a part of the zone and of the text
 

@@ -109,7 +109,8 @@ nothing-patched apex records text patch is last old new =
     let none : slice_range text patch.first patch.last ≡ [] = no_part text patch.first patch.last new in
     sym is.replaced ∙ rw last (ap (λ rs. take patch.start records ++ (rs ++ drop patch.end records)) none ∙ ap (λ n. take patch.start records ++ drop n records) (sym old) ∙ take-append-drop patch.start records) where
       no_part : (xs : List Record) (first last : ℕ) → first ≡ last → slice_range xs first last ≡ []
-      no_part xs first last same = ap (λ n. take n (drop first xs)) (omega (arith, same))
+      no_part xs first last same =
+          let none : last - first ≡ 0 = omega (arith, same) in ap (λ n. take n (drop first xs)) none
 
 -- the place of the end
 pub end-is : (xs : List Record) (start rest : ℕ) → start ≤ length xs → rest ≤ length (drop start xs) → drop (length (drop start xs) - rest) (drop start xs) ≡ drop (length xs - rest) xs
@@ -159,7 +160,7 @@ spliced xs ys zs us vs start end added removed order limit added_is removed_is z
     let front : take end zs ≡ take end xs = ap (take end) zs_is ∙ take-append-le end xs ys limit in
     let back : drop end zs ≡ drop end xs ++ ys = ap (drop end) zs_is ∙ drop-append-le end xs ys limit in
     let rest : length (drop end zs) - added ≡ length (drop end xs) = omega (arith, ap length back, length-append (drop end xs) ys, added_is) in
-    let us_are : us ≡ take end xs ++ (ys ++ drop end xs) = us_is ∙ (λ i. front i ++ ((λ j. drop (rest j) (back j)) i ++ (λ j. take (rest j) (back j)) i)) ∙ (λ i. take end xs ++ (drop_at (drop end xs) ys (length (drop end xs)) refl i ++ take_at (drop end xs) ys (length (drop end xs)) refl i)) in
+    let us_are : us ≡ take end xs ++ (ys ++ drop end xs) = us_is ∙ (λ i. front i ++ (drop (rest i) (back i) ++ take (rest i) (back i))) ∙ (λ i. take end xs ++ (drop_at (drop end xs) ys (length (drop end xs)) refl i ++ take_at (drop end xs) ys (length (drop end xs)) refl i)) in
     let shorter : start ≤ length (take end xs) = omega (arith, order, limit, length-take end xs) in
     let first : take start us ≡ take start xs = ap (take start) us_are ∙ take-append-le start (take end xs) (ys ++ drop end xs) shorter ∙ sym (take-append-le start (take end xs) (drop end xs) shorter) ∙ ap (take start) (take-append-drop end xs) in
     let behind : drop start us ≡ drop start (take end xs) ++ (ys ++ drop end xs) = ap (drop start) us_are ∙ drop-append-le start (take end xs) (ys ++ drop end xs) shorter in

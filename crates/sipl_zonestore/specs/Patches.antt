@@ -8,7 +8,7 @@ use Rattle.sipl_zonestore.specs.declared.patches.Patch.{Patch}
 -- the list with new records in place of a part of it, or of those within the apex
 abbrev pub patched : Labels → List Record → Patch → List Record → List Record
 patched apex records patch new =
-    if patch.is_last then take patch.start records ++ new ++ drop patch.end records
+    if patch.is_last then take patch.start records ++ (new ++ drop patch.end records)
     else records_outside apex records ++ new
 
 -- The parts are within the list and the text. With the part of the text the list is as the load leaves it, and
@@ -21,4 +21,4 @@ pub record IsPatch (apex : Labels) (records text : List Record) (patch : Patch) 
   pub replaced : patched apex records patch (slice_range text patch.first patch.last)
       ≡ records_outside apex records ++ text
   pub zone : records_within apex records ≡ take patch.first text
-      ++ records_within apex (slice_range records patch.start patch.end) ++ drop patch.last text
+      ++ (records_within apex (slice_range records patch.start patch.end) ++ drop patch.last text)

@@ -151,7 +151,7 @@ impl RecordList {
         requires order { start ≤ end }
         requires limit { end ≤ length self.old.records }
         ensures { self.new.records
-            ≡ take start self.old.records ++ new.items ++ drop end self.old.records }
+            ≡ take start self.old.records ++ (new.items ++ drop end self.old.records) }
     {
         compact(&mut self.records, &mut self.codes, self.len);
         let added = new.len();
@@ -169,7 +169,7 @@ fn move_last<T: Drop>(items: &mut Vec<T>, start: usize, end: usize, added: usize
     requires order { start ≤ end }
     requires limit { end + added ≤ vec_len items.old }
     ensures items { (kept last : List T) → items.old.items ≡ kept ++ last → length last ≡ added
-        → items.new.items ≡ take start kept ++ last ++ drop end kept }
+        → items.new.items ≡ take start kept ++ (last ++ drop end kept) }
     ensures capacity { vec_capacity items.new ≡ vec_capacity items.old }
 {
     let removed = end - start;
