@@ -18,7 +18,8 @@ invariant_of-self c =
     let old = c.compact.new.records.items in
     let codes = c.compact.new.codes.items in
     let new = c.args.new.items in
-    let records_are : c.move_last-2.new.items.items ≡ take c.args.start old ++ (new ++ drop c.args.end old) = c.move_last-2.ensures.items old new c.append.ensures.items (omega (arith, c.args.new.ok.0, c.len-added.ensures)) in
+    let appended : c.append.new.self.items ≡ old ++ new = rw c.unwrap.ensures at c.append.ensures.items in
+    let records_are : c.move_last-2.new.items.items ≡ take c.args.start old ++ (new ++ drop c.args.end old) = c.move_last-2.ensures.items old new appended (omega (arith, c.args.new.ok.0, c.len-added.ensures)) in
     let old_codes : codes ≡ codes_of old = codes-whole old codes (c.compact.ensures.long ∙ c.compact.new.records.ok.0) c.compact.ensures.whole in
     let codes_are : c.move_last.new.items.items ≡ codes_of c.move_last-2.new.items.items = c.move_last.ensures.items codes (codes_of new) (c.push_codes.ensures.codes ∙ ap (λ rs. codes ++ codes_of rs) c.deref.ensures.value) (length-codes_of new ∙ omega (arith, c.args.new.ok.0, c.len-added.ensures)) ∙ ap (λ cs. take c.args.start cs ++ (codes_of new ++ drop c.args.end cs)) old_codes ∙ sym (codes-replaced old new c.args.start c.args.end) ∙ ap codes_of (sym records_are) in
     record {
@@ -31,7 +32,8 @@ returns c =
     let old = c.compact.new.records.items in
     let codes = c.compact.new.codes.items in
     let new = c.args.new.items in
-    let records_are : c.move_last-2.new.items.items ≡ take c.args.start old ++ (new ++ drop c.args.end old) = c.move_last-2.ensures.items old new c.append.ensures.items (omega (arith, c.args.new.ok.0, c.len-added.ensures)) in
+    let appended : c.append.new.self.items ≡ old ++ new = rw c.unwrap.ensures at c.append.ensures.items in
+    let records_are : c.move_last-2.new.items.items ≡ take c.args.start old ++ (new ++ drop c.args.end old) = c.move_last-2.ensures.items old new appended (omega (arith, c.args.new.ok.0, c.len-added.ensures)) in
     let old_codes : codes ≡ codes_of old = codes-whole old codes (c.compact.ensures.long ∙ c.compact.new.records.ok.0) c.compact.ensures.whole in
     let codes_are : c.move_last.new.items.items ≡ codes_of c.move_last-2.new.items.items = c.move_last.ensures.items codes (codes_of new) (c.push_codes.ensures.codes ∙ ap (λ rs. codes ++ codes_of rs) c.deref.ensures.value) (length-codes_of new ∙ omega (arith, c.args.new.ok.0, c.len-added.ensures)) ∙ ap (λ cs. take c.args.start cs ++ (codes_of new ++ drop c.args.end cs)) old_codes ∙ sym (codes-replaced old new c.args.start c.args.end) ∙ ap codes_of (sym records_are) in
     rw (← c.self.view_is) (ap (live c.move_last-2.new.items.items) codes_are ∙ live-all c.move_last-2.new.items.items ∙ records_are ∙ ap (λ rs. take c.args.start rs ++ (new ++ drop c.args.end rs)) c.compact.ensures.records)
