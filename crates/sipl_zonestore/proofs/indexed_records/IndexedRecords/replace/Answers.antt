@@ -28,7 +28,7 @@ loaded_tables-requires-clause-sets c = subst (HasSets c.self.inside.sets) (sym c
 pub returns-in_err-sets : goal.returns-in_err-sets
 returns-in_err-sets c =
     let p = err_from_is_err_and c.from_residual.result c.from_residual.ensures.1 in
-    rw (p.1, p.2, ← c.self.view_is) (refused (records_outside c.args.apex.now c.self.inside.records.records ++ c.args.text.now) _ _ c.in_err-sets.field-0.0 (subst (λ rs. c.in_err-sets.field-0.0 ≢ Memory → number_refusal rs (records_outside c.args.apex.now rs ++ c.args.text.now) c.self.inside.next ≡ Some c.in_err-sets.field-0.0) c.as_slice.ensures.value c.in_err-sets.ensures) (λ i. record { records = c.as_slice.follows.holds-at-none i; numbers = numbers_of c.self.inside.sets; next = c.self.inside.next }))
+    rw (p.1, p.2, ← c.self.view_is) (refused (records_outside c.args.apex.now c.self.inside.records.records ++ c.args.text.now) _ _ c.in_err-sets.field-0.0 (subst (λ rs. c.in_err-sets.field-0.0 ≢ Memory → number_refusal rs (records_outside c.args.apex.now rs ++ c.args.text.now) c.self.inside.next ≡ Some c.in_err-sets.field-0.0) c.as_slice.ensures.value c.in_err-sets.ensures.refused) (λ i. record { records = c.as_slice.follows.holds-at-none i; numbers = numbers_of c.self.inside.sets; next = c.self.inside.next }))
 
 pub replace_tables-requires : goal.replace_tables-requires
 replace_tables-requires c = λ key outside.

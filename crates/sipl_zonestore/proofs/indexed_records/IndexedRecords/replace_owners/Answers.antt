@@ -57,7 +57,7 @@ returns-in_err-sets c =
     let gone : c.deref-2.result.now ≡ records_of q old = c.deref-2.ensures.value ∙ c.in_ok-gone.ensures ∙ ap (records_of q) c.as_slice.ensures.value in
     let come : c.deref-3.result.now ≡ records_of q c.args.text.now = c.deref-3.ensures.value ∙ c.in_ok-come.ensures in
     let p = err_from_is_err_and c.from_residual-in_err-sets.result c.from_residual-in_err-sets.ensures.1 in
-    rw (p.1, p.2, ← c.self.view_is) (refused (records_outside apex old ++ c.args.text.now) _ _ c.in_err-sets.field-0.0 (λ some. part-refused apex q old c.args.text.now c.self.inside.next c.in_err-sets.field-0.0 c.requires.within differ ((λ i. number_refusal (sym gone i) (records_outside apex (sym gone i) ++ sym come i) c.self.inside.next) ∙ c.in_err-sets.ensures some)) (λ i. record { records = c.as_slice.follows.holds-at-none i; numbers = numbers_of c.self.inside.sets; next = c.self.inside.next }))
+    rw (p.1, p.2, ← c.self.view_is) (refused (records_outside apex old ++ c.args.text.now) _ _ c.in_err-sets.field-0.0 (λ some. part-refused apex q old c.args.text.now c.self.inside.next c.in_err-sets.field-0.0 c.requires.within differ ((λ i. number_refusal (sym gone i) (records_outside apex (sym gone i) ++ sym come i) c.self.inside.next) ∙ c.in_err-sets.ensures.refused some)) (λ i. record { records = c.as_slice.follows.holds-at-none i; numbers = numbers_of c.self.inside.sets; next = c.self.inside.next }))
 
 pub replace_owner_tables-requires : goal.replace_owner_tables-requires
 replace_owner_tables-requires c =
