@@ -163,6 +163,15 @@ impl RecordList {
     }
 }
 
+// Moves so many of the items from a start on behind the others.
+fn rotate_from<T>(items: &mut [T], start: usize, count: usize)
+    requires { start + count ≤ length items.old }
+    ensures { items.new ≡ take start items.old
+        ++ (drop count (drop start items.old) ++ take count (drop start items.old)) }
+{
+    items[start..].rotate_left(count);
+}
+
 // Puts the last items, of which there are so many, in the place of those from a start to an end. Does not
 // allocate.
 fn move_last<T: Drop>(items: &mut Vec<T>, start: usize, end: usize, added: usize)
@@ -173,8 +182,9 @@ fn move_last<T: Drop>(items: &mut Vec<T>, start: usize, end: usize, added: usize
     ensures capacity { vec_capacity items.new ≡ vec_capacity items.old }
 {
     let removed = end - start;
-    items[end..].rotate_right(added);
-    items[start..].rotate_left(removed);
+    let rest = items.len() - end - added;
+    rotate_from(items, end, rest);
+    rotate_from(items, start, removed);
     items.truncate(items.len() - removed);
 }
 
