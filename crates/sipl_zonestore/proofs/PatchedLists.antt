@@ -170,3 +170,10 @@ spliced xs ys zs us vs start end added removed order limit added_is removed_is z
     in
     let kept : length vs - removed ≡ length (take start xs ++ (ys ++ drop end xs)) = omega (arith, ap length vs_are, length-append (take start xs ++ (ys ++ drop end xs)) (drop start (take end xs)), cut) in
     (λ i. take (kept i) (vs_are i)) ∙ take_at (take start xs ++ (ys ++ drop end xs)) (drop start (take end xs)) (length (take start xs ++ (ys ++ drop end xs))) refl
+
+-- a patch that changes nothing leaves the records as they are
+pub empty-patch : (apex : Labels) (records text : List Record) (patch : Patch) → patch.is_last ≡ true → patch.start ≡ patch.end → patch.first ≡ patch.last → IsPatch apex records text patch → records_outside apex records ++ text ≡ records
+empty-patch apex records text patch is_last old new is =
+    sym is.replaced ∙ rw is_last (ap (λ rs. take patch.start records ++ (rs ++ drop patch.end records)) (no-part patch.first patch.last new) ∙ ap (λ n. take patch.start records ++ drop n records) (sym old) ∙ take-append-drop patch.start records) where
+      no-part : (first last : ℕ) → first ≡ last → slice_range text first last ≡ []
+      no-part first last same = let none : last - first ≡ 0 = omega (arith, same) in ap (λ n. take n (drop first text)) none
