@@ -2,6 +2,7 @@
 mod edits;
 mod existence;
 mod numbers;
+mod reloads;
 mod seeds;
 
 ghost use Rattle.std.specs.Prelude.{◌^◌, ◌≤◌};

@@ -130,6 +130,26 @@ pub bare-removed : (old : List Record) (r : Record) (before after : Labels → B
 bare-removed old r before after has less name =
     less name ∙ ap (λ any. not (is_bare_at name r) && any) (has name) ∙ sym (any-filter_tied (is_bare_at name) (λ x. not (same_record r x)) (not (is_bare_at name r)) (λ x there. ap not (one_bare r x name there)) old)
 
+-- the owner of such a record
+pub bare-owner : (r : Record) (name : Labels) → is_bare_at name r ≡ true → name ≡ r.owner
+bare-owner r name there = (same_name_decides name r.owner).0 (and_first (same_name name r.owner) (not (has_some_kind r.value)) there)
+
+-- of the records of some owners such a record is where its owner is one of them
+pub bare-filter : (q : Labels → Bool) (b : Bool) (name : Labels) → q name ≡ b → (records : List Record) → list_any (is_bare_at name) (filter (λ r. q r.owner) records) ≡ (b && list_any (is_bare_at name) records)
+bare-filter q b name is records =
+    any-filter_tied (is_bare_at name) (λ r. q r.owner) b (λ r there. ap q (sym (bare-owner r name there)) ∙ is) records
+
+-- owners were removed one by one
+pub bare-more : (names : List Labels) (i : ℕ) (own name : Labels) (old before after : Bool) → i < length names → own ≡ get_or names i own → before ≡ (not (list_any (same_name name) (take i names)) && old) → after ≡ cond (same_name own name) false before → after ≡ (not (list_any (same_name name) (take (i + 1) names)) && old)
+bare-more names i own name old before after inside here before_is after_is =
+    after_is ∙ by_case (list_any (same_name name) (take i names)) (same_name own name) before_is
+    ∙ ap (λ b. not b && old) (sym (list_any_more (same_name name) names i own inside ∙ ap (λ n. list_any (same_name name) (take i names) || same_name name n) (sym here) ∙ ap (λ b. list_any (same_name name) (take i names) || b) (same_name-sym name own))) where
+      by_case : (a b : Bool) → before ≡ (not a && old) → cond b false before ≡ (not (a || b) && old)
+      by_case true true is = refl
+      by_case true false is = is
+      by_case false true is = refl
+      by_case false false is = is
+
 -- those within an apex are replaced
 pub bare-replaced : (apex : Labels) (old text : List Record) (before texts after : Labels → Bool) → HasBare before old → HasBare texts text → ((name : Labels) → after name ≡ (not (is_within name apex) && before name || texts name)) → HasBare after (records_outside apex old ++ text)
 bare-replaced apex old text before texts after has has_text put name =

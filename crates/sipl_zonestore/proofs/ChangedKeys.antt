@@ -21,7 +21,7 @@ use Rattle.sipl_zonestore.proofs.Keys.{same_key-trans, list_any-filter_map}
 use Rattle.sipl_zonestore.proofs.SameSets.{same_set-refl, same_set-true, same_set-push}
 
 -- a test sees no difference between keys that are the same
-respects : (p : Key → Bool) (a b : Key) → same_key a b ≡ true → p a ≡ p b
+pub respects : (p : Key → Bool) (a b : Key) → same_key a b ≡ true → p a ≡ p b
 respects p a b same = ap p ((same_key-Decides a b).0 same)
 
 -- a key is among those that pass a test which it passes itself where it is among all
@@ -104,7 +104,7 @@ left_out : (p p' : Key → Bool) (own : Option Key) (r : Record) (records kept :
 left_out p p' None r records kept is here rest = rw is rest
 left_out p p' (Some key) r records kept is here rest = rw is (rw (here key refl) rest)
 
-keys-part : (p p' : Key → Bool) (q : Record → Bool) → ((r : Record) (key : Key) → key_of r ≡ Some key → q r ≡ false → p key ≡ false) → ((r : Record) (key : Key) → key_of r ≡ Some key → q r ≡ true → p key ≡ p' key) → (records : List Record) → filter p (filter_map key_of records) ≡ filter p' (filter_map key_of (filter q records))
+pub keys-part : (p p' : Key → Bool) (q : Record → Bool) → ((r : Record) (key : Key) → key_of r ≡ Some key → q r ≡ false → p key ≡ false) → ((r : Record) (key : Key) → key_of r ≡ Some key → q r ≡ true → p key ≡ p' key) → (records : List Record) → filter p (filter_map key_of records) ≡ filter p' (filter_map key_of (filter q records))
 keys-part p p' q drops agrees [] = refl
 keys-part p p' q drops agrees (r ∷ records) = elim (cases_Bool (q r)) [
   | inl holds ↦ rw holds (counted p p' (key_of r) r records (filter q records) refl (λ key own. agrees r key own holds) (keys-part p p' q drops agrees records))

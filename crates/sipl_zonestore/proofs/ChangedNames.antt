@@ -31,12 +31,12 @@ filter-agree_all q p p' agree (x ∷ xs) all =
     let here : p x ≡ p' x = agree x (and_first (q x) (list_all q xs) all) in
     (λ i. cond (here i) (x ∷ filter p xs) (filter p xs)) ∙ ap (λ ys. cond (p' x) (x ∷ ys) ys) (filter-agree_all q p p' agree xs (and_second (q x) (list_all q xs) all))
 
-filter-fails : {X : Type 0} (q p : X → Bool) → ((x : X) → q x ≡ true → p x ≡ false) → (xs : List X) → list_all q xs ≡ true → filter p xs ≡ []
+pub filter-fails : {X : Type 0} (q p : X → Bool) → ((x : X) → q x ≡ true → p x ≡ false) → (xs : List X) → list_all q xs ≡ true → filter p xs ≡ []
 filter-fails q p fails [] all = refl
 filter-fails q p fails (x ∷ xs) all =
     rw (fails x (and_first (q x) (list_all q xs) all)) (filter-fails q p fails xs (and_second (q x) (list_all q xs) all))
 
-all-filter : {X : Type 0} (q p : X → Bool) (xs : List X) → list_all q xs ≡ true → list_all q (filter p xs) ≡ true
+pub all-filter : {X : Type 0} (q p : X → Bool) (xs : List X) → list_all q xs ≡ true → list_all q (filter p xs) ≡ true
 all-filter q p [] all = refl
 all-filter q p (x ∷ xs) all = elim (cases_Bool (p x)) [
   | inl kept ↦ rw kept (rw (and_first (q x) (list_all q xs) all) (all-filter q p xs (and_second (q x) (list_all q xs) all)))
@@ -107,7 +107,7 @@ changed-split old new =
         either false = refl
 
 -- records whose names all stay do not count
-go-parts : (q : Record → Bool) (new records : List Record) → list_all (exists_in new) (names_of (filter (λ r. not (q r)) records)) ≡ true → filter (is_absent new) (names_of records) ≡ filter (is_absent new) (names_of (filter q records))
+pub go-parts : (q : Record → Bool) (new records : List Record) → list_all (exists_in new) (names_of (filter (λ r. not (q r)) records)) ≡ true → filter (is_absent new) (names_of records) ≡ filter (is_absent new) (names_of (filter q records))
 go-parts q new [] stay = refl
 go-parts q new (r ∷ records) stay = elim (cases_Bool (q r)) [
   | inl counts ↦

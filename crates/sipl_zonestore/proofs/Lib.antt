@@ -2,6 +2,7 @@ pub mod Public
 pub mod Elements
 pub mod Keys
 pub mod Positions
+pub mod Rotations
 pub mod LiveRecords
 pub mod SameSets
 pub mod AncestorCounts
@@ -17,6 +18,9 @@ pub mod Scans
 pub mod TableSteps
 pub mod Numbering
 pub mod Replacing
+pub mod DifferingRecords
+pub mod Parts
+pub mod PatchedLists
 pub mod Recorded
 pub mod SameRecords
 pub mod Lookups

@@ -1,9 +1,9 @@
 -- Records beside codes, some of which were removed.
 use Rattle.std.proofs.Common.{◌≡◌, ℕ, zero, suc, ◌+◌, ◌≤◌, ◌<◌, Bool, true, false, not, ◌||◌, ◌&&◌, List, [], ◌∷◌, ◌++◌, length, take, drop, set, get_or, nat_eq, if◌then◌else◌, true≢false, refl, ap, sym, ◌∙◌, inl, inr, arith, append-nil}
-use Rattle.std.specs.List.{filter, list_any, SwappedAt}
+use Rattle.std.specs.List.{drop-map, filter, list_any, take-map, SwappedAt}
 use Rattle.std.proofs.lemmas.Bool.{cases_Bool}
 use Rattle.std.proofs.lemmas.Bool.Decides.{nat_tests}
-use Rattle.std.proofs.lemmas.List.{length-set, take_all, take_more, take-set-le, drop_more, drop-set-lt}
+use Rattle.std.proofs.lemmas.List.{length-set, map-append, take_all, take_more, take-set-le, drop_more, drop-set-lt}
 use Rattle.sipl_records.specs.declared.record.Record.{Record}
 use Rattle.sipl_records.specs.Sets.{same_record}
 use Rattle.sipl_records.proofs.Public.{same_record-Decides}
@@ -49,6 +49,32 @@ live-whole (r ∷ records) (code ∷ codes) long = elim (cases_Bool (nat_eq code
       let rest : length (live records codes) ≡ length (r ∷ records) = rw other at long in
       absurd (omega (arith, live-le records codes))
 ]
+
+equal_code : (code own : ℕ) → nat_eq code own ≡ true → code ≡ own
+equal_code code own is = grind (arith, nat_tests)
+
+-- where none was removed, the codes are those of the records
+pub codes-whole : (records : List Record) (codes : List ℕ) → length codes ≡ length records → live records codes ≡ records → codes ≡ codes_of records
+codes-whole [] [] long whole = refl
+codes-whole [] (code ∷ codes) long whole = absurd (omega arith)
+codes-whole (r ∷ records) [] long whole = absurd (omega arith)
+codes-whole (r ∷ records) (code ∷ codes) long whole = elim (cases_Bool (nat_eq code (code_of_name r.owner))) [
+  | inl is ↦
+      let rest : live records codes ≡ records = ap tail_of (rw is at whole) in
+      λ i. equal_code code (code_of_name r.owner) is i ∷ codes-whole records codes (omega arith) rest i
+  | inr other ↦
+      let shorter : live records codes ≡ r ∷ records = rw other at whole in
+      absurd (omega (arith, live-le records codes, ap length shorter))
+] where
+  tail_of : List Record → List Record
+  tail_of [] = []
+  tail_of (first ∷ rest) = rest
+
+-- a list of which a part was replaced, and its codes
+pub codes-replaced : (xs ys : List Record) (start end : ℕ) → codes_of (take start xs ++ (ys ++ drop end xs)) ≡ take start (codes_of xs) ++ (codes_of ys ++ drop end (codes_of xs))
+codes-replaced xs ys start end =
+    map-append (λ r. code_of_name r.owner) (take start xs) (ys ++ drop end xs)
+    ∙ (λ i. sym (take-map (λ (r : Record). code_of_name r.owner) start xs) i ++ (map-append (λ r. code_of_name r.owner) ys (drop end xs) ∙ ap (λ codes. codes_of ys ++ codes) (sym (drop-map (λ (r : Record). code_of_name r.owner) end xs))) i)
 
 -- a record that is appended with its code
 pub live-push : (records : List Record) (codes : List ℕ) (r : Record) → length codes ≡ length records → live (records ++ r ∷ []) (codes ++ code_of_name r.owner ∷ []) ≡ live records codes ++ r ∷ []

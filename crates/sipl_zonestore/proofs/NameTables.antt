@@ -16,6 +16,7 @@ use Rattle.sipl_records.proofs.Public.{exists_in-append, filter-all, filter-none
 use Rattle.sipl_masterfile.specs.Zones.{has_repeats}
 use Rattle.sipl_zonestore.specs.Changes.{changed_existence, changed_names, existence_key, existing_names, with_ancestors}
 use Rattle.sipl_zonestore.specs.Edits.{records_without}
+use Rattle.sipl_zonestore.specs.Loading.{existence_changed}
 use Rattle.sipl_zonestore.specs.NameTable.{NameTable, HasNames, count_at, count_within}
 use Rattle.sipl_zonestore.specs.Store.{records_outside, records_within}
 use Rattle.sipl_zonestore.proofs.AncestorCounts.{any-ancestors, count-ancestors, count-append, count-exists, count-owner, count-parts, count-within_push}
@@ -81,7 +82,7 @@ existence-remove old r names has distinct some =
       all-within : (owner : Labels) → list_all (is_within owner) (with_ancestors owner) ≡ true
       all-within owner = all-any (with_ancestors owner) (is_within owner) (λ name some. sym (any-ancestors owner name) ∙ some)
 
-both_zero : (old outside within text names gone new : ℕ) → old ≡ within + outside → names ≡ old → gone ≡ within → new ≡ text → (nat_eq names gone && nat_eq new 0) ≡ (nat_eq outside 0 && nat_eq text 0)
+pub both_zero : (old outside within text names gone new : ℕ) → old ≡ within + outside → names ≡ old → gone ≡ within → new ≡ text → (nat_eq names gone && nat_eq new 0) ≡ (nat_eq outside 0 && nat_eq text 0)
 both_zero old outside within text names gone new parts names_is gone_is new_is =
     (λ i. first i && ap (λ n. nat_eq n 0) new_is i) where
       same : (a b : Bool) → nat_eq names gone ≡ a → nat_eq outside 0 ≡ b → nat_eq names gone ≡ nat_eq outside 0
@@ -148,8 +149,7 @@ pub text-names : (apex : Labels) (text : List Record) (new : NameTable) → list
 text-names apex text new all has = subst (HasNames new) (filter-all (λ r. is_within r.owner apex) text all) has
 
 -- the keys of the names that change
-pub existence-keys : (apex : Labels) (old text : List Record) (names gone new : NameTable) (old_names new_names : List Labels) → list_all (λ r. is_within r.owner apex) text ≡ true → HasNames names old → HasNames gone (records_within apex old) → HasNames new (records_within apex text) → old_names ≡ existing_names (records_within apex old) → new_names ≡ existing_names (records_within apex text) → map existence_key (filter (λ name. nat_eq (count_at names name) (count_at gone name) && nat_eq (count_at new name) 0) old_names) ++ map existence_key (filter (λ name. nat_eq (count_at names name) 0) new_names) ≡ changed_existence old (records_outside apex old ++ text)
-existence-keys apex old text names gone new old_names new_names all has has_gone has_new old_are new_are =
-    (λ i. map existence_key (filter (λ name. nat_eq (count_at names name) (count_at gone name) && nat_eq (count_at new name) 0) (old_are i)) ++ map existence_key (filter (λ name. nat_eq (count_at names name) 0) ((new_are ∙ ap existing_names (filter-all (λ r. is_within r.owner apex) text all)) i)))
-    ∙ sym (map-append existence_key (filter (λ name. nat_eq (count_at names name) (count_at gone name) && nat_eq (count_at new name) 0) (existing_names (records_within apex old))) (filter (λ name. nat_eq (count_at names name) 0) (existing_names text)))
-    ∙ ap (map existence_key) (existence-load apex old text names gone new has has_gone (text-names apex text new all has_new))
+pub existence-keys : (apex : Labels) (old text : List Record) (names gone new : NameTable) → HasNames names old → HasNames gone (records_within apex old) → HasNames new text → existence_changed names gone new (existing_names (records_within apex old)) (existing_names text) ≡ changed_existence old (records_outside apex old ++ text)
+existence-keys apex old text names gone new has has_gone has_new =
+    sym (map-append existence_key (filter (λ name. nat_eq (count_at names name) (count_at gone name) && nat_eq (count_at new name) 0) (existing_names (records_within apex old))) (filter (λ name. nat_eq (count_at names name) 0) (existing_names text)))
+    ∙ ap (map existence_key) (existence-load apex old text names gone new has has_gone has_new)

@@ -142,17 +142,20 @@ taken_out old records r next after sets sets' changed names has some put records
     let counted : length (keys_left sets r) ≡ length (numbered_keys old (records_without r old)) = ap length (sym (numbered-remove old r sets has some)) in
     done (records_without r old) (record { records = old; numbers = numbers_of sets; next = next }) (record { records = records; numbers = numbers_of sets'; next = after }) changed (accepted-numbers old (records_without r old) next (length (keys_left sets r)) counted (omega (arith, after_is, few))) records_are (keys_are ∙ (λ i. sym (changed-remove old r some) i ++ map existence_key (names_are i))) (sets_are ∙ ap length (sym (changed-remove old r some))) (removed-number old r next sets sets' has some put) (after_is ∙ ap (λ n. next + n) counted)
 
+-- how many sets of a text take a number
+pub counted-replace : (apex : List (List ℕ)) (old text : List Record) (count : ℕ) (sets text_sets : OwnerTable) (keys : List Key) → list_all (λ r. is_within r.owner apex) text ≡ true → ((key : Key) → content_of text_sets key ≡ carried (content_of sets key).number (data_of text key)) → keys ≡ changed_sets old (records_outside apex old ++ text) → count ≡ length (filter (has_set text_sets) keys) → count ≡ length (numbered_keys old (records_outside apex old ++ text))
+counted-replace apex old text count sets text_sets keys all made changed count_is =
+    count_is ∙ ap (λ ks. length (filter (has_set text_sets) ks)) changed ∙ ap length (filter-numbered apex old text sets text_sets all made)
+
 -- records were replaced
-pub replaced : (apex : List (List ℕ)) (old text records : List Record) (next after count : ℕ) (sets text_sets numbered put : OwnerTable) (keys : List Key) (changed : Changed) (names : List Key) → IsReplacement apex old text next sets text_sets numbered put keys → records ≡ records_outside apex old ++ text → changed.keys ≡ keys ++ names → names ≡ changed_existence old (records_outside apex old ++ text) → changed.sets ≡ length keys → count ≡ length (filter (has_set text_sets) keys) → after ≡ next + count → next + count ≤ 2 ^ 52 + 1 → IsReplaced (records_outside apex old ++ text) (record { records = old; numbers = numbers_of sets; next = next }) (record { records = records; numbers = numbers_of put; next = after }) (Ok changed)
-replaced apex old text records next after count sets text_sets numbered put keys changed names is records_are keys_are names_are sets_are count_is after_is few =
-    let counted : count ≡ length (numbered_keys old (records_outside apex old ++ text)) = count_is ∙ ap (λ ks. length (filter (has_set text_sets) ks)) is.changed ∙ ap length (filter-numbered apex old text sets text_sets is.within is.made) in
-    done (records_outside apex old ++ text) (record { records = old; numbers = numbers_of sets; next = next }) (record { records = records; numbers = numbers_of put; next = after }) changed (accepted-numbers old (records_outside apex old ++ text) next count counted few) records_are (keys_are ∙ (λ i. is.changed i ++ names_are i)) (sets_are ∙ ap length is.changed) (λ key. number_of-numbers_of put key ∙ replaced-number apex old text next sets text_sets numbered put keys is key) (after_is ∙ ap (λ n. next + n) counted)
+pub replaced : (inside : Labels → Bool) (old new text records : List Record) (next after count : ℕ) (sets loaded put : OwnerTable) (changed : Changed) → IsReplacement inside old new text next sets loaded put → records ≡ new → changed.keys ≡ changed_keys old new → changed.sets ≡ changed_count old new → count ≡ length (numbered_keys old new) → after ≡ next + count → next + count ≤ 2 ^ 52 + 1 → IsReplaced new (record { records = old; numbers = numbers_of sets; next = next }) (record { records = records; numbers = numbers_of put; next = after }) (Ok changed)
+replaced inside old new text records next after count sets loaded put changed is records_are keys_are sets_are counted after_is few =
+    done new (record { records = old; numbers = numbers_of sets; next = next }) (record { records = records; numbers = numbers_of put; next = after }) changed (accepted-numbers old new next count counted few) records_are keys_are sets_are (λ key. number_of-numbers_of put key ∙ replaced-number inside old new text next sets loaded put is key) (after_is ∙ ap (λ n. next + n) counted)
 
 -- too few numbers are left to replace records
 pub refused-replace : (apex : List (List ℕ)) (old text : List Record) (next count : ℕ) (sets text_sets : OwnerTable) (keys : List Key) (fault : StoreFault) → list_all (λ r. is_within r.owner apex) text ≡ true → ((key : Key) → content_of text_sets key ≡ carried (content_of sets key).number (data_of text key)) → keys ≡ changed_sets old (records_outside apex old ++ text) → count ≡ length (filter (has_set text_sets) keys) → 2 ^ 52 + 1 < next + count → fault ≡ NumberSpent → number_refusal old (records_outside apex old ++ text) next ≡ Some fault
 refused-replace apex old text next count sets text_sets keys fault all made changed count_is many fault_is =
-    let counted : count ≡ length (numbered_keys old (records_outside apex old ++ text)) = count_is ∙ ap (λ ks. length (filter (has_set text_sets) ks)) changed ∙ ap length (filter-numbered apex old text sets text_sets all made) in
-    refused-numbers old (records_outside apex old ++ text) next count counted many ∙ ap (λ f. Some f) (sym fault_is)
+    refused-numbers old (records_outside apex old ++ text) next count (counted-replace apex old text count sets text_sets keys all made changed count_is) many ∙ ap (λ f. Some f) (sym fault_is)
 
 -- or to add one
 pub refused-add : (old : List Record) (r : Record) (next count : ℕ) (fault : StoreFault) → count ≡ length (option_to_list (key_of r)) → 2 ^ 52 + 1 < next + count → fault ≡ NumberSpent → number_refusal old (old ++ r ∷ []) next ≡ Some fault

@@ -22,31 +22,19 @@ use Rattle.sipl_zonestore.proofs.Replacing.{accepted-numbers}
 use Rattle.sipl_zonestore.proofs.Recorded.{done, kept-number}
 
 -- records that are outside, and those after them
-outside : (apex : Labels) (others rest : List Record) → list_any (λ r. is_within r.owner apex) others ≡ false → records_outside apex (others ++ rest) ≡ others ++ records_outside apex rest
+pub outside : (apex : Labels) (others rest : List Record) → list_any (λ r. is_within r.owner apex) others ≡ false → records_outside apex (others ++ rest) ≡ others ++ records_outside apex rest
 outside apex [] rest none = refl
 outside apex (r ∷ others) rest none = elim (cases_Bool (is_within r.owner apex)) [
   | inl inside ↦ let never : true ≡ false = rw inside at none in cc
   | inr out ↦ rw out (ap (λ rs. r ∷ rs) (outside apex others rest (rw out at none)))
 ]
 
-none_outside : (apex : Labels) (text : List Record) → list_all (λ r. is_within r.owner apex) text ≡ true → records_outside apex text ≡ []
+pub none_outside : (apex : Labels) (text : List Record) → list_all (λ r. is_within r.owner apex) text ≡ true → records_outside apex text ≡ []
 none_outside apex [] all = refl
 none_outside apex (r ∷ text) all = elim (cases_Bool (is_within r.owner apex)) [
   | inl inside ↦ rw inside (none_outside apex text (rw inside at all))
   | inr out ↦ let never : false ≡ true = rw out at all in cc
 ]
-
--- the last records are those of a text, and the others are outside
-loaded : (apex : Labels) (others last text : List Record) → last ≡ text → list_any (λ r. is_within r.owner apex) others ≡ false → list_all (λ r. is_within r.owner apex) text ≡ true → records_outside apex (others ++ last) ++ text ≡ others ++ last
-loaded apex others last text same none all =
-    let kept : records_outside apex (others ++ last) ≡ others = outside apex others last none ∙ ap (λ rs. others ++ records_outside apex rs) same ∙ ap (λ rs. others ++ rs) (none_outside apex text all) ∙ append-nil others in
-    ap (λ rs. rs ++ text) kept ∙ ap (λ rs. others ++ rs) (sym same)
-
-pub when_loaded : (apex : Labels) (records others last text : List Record) (n : ℕ) (has : Bool) → others ≡ take n records → last ≡ drop n records → last ≡ text → has ≡ list_any (λ r. is_within r.owner apex) others → list_all (λ r. is_within r.owner apex) text ≡ true → OnTrue (not has) (records_outside apex records ++ text ≡ records)
-when_loaded apex records others last text n true front back same none all = tt
-when_loaded apex records others last text n false front back same none all =
-    let whole : others ++ last ≡ records = (λ i. front i ++ back i) ∙ take-append-drop n records in
-    subst (λ rs. records_outside apex rs ++ text ≡ rs) whole (loaded apex others last text same (sym none) all)
 
 -- no set differs, and no name begins or ceases to exist
 same_set : (records : List Record) (key : Key) → is_changed records records key ≡ false
@@ -88,8 +76,3 @@ unchanged records new sets next has last same =
 
       after : next ≡ next + length (numbered_keys records records)
       after = omega (arith, none)
-
-pub unchanged-OnTrue : (b : Bool) (records seen text : List Record) (apex : Labels) (sets : OwnerTable) (next : ℕ) → HasSets sets records → next ≤ 2 ^ 52 + 1 → seen ≡ records → OnTrue b (records_outside apex seen ++ text ≡ seen) → OnTrue b (IsReplaced (records_outside apex records ++ text) (record { records = records; numbers = numbers_of sets; next = next }) (record { records = records; numbers = numbers_of sets; next = next }) (Ok nothing))
-unchanged-OnTrue true records seen text apex sets next has last is same =
-    unchanged records (records_outside apex records ++ text) sets next has last (subst (λ rs. records_outside apex rs ++ text ≡ rs) is same)
-unchanged-OnTrue false records seen text apex sets next has last is _ = tt

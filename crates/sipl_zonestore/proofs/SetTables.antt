@@ -1,11 +1,12 @@
 -- Look-ups in tables of record sets.
-use Rattle.std.proofs.Common.{◌≡◌, ℕ, Bool, true, false, not, ◌&&◌, cond, List, [], ◌∷◌, ◌++◌, ◌==◌, length, Option, None, Some, Result, Ok, Err, if◌then◌else◌, refl, ap, subst, sym, ◌∙◌, inl, inr, arith}
+use Rattle.std.proofs.Common.{◌≡◌, ℕ, ◌+◌, ◌<◌, Bool, true, false, not, ◌&&◌, ◌||◌, cond, List, [], ◌∷◌, ◌++◌, ◌==◌, length, take, get_or, Option, None, Some, Result, Ok, Err, if◌then◌else◌, refl, ap, subst, sym, ◌∙◌, inl, inr, arith}
 use Rattle.std.specs.Prelude.{IfSome, OnOk, OnErr}
-use Rattle.std.specs.List.{filter, IsDistinct}
+use Rattle.std.specs.List.{filter, list_any, IsDistinct}
 use Rattle.std.specs.Map.{keys_of, lookup, set_value, update_all}
 use Rattle.std.specs.Option.{option_or}
 use Rattle.std.proofs.lemmas.Bool.{cases_Bool}
 use Rattle.std.proofs.lemmas.Bool.Decides.{nat_tests}
+use Rattle.std.proofs.lemmas.List.Folds.{list_any_more}
 use Rattle.std.proofs.lemmas.Map.Entries.{lookup-filter-keys}
 use Rattle.std.proofs.lemmas.Map.Made.{update_all_distinct}
 use Rattle.sipl_names.specs.Labels.{Labels, is_within, same_name}
@@ -236,17 +237,40 @@ pub OnErr-map : {T E : Type 0} (result : Result T E) (P Q : Type 0) → (P → Q
 OnErr-map (Ok done) P Q f p = tt
 OnErr-map (Err fault) P Q f p = f p
 
--- the sets within an apex are replaced by others
-pub record AreReplaced (apex : Labels) (old text new : OwnerTable) : Type 0 where
+-- the sets of some owners are replaced by others
+pub record AreReplaced (inside : Labels → Bool) (old kept text new : OwnerTable) : Type 0 where
   pub distinct : IsDistinct same_name (keys_of text)
+  pub left : (name : Labels) → lookup (same_name name) kept
+      ≡ (if inside name then None else lookup (same_name name) old)
   pub found : (name : Labels) → lookup (same_name name) new
-      ≡ update_all same_name (λ n. lookup (same_name n) (filter (λ e. not (is_within e.0 apex)) old)) text name
+      ≡ update_all same_name (λ n. lookup (same_name n) kept) text name
 
-lookup-replaced : (apex : Labels) (old text new : OwnerTable) → AreReplaced apex old text new → (name : Labels) → lookup (same_name name) new ≡ option_or (lookup (same_name name) text) (cond (not (is_within name apex)) (lookup (same_name name) old) None)
-lookup-replaced apex old text new is name =
+-- where the table is made of the other owners
+pub left-filter : (inside : Labels → Bool) (old kept : OwnerTable) → kept ≡ filter (λ e. not (inside e.0)) old → (name : Labels) → lookup (same_name name) kept ≡ (if inside name then None else lookup (same_name name) old)
+left-filter inside old kept kept_is name =
+    ap (λ (es : OwnerTable). lookup (same_name name) es) kept_is
+    ∙ lookup-filter-keys (same_name name) (λ n. not (inside n)) (not (inside name)) (λ n same. ap (λ (n' : Labels). not (inside n')) (sym ((same_name_decides name n).0 same))) old
+    ∙ turned (inside name) where
+      turned : (b : Bool) → cond (not b) (lookup (same_name name) old) None ≡ (if b then None else lookup (same_name name) old)
+      turned true = refl
+      turned false = refl
+
+-- or where its owners were removed one by one
+pub left-more : {X : Type 0} (names : List Labels) (i : ℕ) (own name : Labels) (old before after : Option X) → i < length names → own ≡ get_or names i own → before ≡ (if list_any (same_name name) (take i names) then None else old) → after ≡ cond (same_name own name) None before → after ≡ (if list_any (same_name name) (take (i + 1) names) then None else old)
+left-more names i own name old before after inside here before_is after_is =
+    after_is ∙ by_case (list_any (same_name name) (take i names)) (same_name own name) before_is
+    ∙ ap (λ b. if b then None else old) (sym (list_any_more (same_name name) names i own inside ∙ ap (λ n. list_any (same_name name) (take i names) || same_name name n) (sym here) ∙ ap (λ b. list_any (same_name name) (take i names) || b) (same_name-sym name own))) where
+      by_case : (a b : Bool) → before ≡ (if a then None else old) → cond b None before ≡ (if (a || b) then None else old)
+      by_case true true is = refl
+      by_case true false is = is
+      by_case false true is = refl
+      by_case false false is = is
+
+lookup-replaced : (inside : Labels → Bool) (old kept text new : OwnerTable) → AreReplaced inside old kept text new → (name : Labels) → lookup (same_name name) new ≡ option_or (lookup (same_name name) text) (if inside name then None else lookup (same_name name) old)
+lookup-replaced inside old kept text new is name =
     is.found name
-    ∙ update_all_distinct (equivalence_from_decides same_name same_name_decides) same_name (λ a b. refl) (λ n. lookup (same_name n) (filter (λ e. not (is_within e.0 apex)) old)) text name is.distinct
-    ∙ ap (option_or (lookup (same_name name) text)) (lookup-filter-keys (same_name name) (λ n. not (is_within n apex)) (not (is_within name apex)) (λ n same. ap (λ (n' : Labels). not (is_within n' apex)) (sym ((same_name_decides name n).0 same))) old)
+    ∙ update_all_distinct (equivalence_from_decides same_name same_name_decides) same_name (λ a b. refl) (λ n. lookup (same_name n) kept) text name is.distinct
+    ∙ ap (option_or (lookup (same_name name) text)) (is.left name)
 
 or_none : (found : Option OwnerSets) → option_or found None ≡ found
 or_none None = refl
@@ -258,22 +282,22 @@ none-empty (Some sets) have empty =
     let none : (kind : Kind) → is_empty (set_at kind sets).values ≡ true = λ kind. ap (λ (content : Content). is_empty content.values) (empty kind) in
     let never : false ≡ true = sym have ∙ (λ i. none Address4 i && none Address6 i && none Alias i && none Service i && none Pointer i) in cc
 
-pub content-replaced : (apex : Labels) (old text new : OwnerTable) → AreReplaced apex old text new → HaveData text → ((key : Key) → is_within key.name apex ≡ false → content_of text key ≡ no_content) → (key : Key) → content_of new key ≡ (if is_within key.name apex then content_of text key else content_of old key)
-content-replaced apex old text new is have none key =
-    content-found new key ∙ ap (λ found. content_at found key.kind) (lookup-replaced apex old text new is key.name) ∙ by_case (is_within key.name apex) refl where
-      by_case : (b : Bool) → is_within key.name apex ≡ b → content_at (option_or (lookup (same_name key.name) text) (cond (not b) (lookup (same_name key.name) old) None)) key.kind ≡ (if b then content_of text key else content_of old key)
-      by_case true inside = ap (λ found. content_at found key.kind) (or_none (lookup (same_name key.name) text)) ∙ sym (content-found text key)
+pub content-replaced : (inside : Labels → Bool) (old kept text new : OwnerTable) → AreReplaced inside old kept text new → HaveData text → ((key : Key) → inside key.name ≡ false → content_of text key ≡ no_content) → (key : Key) → content_of new key ≡ (if inside key.name then content_of text key else content_of old key)
+content-replaced inside old kept text new is have none key =
+    content-found new key ∙ ap (λ found. content_at found key.kind) (lookup-replaced inside old kept text new is key.name) ∙ by_case (inside key.name) refl where
+      by_case : (b : Bool) → inside key.name ≡ b → content_at (option_or (lookup (same_name key.name) text) (if b then None else lookup (same_name key.name) old)) key.kind ≡ (if b then content_of text key else content_of old key)
+      by_case true within = ap (λ found. content_at found key.kind) (or_none (lookup (same_name key.name) text)) ∙ sym (content-found text key)
       by_case false outside =
           let nothing : lookup (same_name key.name) text ≡ None = none-empty (lookup (same_name key.name) text) (have key.name) (λ kind. sym (content-found text (record { name = key.name; kind = kind })) ∙ none (record { name = key.name; kind = kind }) outside) in
           ap (λ found. content_at (option_or found (lookup (same_name key.name) old)) key.kind) nothing ∙ sym (content-found old key)
 
-pub data-replaced : (apex : Labels) (old text new : OwnerTable) → AreReplaced apex old text new → HaveData old → HaveData text → HaveData new
-data-replaced apex old text new is have text_data name =
-    subst HasData (sym (lookup-replaced apex old text new is name)) (by_case (lookup (same_name name) text) (not (is_within name apex)) (text_data name)) where
-      by_case : (found : Option OwnerSets) (b : Bool) → HasData found → HasData (option_or found (cond b (lookup (same_name name) old) None))
+pub data-replaced : (inside : Labels → Bool) (old kept text new : OwnerTable) → AreReplaced inside old kept text new → HaveData old → HaveData text → HaveData new
+data-replaced inside old kept text new is have text_data name =
+    subst HasData (sym (lookup-replaced inside old kept text new is name)) (by_case (lookup (same_name name) text) (inside name) (text_data name)) where
+      by_case : (found : Option OwnerSets) (b : Bool) → HasData found → HasData (option_or found (if b then None else lookup (same_name name) old))
       by_case (Some sets) b own = own
-      by_case None true own = have name
-      by_case None false own = tt
+      by_case None true own = tt
+      by_case None false own = have name
 
 -- no number is of existence
 number_of-existence : (owners : OwnerTable) (name : Labels) → number_of (numbers_of owners) (record { name = name; kind = Exists }) ≡ 0

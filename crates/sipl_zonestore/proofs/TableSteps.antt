@@ -56,7 +56,7 @@ before-none : (q : Key → Bool) (keys : List Key) (i : ℕ) (key other : Key) �
 before-none q keys i key other distinct inside here same =
     any-filter (λ k. same_key k other) q (take i keys) (any-take_none (λ k. same_key k other) keys i key (omega arith) (λ j below. ap (same_key (get_or keys j key)) (sym ((same_key-Decides key other).0 same) ∙ here) ∙ apart_from_distinct same_key keys j i key distinct below inside))
 
-carried-empty : (m n : ℕ) (values : List Data) → is_empty values ≡ true → carried m values ≡ carried n values
+pub carried-empty : (m n : ℕ) (values : List Data) → is_empty values ≡ true → carried m values ≡ carried n values
 carried-empty m n values empty = rw empty refl
 
 -- whether the next key has a set, as before the others were numbered

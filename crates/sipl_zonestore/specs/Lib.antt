@@ -15,6 +15,9 @@ pub mod Lending
 pub mod BareOwners
 pub mod NameTable
 pub mod IndexedRecords
+pub mod Patches
+pub mod Differences
+pub mod Loading
 pub mod RecordList
 pub mod RecordSet
 pub use Rattle.sipl_masterfile.specs.Zones

@@ -66,3 +66,14 @@ pub(crate) fn replace_owners(owners: &mut IndexSet<Name>, apex: &Name, mut text:
     owners.retain(|name| !name.is_within(apex));
     owners.append(&mut text).unwrap();
 }
+
+// Removes the owners that are among these. Does not allocate.
+pub(crate) fn remove_owners(owners: &mut IndexSet<Name>, names: &IndexSet<Name>)
+    ensures left { (name : Labels) → contains same_name owners.new name
+        ≡ (not (contains same_name names.now name) && contains same_name owners.old name) }
+    ensures space { spare owners.old ≤ spare owners.new }
+{
+    for name in names.as_slice() {
+        owners.swap_remove(name);
+    }
+}

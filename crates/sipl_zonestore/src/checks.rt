@@ -1,5 +1,5 @@
 //! The faults of edits.
-ghost use Rattle.std.specs.Prelude.{◌≡◌, ◌≤◌, ℕ, true, false, length, Some, None, MatchResult};
+ghost use Rattle.std.specs.Prelude.{◌≡◌, ◌≤◌, ◌+◌, ℕ, true, false, length, nat_le, Some, None, MatchResult};
 ghost use Rattle.std.specs.List.{list_any};
 ghost use Rattle.sipl_names.specs.Labels.{same_name};
 ghost use Rattle.sipl_zonestore.specs.Edits.{refusal_of, load, unload, add, remove};
@@ -33,11 +33,18 @@ pub(crate) fn check_load(
     if overlaps_any(apex, apexes) {
         return Err(StoreFault::Overlap);
     }
-    let kept = count_outside(apex, records);
-    if zone.records().len() > max_records - kept {
+    if !fits(max_records, apex, zone.records().len(), records) {
         return Err(StoreFault::StoreFull);
     }
     Ok(())
+}
+
+// Whether so many records fit in beside those outside the apex, which are counted only where that decides.
+fn fits(max_records: usize, apex: &Name, count: usize, records: &[Record]) -> bool
+    requires { length records.now ≤ max_records }
+    ensures { result ≡ nat_le (length (records_outside apex.now records.now) + count) max_records }
+{
+    count <= max_records - records.len() || count <= max_records - count_outside(apex, records)
 }
 
 // The fault of unloading the zone of this apex, if there is one.

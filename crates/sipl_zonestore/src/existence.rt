@@ -5,9 +5,10 @@ ghost use Rattle.std.specs.Map.{keys_of};
 ghost use Rattle.std.specs.Option.{option_to_list};
 ghost use Rattle.sipl_records.specs.Sets.{is_existence, key_of};
 ghost use Rattle.sipl_names.specs.Labels.{is_within};
-ghost use Rattle.sipl_zonestore.specs.Changes.{changed_existence, existence_key};
+ghost use Rattle.sipl_zonestore.specs.Changes.{existence_key, existing_names};
+ghost use Rattle.sipl_zonestore.specs.Loading.{existence_changed};
 ghost use Rattle.sipl_zonestore.specs.NameTable.{HasNames, count_at};
-ghost use Rattle.sipl_zonestore.specs.Store.{records_outside, records_within};
+ghost use Rattle.sipl_zonestore.specs.Store.{records_within};
 
 use crate::changed::Changed;
 use crate::compare::own_key;
@@ -50,7 +51,8 @@ pub(crate) struct LoadedNames {
 }
 
 // What the load of a zone changes: the sets of these keys, and the existence of the names of its old
-// records that no other record is within, and of the names of its text that no record was within.
+// records that no other record is within, and of the names of its text that no record was within. The
+// names are those of all records, and these may be a part of them.
 pub(crate) fn changed_by_load(
     alloc: Global,
     mut keys: Vec<Key>,
@@ -59,10 +61,10 @@ pub(crate) fn changed_by_load(
     records: &[Record],
     text: &[Record],
 ) -> Result<LoadedNames, AllocError>
-    requires names { HasNames names.now.entries records.now }
     requires within { list_all (λ r. is_within r.owner apex.now) text.now ≡ true }
     ensures keys { IfOk result (λ loaded. loaded.changed.keys ≡ keys.items
-        ++ changed_existence records.now (records_outside apex.now records.now ++ text.now)) }
+        ++ existence_changed names.now.entries loaded.old.entries loaded.new.entries
+        (existing_names (records_within apex.now records.now)) (existing_names text.now)) }
     ensures sets { IfOk result (λ loaded. loaded.changed.sets ≡ length keys.items) }
     ensures old { IfOk result
         (λ loaded. HasNames loaded.old.entries (records_within apex.now records.now)) }

@@ -1,6 +1,5 @@
 //! Records with an index of their sets.
 ghost use Rattle.std.specs.Prelude.{◌≡◌, ◌≤◌, ◌^◌, ◌+◌, ◌&&◌, ◌||◌, not, [], ◌∷◌, ◌++◌, length, true, false, None, Ok, if◌then◌else◌, IfOk, IfErr, OnOk, OnErr};
-ghost use Rattle.std.specs.Bool.{OnTrue};
 ghost use Rattle.std.specs.Borrow.{sem};
 ghost use Rattle.std.specs.Io.BufRead.{Rests};
 ghost use Rattle.std.specs.List.{count_by, list_all, list_any};
@@ -12,26 +11,32 @@ ghost use Rattle.sipl_records.specs.Sets.{conflicts, same_record, set_of, shares
 ghost use Rattle.sipl_masterfile.specs.Zones.{has_repeats};
 ghost use Rattle.sipl_zonestore.specs.BareOwners.{is_bare_at};
 ghost use Rattle.sipl_zonestore.specs.Content.{no_content};
+ghost use Rattle.sipl_zonestore.specs.Differences.{DifferAt};
+ghost use Rattle.sipl_zonestore.specs.Patches.{IsPatch};
 ghost use Rattle.sipl_zonestore.specs.SetTable.{content_of};
 ghost use Rattle.sipl_zonestore.specs.Store.{records_outside};
 ghost use Rattle.sipl_zonestore.specs.Edits.{records_without};
 ghost use Rattle.sipl_zonestore.specs.IndexedRecords.{IsReplaced, nothing};
 
 use crate::ancestors::with_ancestors;
-use crate::bare_owners::{bare_owner, bare_owners, insert_owner, remove_owner, replace_owners};
+use crate::bare_owners::{
+    bare_owner, bare_owners, insert_owner, remove_owner, remove_owners, replace_owners,
+};
 use crate::changed::Changed;
-use crate::compare::changed_within;
 use crate::comparison::{Comparison, has_conflict, has_value};
-use crate::existence::{LoadedNames, changed_by, changed_by_load, is_existence};
+use crate::differences::owners_of_patch;
+use crate::existence::{LoadedNames, changed_by, is_existence};
 use crate::fault::StoreFault;
+use crate::loaded_owners::{LoadedOwners, loaded_owners};
+use crate::loaded_tables::{LoadedTables, loaded_tables};
 use crate::name_table::{count_in, count_of, count_out, replace_names};
+use crate::patches::{Patch, patch_of};
 use crate::record_list::RecordList;
 use crate::set_numbers::{
-    added_count, check_numbers, count_numbered, number_sets, push_to_set, remove_from_set,
-    removed_count, sets_of,
+    added_count, check_numbers, push_to_set, remove_from_set, removed_count,
 };
 use crate::sets::SetTable;
-use crate::unchanged::{is_loaded, no_change};
+use crate::unchanged::no_change;
 use indexmap::{IndexMap, IndexSet};
 use sipl_names::Name;
 use sipl_records::{Data, Key, Record};
@@ -184,21 +189,15 @@ impl IndexedRecords {
         ensures { IsReplaced (records_outside apex.now self.old.records ++ text.now)
             self.old self.new result }
     {
-        if self.has_loaded(apex, text) {
+        let records = self.records.as_slice();
+        let patch = patch_of(records, apex, text);
+        if patch.is_empty() {
             return Ok(no_change(self.alloc));
         }
-        self.replace(apex, text)
-    }
-
-    // Whether a text has the records within the apex, and they are last.
-    fn has_loaded(&mut self, apex: &Name, text: &[Record]) -> bool
-        requires within { list_all (λ r. is_within r.owner apex.now) text.now ≡ true }
-        ensures loaded { OnTrue result
-            (IsReplaced (records_outside apex.now self.old.records ++ text.now)
-            self.old self.old (Ok nothing)) }
-        ensures unchanged { self.new ≡ self.old }
-    {
-        is_loaded(self.records.as_slice(), apex, text)
+        match owners_of_patch(self.alloc, apex, records, text, patch)? {
+            Some(owners) => self.replace_owners(apex, text, patch, &owners),
+            None => self.replace(apex, text),
+        }
     }
 
     // Replaces the records within the apex by those of a text, which are last. Returns what they
@@ -210,26 +209,61 @@ impl IndexedRecords {
         ensures { IsReplaced (records_outside apex.now self.old.records ++ text.now)
             self.old self.new result }
     {
-        let mut sets = sets_of(self.alloc, text, &self.sets)?;
-        let records = self.records.as_slice();
-        let keys = changed_within(self.alloc, apex, records, text, &self.sets, &sets)?;
-        let count = count_numbered(&keys, &sets);
-        check_numbers(self.next, count)?;
-        number_sets(&mut sets, &keys, self.next);
-        let LoadedNames { changed, old, new } = changed_by_load(
+        let LoadedTables { sets, count, names } = loaded_tables(
             self.alloc,
-            keys,
-            &self.names,
             apex,
-            records,
+            self.records.as_slice(),
             text,
+            &self.sets,
+            &self.names,
+            self.next,
         )?;
+        let LoadedNames { changed, old, new } = names;
         let copies = copy_records(self.alloc, text)?;
         self.records.reserve(copies.len())?;
         self.names.reserve(new.len())?;
         replace_tables(self.alloc, &mut self.sets, &mut self.bare, apex, text, sets)?;
         replace_names(&mut self.names, &old, new);
         self.records.replace_within(apex, copies);
+        self.next += count as u64;
+        Ok(changed)
+    }
+
+    // Replaces the records within the apex by those of a text, which are last, where they differ in the
+    // records of these owners alone. Returns what they changed. Of other owners nothing is looked up.
+    fn replace_owners(
+        &mut self,
+        apex: &Name,
+        text: &[Record],
+        patch: Patch,
+        owners: &IndexSet<Name>,
+    ) -> Result<Changed, StoreFault>
+        requires distinct { has_repeats self.old.records ≡ false }
+        requires text_distinct { has_repeats text.now ≡ false }
+        requires within { list_all (λ r. is_within r.owner apex.now) text.now ≡ true }
+        requires patch { IsPatch apex.now self.old.records text.now patch }
+        requires differ { DifferAt apex.now (contains same_name owners.now) self.old.records text.now }
+        ensures { IsReplaced (records_outside apex.now self.old.records ++ text.now)
+            self.old self.new result }
+    {
+        let LoadedOwners { tables, bare } = loaded_owners(
+            self.alloc,
+            apex,
+            self.records.as_slice(),
+            text,
+            owners,
+            &self.sets,
+            &self.names,
+            self.next,
+        )?;
+        let LoadedTables { sets, count, names } = tables;
+        let LoadedNames { changed, old, new } = names;
+        let copies = copy_records(self.alloc, &text[patch.first..patch.last])?;
+        self.records.reserve(copies.len())?;
+        self.names.reserve(new.len())?;
+        replace_owner_tables(&mut self.sets, &mut self.bare, owners, sets, bare)?;
+        replace_names(&mut self.names, &old, new);
+        self.records.apply(apex, patch, copies);
         self.next += count as u64;
         Ok(changed)
     }
@@ -308,6 +342,33 @@ fn replace_tables(
     bare.reserve(owners.len())?;
     sets.replace_within(apex, text_sets)?;
     replace_owners(bare, apex, owners);
+    Ok(())
+}
+
+// Replaces what the tables have of the records of these owners by these sets and these owners of records of
+// which nothing is kept.
+fn replace_owner_tables(
+    sets: &mut SetTable,
+    bare: &mut IndexSet<Name>,
+    owners: &IndexSet<Name>,
+    new_sets: SetTable,
+    mut new_bare: IndexSet<Name>,
+) -> Result<(), AllocError>
+    requires { (key : Key) → contains same_name owners.now key.name ≡ false
+        → content_of new_sets key ≡ no_content }
+    ensures sets { OnOk result ((key : Key) → content_of sets.new key
+        ≡ (if contains same_name owners.now key.name then content_of new_sets key
+        else content_of sets.old key)) }
+    ensures bare { OnOk result ((name : Labels) → contains same_name bare.new name
+        ≡ (not (contains same_name owners.now name) && contains same_name bare.old name
+        || contains same_name new_bare name)) }
+    ensures sets_left { OnErr result (sets.new ≡ sets.old) }
+    ensures bare_left { OnErr result (IsUnchanged bare.old bare.new) }
+{
+    bare.reserve(new_bare.len())?;
+    sets.replace_owners(owners, new_sets)?;
+    remove_owners(bare, owners);
+    bare.append(&mut new_bare).unwrap();
     Ok(())
 }
 

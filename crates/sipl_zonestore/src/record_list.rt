@@ -1,14 +1,16 @@
 //! Records in the order of addition, of which one is removed without moving those after it.
-ghost use Rattle.std.specs.Prelude.{◌≡◌, ◌≤◌, ◌<◌, ◌+◌, ◌^◌, ◌++◌, ◌∷◌, [], length, true, false, OnOk, vec_len, vec_capacity};
+ghost use Rattle.std.specs.Prelude.{◌≡◌, ◌≤◌, ◌<◌, ◌+◌, ◌^◌, ◌++◌, ◌∷◌, [], List, length, take, drop, true, false, OnOk, vec_len, vec_capacity};
 ghost use Rattle.std.specs.Borrow.{sem};
 ghost use Rattle.std.specs.Io.BufRead.{Rests};
 ghost use Rattle.std.specs.List.{list_any};
 ghost use Rattle.sipl_records.specs.Sets.{same_record};
 ghost use Rattle.sipl_masterfile.specs.Zones.{has_repeats};
 ghost use Rattle.sipl_zonestore.specs.Store.{records_outside};
+ghost use Rattle.sipl_zonestore.specs.Patches.{patched};
 ghost use Rattle.sipl_zonestore.specs.Edits.{records_without};
 
-use crate::owner_codes::{other_code, write_codes};
+use crate::owner_codes::{other_code, push_codes, write_codes};
+use crate::patches::Patch;
 use crate::places::{compact, find_place};
 use sipl_names::Name;
 use sipl_records::{Record, name_code};
@@ -128,6 +130,62 @@ impl RecordList {
         write_codes(&mut self.codes, &self.records);
         self.len = self.records.len();
     }
+
+    // Replaces the part of the list that a patch names by new records. Does not allocate.
+    pub(crate) fn apply(&mut self, apex: &Name, patch: Patch, new: Vec<Record>)
+        requires order { patch.start ≤ patch.end }
+        requires limit { patch.end ≤ length self.old.records }
+        requires space { vec_len new ≤ self.old.room }
+        ensures { self.new.records ≡ patched apex.now self.old.records patch new.items }
+    {
+        if patch.is_last {
+            self.replace_part(patch.start, patch.end, new);
+        } else {
+            self.replace_within(apex, new);
+        }
+    }
+
+    // Replaces the records from a start to an end by others. Does not allocate.
+    fn replace_part(&mut self, start: usize, end: usize, mut new: Vec<Record>)
+        requires space { vec_len new ≤ self.old.room }
+        requires order { start ≤ end }
+        requires limit { end ≤ length self.old.records }
+        ensures { self.new.records
+            ≡ take start self.old.records ++ (new.items ++ drop end self.old.records) }
+    {
+        compact(&mut self.records, &mut self.codes, self.len);
+        let added = new.len();
+        push_codes(&mut self.codes, &new);
+        self.records.append(&mut new).unwrap();
+        move_last(&mut self.codes, start, end, added);
+        move_last(&mut self.records, start, end, added);
+        self.len = self.records.len();
+    }
+}
+
+// Moves so many of the items from a start on behind the others.
+fn rotate_from<T>(items: &mut [T], start: usize, count: usize)
+    requires { start + count ≤ length items.old }
+    ensures { items.new ≡ take start items.old
+        ++ (drop count (drop start items.old) ++ take count (drop start items.old)) }
+{
+    items[start..].rotate_left(count);
+}
+
+// Puts the last items, of which there are so many, in the place of those from a start to an end. Does not
+// allocate.
+fn move_last<T: Drop>(items: &mut Vec<T>, start: usize, end: usize, added: usize)
+    requires order { start ≤ end }
+    requires limit { end + added ≤ vec_len items.old }
+    ensures items { (kept last : List T) → items.old.items ≡ kept ++ last → length last ≡ added
+        → items.new.items ≡ take start kept ++ (last ++ drop end kept) }
+    ensures capacity { vec_capacity items.new ≡ vec_capacity items.old }
+{
+    let removed = end - start;
+    let rest = items.len() - end - added;
+    rotate_from(items, end, rest);
+    rotate_from(items, start, removed);
+    items.truncate(items.len() - removed);
 }
 
 // Appends the records of a text, which stay where they are if there are no others. Does not allocate.

@@ -1,13 +1,16 @@
 //! The record sets of a store (RFC 2181, 5) by their owners and kinds, with their numbers.
-ghost use Rattle.std.specs.Prelude.{◌≡◌, [], false, OnOk, OnErr, if◌then◌else◌};
-ghost use Rattle.sipl_names.specs.Labels.{is_within};
+ghost use Rattle.std.specs.Prelude.{◌≡◌, ◌≤◌, [], false, None, OnOk, OnErr, if◌then◌else◌};
+ghost use Rattle.std.specs.Map.{lookup};
+ghost use Rattle.indexmap.specs.IndexMap.{spare};
+ghost use Rattle.indexmap.specs.IndexSet.{contains};
+ghost use Rattle.sipl_names.specs.Labels.{Labels, is_within, same_name};
 ghost use Rattle.sipl_records.specs.declared.record.Key.{Key};
 ghost use Rattle.sipl_records.specs.Sets.{same_key, same_kind};
 ghost use Rattle.sipl_zonestore.specs.Content.{no_content, pushed, without, renumbered};
 ghost use Rattle.sipl_zonestore.specs.SetTable.{content_of, has_set};
 
 use crate::owner_sets::OwnerSets;
-use indexmap::IndexMap;
+use indexmap::{IndexMap, IndexSet};
 use sipl_names::Name;
 use sipl_records::{Data, Kind};
 use std::alloc::{AllocError, Global};
@@ -156,5 +159,37 @@ impl SetTable {
         self.owners.retain(|owner, _| !owner.is_within(apex));
         self.owners.append(&mut text.owners).unwrap();
         Ok(())
+    }
+    // Replaces the sets of these owners by others, which are theirs. Constant time for each owner but
+    // for hashing.
+    pub(crate) fn replace_owners(
+        &mut self,
+        names: &IndexSet<Name>,
+        mut text: SetTable,
+    ) -> Result<(), AllocError>
+        requires { (key : Key) → contains same_name names.now key.name ≡ false
+            → content_of text key ≡ no_content }
+        ensures replaced { OnOk result ((key : Key) → content_of self.new key
+            ≡ (if contains same_name names.now key.name then content_of text key
+            else content_of self.old key)) }
+        ensures unchanged { OnErr result (self.new ≡ self.old) }
+    {
+        self.owners.reserve(text.owners.len())?;
+        remove_owners(&mut self.owners, names);
+        self.owners.append(&mut text.owners).unwrap();
+        Ok(())
+    }
+}
+
+// Removes the owners of these names, with their sets. Does not allocate.
+fn remove_owners(owners: &mut IndexMap<Name, OwnerSets>, names: &IndexSet<Name>)
+    ensures left { (name : Labels) → lookup (same_name name) owners.new.entries
+        ≡ (if contains same_name names.now name then None
+        else lookup (same_name name) owners.old.entries) }
+    ensures space { spare owners.old ≤ spare owners.new }
+{
+    for name in names.as_slice() {
+        let removed = owners.swap_remove(name);
+        drop(removed);
     }
 }

@@ -4,14 +4,14 @@ mod plain;
 mod values;
 
 use plain::{
-    Changes, NAMES, Plain, RECORDS, SETS, change, changes_of, edited, exists, new_plain, number_of,
-    select,
+    Changes, NAMES, Plain, RECORDS, SETS, alter, change, changes_of, edited, exists, new_plain,
+    number_of, push_all, select,
 };
 use sipl_records::{Data, Key, Record};
 use sipl_zonestore::{Changed, StoreFault, ZoneStore};
 use std::alloc::Global;
 use std::process::Abort;
-use values::{apex, existence_key, key, record, value_of, zone};
+use values::{apex, existence_key, key, record, value_of, zone, zone_of};
 
 // What is edited. A zone is loaded with every fifth of its records after this one, so many of them.
 #[derive(Clone, Copy)]
@@ -30,13 +30,15 @@ enum Act {
     Remove,
     // The zone 0 or 1 is loaded, with so many records.
     Load(u32, u32),
+    // The zone 0 or 1 is loaded with its records, but for a few that come, go, or change places.
+    Reload(u32),
     Unload(u32),
     // The records are those of the list, and so is a set.
     Compare,
 }
 
 // The acts of a play, and how often each is done.
-const ACTS: [(Act, u32); 18] = [
+const ACTS: [(Act, u32); 25] = [
     (Act::Load(0, 0), 1),
     (Act::Load(1, 40), 1),
     (Act::Toggle, 900),
@@ -44,7 +46,10 @@ const ACTS: [(Act, u32); 18] = [
     (Act::Remove, 250),
     (Act::Compare, 5),
     (Act::Load(0, 150), 2),
-    (Act::Compare, 5),
+    (Act::Reload(0), 20),
+    (Act::Compare, 10),
+    (Act::Reload(1), 20),
+    (Act::Compare, 10),
     (Act::Toggle, 300),
     (Act::Remove, 500),
     (Act::Compare, 5),
@@ -52,6 +57,10 @@ const ACTS: [(Act, u32); 18] = [
     (Act::Compare, 5),
     (Act::Load(1, 200), 1),
     (Act::Load(0, 700), 1),
+    (Act::Reload(0), 20),
+    (Act::Compare, 10),
+    (Act::Reload(1), 20),
+    (Act::Compare, 10),
     (Act::Toggle, 600),
     (Act::Remove, 100),
     (Act::Compare, 30),
@@ -168,6 +177,38 @@ fn make_edit(rt: &impl Abort, alloc: Global, store: &mut ZoneStore, plain: &mut 
     expects(rt, is_made, "the changes");
 }
 
+// Loads a zone with its records, but for a few.
+fn reload(
+    rt: &impl Abort,
+    alloc: Global,
+    store: &mut ZoneStore,
+    plain: &mut Plain,
+    seed: &mut u32,
+    zone: u32,
+) {
+    let text = altered(rt, alloc, &plain.records, seed, zone);
+    let mut new = select(rt, alloc, &plain.records, 2, zone, false);
+    push_all(rt, &mut new, &text);
+    let changes = changes_of(rt, alloc, &plain.records, &new, Edit::Load(zone, 0));
+    let is_made = match store.load(&zone_of(rt, alloc, &text, zone)) {
+        Ok(changed) => is_changed(rt, alloc, &changed, &changes),
+        Err(_) => false,
+    };
+    change(plain, new, &changes);
+    expects(rt, is_made, "the changes of a reload");
+}
+
+// The records of a zone, but for at most three.
+fn altered(rt: &impl Abort, alloc: Global, records: &[u32], seed: &mut u32, zone: u32) -> Vec<u32> {
+    let mut text = select(rt, alloc, records, 2, zone, true);
+    for _ in 0..draw(seed, 4) {
+        let record = draw(seed, RECORDS) / 2 * 2 | zone;
+        let place = draw(seed, RECORDS) as usize % text.len().max(1);
+        alter(rt, &mut text, record, place, draw(seed, 3));
+    }
+    text
+}
+
 // ---- what the store has
 
 fn are_records(rt: &impl Abort, alloc: Global, records: &[Record], numbers: &[u32]) -> bool {
@@ -245,6 +286,7 @@ fn do_act(
             compare(rt, alloc, store, plain, draw(seed, SETS));
             compare_name(rt, alloc, store, plain, draw(seed, NAMES));
         }
+        Act::Reload(zone) => reload(rt, alloc, store, plain, seed, zone),
         _ => {
             let made = edit_of(seed, &plain.records, act);
             make_edit(rt, alloc, store, plain, made);

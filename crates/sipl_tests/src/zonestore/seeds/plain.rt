@@ -67,6 +67,24 @@ pub(super) fn push_loaded(rt: &impl Abort, records: &mut Vec<u32>, first: u32, c
     }
 }
 
+pub(super) fn push_all(rt: &impl Abort, numbers: &mut Vec<u32>, more: &[u32]) {
+    numbers.extend_from_slice(more).expect(rt, "out of memory");
+}
+
+// Adds a record at a place, removes the one that is there, or swaps it with the next one.
+pub(super) fn alter(rt: &impl Abort, text: &mut Vec<u32>, record: u32, place: usize, way: u32) {
+    let is_new = !text.contains(&record);
+    let next = place.saturating_add(1);
+    match way {
+        0 if is_new && place < text.len() => text.insert(place, record).expect(rt, "out of memory"),
+        1 if place < text.len() => {
+            text.remove(place);
+        }
+        _ if next < text.len() => text.swap(place, next),
+        _ => {}
+    }
+}
+
 // The records after an edit.
 pub(super) fn edited(rt: &impl Abort, alloc: Global, records: &[u32], edit: Edit) -> Vec<u32> {
     match edit {

@@ -132,11 +132,9 @@ fn push_lines(rt: &impl Abort, text: &mut Vec<u8>, numbers: &[u32]) {
     }
 }
 
-fn text_of(rt: &impl Abort, alloc: Global, first: u32, count: u32) -> Vec<u8> {
-    let mut numbers = Vec::new(alloc);
-    push_loaded(rt, &mut numbers, first, count);
+fn text_of(rt: &impl Abort, alloc: Global, numbers: &[u32]) -> Vec<u8> {
     let mut text = Vec::new(alloc);
-    push_lines(rt, &mut text, &numbers);
+    push_lines(rt, &mut text, numbers);
     text
 }
 
@@ -145,6 +143,13 @@ fn read(rt: &impl Abort, alloc: Global, text: &[u8], apex: &Name) -> ZoneText {
 }
 
 pub(super) fn zone(rt: &impl Abort, alloc: Global, first: u32, count: u32) -> ZoneText {
-    let text = text_of(rt, alloc, first, count);
-    read(rt, alloc, &text, &apex(rt, alloc, first % 2))
+    let mut numbers = Vec::new(alloc);
+    push_loaded(rt, &mut numbers, first, count);
+    zone_of(rt, alloc, &numbers, first % 2)
+}
+
+// The zone 0 or 1 with these records.
+pub(super) fn zone_of(rt: &impl Abort, alloc: Global, numbers: &[u32], zone: u32) -> ZoneText {
+    let text = text_of(rt, alloc, numbers);
+    read(rt, alloc, &text, &apex(rt, alloc, zone))
 }

@@ -1,0 +1,114 @@
+use Rattle.std.proofs.Common.{◌≡◌, ◌≢◌, ◌≤◌, ◌++◌, ◌+◌, ◌-◌, not, ◌&&◌, ◌||◌, true, false, Some, refl, ap, sym, subst, ◌∙◌, length, arith}
+use Rattle.std.specs.List.{list_all, list_any}
+use Rattle.std.proofs.lemmas.Result.{err_from_is_err_and}
+use Rattle.indexmap.specs.IndexSet.{contains}
+use Rattle.sipl_names.specs.Labels.{is_within, same_name}
+use Rattle.sipl_records.specs.Sets.{data_of}
+use Rattle.sipl_records.specs.declared.record.Key.{Key}
+use Rattle.sipl_zonestore.specs.BareOwners.{is_bare_at}
+use Rattle.sipl_zonestore.specs.Changes.{changed_count, changed_keys}
+use Rattle.sipl_zonestore.specs.Differences.{DifferAt, records_of}
+use Rattle.sipl_zonestore.specs.Loading.{content_loaded}
+use Rattle.sipl_zonestore.specs.NameTable.{NameTable, HasNames, count_at, count_within}
+use Rattle.sipl_zonestore.specs.Numbers.{number_refusal, numbered_keys}
+use Rattle.sipl_zonestore.specs.Patches.{IsPatch, patched}
+use Rattle.sipl_zonestore.specs.SetTable.{OwnerTable, HasSets, content_of, numbers_of}
+use Rattle.sipl_zonestore.specs.Store.{records_outside}
+use Rattle.sipl_zonestore.specs.declared.fault.StoreFault.TheVariants.{Memory}
+use Rattle.sipl_zonestore.proofs.AncestorCounts.{count-limit}
+use Rattle.sipl_zonestore.proofs.Parts.{part-bare, part-names, part-replacement}
+use Rattle.sipl_zonestore.proofs.Recorded.{replaced, refused}
+use Rattle.sipl_zonestore.proofs.Replacing.{replaced-sets}
+use Rattle.sipl_zonestore.proofs.indexed_records.IndexedRecords.replace_owners.Goals as goal
+
+pub loaded_owners-requires-clause-differ : goal.loaded_owners-requires-clause-differ
+loaded_owners-requires-clause-differ c =
+    subst (λ rs. DifferAt c.args.apex.now (contains same_name c.args.owners.now) rs c.args.text.now) (sym c.as_slice.ensures.value) (rw (← c.self.view_is) at c.requires.differ)
+
+pub loaded_owners-requires-clause-sets : goal.loaded_owners-requires-clause-sets
+loaded_owners-requires-clause-sets c = subst (HasSets c.self.inside.sets) (sym c.as_slice.ensures.value) c.self.invariant.has_sets
+
+pub loaded_owners-requires-clause-names : goal.loaded_owners-requires-clause-names
+loaded_owners-requires-clause-names c = subst (HasNames c.self.inside.names.entries) (sym c.as_slice.ensures.value) c.self.invariant.has_names
+
+pub returns-in_err-tables : goal.returns-in_err-tables
+returns-in_err-tables c =
+    let fault = c.in_err-tables.field-0.0 in
+    let p = err_from_is_err_and c.from_residual.result c.from_residual.ensures.1 in
+    rw (p.1, p.2, ← c.self.view_is) (refused (records_outside c.args.apex.now c.self.inside.records.records ++ c.args.text.now) _ _ fault (subst (λ rs. fault ≢ Memory → number_refusal rs (records_outside c.args.apex.now rs ++ c.args.text.now) c.self.inside.next ≡ Some fault) c.as_slice.ensures.value c.in_err-tables.ensures.refused) (λ i. record { records = c.as_slice.follows.holds-at-none i; numbers = numbers_of c.self.inside.sets; next = c.self.inside.next }))
+
+pub replace_names-requires-clause-fits : goal.replace_names-requires-clause-fits
+replace_names-requires-clause-fits c = λ name.
+    let old : count_at c.reserve-2.new.self.entries name ≡ count_within c.self.inside.records.records name = ap (λ (es : NameTable). count_at es name) c.in_ok-reserve-2.ensures.entries ∙ c.self.invariant.has_names name in
+    let records = ap length (c.in_ok-reserve.ensures.records ∙ c.as_slice.follows.holds-at-none) in
+    omega (arith, old, records, c.in_ok-tables.ensures.few name, count-limit c.self.inside.records.records name, c.in_ok-reserve.ensures.limit)
+
+pub invariant_of-self-2 : goal.invariant_of-self-2
+invariant_of-self-2 c =
+    let q = contains same_name c.args.owners.now in
+    let apex = c.args.apex.now in
+    let old = c.self.inside.records.records in
+    let text = c.args.text.now in
+    let new = records_outside apex old ++ text in
+    let loaded = c.in_ok-tables.field-0.tables in
+    let differ : DifferAt apex q old text = rw (← c.self.view_is) at c.requires.differ in
+    let patch : IsPatch apex old text c.args.patch = rw (← c.self.view_is) at c.requires.patch in
+    let taken : (key : Key) → q key.name ≡ true → content_of loaded.sets key ≡ content_loaded c.self.inside.sets old new new c.self.inside.next key = subst (λ rs. (key : Key) → q key.name ≡ true → content_of loaded.sets key ≡ content_loaded c.self.inside.sets rs (records_outside apex rs ++ text) (records_outside apex rs ++ text) c.self.inside.next key) c.as_slice.ensures.value c.in_ok-tables.ensures.sets in
+    let is = part-replacement apex q old text c.self.inside.next c.self.inside.sets loaded.sets c.replace_owner_tables.new.sets c.requires.within differ c.self.invariant.has_sets taken c.in_ok-replace_owner_tables.ensures.sets in
+    let records_are : c.apply.new.self.records ≡ new = c.apply.ensures ∙ (λ i. patched apex ((c.in_ok-reserve.ensures.records ∙ c.as_slice.follows.holds-at-none) i) c.args.patch (c.in_ok-copies.ensures i)) ∙ patch.replaced in
+    record {
+      has_sets = λ key. replaced-sets q old new new c.self.inside.next c.self.inside.sets loaded.sets c.replace_owner_tables.new.sets is key ∙ ap (λ rs. data_of rs key) (sym records_are);
+      has_bare = λ name.
+          part-bare apex q old text (contains same_name c.self.inside.bare) (contains same_name c.replace_owner_tables.new.bare) differ c.self.invariant.has_bare (λ name. c.in_ok-replace_owner_tables.ensures.bare name ∙ ap (λ b. not (q name) && contains same_name c.self.inside.bare name || b) (c.in_ok-tables.ensures.bare name)) name ∙ ap (λ rs. list_any (is_bare_at name) rs) (sym records_are);
+      has_names = λ name.
+          part-names apex q old text c.self.inside.names.entries loaded.names.old.entries loaded.names.new.entries c.replace_names.new.names.entries differ c.self.invariant.has_names (subst (λ rs. HasNames loaded.names.old.entries (records_of q rs)) c.as_slice.ensures.value c.in_ok-tables.ensures.old) c.in_ok-tables.ensures.new (λ name. c.replace_names.ensures name ∙ ap (λ (es : NameTable). count_at es name + count_at loaded.names.new.entries name - count_at loaded.names.old.entries name) c.in_ok-reserve-2.ensures.entries) name
+          ∙ ap (λ rs. count_within rs name) (sym records_are);
+      lent = c.self.invariant.lent;
+      last = c.in_ok-tables.ensures.last;
+    }
+
+pub returns : goal.returns
+returns c =
+    let q = contains same_name c.args.owners.now in
+    let apex = c.args.apex.now in
+    let old = c.self.inside.records.records in
+    let text = c.args.text.now in
+    let new = records_outside apex old ++ text in
+    let loaded = c.in_ok-tables.field-0.tables in
+    let differ : DifferAt apex q old text = rw (← c.self.view_is) at c.requires.differ in
+    let patch : IsPatch apex old text c.args.patch = rw (← c.self.view_is) at c.requires.patch in
+    let taken : (key : Key) → q key.name ≡ true → content_of loaded.sets key ≡ content_loaded c.self.inside.sets old new new c.self.inside.next key = subst (λ rs. (key : Key) → q key.name ≡ true → content_of loaded.sets key ≡ content_loaded c.self.inside.sets rs (records_outside apex rs ++ text) (records_outside apex rs ++ text) c.self.inside.next key) c.as_slice.ensures.value c.in_ok-tables.ensures.sets in
+    let is = part-replacement apex q old text c.self.inside.next c.self.inside.sets loaded.sets c.replace_owner_tables.new.sets c.requires.within differ c.self.invariant.has_sets taken c.in_ok-replace_owner_tables.ensures.sets in
+    let records_are : c.apply.new.self.records ≡ new = c.apply.ensures ∙ (λ i. patched apex ((c.in_ok-reserve.ensures.records ∙ c.as_slice.follows.holds-at-none) i) c.args.patch (c.in_ok-copies.ensures i)) ∙ patch.replaced in
+    rw (← c.self.view_is) (replaced q old new new c.apply.new.self.records c.self.inside.next _ loaded.count c.self.inside.sets loaded.sets c.replace_owner_tables.new.sets loaded.names.changed is records_are (c.in_ok-tables.ensures.keys ∙ (λ i. changed_keys (c.as_slice.ensures.value i) (records_outside apex (c.as_slice.ensures.value i) ++ text))) (c.in_ok-tables.ensures.counted ∙ (λ i. changed_count (c.as_slice.ensures.value i) (records_outside apex (c.as_slice.ensures.value i) ++ text))) (c.in_ok-tables.ensures.count ∙ (λ i. length (numbered_keys (c.as_slice.ensures.value i) (records_outside apex (c.as_slice.ensures.value i) ++ text)))) refl c.in_ok-tables.ensures.last)
+
+pub returns-in_err-copies : goal.returns-in_err-copies
+returns-in_err-copies c =
+    let p = err_from_is_err_and c.from_residual-in_err-copies.result c.from_residual-in_err-copies.ensures.1 in
+    rw (p.1, p.2, ← c.self.view_is) (refused (records_outside c.args.apex.now c.self.inside.records.records ++ c.args.text.now) _ _ Memory (λ some. absurd (some refl)) (λ i. record { records = c.as_slice.follows.holds-at-none i; numbers = numbers_of c.self.inside.sets; next = c.self.inside.next }))
+
+pub returns-in_err-reserve : goal.returns-in_err-reserve
+returns-in_err-reserve c =
+    let p = err_from_is_err_and c.from_residual-in_err-reserve.result c.from_residual-in_err-reserve.ensures.1 in
+    rw (p.1, p.2, ← c.self.view_is) (refused (records_outside c.args.apex.now c.self.inside.records.records ++ c.args.text.now) _ _ Memory (λ some. absurd (some refl)) (λ i. record { records = (c.in_err-reserve.ensures.records ∙ c.as_slice.follows.holds-at-none) i; numbers = numbers_of c.self.inside.sets; next = c.self.inside.next }))
+
+pub returns-in_err-reserve-2 : goal.returns-in_err-reserve-2
+returns-in_err-reserve-2 c =
+    let p = err_from_is_err_and c.from_residual-in_err-reserve-2.result c.from_residual-in_err-reserve-2.ensures.1 in
+    rw (p.1, p.2, ← c.self.view_is) (refused (records_outside c.args.apex.now c.self.inside.records.records ++ c.args.text.now) _ _ Memory (λ some. absurd (some refl)) (λ i. record { records = (c.in_ok-reserve.ensures.records ∙ c.as_slice.follows.holds-at-none) i; numbers = numbers_of c.self.inside.sets; next = c.self.inside.next }))
+
+pub returns-in_err-replace_owner_tables : goal.returns-in_err-replace_owner_tables
+returns-in_err-replace_owner_tables c =
+    let p = err_from_is_err_and c.from_residual-in_err-replace_owner_tables.result c.from_residual-in_err-replace_owner_tables.ensures.1 in
+    rw (p.1, p.2, ← c.self.view_is) (refused (records_outside c.args.apex.now c.self.inside.records.records ++ c.args.text.now) _ _ Memory (λ some. absurd (some refl)) (λ i. record { records = (c.in_ok-reserve.ensures.records ∙ c.as_slice.follows.holds-at-none) i; numbers = numbers_of (c.in_err-replace_owner_tables.ensures.sets_left i); next = c.self.inside.next }))
+
+pub invariant_of-self-in_err-replace_owner_tables : goal.invariant_of-self-in_err-replace_owner_tables
+invariant_of-self-in_err-replace_owner_tables c =
+    let records : c.reserve.new.self.records ≡ c.self.inside.records.records = c.in_ok-reserve.ensures.records ∙ c.as_slice.follows.holds-at-none in
+    record {
+      has_sets = λ key. ap (λ (sets : OwnerTable). (content_of sets key).values) c.in_err-replace_owner_tables.ensures.sets_left ∙ c.self.invariant.has_sets key ∙ ap (λ rs. data_of rs key) (sym records);
+      has_bare = λ name. ap (list_any (same_name name)) c.in_err-replace_owner_tables.ensures.bare_left ∙ c.self.invariant.has_bare name ∙ ap (list_any (is_bare_at name)) (sym records);
+      has_names = λ name. ap (λ (es : NameTable). count_at es name) c.in_ok-reserve-2.ensures.entries ∙ c.self.invariant.has_names name ∙ ap (λ rs. count_within rs name) (sym records);
+      lent = c.self.invariant.lent;
+      last = c.self.invariant.last;
+    }
