@@ -1,5 +1,5 @@
 -- The number and the data of a record set.
-use Rattle.std.proofs.Common.{◌≡◌, ℕ, false, true, not, List, [], ◌∷◌, ◌++◌, refl, sym, ap, ◌∙◌}
+use Rattle.std.proofs.Common.{◌≡◌, ℕ, false, true, not, List, [], ◌∷◌, ◌++◌, refl, ◌∙◌}
 use Rattle.std.specs.List.{filter}
 use Rattle.sipl_records.specs.declared.data.Data.{Data}
 use Rattle.sipl_records.specs.Sets.{same_data}

@@ -1,5 +1,5 @@
 -- A load that changes the records of some owners alone is worked out on these.
-use Rattle.std.proofs.Common.{◌≡◌, ℕ, ◌+◌, ◌-◌, ◌^◌, ◌≤◌, Bool, true, false, not, ◌&&◌, ◌||◌, List, [], ◌∷◌, ◌++◌, length, map, nat_eq, nat_lt, None, Some, if◌then◌else◌, refl, ap, subst, sym, ◌∙◌, inl, inr, arith, append-nil}
+use Rattle.std.proofs.Common.{◌≡◌, ℕ, ◌+◌, ◌-◌, ◌^◌, ◌≤◌, Bool, true, false, not, ◌&&◌, ◌||◌, List, [], ◌++◌, length, map, nat_eq, nat_lt, None, Some, if◌then◌else◌, refl, ap, subst, sym, ◌∙◌, inl, inr, arith}
 use Rattle.std.specs.List.{filter, filter_map, list_any, list_all, position_from}
 use Rattle.std.specs.Option.{unwrap_or}
 use lib.Pointwise.{pointwise}

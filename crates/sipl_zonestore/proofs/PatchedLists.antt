@@ -1,9 +1,9 @@
 -- How a text comes into a list in which the records of its zone are last.
-use Rattle.std.proofs.Common.{◌≡◌, ℕ, ◌+◌, ◌-◌, ◌<◌, ◌≤◌, Bool, true, false, not, ◌&&◌, List, [], ◌∷◌, ◌++◌, length, take, drop, get_or, refl, ap, subst, sym, ◌∙◌, arith, append-nil, append_assoc, length-append, length-take}
-use Rattle.std.specs.List.{filter, list_any, list_all, slice_range}
-use Rattle.std.proofs.lemmas.List.{drop-append-le, drop-drop, drop_at, drop_more, length-drop, take-append-drop, take-append-le, take_all, take_at, take_more}
+use Rattle.std.proofs.Common.{◌≡◌, ℕ, ◌+◌, ◌-◌, ◌<◌, ◌≤◌, Bool, true, false, ◌&&◌, List, [], ◌∷◌, ◌++◌, length, take, drop, get_or, refl, ap, subst, sym, ◌∙◌, arith, append-nil, append_assoc, length-append, length-take}
+use Rattle.std.specs.List.{list_any, list_all, slice_range}
+use Rattle.std.proofs.lemmas.List.{drop-append-le, drop-drop, drop_at, drop_more, length-drop, take-append-drop, take-append-le, take_all, take_at}
 use Rattle.std.proofs.lemmas.List.Elements.{filter-append}
-use Rattle.std.proofs.lemmas.List.Folds.{drop_split, list_all-append, list_any_more}
+use Rattle.std.proofs.lemmas.List.Folds.{drop_split, list_all-append}
 use Rattle.std.proofs.Math.Seq.{drop-length, take-add}
 use Rattle.sipl_names.specs.Labels.{Labels, is_within}
 use Rattle.sipl_records.specs.declared.record.Record.{Record}

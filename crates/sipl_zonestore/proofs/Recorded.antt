@@ -13,7 +13,7 @@ use Rattle.sipl_zonestore.specs.declared.fault.StoreFault.{StoreFault}
 use Rattle.sipl_zonestore.specs.declared.fault.StoreFault.TheVariants.{Memory, NumberSpent}
 use Rattle.sipl_zonestore.specs.Store.{records_outside}
 use Rattle.sipl_zonestore.specs.Edits.{records_without}
-use Rattle.sipl_zonestore.specs.Changes.{is_changed, changed_count, changed_existence, changed_keys, changed_names, changed_sets, existence_key}
+use Rattle.sipl_zonestore.specs.Changes.{is_changed, changed_count, changed_keys, changed_names, changed_sets, existence_key}
 use Rattle.sipl_zonestore.specs.Numbers.{is_empty, number_of, numbered_keys, set_number_after, next_after, number_refusal}
 use Rattle.sipl_zonestore.specs.Content.{Content, carried, pushed, without, renumbered}
 use Rattle.sipl_zonestore.specs.SetTable.{OwnerTable, content_of, numbers_of, keys_left, has_set, HasSets}

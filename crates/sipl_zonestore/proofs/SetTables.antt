@@ -1,5 +1,5 @@
 -- Look-ups in tables of record sets.
-use Rattle.std.proofs.Common.{◌≡◌, ℕ, ◌+◌, ◌<◌, Bool, true, false, not, ◌&&◌, ◌||◌, cond, List, [], ◌∷◌, ◌++◌, ◌==◌, length, take, get_or, Option, None, Some, Result, Ok, Err, if◌then◌else◌, refl, ap, subst, sym, ◌∙◌, inl, inr, arith}
+use Rattle.std.proofs.Common.{◌≡◌, ℕ, ◌+◌, ◌<◌, Bool, true, false, not, ◌&&◌, ◌||◌, cond, List, [], ◌∷◌, ◌==◌, length, take, get_or, Option, None, Some, Result, Ok, Err, if◌then◌else◌, refl, ap, subst, sym, ◌∙◌, inl, inr, arith}
 use Rattle.std.specs.Prelude.{IfSome, OnOk, OnErr}
 use Rattle.std.specs.List.{filter, list_any, IsDistinct}
 use Rattle.std.specs.Map.{keys_of, lookup, set_value, update_all}
@@ -9,16 +9,16 @@ use Rattle.std.proofs.lemmas.Bool.Decides.{nat_tests}
 use Rattle.std.proofs.lemmas.List.Folds.{list_any_more}
 use Rattle.std.proofs.lemmas.Map.Entries.{lookup-filter-keys}
 use Rattle.std.proofs.lemmas.Map.Made.{update_all_distinct}
-use Rattle.sipl_names.specs.Labels.{Labels, is_within, same_name}
+use Rattle.sipl_names.specs.Labels.{Labels, same_name}
 use Rattle.sipl_names.proofs.Public.{same_name_decides}
 use Rattle.sipl_records.specs.declared.data.Data.{Data}
 use Rattle.sipl_records.specs.declared.record.Key.{Key}
 use Rattle.sipl_records.specs.declared.kind.Kind.{Kind}
 use Rattle.sipl_records.specs.declared.kind.Kind.TheVariants.{Address4, Address6, Alias, Service, Pointer, Exists}
-use Rattle.sipl_records.specs.Sets.{same_data, same_key, same_kind}
+use Rattle.sipl_records.specs.Sets.{same_key, same_kind}
 use Rattle.sipl_records.proofs.Public.{equivalence_from_decides, same_key-Decides, same_name-sym}
 use Rattle.sipl_zonestore.specs.Numbers.{number_of, is_empty}
-use Rattle.sipl_zonestore.specs.Content.{Content, no_content, carried, pushed, without}
+use Rattle.sipl_zonestore.specs.Content.{Content, no_content, carried, pushed}
 use Rattle.sipl_zonestore.specs.SetTable.{OwnerTable, HaveData, content_of, has_no_data, held, no_sets, numbers_of, set_at, with_set}
 use Rattle.sipl_zonestore.specs.declared.owner_sets.OwnerSets.{OwnerSets}
 use Rattle.sipl_zonestore.proofs.Contents.{carried_none, is_empty-push}

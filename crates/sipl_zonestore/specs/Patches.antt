@@ -1,5 +1,5 @@
 -- What a text changes in the list of records.
-use Rattle.std.specs.Prelude.{◌≡◌, ◌≤◌, ◌++◌, List, length, take, drop, slice_range, true, if◌then◌else◌}
+use Rattle.std.specs.Prelude.{◌≡◌, ◌≤◌, ◌++◌, List, length, take, drop, slice_range, if◌then◌else◌}
 use Rattle.sipl_names.specs.Labels.{Labels}
 use Rattle.sipl_records.specs.declared.record.Record.{Record}
 use Rattle.sipl_zonestore.specs.Store.{records_outside, records_within}

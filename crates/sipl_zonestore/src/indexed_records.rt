@@ -32,9 +32,7 @@ use crate::loaded_tables::{LoadedTables, loaded_tables};
 use crate::name_table::{count_in, count_of, count_out, replace_names};
 use crate::patches::{Patch, patch_of};
 use crate::record_list::RecordList;
-use crate::set_numbers::{
-    added_count, check_numbers, push_to_set, remove_from_set, removed_count,
-};
+use crate::set_numbers::{added_count, check_numbers, push_to_set, remove_from_set, removed_count};
 use crate::sets::SetTable;
 use crate::unchanged::no_change;
 use indexmap::{IndexMap, IndexSet};

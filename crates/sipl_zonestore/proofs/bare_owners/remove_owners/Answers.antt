@@ -1,4 +1,4 @@
-use Rattle.std.proofs.Common.{◌≡◌, ◌<◌, length, get_or, ap, ◌∙◌, arith}
+use Rattle.std.proofs.Common.{◌<◌, length, get_or, ap, ◌∙◌, arith}
 use Rattle.indexmap.specs.IndexSet.{contains}
 use Rattle.sipl_names.specs.Labels.{same_name}
 use Rattle.sipl_zonestore.proofs.BareOwners.{bare-more}

@@ -1,4 +1,4 @@
-use Rattle.std.proofs.Common.{◌≡◌, arith, ◌∙◌}
+use Rattle.std.proofs.Common.{arith, ◌∙◌}
 use Rattle.sipl_records.proofs.Public.{same_record_is}
 use Rattle.sipl_zonestore.proofs.DifferingRecords.{at-is}
 use Rattle.sipl_zonestore.proofs.differences.is_at.Goals as goal

@@ -1,4 +1,4 @@
-use Rattle.std.proofs.Common.{◌≡◌, ◌-◌, ℕ, Bool, true, ◌&&◌, List, Option, None, Some, Result, Ok, Err, IfOk, IfSome, ap, sym, ◌∙◌, take, drop}
+use Rattle.std.proofs.Common.{◌≡◌, ◌-◌, ℕ, Bool, true, List, Option, None, Some, Result, Ok, Err, IfOk, IfSome, ap, sym, ◌∙◌, take, drop}
 use Rattle.std.specs.List.{list_all, slice_range}
 use Rattle.std.proofs.lemmas.List.{take-append-drop}
 use Rattle.std.proofs.lemmas.List.Folds.{list_all-append}
@@ -24,7 +24,7 @@ take-all p n xs all =
 pub changed_owners-requires : goal.changed_owners-requires
 changed_owners-requires c =
     let within : Record → Bool = λ r. is_within r.owner c.args.apex.now in
-    record { within = take-all within (c.args.patch.last - c.args.patch.first) (drop c.args.patch.first c.args.text.now) (drop-all within c.args.patch.first c.args.text.now c.requires.within); }
+    record { within = take-all within (c.args.patch.last - c.args.patch.first) (drop c.args.patch.first c.args.text.now) (drop-all within c.args.patch.first c.args.text.now c.requires.within) }
 
 pub returns : goal.returns
 returns c =

@@ -1,4 +1,4 @@
-use Rattle.std.proofs.Common.{◌≡◌, ◌<◌, length, true, ap, sym, ◌∙◌, arith, take}
+use Rattle.std.proofs.Common.{◌<◌, length, ap, sym, ◌∙◌, arith, take}
 use Rattle.indexmap.specs.IndexSet.{contains}
 use Rattle.sipl_names.specs.Labels.{is_within, same_name}
 use Rattle.sipl_records.specs.declared.record.Record.{Record}

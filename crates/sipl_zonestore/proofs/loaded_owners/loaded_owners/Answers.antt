@@ -50,7 +50,7 @@ returns-in_err-tables c =
     let gone : c.deref-3.result.now ≡ records_of q c.args.records.now = c.deref-3.ensures.value ∙ c.in_ok-gone.ensures in
     let come : c.deref-4.result.now ≡ records_of q c.args.text.now = c.deref-4.ensures.value ∙ c.in_ok-come.ensures in
     let p = err_from_is_err_and c.from_residual-in_err-tables.result c.from_residual-in_err-tables.ensures.1 in
-    rw (p.1, p.2) record { sets = tt; none = tt; count = tt; last = tt; keys = tt; counted = tt; old = tt; new = tt; few = tt; bare = tt; refused = λ some. part-refused c.args.apex.now q c.args.records.now c.args.text.now c.args.next c.in_err-tables.field-0.0 c.requires.within c.requires.differ ((λ i. number_refusal (sym gone i) (records_outside c.args.apex.now (sym gone i) ++ sym come i) c.args.next) ∙ c.in_err-tables.ensures.refused some); }
+    rw (p.1, p.2) record { sets = tt; none = tt; count = tt; last = tt; keys = tt; counted = tt; old = tt; new = tt; few = tt; bare = tt; refused = λ some. part-refused c.args.apex.now q c.args.records.now c.args.text.now c.args.next c.in_err-tables.field-0.0 c.requires.within c.requires.differ ((λ i. number_refusal (sym gone i) (records_outside c.args.apex.now (sym gone i) ++ sym come i) c.args.next) ∙ c.in_err-tables.ensures.refused some) }
 
 pub returns-clause-sets : goal.returns-clause-sets
 returns-clause-sets c =

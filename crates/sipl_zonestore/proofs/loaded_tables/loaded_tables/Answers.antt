@@ -1,7 +1,7 @@
-use Rattle.std.proofs.Common.{◌≡◌, ◌++◌, ap, sym, ◌∙◌, length}
+use Rattle.std.proofs.Common.{◌++◌, ap, ◌∙◌, length}
 use Rattle.std.specs.List.{filter}
 use Rattle.std.proofs.lemmas.Result.{err_from_is_err_and}
-use Rattle.sipl_zonestore.specs.Changes.{changed_sets, existing_names}
+use Rattle.sipl_zonestore.specs.Changes.{existing_names}
 use Rattle.sipl_zonestore.specs.Loading.{existence_changed}
 use Rattle.sipl_zonestore.specs.SetTable.{has_set, numbered_content}
 use Rattle.sipl_zonestore.specs.Store.{records_outside, records_within}
@@ -21,7 +21,7 @@ number_sets-requires-clause-of_records c =
 pub returns-in_err-check_numbers : goal.returns-in_err-check_numbers
 returns-in_err-check_numbers c =
     let p = err_from_is_err_and c.from_residual-in_err-check_numbers.result c.from_residual-in_err-check_numbers.ensures.1 in
-    rw (p.1, p.2) record { sets = tt; count = tt; last = tt; keys = tt; counted = tt; old = tt; new = tt; refused = λ some. refused-replace c.args.apex.now c.args.records.now c.args.text.now c.args.next c.count_numbered-count.result c.args.old.now c.in_ok-sets.sets c.in_ok-keys.keys.items c.in_err-check_numbers.field-0.0 c.requires.within c.in_ok-sets.ensures c.in_ok-keys.ensures (c.count_numbered-count.ensures ∙ ap (λ keys. length (filter (has_set c.in_ok-sets.sets) keys)) c.deref.ensures.value) c.in_err-check_numbers.ensures.0 c.in_err-check_numbers.ensures.1; }
+    rw (p.1, p.2) record { sets = tt; count = tt; last = tt; keys = tt; counted = tt; old = tt; new = tt; refused = λ some. refused-replace c.args.apex.now c.args.records.now c.args.text.now c.args.next c.count_numbered-count.result c.args.old.now c.in_ok-sets.sets c.in_ok-keys.keys.items c.in_err-check_numbers.field-0.0 c.requires.within c.in_ok-sets.ensures c.in_ok-keys.ensures (c.count_numbered-count.ensures ∙ ap (λ keys. length (filter (has_set c.in_ok-sets.sets) keys)) c.deref.ensures.value) c.in_err-check_numbers.ensures.0 c.in_err-check_numbers.ensures.1 }
 
 pub returns-clause-sets : goal.returns-clause-sets
 returns-clause-sets c =

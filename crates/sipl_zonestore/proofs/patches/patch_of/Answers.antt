@@ -1,4 +1,4 @@
-use Rattle.std.proofs.Common.{◌≡◌, ◌-◌, length, refl, sym, ◌∙◌, arith, take, drop}
+use Rattle.std.proofs.Common.{◌-◌, length, refl, sym, ◌∙◌, arith, take, drop}
 use Rattle.std.proofs.lemmas.List.{length-drop, take_all}
 use Rattle.sipl_zonestore.proofs.PatchedLists.{found-patch}
 use Rattle.sipl_zonestore.proofs.patches.patch_of.Goals as goal

@@ -1,11 +1,10 @@
-use Rattle.std.proofs.Common.{◌≡◌, ◌≢◌, ◌++◌, ◌+◌, ◌-◌, false, Some, refl, ap, sym, subst, ◌∙◌, length, arith}
+use Rattle.std.proofs.Common.{◌≡◌, ◌≢◌, ◌++◌, ◌+◌, ◌-◌, Some, refl, ap, sym, subst, ◌∙◌, length, arith}
 use Rattle.std.specs.List.{list_any}
 use Rattle.std.proofs.lemmas.Result.{err_from_is_err_and}
 use Rattle.indexmap.specs.IndexSet.{contains}
 use Rattle.sipl_names.specs.Labels.{is_within, same_name}
 use Rattle.sipl_records.specs.Sets.{data_of}
 use Rattle.sipl_records.specs.declared.record.Key.{Key}
-use Rattle.sipl_masterfile.specs.Zones.{has_repeats}
 use Rattle.sipl_zonestore.specs.BareOwners.{is_bare_at}
 use Rattle.sipl_zonestore.specs.Changes.{changed_count, changed_sets, existing_names}
 use Rattle.sipl_zonestore.specs.Loading.{content_loaded, existence_changed}
@@ -19,7 +18,7 @@ use Rattle.sipl_zonestore.proofs.BareOwners.{bare-replaced}
 use Rattle.sipl_zonestore.proofs.ChangedKeys.{text-none}
 use Rattle.sipl_zonestore.proofs.NameTables.{existence-keys, names-load}
 use Rattle.sipl_zonestore.proofs.Recorded.{replaced, refused}
-use Rattle.sipl_zonestore.proofs.Replacing.{IsReplacement, loaded-none, replaced-sets, zone-replacement}
+use Rattle.sipl_zonestore.proofs.Replacing.{loaded-none, replaced-sets, zone-replacement}
 use Rattle.sipl_zonestore.proofs.indexed_records.IndexedRecords.replace.Goals as goal
 
 pub loaded_tables-requires-clause-sets : goal.loaded_tables-requires-clause-sets

@@ -1,8 +1,8 @@
-use Rattle.std.proofs.Common.{◌≡◌, ◌≢◌, ◌≤◌, ◌++◌, ◌+◌, ◌-◌, not, ◌&&◌, ◌||◌, true, false, Some, refl, ap, sym, subst, ◌∙◌, length, arith}
-use Rattle.std.specs.List.{list_all, list_any}
+use Rattle.std.proofs.Common.{◌≡◌, ◌≢◌, ◌++◌, ◌+◌, ◌-◌, not, ◌&&◌, ◌||◌, true, Some, refl, ap, sym, subst, ◌∙◌, length, arith}
+use Rattle.std.specs.List.{list_any}
 use Rattle.std.proofs.lemmas.Result.{err_from_is_err_and}
 use Rattle.indexmap.specs.IndexSet.{contains}
-use Rattle.sipl_names.specs.Labels.{is_within, same_name}
+use Rattle.sipl_names.specs.Labels.{same_name}
 use Rattle.sipl_records.specs.Sets.{data_of}
 use Rattle.sipl_records.specs.declared.record.Key.{Key}
 use Rattle.sipl_zonestore.specs.BareOwners.{is_bare_at}

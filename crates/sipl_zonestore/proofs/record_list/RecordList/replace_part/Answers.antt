@@ -1,4 +1,4 @@
-use Rattle.std.proofs.Common.{◌≡◌, ◌≤◌, ◌+◌, ◌-◌, ◌++◌, min, length, take, drop, vec_len, vec_capacity, arith, sym, ap, ◌∙◌}
+use Rattle.std.proofs.Common.{◌≡◌, ◌≤◌, ◌-◌, ◌++◌, min, length, take, drop, vec_len, vec_capacity, arith, sym, ap, ◌∙◌}
 use Rattle.sipl_zonestore.specs.RecordList.{live, codes_of}
 use Rattle.sipl_zonestore.proofs.LiveRecords.{codes-replaced, codes-whole, live-all, live-le, length-codes_of}
 use Rattle.sipl_zonestore.proofs.record_list.RecordList.replace_part.Goals as goal
