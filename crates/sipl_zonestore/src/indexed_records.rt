@@ -1,8 +1,9 @@
 //! Records with an index of their sets.
-ghost use Rattle.std.specs.Prelude.{◌≡◌, ◌≤◌, ◌^◌, ◌+◌, ◌&&◌, ◌||◌, not, [], ◌∷◌, ◌++◌, length, true, false, None, Ok, if◌then◌else◌, IfOk, IfErr, OnOk, OnErr};
+ghost use Rattle.std.specs.Prelude.{◌≡◌, ◌≤◌, ◌<◌, ◌^◌, ◌+◌, ◌&&◌, ◌||◌, not, [], ◌∷◌, ◌++◌, length, true, false, None, Ok, if◌then◌else◌, IfOk, IfErr, OnOk, OnErr};
 ghost use Rattle.std.specs.Borrow.{sem};
 ghost use Rattle.std.specs.Io.BufRead.{Rests};
 ghost use Rattle.std.specs.List.{count_by, list_all, list_any};
+ghost use Rattle.indexmap.specs.IndexMap.{spare};
 ghost use Rattle.indexmap.specs.IndexSet.{IsUnchanged, contains};
 ghost use Rattle.sipl_zonestore.specs.Numbers.{number_by, number_refusal};
 ghost use Rattle.sipl_names.specs.Labels.{Labels, is_within, same_name};
@@ -207,6 +208,7 @@ impl IndexedRecords {
         ensures { IsReplaced (records_outside apex.now self.old.records ++ text.now)
             self.old self.new result }
     {
+        let copies = copy_records(self.alloc, text)?;
         let LoadedTables { sets, count, names } = loaded_tables(
             self.alloc,
             apex,
@@ -217,9 +219,7 @@ impl IndexedRecords {
             self.next,
         )?;
         let LoadedNames { changed, old, new } = names;
-        let copies = copy_records(self.alloc, text)?;
-        self.records.reserve(copies.len())?;
-        self.names.reserve(new.len())?;
+        reserve(&mut self.records, &mut self.names, copies.len(), new.len())?;
         replace_tables(self.alloc, &mut self.sets, &mut self.bare, apex, text, sets)?;
         replace_names(&mut self.names, &old, new);
         self.records.replace_within(apex, copies);
@@ -244,6 +244,7 @@ impl IndexedRecords {
         ensures { IsReplaced (records_outside apex.now self.old.records ++ text.now)
             self.old self.new result }
     {
+        let copies = copy_records(self.alloc, &text[patch.first..patch.last])?;
         let LoadedOwners { tables, bare } = loaded_owners(
             self.alloc,
             apex,
@@ -256,9 +257,7 @@ impl IndexedRecords {
         )?;
         let LoadedTables { sets, count, names } = tables;
         let LoadedNames { changed, old, new } = names;
-        let copies = copy_records(self.alloc, &text[patch.first..patch.last])?;
-        self.records.reserve(copies.len())?;
-        self.names.reserve(new.len())?;
+        reserve(&mut self.records, &mut self.names, copies.len(), new.len())?;
         replace_owner_tables(&mut self.sets, &mut self.bare, owners, sets, bare)?;
         replace_names(&mut self.names, &old, new);
         self.records.apply(apex, patch, copies);
@@ -313,6 +312,24 @@ impl IndexedRecords {
         self.next += count as u64;
         Ok(changed)
     }
+}
+
+// Reserves space for so many more records, and for so many more names.
+fn reserve(
+    records: &mut RecordList,
+    names: &mut IndexMap<Name, usize>,
+    record_count: usize,
+    name_count: usize,
+) -> Result<(), AllocError>
+    ensures records { records.new.records ≡ records.old.records }
+    ensures names { names.new.entries ≡ names.old.entries }
+    ensures room { OnOk result (record_count ≤ records.new.room) }
+    ensures limit { OnOk result (length records.new.records + record_count < 2 ^ 63) }
+    ensures space { OnOk result (name_count ≤ spare names.new) }
+{
+    records.reserve(record_count)?;
+    names.reserve(name_count)?;
+    Ok(())
 }
 
 // Replaces what the tables have of the records within the apex by what a text has, whose sets are

@@ -26,7 +26,7 @@ loaded_tables-requires-clause-sets c = subst (HasSets c.self.inside.sets) (sym c
 
 pub returns-in_err-sets : goal.returns-in_err-sets
 returns-in_err-sets c =
-    let p = err_from_is_err_and c.from_residual.result c.from_residual.ensures.1 in
+    let p = err_from_is_err_and c.from_residual-in_err-sets.result c.from_residual-in_err-sets.ensures.1 in
     rw (p.1, p.2, ← c.self.view_is) (refused (records_outside c.args.apex.now c.self.inside.records.records ++ c.args.text.now) _ _ c.in_err-sets.field-0.0 (subst (λ rs. c.in_err-sets.field-0.0 ≢ Memory → number_refusal rs (records_outside c.args.apex.now rs ++ c.args.text.now) c.self.inside.next ≡ Some c.in_err-sets.field-0.0) c.as_slice.ensures.value c.in_err-sets.ensures.refused) (λ i. record { records = c.as_slice.follows.holds-at-none i; numbers = numbers_of c.self.inside.sets; next = c.self.inside.next }))
 
 pub replace_tables-requires : goal.replace_tables-requires
@@ -36,7 +36,7 @@ replace_tables-requires c = λ key outside.
 
 pub replace_names-requires-clause-fits : goal.replace_names-requires-clause-fits
 replace_names-requires-clause-fits c = λ name.
-    let old : count_at c.reserve-2.new.self.entries name ≡ count_within c.self.inside.records.records name = ap (λ (es : NameTable). count_at es name) c.in_ok-reserve-2.ensures.entries ∙ c.self.invariant.has_names name in
+    let old : count_at c.reserve.new.names.entries name ≡ count_within c.self.inside.records.records name = ap (λ (es : NameTable). count_at es name) c.in_ok-reserve.ensures.names ∙ c.self.invariant.has_names name in
     let records = ap length (c.in_ok-reserve.ensures.records ∙ c.as_slice.follows.holds-at-none) in
     omega (arith, old, records, c.in_ok-sets.ensures.new name, count-limit c.self.inside.records.records name, count-limit c.args.text.now name, ap length c.in_ok-copies.ensures, c.in_ok-copies.copies.ok.0, c.len.ensures, c.in_ok-reserve.ensures.limit)
 
@@ -54,7 +54,7 @@ invariant_of-self-2 c =
       has_bare = λ name.
           bare-replaced apex old text (contains same_name c.self.inside.bare) (λ name. list_any (is_bare_at name) text) (contains same_name c.replace_tables.new.bare) c.self.invariant.has_bare (λ name. refl) c.in_ok-replace_tables.ensures.bare name ∙ ap (λ rs. list_any (is_bare_at name) rs) (sym records_are);
       has_names = λ name.
-          names-load apex old text c.self.inside.names.entries c.in_ok-sets.field-0.names.old.entries c.in_ok-sets.field-0.names.new.entries c.replace_names.new.names.entries c.self.invariant.has_names (subst (λ rs. HasNames c.in_ok-sets.field-0.names.old.entries (records_within apex rs)) c.as_slice.ensures.value c.in_ok-sets.ensures.old) c.in_ok-sets.ensures.new (λ name. c.replace_names.ensures name ∙ ap (λ (es : NameTable). count_at es name + count_at c.in_ok-sets.field-0.names.new.entries name - count_at c.in_ok-sets.field-0.names.old.entries name) c.in_ok-reserve-2.ensures.entries) name
+          names-load apex old text c.self.inside.names.entries c.in_ok-sets.field-0.names.old.entries c.in_ok-sets.field-0.names.new.entries c.replace_names.new.names.entries c.self.invariant.has_names (subst (λ rs. HasNames c.in_ok-sets.field-0.names.old.entries (records_within apex rs)) c.as_slice.ensures.value c.in_ok-sets.ensures.old) c.in_ok-sets.ensures.new (λ name. c.replace_names.ensures name ∙ ap (λ (es : NameTable). count_at es name + count_at c.in_ok-sets.field-0.names.new.entries name - count_at c.in_ok-sets.field-0.names.old.entries name) c.in_ok-reserve.ensures.names) name
           ∙ ap (λ rs. count_within rs name) (sym records_are);
       lent = c.self.invariant.lent;
       last = c.in_ok-sets.ensures.last;
@@ -75,18 +75,13 @@ returns c =
 
 pub returns-in_err-copies : goal.returns-in_err-copies
 returns-in_err-copies c =
-    let p = err_from_is_err_and c.from_residual-in_err-copies.result c.from_residual-in_err-copies.ensures.1 in
-    rw (p.1, p.2, ← c.self.view_is) (refused (records_outside c.args.apex.now c.self.inside.records.records ++ c.args.text.now) _ _ Memory (λ some. absurd (some refl)) (λ i. record { records = c.as_slice.follows.holds-at-none i; numbers = numbers_of c.self.inside.sets; next = c.self.inside.next }))
+    let p = err_from_is_err_and c.from_residual.result c.from_residual.ensures.1 in
+    rw (p.1, p.2, ← c.self.view_is) (refused (records_outside c.args.apex.now c.self.inside.records.records ++ c.args.text.now) _ _ Memory (λ some. absurd (some refl)) refl)
 
 pub returns-in_err-reserve : goal.returns-in_err-reserve
 returns-in_err-reserve c =
     let p = err_from_is_err_and c.from_residual-in_err-reserve.result c.from_residual-in_err-reserve.ensures.1 in
     rw (p.1, p.2, ← c.self.view_is) (refused (records_outside c.args.apex.now c.self.inside.records.records ++ c.args.text.now) _ _ Memory (λ some. absurd (some refl)) (λ i. record { records = (c.in_err-reserve.ensures.records ∙ c.as_slice.follows.holds-at-none) i; numbers = numbers_of c.self.inside.sets; next = c.self.inside.next }))
-
-pub returns-in_err-reserve-2 : goal.returns-in_err-reserve-2
-returns-in_err-reserve-2 c =
-    let p = err_from_is_err_and c.from_residual-in_err-reserve-2.result c.from_residual-in_err-reserve-2.ensures.1 in
-    rw (p.1, p.2, ← c.self.view_is) (refused (records_outside c.args.apex.now c.self.inside.records.records ++ c.args.text.now) _ _ Memory (λ some. absurd (some refl)) (λ i. record { records = (c.in_ok-reserve.ensures.records ∙ c.as_slice.follows.holds-at-none) i; numbers = numbers_of c.self.inside.sets; next = c.self.inside.next }))
 
 pub returns-in_err-replace_tables : goal.returns-in_err-replace_tables
 returns-in_err-replace_tables c =
@@ -95,11 +90,11 @@ returns-in_err-replace_tables c =
 
 pub invariant_of-self-in_err-replace_tables : goal.invariant_of-self-in_err-replace_tables
 invariant_of-self-in_err-replace_tables c =
-    let records : c.reserve.new.self.records ≡ c.self.inside.records.records = c.in_ok-reserve.ensures.records ∙ c.as_slice.follows.holds-at-none in
+    let records : c.reserve.new.records.records ≡ c.self.inside.records.records = c.in_ok-reserve.ensures.records ∙ c.as_slice.follows.holds-at-none in
     record {
       has_sets = λ key. ap (λ (sets : OwnerTable). (content_of sets key).values) c.in_err-replace_tables.ensures.sets_left ∙ c.self.invariant.has_sets key ∙ ap (λ rs. data_of rs key) (sym records);
       has_bare = λ name. ap (list_any (same_name name)) c.in_err-replace_tables.ensures.bare_left ∙ c.self.invariant.has_bare name ∙ ap (list_any (is_bare_at name)) (sym records);
-      has_names = λ name. ap (λ (es : NameTable). count_at es name) c.in_ok-reserve-2.ensures.entries ∙ c.self.invariant.has_names name ∙ ap (λ rs. count_within rs name) (sym records);
+      has_names = λ name. ap (λ (es : NameTable). count_at es name) c.in_ok-reserve.ensures.names ∙ c.self.invariant.has_names name ∙ ap (λ rs. count_within rs name) (sym records);
       lent = c.self.invariant.lent;
       last = c.self.invariant.last;
     }

@@ -34,12 +34,12 @@ loaded_owners-requires-clause-names c = subst (HasNames c.self.inside.names.entr
 pub returns-in_err-tables : goal.returns-in_err-tables
 returns-in_err-tables c =
     let fault = c.in_err-tables.field-0.0 in
-    let p = err_from_is_err_and c.from_residual.result c.from_residual.ensures.1 in
+    let p = err_from_is_err_and c.from_residual-in_err-tables.result c.from_residual-in_err-tables.ensures.1 in
     rw (p.1, p.2, ← c.self.view_is) (refused (records_outside c.args.apex.now c.self.inside.records.records ++ c.args.text.now) _ _ fault (subst (λ rs. fault ≢ Memory → number_refusal rs (records_outside c.args.apex.now rs ++ c.args.text.now) c.self.inside.next ≡ Some fault) c.as_slice.ensures.value c.in_err-tables.ensures.refused) (λ i. record { records = c.as_slice.follows.holds-at-none i; numbers = numbers_of c.self.inside.sets; next = c.self.inside.next }))
 
 pub replace_names-requires-clause-fits : goal.replace_names-requires-clause-fits
 replace_names-requires-clause-fits c = λ name.
-    let old : count_at c.reserve-2.new.self.entries name ≡ count_within c.self.inside.records.records name = ap (λ (es : NameTable). count_at es name) c.in_ok-reserve-2.ensures.entries ∙ c.self.invariant.has_names name in
+    let old : count_at c.reserve.new.names.entries name ≡ count_within c.self.inside.records.records name = ap (λ (es : NameTable). count_at es name) c.in_ok-reserve.ensures.names ∙ c.self.invariant.has_names name in
     let records = ap length (c.in_ok-reserve.ensures.records ∙ c.as_slice.follows.holds-at-none) in
     omega (arith, old, records, c.in_ok-tables.ensures.few name, count-limit c.self.inside.records.records name, c.in_ok-reserve.ensures.limit)
 
@@ -61,7 +61,7 @@ invariant_of-self-2 c =
       has_bare = λ name.
           part-bare apex q old text (contains same_name c.self.inside.bare) (contains same_name c.replace_owner_tables.new.bare) differ c.self.invariant.has_bare (λ name. c.in_ok-replace_owner_tables.ensures.bare name ∙ ap (λ b. not (q name) && contains same_name c.self.inside.bare name || b) (c.in_ok-tables.ensures.bare name)) name ∙ ap (λ rs. list_any (is_bare_at name) rs) (sym records_are);
       has_names = λ name.
-          part-names apex q old text c.self.inside.names.entries loaded.names.old.entries loaded.names.new.entries c.replace_names.new.names.entries differ c.self.invariant.has_names (subst (λ rs. HasNames loaded.names.old.entries (records_of q rs)) c.as_slice.ensures.value c.in_ok-tables.ensures.old) c.in_ok-tables.ensures.new (λ name. c.replace_names.ensures name ∙ ap (λ (es : NameTable). count_at es name + count_at loaded.names.new.entries name - count_at loaded.names.old.entries name) c.in_ok-reserve-2.ensures.entries) name
+          part-names apex q old text c.self.inside.names.entries loaded.names.old.entries loaded.names.new.entries c.replace_names.new.names.entries differ c.self.invariant.has_names (subst (λ rs. HasNames loaded.names.old.entries (records_of q rs)) c.as_slice.ensures.value c.in_ok-tables.ensures.old) c.in_ok-tables.ensures.new (λ name. c.replace_names.ensures name ∙ ap (λ (es : NameTable). count_at es name + count_at loaded.names.new.entries name - count_at loaded.names.old.entries name) c.in_ok-reserve.ensures.names) name
           ∙ ap (λ rs. count_within rs name) (sym records_are);
       lent = c.self.invariant.lent;
       last = c.in_ok-tables.ensures.last;
@@ -84,18 +84,13 @@ returns c =
 
 pub returns-in_err-copies : goal.returns-in_err-copies
 returns-in_err-copies c =
-    let p = err_from_is_err_and c.from_residual-in_err-copies.result c.from_residual-in_err-copies.ensures.1 in
-    rw (p.1, p.2, ← c.self.view_is) (refused (records_outside c.args.apex.now c.self.inside.records.records ++ c.args.text.now) _ _ Memory (λ some. absurd (some refl)) (λ i. record { records = c.as_slice.follows.holds-at-none i; numbers = numbers_of c.self.inside.sets; next = c.self.inside.next }))
+    let p = err_from_is_err_and c.from_residual.result c.from_residual.ensures.1 in
+    rw (p.1, p.2, ← c.self.view_is) (refused (records_outside c.args.apex.now c.self.inside.records.records ++ c.args.text.now) _ _ Memory (λ some. absurd (some refl)) refl)
 
 pub returns-in_err-reserve : goal.returns-in_err-reserve
 returns-in_err-reserve c =
     let p = err_from_is_err_and c.from_residual-in_err-reserve.result c.from_residual-in_err-reserve.ensures.1 in
     rw (p.1, p.2, ← c.self.view_is) (refused (records_outside c.args.apex.now c.self.inside.records.records ++ c.args.text.now) _ _ Memory (λ some. absurd (some refl)) (λ i. record { records = (c.in_err-reserve.ensures.records ∙ c.as_slice.follows.holds-at-none) i; numbers = numbers_of c.self.inside.sets; next = c.self.inside.next }))
-
-pub returns-in_err-reserve-2 : goal.returns-in_err-reserve-2
-returns-in_err-reserve-2 c =
-    let p = err_from_is_err_and c.from_residual-in_err-reserve-2.result c.from_residual-in_err-reserve-2.ensures.1 in
-    rw (p.1, p.2, ← c.self.view_is) (refused (records_outside c.args.apex.now c.self.inside.records.records ++ c.args.text.now) _ _ Memory (λ some. absurd (some refl)) (λ i. record { records = (c.in_ok-reserve.ensures.records ∙ c.as_slice.follows.holds-at-none) i; numbers = numbers_of c.self.inside.sets; next = c.self.inside.next }))
 
 pub returns-in_err-replace_owner_tables : goal.returns-in_err-replace_owner_tables
 returns-in_err-replace_owner_tables c =
@@ -104,11 +99,11 @@ returns-in_err-replace_owner_tables c =
 
 pub invariant_of-self-in_err-replace_owner_tables : goal.invariant_of-self-in_err-replace_owner_tables
 invariant_of-self-in_err-replace_owner_tables c =
-    let records : c.reserve.new.self.records ≡ c.self.inside.records.records = c.in_ok-reserve.ensures.records ∙ c.as_slice.follows.holds-at-none in
+    let records : c.reserve.new.records.records ≡ c.self.inside.records.records = c.in_ok-reserve.ensures.records ∙ c.as_slice.follows.holds-at-none in
     record {
       has_sets = λ key. ap (λ (sets : OwnerTable). (content_of sets key).values) c.in_err-replace_owner_tables.ensures.sets_left ∙ c.self.invariant.has_sets key ∙ ap (λ rs. data_of rs key) (sym records);
       has_bare = λ name. ap (list_any (same_name name)) c.in_err-replace_owner_tables.ensures.bare_left ∙ c.self.invariant.has_bare name ∙ ap (list_any (is_bare_at name)) (sym records);
-      has_names = λ name. ap (λ (es : NameTable). count_at es name) c.in_ok-reserve-2.ensures.entries ∙ c.self.invariant.has_names name ∙ ap (λ rs. count_within rs name) (sym records);
+      has_names = λ name. ap (λ (es : NameTable). count_at es name) c.in_ok-reserve.ensures.names ∙ c.self.invariant.has_names name ∙ ap (λ rs. count_within rs name) (sym records);
       lent = c.self.invariant.lent;
       last = c.self.invariant.last;
     }
