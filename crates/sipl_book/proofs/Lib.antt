@@ -9,6 +9,7 @@ mod Staleness
 mod Honest
 mod Committing
 mod Answering
+mod Free
 mod Depending
 mod Changing
 mod Ids

@@ -2,6 +2,7 @@
 pub use Rattle.sipl_book.proofs.Answering.{consistent-answered}
 pub use Rattle.sipl_book.proofs.Committed.{All-committed, All-entry_of, AllPairs-map, committed_cases, id-renewed, ids-committed}
 pub use Rattle.sipl_book.proofs.Committing.{consistent_committed, consistent_looked}
+pub use Rattle.sipl_book.proofs.Free.{draw-free}
 pub use Rattle.sipl_book.proofs.Honest.{given-now, read-after}
 pub use Rattle.sipl_book.proofs.Ids.{InOrder-head, InOrder-tail, differ}
 pub use Rattle.sipl_book.proofs.Journal.{all_good-later}

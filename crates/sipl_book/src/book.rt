@@ -1,18 +1,17 @@
-ghost use Rattle.std.specs.Prelude.{◌≡◌, ◌≢◌, ◌+◌, ◌-◌, ◌^◌, ◌<◌, ◌≤◌, ◌&&◌, [], ◌∷◌, ◌++◌, length, None, Some, IfOk, IfErr, IfSome, OnOk, OnErr, vec_len, vec_capacity};
+ghost use Rattle.std.specs.Prelude.{◌≡◌, ◌≢◌, ◌+◌, ◌-◌, ◌^◌, ◌<◌, ◌≤◌, ◌&&◌, false, true, [], ◌∷◌, ◌++◌, length, None, Some, IfOk, IfErr, IfSome, OnOk, OnErr, vec_len, vec_capacity};
 ghost use Rattle.std.specs.List.{All, count_by};
 ghost use Rattle.std.specs.Option.{option_copied};
 ghost use Rattle.sipl_records.specs.Sets.{set_of};
 ghost use Rattle.sipl_zonestore.specs.Store.{number_in};
 ghost use Rattle.sipl_zonestore.specs.Consistent.{IsConsistent as IsConsistentStore};
 ghost use Rattle.sipl_outages.specs.Holds.BoardEvent.{Hold, Release, Advance};
-ghost use Rattle.sipl_plans.specs.Plan.{draw};
 ghost use Rattle.sipl_plans.specs.Runs.{IsSet};
-ghost use Rattle.sipl_plans.specs.Servers.{HasFewServers};
 ghost use Rattle.sipl_book.specs.Book.{HasRoute, IsGoodEntry, answer_now, new_book, next_event, state_of};
 ghost use Rattle.sipl_book.specs.Calls.{IsChanged, MovesBoard, IsHanded, IsForgotten, after_look, answer_event, is_full, recorded, unless_full};
 ghost use Rattle.sipl_book.specs.Lookups.{IsAnswered};
-ghost use Rattle.sipl_book.specs.Entries.{depends_on, entry_of};
+ghost use Rattle.sipl_book.specs.Entries.{depends_on, entry_of, has_current_entry};
 ghost use Rattle.sipl_book.specs.Honesty.{WasGiven};
+ghost use Rattle.sipl_book.specs.Kept.{IsDrawnOf};
 ghost use Rattle.sipl_book.specs.Repairs.{IsQueueOf};
 ghost use Rattle.sipl_book.specs.Machine.{IsLegal, replay};
 
@@ -28,7 +27,7 @@ use crate::state::State;
 use sipl_choice::{Abilities, Endpoint};
 use sipl_evidence::dup_data;
 use sipl_outages::{Board, Held, ShareableBoard, SharedBoard};
-use sipl_plans::{Answer, Layout, draw};
+use sipl_plans::Answer;
 use sipl_records::{Data, Key, Sequence};
 use sipl_srv::Draws;
 use sipl_uri::Question;
@@ -203,18 +202,53 @@ impl Book {
     pub fn hand(&mut self, question: &Question, draws: &Draws) -> Result<Handed, BookFault>
         ensures { IsHanded question.now draws.now self.old self.new result }
     {
-        if self.journal.len() >= self.max_events {
+        if self.is_full() {
             return Err(BookFault::JournalFull);
         }
-        let layout = match self.cache.get(question) {
-            Some(entry) if entry.is_current() => entry.layout(),
+        let answer = self.draw_current(question, draws)?;
+        let copy = answer.dup(self.alloc)?;
+        let number = self.record_answer(question.dup(self.alloc)?, draws, copy)?;
+        Ok(Handed { number, answer })
+    }
+
+    // The answer of the current entry of a question, for these random words and the holds as they are,
+    // which the entry keeps where it can be handed out again. B1 where there is none, or else an
+    // allocation failure.
+    fn draw_current(&mut self, question: &Question, draws: &Draws) -> Result<Answer, BookFault>
+        ensures answer { IfOk result
+            (λ answer. answer ≡ answer_now self.old question.now draws.now) }
+        ensures current { OnOk result
+            (has_current_entry self.old.entries question.now ≡ true) }
+        ensures refused { IfErr result (λ fault. fault ≢ BookFault.Memory
+            → (fault ≡ BookFault.NotCurrent)
+            × (has_current_entry self.old.entries question.now ≡ false)) }
+        ensures memory { IfErr result (λ fault. fault ≡ BookFault.Memory
+            → has_current_entry self.old.entries question.now ≡ true) }
+        ensures unchanged { self.new ≡ self.old }
+    {
+        let entry = match self.cache.get(question) {
+            Some(entry) if entry.is_current() => entry,
             _ => return Err(BookFault::NotCurrent),
         };
-        reserve_event(&mut self.journal, self.max_events)?;
-        let question = question.dup(self.alloc)?;
-        let (event, answer) = prepare(self.alloc, question, layout, draws, &self.board, self.held)?;
-        let number = record_event(&mut self.journal, self.first, event);
-        Ok(Handed { number, answer })
+        let board = self.board.get();
+        let answer = entry.draw(self.alloc, draws, board, self.held)?;
+        if entry.wants_answer(board) {
+            self.cache
+                .keep_answer(question, draws, board, self.held, &answer);
+        }
+        Ok(answer)
+    }
+
+    /// Has the entry of a question keep its answer, drawn for these random words and the holds as they
+    /// are, where [`Entry::wants_answer`] says so: then it is shared with all that is handed out until
+    /// the entry changes. Constant time but for hashing. Does not allocate.
+    pub fn keep_answer(&mut self, question: &Question, draws: &Draws, answer: &Answer)
+        requires { IsDrawnOf self.old.entries question.now draws.now
+            self.old.board.holds self.old.held answer.now }
+        ensures { self.new ≡ self.old }
+    {
+        self.cache
+            .keep_answer(question, draws, self.board.get(), self.held, answer);
     }
 
     /// Records an answer that the caller has drawn for a question, as it is on the records and the
@@ -250,14 +284,10 @@ impl Book {
     pub fn find(&mut self, question: Question, draws: &Draws) -> Result<Handed, BookFault>
         ensures { IsAnswered question draws.now self.old self.new result }
     {
-        reserve_event(&mut self.journal, self.max_events)?;
-        let layout = match self.cache.get(&question) {
-            Some(entry) if entry.is_current() => entry.layout(),
-            _ => return self.find_anew(question, draws),
-        };
-        let (event, answer) = prepare(self.alloc, question, layout, draws, &self.board, self.held)?;
-        let number = record_event(&mut self.journal, self.first, event);
-        Ok(Handed { number, answer })
+        match self.hand(&question, draws) {
+            Err(BookFault::NotCurrent) => self.find_anew(question, draws),
+            handed => handed,
+        }
     }
 
     /// Forgets the entry of a question, whether it is current, queued or leased. Does not allocate.
@@ -408,25 +438,4 @@ pub(crate) fn record_event(journal: &mut Vec<Event>, first: u64, event: Event) -
     let number = first + journal.len() as u64;
     journal.push_reserved(event);
     number
-}
-
-// The event of an answer, and the answer: that of a layout for these random words, these holds and
-// this policy on them.
-fn prepare(
-    alloc: Global,
-    question: Question,
-    layout: &Layout,
-    draws: &Draws,
-    board: &ShareableBoard,
-    held: Held,
-) -> Result<(Event, Answer), AllocError>
-    requires { HasFewServers layout.now }
-    ensures event { IfOk result (λ prepared. prepared.0
-        ≡ Event.Answer question draws.now (draw layout.now board.now.holds draws.now held)) }
-    ensures answer { IfOk result
-        (λ prepared. prepared.1 ≡ draw layout.now board.now.holds draws.now held) }
-{
-    let answer = draw(alloc, layout, draws, board.get(), held)?;
-    let event = Event::Answer(question, *draws, answer.dup(alloc)?);
-    Ok((event, answer))
 }

@@ -6,15 +6,18 @@ ghost use Rattle.sipl_repair.specs.QueueState.{after_lease, after_settle, first_
 ghost use Rattle.sipl_book.specs.Cache.{InOrder, new_cache};
 ghost use Rattle.sipl_book.specs.Entries.{after_change, committed, entry_of, renewed};
 ghost use Rattle.sipl_book.specs.Indexed.{needs};
+ghost use Rattle.sipl_book.specs.Kept.{IsDrawnOf};
 ghost use Rattle.sipl_book.specs.Repairs.{IsQueueOf, after_failure, after_marks, after_removal, after_renewal, dependents, entry_with, is_leased_for, is_outdated, queue_after_give_back, without};
 
 use crate::entry::Entry;
 use crate::fault::BookFault;
 use crate::indexed::Indexed;
 use crate::outdating::{mark_all, outdate_dependents};
-use sipl_plans::{Finding, MAX_SETS};
+use sipl_outages::{Board, Held};
+use sipl_plans::{Answer, Finding, MAX_SETS};
 use sipl_records::Key;
 use sipl_repair::{Lease, Queue, QueueFault};
+use sipl_srv::Draws;
 use sipl_uri::Question;
 use std::alloc::{AllocError, Global};
 use std::marker::Model;
@@ -203,6 +206,23 @@ impl Cache {
             Ok(()) => Ok(None),
             Err(finding) => Err(finding),
         }
+    }
+
+    /// Has the entry of a question keep a copy of its answer, as [`Entry::keep_answer`] says. Constant
+    /// time but for hashing.
+    pub(crate) fn keep_answer(
+        &mut self,
+        question: &Question,
+        draws: &Draws,
+        board: &Board,
+        held: Held,
+        answer: &Answer,
+    )
+        requires { IsDrawnOf self.old.entries question.now draws.now board.now.holds held answer.now }
+        ensures { self.new ≡ self.old }
+    {
+        self.entries
+            .keep_answer(question, draws, board, held, answer);
     }
 
     /// Leases the first queued entry, reserves space in the index for its settlement, and copies its

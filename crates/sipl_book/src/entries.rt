@@ -5,12 +5,15 @@ ghost use Rattle.std.specs.Option.{option_copied};
 ghost use Rattle.sipl_book.specs.Cache.{InOrder};
 ghost use Rattle.sipl_book.specs.Entries.{entry_of, renewed};
 ghost use Rattle.sipl_book.specs.Indexed.{has, needs, touched};
+ghost use Rattle.sipl_book.specs.Kept.{IsDrawnOf};
 ghost use Rattle.sipl_book.specs.Repairs.{entry_with, is_outdated, without};
 
 use crate::entry::Entry;
 use indexmap::IndexMap;
-use sipl_plans::Finding;
+use sipl_outages::{Board, Held};
+use sipl_plans::{Answer, Finding};
 use sipl_records::Key;
+use sipl_srv::Draws;
 use sipl_uri::Question;
 use std::alloc::Global;
 use std::marker::Model;
@@ -148,6 +151,24 @@ impl Entries {
         match self.table.get_mut(finding.question()) {
             Some(entry) => Some(entry.renew(finding)),
             None => None,
+        }
+    }
+
+    /// Has the entry of a question keep a copy of its answer, as [`Entry::keep_answer`] says. Constant
+    /// time but for hashing.
+    pub(crate) fn keep_answer(
+        &mut self,
+        question: &Question,
+        draws: &Draws,
+        board: &Board,
+        held: Held,
+        answer: &Answer,
+    )
+        requires { IsDrawnOf self.old question.now draws.now board.now.holds held answer.now }
+        ensures { self.new ≡ self.old }
+    {
+        if let Some(entry) = self.table.get_mut(question) {
+            entry.keep_answer(self.alloc, draws, board, held, answer);
         }
     }
 

@@ -1,15 +1,19 @@
 ghost use Rattle.std.specs.Prelude.{◌≡◌, true, [], ◌∷◌, IfOk};
 ghost use Rattle.std.specs.Arc.{arc_value};
 ghost use Rattle.sipl_plans.specs.Findings.{IsSound};
+ghost use Rattle.sipl_plans.specs.Plan.{draw};
 ghost use Rattle.sipl_plans.specs.Servers.{HasFewServers};
 ghost use Rattle.sipl_book.specs.Entries.{after_change, depends_on};
 ghost use Rattle.sipl_book.specs.Indexed.{needs};
+ghost use Rattle.sipl_book.specs.Kept.{HasOneAnswer};
 
 use sipl_evidence::Evidence;
-use sipl_plans::{Finding, Layout};
+use sipl_outages::{Board, Held};
+use sipl_plans::{Answer, Finding, Layout, draw};
 use sipl_records::Key;
+use sipl_srv::Draws;
 use sipl_uri::Question;
-use std::alloc::AllocError;
+use std::alloc::{AllocError, Global};
 use std::marker::Model;
 use std::mem;
 use std::sync::Arc;
@@ -21,6 +25,8 @@ pub struct Entry {
     id: u64,
     is_current: bool,
     finding: Finding,
+    // The answer where nothing is held, once it was drawn, if it is the same for all random words.
+    free: Option<Answer>,
 }
 
 impl Model for Entry {
@@ -29,6 +35,10 @@ impl Model for Entry {
     ghost Value = { EntryState };
 
     ghost view = { λ e. record { id = e.id; is_current = e.is_current; found = e.finding } };
+
+    ghost use Rattle.sipl_book.specs.Kept.{IsKeptFor};
+
+    ghost invariant = { λ e. IsKeptFor e.finding.layout e.free };
 }
 
 impl Entry {
@@ -40,6 +50,7 @@ impl Entry {
             id,
             is_current: true,
             finding,
+            free: None,
         }
     }
 
@@ -55,7 +66,29 @@ impl Entry {
         ensures { self.new ≡ record { id = self.old.id; is_current = true; found = finding } }
     {
         self.is_current = true;
+        self.free = None;
         mem::replace(&mut self.finding, finding)
+    }
+
+    // Keeps a copy of the answer that was drawn for these random words and holds by this policy, where
+    // it is the same for all words and nothing is held. Contracts do not see it.
+    pub(crate) fn keep_answer(
+        &mut self,
+        alloc: Global,
+        draws: &Draws,
+        board: &Board,
+        held: Held,
+        answer: &Answer,
+    )
+        requires { answer.now ≡ draw self.old.found.layout board.now.holds draws.now held }
+        ensures { self.new ≡ self.old }
+    {
+        if !self.wants_answer(board) {
+            return;
+        }
+        if let Ok(copy) = answer.dup(alloc) {
+            self.free = Some(copy);
+        }
     }
 
     // Makes a current entry outdated that has the key, whose set changed, in its evidence. Returns
@@ -112,6 +145,34 @@ impl Entry {
         self.finding.layout()
     }
 
+    /// Whether the answer for these holds is worth keeping: nothing is held, it is the same for all random
+    /// words, and none is kept.
+    pub fn wants_answer(&self, board: &Board) -> bool
+        ensures free { result ≡ true → board.now.holds.ends ≡ [] }
+        ensures one { result ≡ true → HasOneAnswer self.now.found.layout }
+    {
+        board.is_empty() && self.free.is_none() && has_one_server(self.layout())
+    }
+
+    /// The answer of the route for these random words and holds, by a policy on held endpoints. An answer
+    /// that is kept shares its targets with all others: then it does not allocate. Else linear in the
+    /// targets. The only error is an allocation failure.
+    pub fn draw(
+        &self,
+        alloc: Global,
+        draws: &Draws,
+        board: &Board,
+        held: Held,
+    ) -> Result<Answer, AllocError>
+        ensures { IfOk result (λ answer. answer
+            ≡ draw self.now.found.layout board.now.holds draws.now held) }
+    {
+        match &self.free {
+            Some(answer) if board.is_empty() => answer.dup(alloc),
+            _ => draw(alloc, self.layout(), draws, board, held),
+        }
+    }
+
     /// The record sets that the route looks at, in the order of reading: at most 80,648.
     pub fn evidence(&self) -> &Evidence
         ensures evidence { result.now ≡ self.now.found.items }
@@ -126,5 +187,15 @@ impl Entry {
         ensures { IfOk result (λ shared. arc_value shared ≡ self.now.found.items) }
     {
         self.finding.share_evidence()
+    }
+}
+
+// Whether the layout has one server, whose targets have one order.
+fn has_one_server(layout: &Layout) -> bool
+    ensures { result ≡ true → HasOneAnswer layout.now }
+{
+    match layout {
+        Layout::Servers(_, servers) => servers.len() == 1,
+        Layout::Refused(_) => false,
     }
 }

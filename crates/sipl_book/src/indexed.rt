@@ -4,12 +4,15 @@ ghost use Rattle.std.specs.List.{All, AllPairs, count_by, list_any};
 ghost use Rattle.sipl_book.specs.Cache.{InOrder};
 ghost use Rattle.sipl_book.specs.Entries.{entry_of, renewed};
 ghost use Rattle.sipl_book.specs.Indexed.{has, needs, touched};
+ghost use Rattle.sipl_book.specs.Kept.{IsDrawnOf};
 ghost use Rattle.sipl_book.specs.Repairs.{without};
 
 use crate::entries::Entries;
 use sipl_evidence::Dependents;
-use sipl_plans::{Finding, MAX_SETS};
+use sipl_outages::{Board, Held};
+use sipl_plans::{Answer, Finding, MAX_SETS};
 use sipl_records::Key;
+use sipl_srv::Draws;
 use sipl_uri::Question;
 use std::alloc::{AllocError, Global};
 use std::marker::Model;
@@ -101,6 +104,22 @@ impl Indexed {
         self.dependents.remove(own_id);
         self.dependents.add(own_id, finding.evidence());
         self.entries.renew(finding)
+    }
+
+    /// Has the entry of a question keep a copy of its answer, as [`Entry::keep_answer`] says. Constant
+    /// time but for hashing.
+    pub(crate) fn keep_answer(
+        &mut self,
+        question: &Question,
+        draws: &Draws,
+        board: &Board,
+        held: Held,
+        answer: &Answer,
+    )
+        requires { IsDrawnOf self.old.entries question.now draws.now board.now.holds held answer.now }
+        ensures { self.new ≡ self.old }
+    {
+        self.entries.keep_answer(question, draws, board, held, answer);
     }
 
     /// Removes the entry of a question, and returns its id. Linear in the number of entries. Does not

@@ -9,7 +9,6 @@ pub mod Entries
 pub mod Keys
 pub mod Marking
 pub mod Policies
-pub mod Free
 pub mod Numbers
 pub mod Placed
 pub mod Runs

@@ -88,25 +88,27 @@ fn copies_of(alloc: Global, told: &Told) -> Result<(Question, Answer), AllocErro
     Ok((question, answer))
 }
 
-// The answer of the current entry of a question for these holds. B1 where there is none.
+// The answer of the current entry of a question for these holds, which the entry keeps where it can be told
+// again. B1 where there is none.
 fn tell_entry(
     alloc: Global,
-    book: &Book,
+    book: &mut Book,
     number: u64,
     asked: Asked,
     holds: SharedBoard,
 ) -> Result<Told, ServiceFault>
-    requires client { book.now.client ≡ asked.abilities }
-    requires held { book.now.held ≡ asked.held }
-    requires holds { holds ≡ book.now.board }
+    requires client { book.old.client ≡ asked.abilities }
+    requires held { book.old.held ≡ asked.held }
+    requires holds { holds ≡ book.old.board }
     ensures number { IfOk result (λ told. told.number ≡ number) }
     ensures asked { IfOk result (λ told. IsAnswerTo asked told) }
     ensures answer { IfOk result
-        (λ told. told.answer ≡ answer_now book.now asked.question asked.draws) }
-    ensures current { OnOk result (has_current_entry book.now.entries asked.question ≡ true) }
+        (λ told. told.answer ≡ answer_now book.old asked.question asked.draws) }
+    ensures current { OnOk result (has_current_entry book.old.entries asked.question ≡ true) }
     ensures refused { IfErr result (λ fault. fault ≢ ServiceFault.Memory
         → (fault ≡ ServiceFault.Book BookFault.NotCurrent)
-        × (has_current_entry book.now.entries asked.question ≡ false)) }
+        × (has_current_entry book.old.entries asked.question ≡ false)) }
+    ensures unchanged { book.new ≡ book.old }
 {
     let Some(entry) = book.entry(&asked.question) else {
         return Err(ServiceFault::Book(BookFault::NotCurrent));
@@ -114,8 +116,12 @@ fn tell_entry(
     if !entry.is_current() {
         return Err(ServiceFault::Book(BookFault::NotCurrent));
     }
-    let evidence = entry.share_evidence()?;
-    Ok(Told::of(alloc, number, asked, entry.layout(), evidence, holds)?)
+    let wants_answer = entry.wants_answer(holds.get());
+    let told = Told::of(alloc, number, asked, entry, holds)?;
+    if wants_answer {
+        book.keep_answer(told.question(), told.draws(), told.answer());
+    }
+    Ok(told)
 }
 
 // The answer of a finding, where the sets that it read are as they were. L1 with the key of the first

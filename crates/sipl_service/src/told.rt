@@ -2,14 +2,14 @@ ghost use Rattle.std.specs.Prelude.{◌≡◌, IfOk};
 ghost use Rattle.std.specs.Arc.{arc_value};
 ghost use Rattle.sipl_plans.specs.Findings.{IsSound};
 ghost use Rattle.sipl_plans.specs.Plan.{draw};
-ghost use Rattle.sipl_plans.specs.Servers.{HasFewServers};
 ghost use Rattle.sipl_service.specs.Telling.{IsDecided, told_to};
 
 use crate::asked::Asked;
+use sipl_book::Entry;
 use sipl_choice::Abilities;
 use sipl_evidence::Evidence;
 use sipl_outages::{Board, Held, SharedBoard};
-use sipl_plans::{Answer, Layout, draw};
+use sipl_plans::Answer;
 use sipl_srv::Draws;
 use sipl_uri::Question;
 use std::alloc::{AllocError, Global};
@@ -44,34 +44,33 @@ impl Model for Told {
 }
 
 impl Told {
-    // The answer of a layout, which this evidence and these holds decide, to what is asked; with the
+    // The answer of a book's entry, which its evidence and these holds decide, to what is asked; with the
     // number of its event.
     pub(crate) fn of(
         alloc: Global,
         number: u64,
         asked: Asked,
-        layout: &Layout,
-        evidence: Arc<Evidence>,
+        entry: &Entry,
         holds: SharedBoard,
     ) -> Result<Self, AllocError>
         requires sound { IsSound (record {
           question = asked.question;
           client = asked.abilities;
-          layout = layout.now;
-          items = arc_value evidence;
+          layout = entry.now.found.layout;
+          items = entry.now.found.items;
         }) }
-        requires few { HasFewServers layout.now }
         ensures number { IfOk result (λ told. told.number ≡ number) }
         ensures question { IfOk result (λ told. told.question ≡ asked.question) }
         ensures client { IfOk result (λ told. told.client ≡ asked.abilities) }
         ensures held { IfOk result (λ told. told.held ≡ asked.held) }
         ensures words { IfOk result (λ told. told.words ≡ asked.draws) }
-        ensures answer { IfOk result
-            (λ told. told.answer ≡ draw layout.now holds.holds asked.draws asked.held) }
-        ensures evidence { IfOk result (λ told. told.items ≡ arc_value evidence) }
+        ensures answer { IfOk result (λ told. told.answer
+            ≡ draw entry.now.found.layout holds.holds asked.draws asked.held) }
+        ensures evidence { IfOk result (λ told. told.items ≡ entry.now.found.items) }
         ensures board { IfOk result (λ told. told.board ≡ holds) }
     {
-        let answer = draw(alloc, layout, &asked.draws, holds.get(), asked.held)?;
+        let evidence = entry.share_evidence()?;
+        let answer = entry.draw(alloc, &asked.draws, holds.get(), asked.held)?;
         Ok(Told::drawn(number, asked, answer, evidence, holds))
     }
 

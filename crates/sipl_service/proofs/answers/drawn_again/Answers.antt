@@ -1,5 +1,5 @@
 use Rattle.std.proofs.Common.{◌∙◌}
-use Rattle.sipl_service.proofs.Free.{draw-free}
+use Rattle.sipl_book.proofs.Public.{draw-free}
 use Rattle.sipl_service.proofs.answers.drawn_again.Goals as goal
 
 pub returns-then-is_empty : goal.returns-then-is_empty
