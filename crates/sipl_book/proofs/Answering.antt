@@ -1,15 +1,13 @@
 -- Answers that are handed out: that of a current entry is the answer now, and the book stays consistent.
-use Rattle.std.proofs.Common.{◌≡◌, ℕ, ◌<◌, true, List, [], ◌∷◌, ◌++◌, length, Some, Ok, refl, sym, ap, subst, ◌∙◌}
-use Rattle.std.proofs.lemmas.Bool.{cond-true, cond-false, lt-leb}
+use Rattle.std.proofs.Common.{◌≡◌, ℕ, ◌<◌, true, List, [], ◌∷◌, ◌++◌, length, Some, refl, sym, ap, subst, ◌∙◌}
 use Rattle.sipl_records.specs.Sets.{set_of}
 use Rattle.sipl_evidence.specs.Looks.{Look}
 use Rattle.sipl_uri.specs.declared.question.Question.{Question}
 use Rattle.sipl_plans.specs.Plan.{draw}
 use Rattle.sipl_plans.specs.Route.{route}
-use Rattle.sipl_plans.specs.declared.answer.Answer.{Answer as Targets}
-use Rattle.sipl_book.specs.Book.{BookState, IsConsistent, IsGoodEntry, answer_now, next_event}
-use Rattle.sipl_book.specs.Calls.{IsHanded, answer_event}
-use Rattle.sipl_book.specs.Entries.{EntryState, entry_of, has_current_entry}
+use Rattle.sipl_book.specs.Book.{BookState, IsConsistent, IsGoodEntry, answer_now}
+use Rattle.sipl_book.specs.Calls.{answer_event}
+use Rattle.sipl_book.specs.Entries.{EntryState, entry_of}
 use Rattle.sipl_book.specs.declared.event.Event.{Event}
 use Rattle.sipl_book.proofs.Committed.{All-entry_of, question-entry_of}
 use Rattle.sipl_book.proofs.Journal.{consistent-recorded}
@@ -33,19 +31,3 @@ pub consistent-answered : (book : BookState) (question : Question) (words : List
 consistent-answered book question words journal good space is =
     subst (λ events. IsConsistent (record book { journal = events })) (sym is)
     (consistent-recorded book (answer_event book question words) book.board good good.board space refl refl)
-
--- the answer of a current entry is handed out
-pub handed : (book : BookState) (question : Question) (words : List ℕ) (journal : List Event) (number : ℕ) (answer : Targets)
-    → length book.journal < book.max_events → has_current_entry book.entries question ≡ true → number ≡ next_event book
-    → answer ≡ answer_now book question words → journal ≡ book.journal ++ answer_event book question words ∷ []
-    → IsHanded question words book (record book { journal = journal }) (Ok (record { number = number; answer = answer }))
-handed book question words journal number answer space has number_is answer_is journal_is =
-    record {
-      accepted = cond-false _ _ _ (lt-leb book.max_events (length book.journal) space) ∙ cond-true _ _ _ has;
-      number = number_is;
-      answer = answer_is;
-      after = λ i. record book { journal = journal_is i };
-      refused = tt;
-      memory = tt;
-      unchanged = tt;
-    }

@@ -1,15 +1,15 @@
 -- A finding on the records of a book that is committed, or is not.
-use Rattle.std.proofs.Common.{◌≡◌, ℕ, ◌<◌, true, false, List, length, Some, None, Result, Ok, Err, position, refl, sym, ap, subst, ◌∙◌}
+use Rattle.std.proofs.Common.{◌≡◌, ℕ, ◌<◌, true, false, List, length, None, Result, Ok, Err, position, refl, sym, ap, subst, ◌∙◌}
 use Rattle.std.specs.Prelude.{option_map, IfOk, IfErr, OnOk, OnErr, IsErrAnd, MatchResult}
 use Rattle.sipl_plans.specs.Findings.{Found}
 use Rattle.sipl_uri.specs.declared.question.Question.{Question}
-use Rattle.std.proofs.lemmas.Bool.{cond-false, cond-true, lt-leb}
+use Rattle.std.proofs.lemmas.Bool.{cond-false, lt-leb}
 use Rattle.sipl_book.specs.Book.{BookState, answer_now, next_event}
-use Rattle.sipl_book.specs.Calls.{IsCommitted, IsHanded, after_commit, commit_refusal, is_renumbered, unless_full, with_looks}
+use Rattle.sipl_book.specs.Calls.{IsCommitted, after_commit, commit_refusal, is_renumbered, unless_full, with_looks}
 use Rattle.sipl_book.specs.Entries.{has_current_entry}
 use Rattle.sipl_book.specs.Lookups.{IsAnswered, IsLocated, after_reads}
 use Rattle.sipl_book.specs.declared.fault.BookFault.{BookFault}
-use Rattle.sipl_book.specs.declared.fault.BookFault.TheVariants.{Memory, NotCurrent, Stale}
+use Rattle.sipl_book.specs.declared.fault.BookFault.TheVariants.{Memory, Stale}
 use Rattle.sipl_book.specs.declared.outcome.Handed.{Handed}
 use Rattle.sipl_book.specs.declared.outcome.Uncommitted.{Uncommitted}
 use Rattle.sipl_book.proofs.Locating.{not_renumbered}
@@ -90,19 +90,3 @@ module _ (question : Question) (words : List ℕ) (old : BookState) (outdated : 
   found_anew new (Ok handed) result is same = subst (IsAnswered question words old new) (sym same) (committed_found new handed is)
   found_anew new (Err uncommitted) (Ok handed) is same = absurd same
   found_anew new (Err uncommitted) (Err fault) is same = subst (λ f. IsAnswered question words old new (Err f)) (sym same) (uncommitted_found new uncommitted is)
-
--- the answer of a current entry is found
-pub found-handed : (question : Question) (words : List ℕ) (old new : BookState) (handed : Handed) → has_current_entry old.entries question ≡ true → IsHanded question words old new (Ok handed) → IsAnswered question words old new (Ok handed)
-found-handed question words old new handed has is =
-    record {
-      accepted = ap (unless_full old) (sym (cond-true _ None (Some NotCurrent) has)) ∙ is.accepted;
-      number = is.number;
-      answer = is.answer;
-      from_entry = λ _. is.after;
-      committed = λ outdated. let never : true ≡ false = sym has ∙ outdated in cc;
-      looks = λ _. ap (λ (b : BookState). b.store.looks) is.after;
-      refused = tt;
-      memory = tt;
-      unchanged = tt;
-      counted = (0, ap (λ (b : BookState). b.store.looks) is.after);
-    }

@@ -1,5 +1,5 @@
 -- What is drawn where nothing is held.
-use Rattle.std.proofs.Common.{◌≡◌, ℕ, not, List, [], ◌∷◌, ◌++◌, filter, length, map, slice_get, Option, None, Some, refl, sym, ap, subst, ◌∙◌}
+use Rattle.std.proofs.Common.{◌≡◌, ℕ, not, List, [], ◌∷◌, ◌++◌, filter, length, map, slice_get, Some, refl, sym, ap, subst, ◌∙◌}
 use Rattle.std.specs.List.{filter_map, flat_map}
 use Rattle.std.proofs.lemmas.List.{length-map}
 use Rattle.std.proofs.lemmas.Option.{same_Some}
@@ -63,10 +63,6 @@ one-answer layout transport servers at one words others held other =
 pub always-drawn : (layout : Layout) (holds : Holds) (words : List ℕ) (held : Held) (answer : Answer) → holds.ends ≡ [] → HasOneAnswer layout → answer ≡ draw layout holds words held → IsAlwaysDrawn layout answer
 always-drawn layout holds words held answer none one is others other =
     is ∙ sym (draw-free holds none layout words held) ∙ one words others held other
-
--- nothing is kept
-pub kept-none : (layout : Layout) → IsKeptFor layout None
-kept-none layout answer is = absurd (let never = is in cc)
 
 -- a copy of the one answer may be kept
 pub kept-copy : (layout seen : Layout) (holds : Holds) (words : List ℕ) (held : Held) (answer copy : Answer) → layout ≡ seen → holds.ends ≡ [] → HasOneAnswer seen → answer ≡ draw seen holds words held → copy ≡ answer

@@ -119,7 +119,8 @@ impl Indexed {
         requires { IsDrawnOf self.old.entries question.now draws.now board.now.holds held answer.now }
         ensures { self.new ≡ self.old }
     {
-        self.entries.keep_answer(question, draws, board, held, answer);
+        self.entries
+            .keep_answer(question, draws, board, held, answer);
     }
 
     /// Removes the entry of a question, and returns its id. Linear in the number of entries. Does not

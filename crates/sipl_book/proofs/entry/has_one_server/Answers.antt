@@ -1,4 +1,4 @@
-use Rattle.std.proofs.Common.{ap, sym, ◌∙◌, rules, nat_eq, ◌≡◌, true, length}
+use Rattle.std.proofs.Common.{rules}
 use Rattle.sipl_book.proofs.Free.{one-answer}
 use Rattle.sipl_book.proofs.entry.has_one_server.Goals as goal
 
