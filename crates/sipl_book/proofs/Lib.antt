@@ -30,3 +30,4 @@ mod SameEvent
 mod Unrefused
 mod Joining
 mod States
+mod Words

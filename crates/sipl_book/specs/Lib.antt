@@ -16,3 +16,4 @@ pub mod Pages
 pub mod PageFields
 pub mod StateFields
 pub mod SameState
+pub mod Words
