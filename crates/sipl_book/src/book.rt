@@ -24,6 +24,7 @@ use crate::event::Event;
 use crate::fault::BookFault;
 use crate::limits::Limits;
 use crate::outcome::{Done, Handed};
+use crate::shared_draws::SharedDraws;
 use crate::state::State;
 use sipl_choice::{Abilities, Endpoint};
 use sipl_evidence::dup_data;
@@ -224,13 +225,13 @@ impl Book {
     pub fn record_answer(
         &mut self,
         question: Question,
-        draws: &Draws,
+        draws: SharedDraws,
         answer: Answer,
     ) -> Result<u64, BookFault>
-        requires { answer ≡ answer_now self.old question draws.now }
+        requires { answer ≡ answer_now self.old question draws }
         ensures number { IfOk result (λ number. number ≡ next_event self.old) }
         ensures after { OnOk result
-            (self.new ≡ recorded (answer_event self.old question draws.now) self.old) }
+            (self.new ≡ recorded (answer_event self.old question draws) self.old) }
         ensures refused { IfErr result
             (λ fault. fault ≢ BookFault.Memory → unless_full self.old None ≡ Some fault) }
         ensures memory { IfErr result
@@ -238,7 +239,7 @@ impl Book {
         ensures unchanged { OnErr result (self.new ≡ self.old) }
     {
         reserve_event(&mut self.journal, self.max_events)?;
-        let event = Event::Answer(question, *draws, answer);
+        let event = Event::Answer(question, draws, answer);
         Ok(record_event(&mut self.journal, self.first, event))
     }
 
@@ -427,6 +428,7 @@ fn prepare(
         (λ prepared. prepared.1 ≡ draw layout.now board.now.holds draws.now held) }
 {
     let answer = draw(alloc, layout, draws, board.get(), held)?;
-    let event = Event::Answer(question, *draws, answer.dup(alloc)?);
+    let words = SharedDraws::of(alloc, draws)?;
+    let event = Event::Answer(question, words, answer.dup(alloc)?);
     Ok((event, answer))
 }
