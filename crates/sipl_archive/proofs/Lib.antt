@@ -5,4 +5,3 @@ pub mod Lines
 pub mod Paging
 pub mod Repeating
 pub mod Sorting
-pub mod Words

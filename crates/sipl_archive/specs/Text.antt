@@ -1,5 +1,5 @@
 -- Edits, holds, times and answers as the lines of a session; records as entries of a master file.
-use Rattle.std.specs.Prelude.{ℕ, ◌-◌, List, [], ◌∷◌, ◌++◌, length, codes, decimal, flat_map, nat_lt, if◌then◌else◌, ◌==◌}
+use Rattle.std.specs.Prelude.{ℕ, ◌-◌, List, [], ◌∷◌, ◌++◌, length, codes, decimal, flat_map, nat_lt, if◌then◌else◌}
 use Rattle.sipl_names.specs.Labels.{Octets, Labels}
 use Rattle.sipl_names.specs.NamePrint.{text_of}
 use Rattle.sipl_records.specs.Addresses.{text_of_address}
@@ -10,6 +10,7 @@ use Rattle.sipl_choice.specs.Transports.{transport_text}
 use Rattle.sipl_choice.specs.declared.endpoint.Endpoint.{Endpoint}
 use Rattle.sipl_uri.specs.QuestionText.{question_text}
 use Rattle.sipl_book.specs.Machine.{State}
+use Rattle.sipl_book.specs.Words.{without_last_zeros}
 use Rattle.sipl_book.specs.declared.edit.Edit.{Edit}
 use Rattle.sipl_book.specs.declared.edit.Edit.TheVariants as edit
 use Rattle.sipl_book.specs.declared.event.Event.{Event}
@@ -85,16 +86,6 @@ state_text mark state =
     state_head mark state.holds.now
     ++ zones_lines (zones_of (listed state.zones.apexes) state.zones.records)
     ++ hold_lines state.holds.now state.holds.ends
-
--- a word before others, where it is 0 and none is after it not
-abbrev pub before_zeros : ℕ → List ℕ → List ℕ
-before_zeros word [] = if word == 0 then [] else word ∷ []
-before_zeros word (next ∷ others) = word ∷ next ∷ others
-
--- the words up to the last one that is not 0
-abbrev pub without_last_zeros : List ℕ → List ℕ
-without_last_zeros [] = []
-without_last_zeros (word ∷ words) = before_zeros word (without_last_zeros words)
 
 -- words with commas between them, if there are any
 abbrev pub listed_words : List ℕ → Octets

@@ -4,17 +4,16 @@ ghost use Rattle.sipl_lines.specs.ReplyText.{answer_text, counts_line, number_fi
 ghost use Rattle.sipl_lines.specs.ReplyText.{target_line, target_lines};
 ghost use Rattle.sipl_archive.specs.Text.{clock_line, edit_lines, endpoint_text, event_lines};
 ghost use Rattle.sipl_archive.specs.Text.{hold_line, hold_lines, mark_line, state_head, zone_line};
-ghost use Rattle.sipl_archive.specs.Text.{release_line, without_last_zeros, words_field};
+ghost use Rattle.sipl_archive.specs.Text.{release_line, words_field};
 ghost use Rattle.sipl_archive.specs.Text.{zone_lines};
 
 use crate::record_text::write_record;
-use sipl_book::{Edit, Event};
+use sipl_book::{Edit, Event, SharedDraws};
 use sipl_choice::Endpoint;
 use sipl_names::Name;
 use sipl_outages::Board;
 use sipl_plans::Answer;
 use sipl_records::Record;
-use sipl_srv::Draws;
 use std::alloc::{AllocError, Global};
 
 /// The line of an edit; that of a zone has those of its records after it.
@@ -46,10 +45,10 @@ pub(crate) fn write_event(alloc: Global, out: &mut Vec<u8>, event: &Event) -> Re
 }
 
 // Appends the random words, without those of 0 at their end.
-fn write_draws(alloc: Global, out: &mut Vec<u8>, draws: &Draws) -> Result<(), AllocError>
+fn write_draws(alloc: Global, out: &mut Vec<u8>, draws: &SharedDraws) -> Result<(), AllocError>
     ensures { OnOk result (out.new.items ≡ out.old.items ++ words_field draws.now) }
 {
-    let Some((first, others)) = without_last_zeros(draws.words()).split_first() else {
+    let Some((first, others)) = draws.given().split_first() else {
         return Ok(());
     };
     out.extend_from_slice(b" words")?;
@@ -66,18 +65,6 @@ fn write_further_word(alloc: Global, out: &mut Vec<u8>, word: u32) -> Result<(),
 {
     let text = format!(in alloc; ",{word}")?;
     out.extend_from_slice(text.as_bytes())
-}
-
-// The words up to the last one that is not 0.
-#[tactic(auto, using(crate::proofs::Words::zero_is_dropped, crate::proofs::Words::last_is_kept))]
-fn without_last_zeros(words: &[u32]) -> &[u32]
-    ensures { result.now ≡ without_last_zeros words.now }
-{
-    let mut words = words;
-    while let Some((0, before)) = words.split_last() {
-        words = before;
-    }
-    words
 }
 
 // Appends the reply to a question.

@@ -31,3 +31,4 @@ mod SameEvent
 mod Unrefused
 mod Joining
 mod States
+mod Words

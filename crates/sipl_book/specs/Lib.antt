@@ -17,3 +17,4 @@ pub mod PageFields
 pub mod StateFields
 pub mod SameState
 pub mod Kept
+pub mod Words

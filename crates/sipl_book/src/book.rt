@@ -23,6 +23,7 @@ use crate::event::Event;
 use crate::fault::BookFault;
 use crate::limits::Limits;
 use crate::outcome::{Done, Handed};
+use crate::shared_draws::SharedDraws;
 use crate::state::State;
 use sipl_choice::{Abilities, Endpoint};
 use sipl_evidence::dup_data;
@@ -207,7 +208,8 @@ impl Book {
         }
         let answer = self.draw_current(question, draws)?;
         let copy = answer.dup(self.alloc)?;
-        let number = self.record_answer(question.dup(self.alloc)?, draws, copy)?;
+        let words = SharedDraws::of(self.alloc, draws)?;
+        let number = self.record_answer(question.dup(self.alloc)?, words, copy)?;
         Ok(Handed { number, answer })
     }
 
@@ -258,13 +260,13 @@ impl Book {
     pub fn record_answer(
         &mut self,
         question: Question,
-        draws: &Draws,
+        draws: SharedDraws,
         answer: Answer,
     ) -> Result<u64, BookFault>
-        requires { answer ≡ answer_now self.old question draws.now }
+        requires { answer ≡ answer_now self.old question draws }
         ensures number { IfOk result (λ number. number ≡ next_event self.old) }
         ensures after { OnOk result
-            (self.new ≡ recorded (answer_event self.old question draws.now) self.old) }
+            (self.new ≡ recorded (answer_event self.old question draws) self.old) }
         ensures refused { IfErr result
             (λ fault. fault ≢ BookFault.Memory → unless_full self.old None ≡ Some fault) }
         ensures memory { IfErr result
@@ -272,7 +274,7 @@ impl Book {
         ensures unchanged { OnErr result (self.new ≡ self.old) }
     {
         reserve_event(&mut self.journal, self.max_events)?;
-        let event = Event::Answer(question, *draws, answer);
+        let event = Event::Answer(question, draws, answer);
         Ok(record_event(&mut self.journal, self.first, event))
     }
 

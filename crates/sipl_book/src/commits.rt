@@ -11,6 +11,7 @@ use crate::checks::{first_renumbered, first_stale};
 use crate::event::Event;
 use crate::fault::BookFault;
 use crate::outcome::{Handed, Recorded, Uncommitted};
+use crate::shared_draws::SharedDraws;
 use sipl_outages::{Held, ShareableBoard};
 use sipl_plans::{Answer, Finding, draw};
 use sipl_srv::Draws;
@@ -72,14 +73,14 @@ impl Book {
         &mut self,
         finding: Finding,
         question: Question,
-        draws: &Draws,
+        draws: SharedDraws,
         answer: Answer,
     ) -> Result<Recorded, Uncommitted>
         requires client { finding.client ≡ self.old.client }
         requires question { question ≡ finding.question }
         requires answer { answer
-            ≡ draw finding.layout self.old.board.holds draws.now self.old.held }
-        ensures { CommitsAnswer finding draws.now self.old self.new result }
+            ≡ draw finding.layout self.old.board.holds draws self.old.held }
+        ensures { CommitsAnswer finding draws self.old self.new result }
     {
         match self.commit_fault(&finding) {
             Some(fault) => Err(Uncommitted { fault, finding }),
@@ -124,10 +125,11 @@ impl Book {
         };
         let Drawn {
             question,
+            words,
             answer,
             copy,
         } = drawn;
-        match self.commit_drawn(finding, question, draws, copy) {
+        match self.commit_drawn(finding, question, words, copy) {
             Ok(committed) => Ok(Handed {
                 number: committed.number,
                 answer,
@@ -142,7 +144,7 @@ impl Book {
         &mut self,
         finding: Finding,
         question: Question,
-        draws: &Draws,
+        draws: SharedDraws,
         answer: Answer,
     ) -> Result<Recorded, Uncommitted>
         requires client { finding.client ≡ self.old.client }
@@ -151,9 +153,9 @@ impl Book {
         requires space { length self.old.journal < self.old.max_events }
         requires question { question ≡ finding.question }
         requires answer { answer
-            ≡ draw finding.layout self.old.board.holds draws.now self.old.held }
+            ≡ draw finding.layout self.old.board.holds draws self.old.held }
         ensures number { IfOk result (λ committed. committed.number ≡ next_event self.old) }
-        ensures after { OnOk result (self.new ≡ after_commit finding draws.now self.old) }
+        ensures after { OnOk result (self.new ≡ after_commit finding draws self.old) }
         ensures memory { IfErr result (λ uncommitted. uncommitted.fault ≡ BookFault.Memory) }
         ensures finding { IfErr result (λ uncommitted. uncommitted.finding ≡ finding) }
         ensures unchanged { OnErr result (self.new ≡ self.old) }
@@ -165,7 +167,7 @@ impl Book {
         let id = self.next_event();
         match self.cache.commit(finding, id) {
             Ok(released) => {
-                let event = Event::Answer(question, *draws, answer);
+                let event = Event::Answer(question, draws, answer);
                 let number = record_event(&mut self.journal, self.first, event);
                 Ok(Recorded { number, released })
             }
@@ -174,10 +176,11 @@ impl Book {
     }
 }
 
-// A copy of a finding's question, and its answer twice.
+// A copy of a finding's question, the random words, and its answer twice.
 #[derive(Drop)]
 struct Drawn {
     question: Question,
+    words: SharedDraws,
     answer: Answer,
     copy: Answer,
 }
@@ -192,16 +195,19 @@ impl Drawn {
         held: Held,
     ) -> Result<Self, AllocError>
         ensures question { IfOk result (λ drawn. drawn.question ≡ finding.now.question) }
+        ensures words { IfOk result (λ drawn. drawn.words ≡ draws.now) }
         ensures answer { IfOk result
             (λ drawn. drawn.answer
             ≡ draw finding.now.layout board.now.holds draws.now held) }
         ensures copy { IfOk result (λ drawn. drawn.copy ≡ drawn.answer) }
     {
         let question = finding.question().dup(alloc)?;
+        let words = SharedDraws::of(alloc, draws)?;
         let answer = draw(alloc, finding.layout(), draws, board.get(), held)?;
         let copy = answer.dup(alloc)?;
         Ok(Drawn {
             question,
+            words,
             answer,
             copy,
         })

@@ -1,9 +1,9 @@
 ghost use Rattle.std.specs.Prelude.{◌≡◌, IfOk};
 
 use crate::edit::Edit;
+use crate::shared_draws::SharedDraws;
 use sipl_choice::Endpoint;
 use sipl_plans::Answer;
-use sipl_srv::Draws;
 use sipl_uri::Question;
 use std::alloc::{AllocError, Global};
 
@@ -19,7 +19,7 @@ pub enum Event {
     /// The clock was set to this time, in milliseconds.
     Advance(u64),
     /// This answer to a question was returned, for these random words.
-    Answer(Question, Draws, Answer),
+    Answer(Question, SharedDraws, Answer),
 }
 
 impl Event {
@@ -42,7 +42,7 @@ impl Event {
             Event::Release(endpoint) => Event::Release(*endpoint),
             Event::Advance(to) => Event::Advance(*to),
             Event::Answer(question, draws, answer) => {
-                Event::Answer(question.dup(alloc)?, *draws, answer.dup(alloc)?)
+                Event::Answer(question.dup(alloc)?, draws.dup()?, answer.dup(alloc)?)
             }
         })
     }

@@ -23,6 +23,7 @@ mod outdating;
 mod page;
 mod pages;
 mod settlement;
+mod shared_draws;
 mod state;
 
 pub use book::Book;
@@ -34,4 +35,5 @@ pub use limits::{Limits, MAX_ENTRIES, MAX_EVENTS};
 pub use outcome::{Done, Extent, Handed, Recorded, Uncommitted};
 pub use page::Page;
 pub use pages::MAX_FIRST;
+pub use shared_draws::SharedDraws;
 pub use state::State;

@@ -1,5 +1,6 @@
 // The answers that the book under the lock records: that of a current entry, and that of a finding, which
-// is committed. Copies of a question and of an answer share what they have, and are made there.
+// is committed. Copies of a question, of random words and of an answer share what they have, and are made
+// there.
 ghost use Rattle.std.specs.Prelude.{◌≡◌, ◌≢◌, ◌⊎◌, ℕ, ◌<◌, ◌≤◌, ◌++◌, [], ◌∷◌, length, false, true, None, Some, Ok, IfOk, IfErr, OnOk, OnErr};
 ghost use Rattle.std.specs.Arc.{arc_value};
 ghost use Rattle.sipl_outages.specs.Holds.{no_holds};
@@ -20,10 +21,9 @@ use crate::fault::ServiceFault;
 use crate::pass::Pass;
 use crate::receipt::Receipt;
 use crate::told::Told;
-use sipl_book::{Book, BookFault, Event, Uncommitted};
+use sipl_book::{Book, BookFault, Event, SharedDraws, Uncommitted};
 use sipl_outages::{Board, Held, SharedBoard};
 use sipl_plans::{Answer, Finding, draw};
-use sipl_srv::Draws;
 use sipl_uri::Question;
 use std::alloc::{AllocError, Global};
 
@@ -69,13 +69,24 @@ fn record(alloc: Global, book: &mut Book, told: &Told) -> Result<Receipt, Servic
     ensures memory { IfErr result (λ fault. fault ≡ ServiceFault.Memory) }
     ensures unchanged { OnErr result (book.new ≡ book.old) }
 {
+    let (draws, again) = shared_draws(alloc, told)?;
     let (question, answer) = copies_of(alloc, told)?;
     let (asked_again, kept) = copies_of(alloc, told)?;
-    let number = book.record_answer(question, told.draws(), answer)?;
+    let number = book.record_answer(question, draws, answer)?;
     Ok(Receipt {
         number,
-        event: Event::Answer(asked_again, *told.draws(), kept),
+        event: Event::Answer(asked_again, again, kept),
     })
+}
+
+// The random words that are told, twice: for the journal and for the receipt, which share them.
+fn shared_draws(alloc: Global, told: &Told) -> Result<(SharedDraws, SharedDraws), AllocError>
+    ensures journal { IfOk result (λ draws. draws.0 ≡ told.now.words) }
+    ensures receipt { IfOk result (λ draws. draws.1 ≡ told.now.words) }
+{
+    let draws = SharedDraws::of(alloc, told.draws())?;
+    let again = draws.dup()?;
+    Ok((draws, again))
 }
 
 // Copies of the question and of the answer that are told.
@@ -151,17 +162,17 @@ pub(crate) fn commit(
     ensures looked { OnErr result
         ((book.new ≡ book.old) ⊎ (book.new ≡ after_check finding book.old)) }
 {
-    let draws = asked.draws;
     let told = tell_finding(alloc, book, pass, asked, drawn, &finding)?;
+    let (draws, again) = shared_draws(alloc, &told)?;
     let (question, answer) = copies_of(alloc, &told)?;
     let (asked_again, kept) = copies_of(alloc, &told)?;
     let number = told.number();
-    match book.commit_answer(finding, question, &draws, answer) {
+    match book.commit_answer(finding, question, draws, answer) {
         Ok(committed) => Ok(Answered {
             told,
             receipt: Receipt {
                 number,
-                event: Event::Answer(asked_again, draws, kept),
+                event: Event::Answer(asked_again, again, kept),
             },
             front: book.next_event(),
             released: committed.released,

@@ -415,12 +415,13 @@ fn is_legal(
         Event::Release(endpoint) => board.release(endpoint).is_ok(),
         Event::Advance(to) => board.advance(*to).is_ok(),
         Event::Answer(question, draws, answer) => {
+            let draws = draws.draws();
             let other = asker.by_other_policy();
             let is_plain_by_other = is_plain(
-                rt, alloc, store, board, other, question, draws, answer,
+                rt, alloc, store, board, other, question, &draws, answer,
             );
             seen.count_answer(asker.held, answer, is_plain_by_other);
-            is_plain(rt, alloc, store, board, asker, question, draws, answer)
+            is_plain(rt, alloc, store, board, asker, question, &draws, answer)
         }
     }
 }

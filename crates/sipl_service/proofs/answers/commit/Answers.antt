@@ -1,4 +1,4 @@
-use Rattle.std.proofs.Common.{◌≡◌, ◌≢◌, ◌<◌, ◌∷◌, ◌++◌, [], length, Some, Ok, sym, ap, subst, ◌∙◌}
+use Rattle.std.proofs.Common.{◌≡◌, ◌≢◌, ℕ, ◌<◌, List, ◌∷◌, ◌++◌, [], length, Some, Ok, sym, ap, subst, ◌∙◌}
 use Rattle.std.proofs.lemmas.Result.{err_from_is_err_and}
 use Rattle.sipl_plans.specs.Findings.{Found}
 use Rattle.sipl_plans.specs.Plan.{draw}
@@ -12,18 +12,23 @@ use Rattle.sipl_service.proofs.FirstFault.{commit_before, commit_refused}
 use Rattle.sipl_service.proofs.Committing.{journal-committed, stale-within}
 use Rattle.sipl_service.proofs.answers.commit.Goals as goal
 
+-- the words of the journal are those that were asked for
+words_asked : (c : goal.After-next_event) → c.in_ok-draws.draws ≡ c.args.asked.draws
+words_asked c = c.in_ok-draws.ensures.journal ∙ ap (λ (t : ToldState). t.words) c.in_ok-told.ensures.told
+
 pub returns-in-Ok-clause-journal : goal.returns-in-Ok-clause-journal
 returns-in-Ok-clause-journal c =
     let found = c.args.finding in
     let old : BookState = c.args.book.now in
     let book : BookState = c.tell_finding.new.book in
     let same : book ≡ old = c.tell_finding.ensures.unchanged in
-    let words = c.args.asked.draws in
+    let words = c.in_ok-draws.draws in
+    let asked : words ≡ c.args.asked.draws = words_asked c in
     let client : found.client ≡ book.client =
     sym c.requires.drawn.client ∙ sym c.in_ok-told.ensures.client ∙ sym (ap (λ (b : BookState). b.client) same) in
     let held : book.held ≡ c.args.asked.held = ap (λ (b : BookState). b.held) same ∙ c.in_ok-told.ensures.held in
     let event : Answer found.question words (draw found.layout book.board.holds words book.held) ≡ event_of c.in_ok-told.told =
-    (λ i. Answer (sym c.requires.drawn.question i) words (draw found.layout (same i).board.holds words (held i))) ∙ ap event_of (sym c.in_ok-told.ensures.told) in
+    (λ i. Answer (sym c.requires.drawn.question i) (asked i) (draw found.layout (same i).board.holds (asked i) (held i))) ∙ ap event_of (sym c.in_ok-told.ensures.told) in
     journal-committed found words book c.commit_answer.new.self c.requires.sound client c.in-Ok.ensures.accepted c.in-Ok.ensures.after
     ∙ (λ i. (same i).journal ++ event i ∷ [])
 
@@ -35,6 +40,8 @@ returns-in-Ok-clause-committed c =
     ap (λ (t : ToldState). t.number) c.in_ok-told.ensures.told ∙ sym (ap next_event same) in
     subst (λ (b : BookState). CommitsAnswer c.args.finding c.args.asked.draws b c.commit_answer.new.self
     (Ok (record { number = c.in_ok-told.told.number; released = c.in-Ok.committed.released }))) same
+    (subst (λ (words : List ℕ). CommitsAnswer c.args.finding words c.tell_finding.new.book c.commit_answer.new.self
+    (Ok (record { number = c.in_ok-told.told.number; released = c.in-Ok.committed.released }))) (words_asked c)
     (record {
       accepted = c.in-Ok.ensures.accepted;
       number = number;
@@ -43,7 +50,7 @@ returns-in-Ok-clause-committed c =
       memory = tt;
       finding = tt;
       unchanged = tt;
-    })
+    }))
 
 pub returns-in_err-told-clause-refused : goal.returns-in_err-told-clause-refused
 returns-in_err-told-clause-refused c =
