@@ -1,14 +1,15 @@
 //! Pages: the journal is handed out, and begins anew.
-ghost use Rattle.std.specs.Prelude.{◌≡◌, IfOk};
+ghost use Rattle.std.specs.Prelude.{◌≡◌, [], IfOk};
 ghost use Rattle.sipl_book.specs.Book.{state_of};
 ghost use Rattle.sipl_book.specs.Pages.{IsPage, IsTurned, page_of};
 
 use crate::book::Book;
+use crate::event::Event;
 use crate::fault::BookFault;
 use crate::page::Page;
 use crate::state::State;
 use sipl_records::Sequence;
-use std::alloc::AllocError;
+use std::alloc::{AllocError, Global};
 use std::mem;
 
 /// The greatest number of the first event of a page, so that no event has a number over 2^52.
@@ -18,7 +19,7 @@ impl Book {
     /// Hands the events out as a page, and begins an empty journal at the state as it is. The numbers of
     /// events go on; entries, leases and looks stay. The records are shared with the last page where no
     /// edit was made since, and the holds where the board did not change; else linear in those, which
-    /// are copied.
+    /// are copied. The new journal has space for as many events as the old one had.
     ///
     /// The fault is that the next number is over 2^52 - 2^20 (B6).
     pub fn turn_page(&mut self) -> Result<Page, BookFault>
@@ -32,10 +33,11 @@ impl Book {
         let abilities = self.abilities.dup(self.alloc)?;
         let result = self.share_state()?;
         let base = self.share_state()?;
+        let journal = empty_journal(self.alloc, self.journal.len());
         Ok(Page {
             first: mem::replace(&mut self.first, next),
             base: mem::replace(&mut self.base, base),
-            events: Sequence::from_vec(mem::replace(&mut self.journal, Vec::new(self.alloc))),
+            events: Sequence::from_vec(mem::replace(&mut self.journal, journal)),
             result,
             abilities,
             held: self.held,
@@ -79,5 +81,16 @@ impl Book {
             abilities,
             held,
         }
+    }
+}
+
+// A journal without events, with space for so many where there is memory for them: the next page has
+// mostly as many as the last one, and is not copied as it grows.
+fn empty_journal(alloc: Global, events: usize) -> Vec<Event>
+    ensures { result.items ≡ [] }
+{
+    match Vec::with_capacity(alloc, events) {
+        Ok(journal) => journal,
+        Err(_) => Vec::new(alloc),
     }
 }
