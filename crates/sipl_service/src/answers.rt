@@ -34,7 +34,9 @@ pub(crate) fn hand(
     book: &mut Book,
     pass: &Pass,
     asked: Asked,
+    words: SharedDraws,
 ) -> Result<Answered, ServiceFault>
+    requires words { words ≡ asked.draws }
     ensures front { OnOk result (pass.now.front ≤ next_event book.old) }
     ensures answered { IfOk result (λ answered. Records asked (next_event book.old) answered) }
     ensures handed { IfOk result (λ answered. IsHanded asked.question asked.draws book.old book.new
@@ -49,7 +51,7 @@ pub(crate) fn hand(
     let number = next_answer(book, pass, &asked.abilities, asked.held)?;
     let holds = book.share_board()?;
     let told = tell_entry(alloc, book, number, asked, holds)?;
-    let receipt = record(alloc, book, &told)?;
+    let receipt = record(alloc, book, &told, words)?;
     Ok(Answered {
         told,
         receipt,
@@ -60,7 +62,13 @@ pub(crate) fn hand(
 
 // Records the answer that is to be told. Returns the receipt for it.
 #[tactic(auto, using(crate::proofs::FirstFault::refused_for_memory))]
-fn record(alloc: Global, book: &mut Book, told: &Told) -> Result<Receipt, ServiceFault>
+fn record(
+    alloc: Global,
+    book: &mut Book,
+    told: &Told,
+    words: SharedDraws,
+) -> Result<Receipt, ServiceFault>
+    requires words { words ≡ told.now.words }
     requires answer { told.now.answer ≡ answer_now book.old told.now.question told.now.words }
     requires space { is_full book.old ≡ false }
     ensures journal { OnOk result (book.new ≡ recorded (event_of told.now) book.old) }
@@ -69,24 +77,14 @@ fn record(alloc: Global, book: &mut Book, told: &Told) -> Result<Receipt, Servic
     ensures memory { IfErr result (λ fault. fault ≡ ServiceFault.Memory) }
     ensures unchanged { OnErr result (book.new ≡ book.old) }
 {
-    let (draws, again) = shared_draws(alloc, told)?;
     let (question, answer) = copies_of(alloc, told)?;
     let (asked_again, kept) = copies_of(alloc, told)?;
-    let number = book.record_answer(question, draws, answer)?;
+    let same_words = words.dup()?;
+    let number = book.record_answer(question, same_words, answer)?;
     Ok(Receipt {
         number,
-        event: Event::Answer(asked_again, again, kept),
+        event: Event::Answer(asked_again, words, kept),
     })
-}
-
-// The random words that are told, twice: for the journal and for the receipt, which share them.
-fn shared_draws(alloc: Global, told: &Told) -> Result<(SharedDraws, SharedDraws), AllocError>
-    ensures journal { IfOk result (λ draws. draws.0 ≡ told.now.words) }
-    ensures receipt { IfOk result (λ draws. draws.1 ≡ told.now.words) }
-{
-    let draws = SharedDraws::of(alloc, told.draws())?;
-    let again = draws.dup()?;
-    Ok((draws, again))
 }
 
 // Copies of the question and of the answer that are told.
@@ -142,9 +140,11 @@ pub(crate) fn commit(
     book: &mut Book,
     pass: &Pass,
     asked: Asked,
+    words: SharedDraws,
     drawn: Answer,
     finding: Finding,
 ) -> Result<Answered, ServiceFault>
+    requires words { words ≡ asked.draws }
     requires drawn { IsDrawnFor finding asked drawn }
     requires sound { IsSound finding }
     ensures front { OnOk result (pass.now.front ≤ next_event book.old) }
@@ -163,16 +163,16 @@ pub(crate) fn commit(
         ((book.new ≡ book.old) ⊎ (book.new ≡ after_check finding book.old)) }
 {
     let told = tell_finding(alloc, book, pass, asked, drawn, &finding)?;
-    let (draws, again) = shared_draws(alloc, &told)?;
     let (question, answer) = copies_of(alloc, &told)?;
     let (asked_again, kept) = copies_of(alloc, &told)?;
+    let same_words = words.dup()?;
     let number = told.number();
-    match book.commit_answer(finding, question, draws, answer) {
+    match book.commit_answer(finding, question, same_words, answer) {
         Ok(committed) => Ok(Answered {
             told,
             receipt: Receipt {
                 number,
-                event: Event::Answer(asked_again, again, kept),
+                event: Event::Answer(asked_again, words, kept),
             },
             front: book.next_event(),
             released: committed.released,

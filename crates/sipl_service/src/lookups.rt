@@ -17,7 +17,7 @@ use crate::pass::Pass;
 use crate::service::Service;
 use crate::told::Told;
 use crate::versions::Versions;
-use sipl_book::BookFault;
+use sipl_book::{BookFault, SharedDraws};
 use sipl_evidence::Evidence;
 use sipl_outages::Board;
 use sipl_plans::{Answer, Finding, Run, draw};
@@ -75,11 +75,12 @@ impl Service {
     {
         pass.receipts.reserve(1)?;
         let asked = Asked::of(self.alloc, question, &self.abilities, self.held, draws)?;
+        let words = SharedDraws::of(self.alloc, draws)?;
         let mut shared = self.lock(rt);
         if shared.is_stopped {
             return Err(ServiceFault::Stopped);
         }
-        let answered = answers::hand(self.alloc, &mut shared.book, pass, asked)?;
+        let answered = answers::hand(self.alloc, &mut shared.book, pass, asked, words)?;
         drop(shared);
         pass.receipts.push_reserved(answered.receipt);
         pass.front = answered.front;
@@ -118,11 +119,13 @@ impl Service {
     {
         pass.receipts.reserve(1)?;
         let (asked, drawn) = self.drawn(&finding, draws)?;
+        let words = SharedDraws::of(self.alloc, draws)?;
         let mut shared = self.lock(rt);
         if shared.is_stopped {
             return Err(ServiceFault::Stopped);
         }
-        let answered = answers::commit(self.alloc, &mut shared.book, pass, asked, drawn, finding)?;
+        let book = &mut shared.book;
+        let answered = answers::commit(self.alloc, book, pass, asked, words, drawn, finding)?;
         drop(shared);
         pass.receipts.push_reserved(answered.receipt);
         pass.front = answered.front;
