@@ -34,9 +34,9 @@ pub(crate) fn hand(
     book: &mut Book,
     pass: &Pass,
     asked: Asked,
-    words: SharedDraws,
+    words: &SharedDraws,
 ) -> Result<Answered, ServiceFault>
-    requires words { words ≡ asked.draws }
+    requires words { words.now ≡ asked.draws }
     ensures front { OnOk result (pass.now.front ≤ next_event book.old) }
     ensures answered { IfOk result (λ answered. Records asked (next_event book.old) answered) }
     ensures handed { IfOk result (λ answered. IsHanded asked.question asked.draws book.old book.new
@@ -60,15 +60,15 @@ pub(crate) fn hand(
     })
 }
 
-// Records the answer that is to be told. Returns the receipt for it.
+// Records the answer that is to be told, for these random words. Returns the receipt for it.
 #[tactic(auto, using(crate::proofs::FirstFault::refused_for_memory))]
 fn record(
     alloc: Global,
     book: &mut Book,
     told: &Told,
-    words: SharedDraws,
+    words: &SharedDraws,
 ) -> Result<Receipt, ServiceFault>
-    requires words { words ≡ told.now.words }
+    requires words { words.now ≡ told.now.words }
     requires answer { told.now.answer ≡ answer_now book.old told.now.question told.now.words }
     requires space { is_full book.old ≡ false }
     ensures journal { OnOk result (book.new ≡ recorded (event_of told.now) book.old) }
@@ -77,24 +77,46 @@ fn record(
     ensures memory { IfErr result (λ fault. fault ≡ ServiceFault.Memory) }
     ensures unchanged { OnErr result (book.new ≡ book.old) }
 {
-    let (question, answer) = copies_of(alloc, told)?;
-    let (asked_again, kept) = copies_of(alloc, told)?;
-    let same_words = words.dup()?;
-    let number = book.record_answer(question, same_words, answer)?;
-    Ok(Receipt {
-        number,
-        event: Event::Answer(asked_again, words, kept),
-    })
+    let copies = Copies::of(alloc, told, words)?;
+    let receipt = Copies::of(alloc, told, words)?;
+    let number = book.record_answer(copies.question, copies.words, copies.answer)?;
+    Ok(receipt.into_receipt(number))
 }
 
-// Copies of the question and of the answer that are told.
-fn copies_of(alloc: Global, told: &Told) -> Result<(Question, Answer), AllocError>
-    ensures question { IfOk result (λ copies. copies.0 ≡ told.now.question) }
-    ensures answer { IfOk result (λ copies. copies.1 ≡ told.now.answer) }
-{
-    let question = told.question().dup(alloc)?;
-    let answer = told.answer().dup(alloc)?;
-    Ok((question, answer))
+// Copies of the question, the random words and the answer that are told, for the journal or a receipt. They
+// share what they have.
+#[derive(Drop)]
+struct Copies {
+    question: Question,
+    words: SharedDraws,
+    answer: Answer,
+}
+
+impl Copies {
+    // Copies of what is told, for these random words.
+    fn of(alloc: Global, told: &Told, words: &SharedDraws) -> Result<Self, AllocError>
+        requires { words.now ≡ told.now.words }
+        ensures question { IfOk result (λ copies. copies.question ≡ told.now.question) }
+        ensures words { IfOk result (λ copies. copies.words ≡ told.now.words) }
+        ensures answer { IfOk result (λ copies. copies.answer ≡ told.now.answer) }
+    {
+        Ok(Copies {
+            question: told.question().dup(alloc)?,
+            words: words.dup()?,
+            answer: told.answer().dup(alloc)?,
+        })
+    }
+
+    // The receipt with this number.
+    fn into_receipt(self, number: u64) -> Receipt
+        ensures { result
+            ≡ receipt_of number (Event.Answer self.question self.words self.answer) }
+    {
+        Receipt {
+            number,
+            event: Event::Answer(self.question, self.words, self.answer),
+        }
+    }
 }
 
 // The answer of the current entry of a question for these holds, which the entry keeps where it can be told
@@ -140,11 +162,11 @@ pub(crate) fn commit(
     book: &mut Book,
     pass: &Pass,
     asked: Asked,
-    words: SharedDraws,
+    words: &SharedDraws,
     drawn: Answer,
     finding: Finding,
 ) -> Result<Answered, ServiceFault>
-    requires words { words ≡ asked.draws }
+    requires words { words.now ≡ asked.draws }
     requires drawn { IsDrawnFor finding asked drawn }
     requires sound { IsSound finding }
     ensures front { OnOk result (pass.now.front ≤ next_event book.old) }
@@ -163,17 +185,12 @@ pub(crate) fn commit(
         ((book.new ≡ book.old) ⊎ (book.new ≡ after_check finding book.old)) }
 {
     let told = tell_finding(alloc, book, pass, asked, drawn, &finding)?;
-    let (question, answer) = copies_of(alloc, &told)?;
-    let (asked_again, kept) = copies_of(alloc, &told)?;
-    let same_words = words.dup()?;
-    let number = told.number();
-    match book.commit_answer(finding, question, same_words, answer) {
+    let copies = Copies::of(alloc, &told, words)?;
+    let receipt = Copies::of(alloc, &told, words)?;
+    match book.commit_answer(finding, copies.question, copies.words, copies.answer) {
         Ok(committed) => Ok(Answered {
+            receipt: receipt.into_receipt(told.number()),
             told,
-            receipt: Receipt {
-                number,
-                event: Event::Answer(asked_again, words, kept),
-            },
             front: book.next_event(),
             released: committed.released,
         }),

@@ -80,7 +80,7 @@ impl Service {
         if shared.is_stopped {
             return Err(ServiceFault::Stopped);
         }
-        let answered = answers::hand(self.alloc, &mut shared.book, pass, asked, words)?;
+        let answered = answers::hand(self.alloc, &mut shared.book, pass, asked, &words)?;
         drop(shared);
         pass.receipts.push_reserved(answered.receipt);
         pass.front = answered.front;
@@ -125,7 +125,7 @@ impl Service {
             return Err(ServiceFault::Stopped);
         }
         let book = &mut shared.book;
-        let answered = answers::commit(self.alloc, book, pass, asked, words, drawn, finding)?;
+        let answered = answers::commit(self.alloc, book, pass, asked, &words, drawn, finding)?;
         drop(shared);
         pass.receipts.push_reserved(answered.receipt);
         pass.front = answered.front;

@@ -13,8 +13,8 @@ use Rattle.sipl_service.proofs.Committing.{journal-committed, stale-within}
 use Rattle.sipl_service.proofs.answers.commit.Goals as goal
 
 -- the words of the journal are those that were asked for
-words_asked : (c : goal.After-next_event) → c.in_ok-same_words.same_words ≡ c.args.asked.draws
-words_asked c = c.in_ok-same_words.ensures ∙ c.requires.words
+words_asked : (c : goal.After-next_event) → c.in_ok-copies.copies.words ≡ c.args.asked.draws
+words_asked c = c.in_ok-copies.ensures.words ∙ ap (λ (t : ToldState). t.words) c.in_ok-told.ensures.told
 
 pub returns-in-Ok-clause-journal : goal.returns-in-Ok-clause-journal
 returns-in-Ok-clause-journal c =
@@ -22,7 +22,7 @@ returns-in-Ok-clause-journal c =
     let old : BookState = c.args.book.now in
     let book : BookState = c.tell_finding.new.book in
     let same : book ≡ old = c.tell_finding.ensures.unchanged in
-    let words = c.in_ok-same_words.same_words in
+    let words = c.in_ok-copies.copies.words in
     let asked : words ≡ c.args.asked.draws = words_asked c in
     let client : found.client ≡ book.client =
     sym c.requires.drawn.client ∙ sym c.in_ok-told.ensures.client ∙ sym (ap (λ (b : BookState). b.client) same) in
