@@ -5,6 +5,7 @@ ghost use Rattle.sipl_archive.specs.Archive.{WritesPiece, client_text, digest_li
 ghost use Rattle.sipl_archive.specs.Archive.{held_text, page_head, page_text, quoted, setting_line, transports_line};
 ghost use Rattle.sipl_archive.specs.Archive.{transports_text};
 
+use crate::runs::read_name;
 use crate::text::{write_event, write_number};
 use sha2::{Digest, Sha256};
 use sipl_book::{Event, Extent, Page};
@@ -140,17 +141,26 @@ fn write_piece<W: Write>(out: &mut W, digest: &mut Sha256, text: &mut Vec<u8>) -
     Ok(())
 }
 
-// The least number that no run in a folder has.
+// The number after the greatest of a run in a folder: the pages of early runs may have been taken away.
 fn next_run<R: Files<File = File>>(rt: &R, alloc: Global, folder: &str) -> io::Result<u64> {
-    for run in 1..=MAX_RUN {
-        let path = page_path(alloc, folder, run, 0)?;
-        match fs::symlink_metadata(rt, path.as_str()) {
-            Ok(_) => {}
-            Err(error) if error.kind() == ErrorKind::NotFound => return Ok(run),
-            Err(error) => return Err(error),
-        }
+    let mut last = 0;
+    for entry in fs::read_dir(&(rt, alloc), folder)? {
+        last = run_of(entry?.path().as_str()).max(last);
     }
-    Err(io::Error::from(ErrorKind::StorageFull))
+    if last < MAX_RUN {
+        Ok(last + 1)
+    } else {
+        Err(io::Error::from(ErrorKind::StorageFull))
+    }
+}
+
+// The number of the run of a page, by the path of its file; 0 where the file is no page.
+fn run_of(path: &str) -> u64 {
+    let name = path.rsplit('/').next().unwrap_or(path);
+    match read_name(name) {
+        Some((run, _)) => run,
+        None => 0,
+    }
 }
 
 // The path of a page of a run, by the number of its first event.

@@ -383,8 +383,8 @@ fn event_of(text: &[u8]) -> Option<(usize, usize)>
     }
 }
 
-// The run and the first number of a page, by its name.
-fn read_name(name: &str) -> Option<(u64, u64)> {
+/// The run and the first number of a page, by its name.
+pub(crate) fn read_name(name: &str) -> Option<(u64, u64)> {
     let (run, first) = name.split_once('-')?;
     if run.len() != 6 || first.len() != 16 {
         return None;

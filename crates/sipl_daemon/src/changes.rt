@@ -1,14 +1,17 @@
 //! The changes since the last state, in a file: each is there before its reply is sent.
-ghost use Rattle.std.specs.Prelude.{◌≡◌, ◌≤◌, ◌+◌, ◌++◌, length, OnOk, vec_len, vec_capacity};
+ghost use Rattle.std.specs.Prelude.{◌≡◌, ◌≤◌, ◌+◌, ◌++◌, [], if◌then◌else◌, length, nat_lt};
+ghost use Rattle.std.specs.Prelude.{IfOk, OnOk, vec_len, vec_capacity};
+ghost use Rattle.sipl_archive.specs.Text.{clock_line};
 
 use crate::source::Mark;
-use sipl_archive::{mark_text, state_text};
+use sipl_archive::{clock_text, mark_text, state_text};
 use sipl_book::State;
 use std::alloc::{AllocError, Global};
 use std::fs::{File, OpenOptions};
 use std::io::{ErrorKind, Read, Write};
 use std::os::unix::fs::OpenOptionsExt;
 use std::rt::Files;
+use std::sync::atomic::{AtomicU64, Ordering};
 use std::sync::{Mutex, MutexGuard, Wait};
 use std::{fs, io, mem};
 
@@ -23,6 +26,8 @@ pub(crate) struct Changes {
     files: StateFiles,
     pending: Mutex<Pending>,
     written: Mutex<Written>,
+    // The place up to which the changes are in the file, and synced.
+    synced: AtomicU64,
 }
 
 /// Where a state is, and the changes since then.
@@ -47,25 +52,29 @@ pub(crate) struct Pending {
     begin: u64,
     // How long the last state was.
     state_len: u64,
+    // The time that the changes lead to, in milliseconds.
+    time: u64,
 }
 
 #[derive(Drop)]
 struct Written {
     file: File,
-    // The place of the file's first octet, and the one up to which it is written and synced.
+    // The place of the file's first octet.
     start: u64,
-    synced: u64,
-    has_failed: bool,
+    // Why a write failed: since then nothing is known of the file, and nothing more is written.
+    failure: Option<ErrorKind>,
 }
 
 impl Changes {
-    /// The files of a state. That of the changes has these octets, of which the last mark is this one.
+    /// The files of a state. That of the changes has these octets, of which the last mark is this one, and
+    /// leads to this time.
     pub(crate) fn open<R: Files<File = File>>(
         rt: &R,
         alloc: Global,
         files: StateFiles,
         len: u64,
         mark: u64,
+        time: u64,
     ) -> io::Result<Changes> {
         let file = open_to_append(rt, files.log.as_str())?;
         Ok(Changes {
@@ -78,13 +87,14 @@ impl Changes {
                 mark,
                 begin: 0,
                 state_len: 0,
+                time,
             }),
             written: Mutex::new(Written {
                 file,
                 start: 0,
-                synced: len,
-                has_failed: false,
+                failure: None,
             }),
+            synced: AtomicU64::new(len),
         })
     }
 
@@ -93,14 +103,22 @@ impl Changes {
         self.pending.lock(rt)
     }
 
-    /// Returns once all octets up to a place are in the file, and survive the end of the machine.
+    /// Returns once all octets up to a place are in the file, and survive the end of the machine: at once
+    /// where they are, so that who has changed nothing waits for nobody.
     pub(crate) fn sync<R: Wait>(&self, rt: &R, place: u64) -> io::Result<()> {
-        let mut written = self.written.lock(rt);
-        if written.synced < place {
-            self.write(rt, &mut written)
-        } else {
-            Ok(())
+        if self.is_synced(place) {
+            return Ok(());
         }
+        let mut written = self.written.lock(rt);
+        if self.is_synced(place) {
+            return Ok(());
+        }
+        self.write(rt, &mut written)
+    }
+
+    // Whether all octets up to a place are in the file.
+    fn is_synced(&self, place: u64) -> bool {
+        place <= self.synced.load(Ordering::SeqCst)
     }
 
     /// Writes the state after a mark, and drops the changes before it. First the mark is in the file of changes.
@@ -133,7 +151,9 @@ impl Changes {
     // Appends the changes that are not in the file yet.
     fn write<R: Wait>(&self, rt: &R, written: &mut Written) -> io::Result<()> {
         let (text, end) = self.pending.lock(rt).take();
-        written.write(&text, end)
+        written.write(&text)?;
+        self.synced.store(end, Ordering::SeqCst);
+        Ok(())
     }
 
     // Replaces the state. Returns its length.
@@ -180,21 +200,40 @@ impl Changes {
 }
 
 impl Written {
-    // Appends a text that ends at a place, and syncs the file.
-    fn write(&mut self, text: &[u8], end: u64) -> io::Result<()> {
-        if self.has_failed {
-            return Err(io::Error::from(ErrorKind::Other));
+    // Appends a text, and syncs the file.
+    fn write(&mut self, text: &[u8]) -> io::Result<()> {
+        if let Some(kind) = self.failure {
+            return Err(io::Error::from(kind));
         }
-        self.has_failed = true;
+        let appended = self.append(text);
+        if let Err(error) = &appended {
+            self.failure = Some(error.kind());
+        }
+        appended
+    }
+
+    fn append(&mut self, text: &[u8]) -> io::Result<()> {
         self.file.write_all(text)?;
-        self.file.sync_data()?;
-        self.has_failed = false;
-        self.synced = end;
-        Ok(())
+        self.file.sync_data()
     }
 }
 
 impl Pending {
+    /// The text of a change that is made at a time, in milliseconds: the line of that time comes before it where
+    /// the changes lead to an earlier one. The only error is an allocation failure.
+    pub(crate) fn text_at(&self, time: u64, change: &[u8]) -> Result<Vec<u8>, AllocError>
+        ensures { IfOk result (λ text. text.items
+            ≡ (if nat_lt self.now.time time then clock_line time else []) ++ change.now) }
+    {
+        let mut text = if self.time < time {
+            clock_text(self.alloc, time)?
+        } else {
+            Vec::new(self.alloc)
+        };
+        text.extend_from_slice(change)?;
+        Ok(text)
+    }
+
     /// Reserves the space of a text. The only error is an allocation failure.
     pub(crate) fn reserve(&mut self, len: usize) -> Result<(), AllocError>
         ensures space { OnOk result
@@ -214,6 +253,17 @@ impl Pending {
         self.text.extend_from_slice(text).unwrap();
         self.end = self.end.saturating_add(text.len() as u64);
         self.end
+    }
+
+    /// Appends the text of a change that is made at a time, as `push` does.
+    pub(crate) fn push_at(&mut self, time: u64, text: &[u8]) -> u64
+        requires space { vec_len self.old.text + length text.now ≤ vec_capacity self.old.text }
+        ensures text { self.new.text.items ≡ self.old.text.items ++ text.now }
+        ensures place { result ≡ self.new.end }
+        ensures time { self.new.time ≡ time }
+    {
+        self.time = time;
+        self.push(text)
     }
 
     /// How long the state is that was written.

@@ -113,24 +113,24 @@ impl Daemon {
         let _ = self.open.lock(rt).push(stream);
     }
 
-    // Moves the book's time to that of the host, if it is the host's and an endpoint may be held. The move
-    // is not among the changes: the next one has the time. A move that is refused is made later.
+    // Moves the book's time to that of the host, if it is the host's and an endpoint is held. The move is not
+    // among the changes: the next hold or release has the time. A move that is refused is made later.
     pub(crate) fn move_clock<R: Wait + Clock>(&self, rt: &R) {
         let Some(time) = &self.time else {
             return;
         };
         let now = time.now(rt);
         let mut mover = self.mover.lock(rt);
-        let before = self.source.service.now(rt);
-        if before < now && time.may_be_held(before) {
-            let mut tally = self.tally.lock(rt);
-            let moved = self.source.service.advance(rt, &mut mover, now);
-            if moved.is_ok() {
-                tally.advance(now);
-            }
-            drop(tally);
-            self.end_move(rt, &mut mover, moved);
+        let mut tally = self.tally.lock(rt);
+        if tally.holds().is_empty() || now <= self.source.service.now(rt) {
+            return;
         }
+        let moved = self.source.service.advance(rt, &mut mover, now);
+        if moved.is_ok() {
+            tally.advance(now);
+        }
+        drop(tally);
+        self.end_move(rt, &mut mover, moved);
     }
 
     // Moves the book's time to that of the host, if it is the host's.
@@ -157,13 +157,6 @@ impl Daemon {
     // Whether the time is the host's.
     pub(crate) fn has_host_time(&self) -> bool {
         self.time.is_some()
-    }
-
-    // Notes a hold for some milliseconds from now.
-    pub(crate) fn note_hold<R: Wait>(&self, rt: &R, ms: u64) {
-        if let Some(time) = &self.time {
-            time.note_end(self.source.service.now(rt).saturating_add(ms));
-        }
     }
 
     // Hands the receipts of the moves of the clock over that were not: at the end, since each move does.

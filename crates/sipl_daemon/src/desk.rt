@@ -125,7 +125,6 @@ impl<'a, R: Wait + Clock> Desk for SessionDesk<'a, R> {
         self.set_clock();
         match daemon.hold(rt, &mut self.pass, endpoint, ms, self.place) {
             Ok(number) => {
-                daemon.note_hold(rt, ms);
                 daemon.count_event(rt, number);
                 Ok(number)
             }

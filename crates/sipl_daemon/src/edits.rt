@@ -109,7 +109,8 @@ impl Daemon {
         Ok(done)
     }
 
-    // Makes a hold, as `append_edit` makes an edit.
+    // Makes a hold, as `append_edit` makes an edit. The time is in the file before it: no one moves it meanwhile,
+    // since the tally is locked.
     fn append_hold<R: Wait>(
         &self,
         rt: &R,
@@ -126,9 +127,11 @@ impl Daemon {
         };
         let text = hold_text(self.alloc, endpoint, ms)?;
         let mut pending = changes.lock(rt);
+        let now = self.source.service.now(rt);
+        let text = pending.text_at(now, &text)?;
         pending.reserve(text.len())?;
         let number = self.source.service.hold(rt, pass, endpoint, ms)?;
-        place.fetch_max(pending.push(&text), Ordering::SeqCst);
+        place.fetch_max(pending.push_at(now, &text), Ordering::SeqCst);
         Ok(number)
     }
 
@@ -148,9 +151,11 @@ impl Daemon {
         };
         let text = release_text(self.alloc, endpoint)?;
         let mut pending = changes.lock(rt);
+        let now = self.source.service.now(rt);
+        let text = pending.text_at(now, &text)?;
         pending.reserve(text.len())?;
         let number = self.source.service.release(rt, pass, endpoint)?;
-        place.fetch_max(pending.push(&text), Ordering::SeqCst);
+        place.fetch_max(pending.push_at(now, &text), Ordering::SeqCst);
         Ok(number)
     }
 
@@ -173,7 +178,7 @@ impl Daemon {
         let mut pending = changes.lock(rt);
         pending.reserve(text.len())?;
         let number = self.source.service.advance(rt, pass, to)?;
-        place.fetch_max(pending.push(&text), Ordering::SeqCst);
+        place.fetch_max(pending.push_at(to, &text), Ordering::SeqCst);
         Ok(number)
     }
 }

@@ -1,5 +1,5 @@
-ghost use Rattle.std.specs.Prelude.{◌≡◌, ◌<◌, nat_lt, not, position, vec_capacity, vec_len};
-ghost use Rattle.std.specs.Prelude.{IfSome, OnOk};
+ghost use Rattle.std.specs.Prelude.{◌≡◌, ◌<◌, ◌↔◌, [], nat_lt, not, position, vec_capacity, vec_len};
+ghost use Rattle.std.specs.Prelude.{IfSome, IsTrue, OnOk};
 ghost use Rattle.sipl_choice.specs.Endpoints.{same_endpoint};
 ghost use Rattle.sipl_outages.specs.Holds.{after_advance, after_release, no_holds};
 ghost use Rattle.sipl_daemon.specs.Holding.{after_hold, holds_of};
@@ -24,6 +24,13 @@ impl Holds {
             ends: Vec::new(alloc),
             time: 0,
         }
+    }
+
+    /// Whether nothing is held.
+    pub(crate) fn is_empty(&self) -> bool
+        ensures { IsTrue result ↔ (self.now.ends.items ≡ []) }
+    {
+        self.ends.is_empty()
     }
 
     /// Reserves the space of one more hold. The only error is an allocation failure.

@@ -2,7 +2,7 @@
 use crate::daemon::Daemon;
 use crate::stream::Stream;
 use std::io;
-use std::io::Write;
+use std::io::{ErrorKind, Write};
 use std::sync::Wait;
 use std::sync::atomic::{AtomicU64, Ordering};
 use std::time::Duration;
@@ -10,8 +10,9 @@ use std::time::Duration;
 // For how many milliseconds a client may take no reply.
 const WRITE: u64 = 30_000;
 
-// The same for one that has just taken so long.
+// The same for one that has just taken so long, and how often in a row.
 const LATE: u64 = 1_000;
+const MAX_LATE: u64 = 10;
 
 /// A client's stream as a writer: a reply is sent once the changes before it are in their file.
 #[derive(Drop)]
@@ -20,8 +21,8 @@ pub(crate) struct Output<'a, R> {
     daemon: &'a Daemon,
     stream: &'a Stream,
     place: &'a AtomicU64,
-    // Whether the last write has waited for as long as it may, and sent a part.
-    is_late: bool,
+    // How many writes in a row have waited for as long as they may, and sent a part.
+    late: u64,
 }
 
 impl<'a, R: Wait> Output<'a, R> {
@@ -37,7 +38,7 @@ impl<'a, R: Wait> Output<'a, R> {
             daemon,
             stream,
             place,
-            is_late: false,
+            late: 0,
         }
     }
 
@@ -53,12 +54,17 @@ impl<'a, R: Wait> Output<'a, R> {
         synced
     }
 
-    // Sets how long the next write may wait.
-    fn set_late(&mut self, is_late: bool) -> io::Result<()> {
-        if is_late == self.is_late {
+    // Counts a write that was late, and sets how long the next one may wait. A client that takes its replies
+    // too slowly is given up: its receipts wait for it, and all pages for them.
+    fn count_late(&mut self, is_late: bool) -> io::Result<()> {
+        let before = self.late;
+        self.late = if is_late { before.saturating_add(1) } else { 0 };
+        if self.late > MAX_LATE {
+            return Err(io::Error::from(ErrorKind::TimedOut));
+        }
+        if is_late == (before > 0) {
             return Ok(());
         }
-        self.is_late = is_late;
         set_timeouts(self.daemon, self.stream, if is_late { LATE } else { WRITE })
     }
 }
@@ -79,7 +85,7 @@ impl<R: Wait> Write for Output<'_, R> {
         self.sync()?;
         let mut stream = self.stream;
         let count = stream.write(buf)?;
-        self.set_late(count < buf.len())?;
+        self.count_late(count < buf.len())?;
         Ok(count)
     }
 

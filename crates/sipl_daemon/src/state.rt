@@ -54,7 +54,8 @@ pub(crate) fn restore<H: Host>(
 ) -> Result<Changes, StateFault> {
     let files = files_of(host, daemon.alloc, path)?;
     let extent = restore_all(host, daemon, &files)?;
-    Ok(Changes::open(host, daemon.alloc, files, extent.len, extent.mark)?)
+    let time = daemon.source.service.now(host);
+    Ok(Changes::open(host, daemon.alloc, files, extent.len, extent.mark, time)?)
 }
 
 // The files of a state, with its lock.
@@ -89,7 +90,7 @@ fn make_state<H: Host>(host: &H, daemon: &Daemon, text: &[u8]) -> Result<u64, St
     let Some(mark) = mark_of(head) else {
         return Err(StateFault::State(1));
     };
-    let made = make_lines(host, daemon, rest);
+    let made = make_lines(host, daemon, rest)?;
     if made.is_refused || made.octets < rest.len() {
         return Err(StateFault::State(made.lines.saturating_add(2)));
     }
@@ -132,7 +133,7 @@ fn make_changes<H: Host>(
     let Some((begin, lines)) = find_mark(text, mark) else {
         return Err(StateFault::NoMark);
     };
-    let made = make_lines(host, daemon, text.get(begin..).unwrap_or(&[]));
+    let made = make_lines(host, daemon, text.get(begin..).unwrap_or(&[]))?;
     if made.is_refused {
         return Err(StateFault::Changes(made.lines.saturating_add(lines).saturating_add(1)));
     }
@@ -146,11 +147,11 @@ fn make_changes<H: Host>(
 }
 
 // Makes the changes of a text, but for the last one where that is not whole.
-fn make_lines<H: Host>(host: &H, daemon: &Daemon, text: &[u8]) -> Made {
+fn make_lines<H: Host>(host: &H, daemon: &Daemon, text: &[u8]) -> Result<Made, AllocError> {
     let whole = text.get(..whole_len(text)).unwrap_or(&[]);
     match replies_at(host, daemon, whole) {
-        Some(replies) => made_of(whole, &replies),
-        None => made_of(whole, &[]),
+        Some(replies) => Ok(made_of(whole, &replies)),
+        None => Err(AllocError),
     }
 }
 

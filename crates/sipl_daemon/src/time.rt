@@ -1,6 +1,5 @@
 //! The time of the host, as that of the book.
 use std::io;
-use std::sync::atomic::{AtomicU64, Ordering};
 use std::time::{Clock, Instant};
 
 /// The clock of the machine, from the start of the daemon.
@@ -9,8 +8,6 @@ pub(crate) struct HostTime {
     start: Instant,
     // The book's time at the start, in milliseconds.
     base: u64,
-    // The latest end of a hold that was made.
-    end: AtomicU64,
 }
 
 impl HostTime {
@@ -19,7 +16,6 @@ impl HostTime {
         Ok(HostTime {
             start: Instant::now(rt)?,
             base,
-            end: AtomicU64::new(base),
         })
     }
 
@@ -37,15 +33,5 @@ impl HostTime {
             Err(_) => 0,
         };
         self.base.saturating_add(passed)
-    }
-
-    /// Notes a hold that ends at a time.
-    pub(crate) fn note_end(&self, end: u64) {
-        self.end.fetch_max(end, Ordering::SeqCst);
-    }
-
-    /// Whether a hold may last at a time.
-    pub(crate) fn may_be_held(&self, now: u64) -> bool {
-        now < self.end.load(Ordering::SeqCst)
     }
 }
