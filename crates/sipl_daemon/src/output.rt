@@ -12,6 +12,7 @@ const WRITE: u64 = 30_000;
 
 // The same for one that has just taken so long, and how often in a row.
 const LATE: u64 = 1_000;
+
 const MAX_LATE: u64 = 10;
 
 /// A client's stream as a writer: a reply is sent once the changes before it are in their file.
