@@ -262,8 +262,9 @@ impl Pending {
         ensures place { result ≡ self.new.end }
         ensures time { self.new.time ≡ time }
     {
+        let end = self.push(text);
         self.time = time;
-        self.push(text)
+        end
     }
 
     /// How long the state is that was written.
