@@ -1,0 +1,88 @@
+"""Control lines, and the end."""
+
+from __future__ import annotations
+
+import contextlib
+import pathlib
+import re
+import subprocess
+import time
+
+from daemon_tests.support import PATIENCE, PROGRAM, Checks, Client, started, stopped, test, until
+
+
+@test
+def control_lines(checks: Checks, folder: pathlib.Path) -> None:
+    with started(checks, folder) as daemon, Client(daemon.address) as client:
+        client.ask("zone example.com. 3\na A 192.0.2.1\nb A 192.0.2.2\nb A 192.0.2.3")
+        client.ask("hold udp 192.0.2.1 5060 1000000")
+        for question in "a.example.com:1", "b.example.com:1", "192.0.2.1", "none.example.com:1":
+            client.ask(f"find sip:{question}")
+        stats = daemon.stats()
+        for name, value in ("targets", 2), ("NoAddress", 1), ("AllHeld", 1), ("NotAvailable", 0), ("NoTransport", 0), ("clients", 1):
+            checks.equal(stats.get(name), value, f"{name} of {stats}")
+        # A load, a hold and four answers; the others are moves of the clock.
+        checks.expect(stats["events"] >= 6 and stats["resident"] > 1 << 20, stats)
+        checks.expect(re.fullmatch(r"ok now \d+", daemon.tell("now")[-1]), daemon.tell("now"))
+        checks.expect(daemon.tell("page")[-1].startswith("ok page"), "page")
+        checks.expect(until(lambda: daemon.stats().get("waiting", 0) == 0), "a page that waits")
+        for line in "", "stats x", "find sip:a.example.com":
+            with Client(daemon.control) as other:
+                other.send(line + "\nstats\n")
+                replies = [other.reply(), *([other.reply()] if line else [])]
+                checks.expect((replies[-1] or [""])[-1] == "ok stats", (line, replies))
+                checks.expect(not line or (replies[0] or [""])[-1].startswith("err "), (line, replies))
+        with Client(daemon.control) as other, contextlib.suppress(OSError):
+            other.send("x" * 100_000)
+            other.reply()
+        checks.equal(daemon.tell("stats")[-1:], ["ok stats"], "after a control line that is too long")
+        ran = subprocess.run([PROGRAM, "tell", daemon.control, "now"], capture_output=True, text=True, timeout=PATIENCE, check=False)
+        checks.expect(ran.returncode == 0 and re.search(r"^ok now \d+$", ran.stdout, re.M), (ran.returncode, ran.stdout, ran.stderr))
+        ran = subprocess.run([PROGRAM, "tell", f"unix:{folder}/nobody", "now"], capture_output=True, text=True, timeout=PATIENCE,
+                             check=False)
+        checks.expect(ran.returncode == 1 and ran.stderr.startswith("siplocd:") and not ran.stdout, (ran.returncode, ran.stderr))
+        ran = subprocess.run([PROGRAM, "tell", daemon.control, "stop"], capture_output=True, text=True, timeout=PATIENCE, check=False)
+        checks.equal(ran.returncode, 0, (ran.stdout, ran.stderr))
+        status, last = daemon.end()
+        checks.expect(status == 0 and re.fullmatch(r"closed \d+", last), (status, last, daemon.said()))
+
+
+@test
+def control_shows_what_there_is(checks: Checks, folder: pathlib.Path) -> None:
+    with started(checks, folder, "workers = 0") as daemon, Client(daemon.address) as client:
+        client.ask("zone example.com. 3\na A 192.0.2.1\nb A 192.0.2.2\nb A 192.0.2.3")
+        client.ask("zone other.example. 0")
+        client.ask("hold udp 192.0.2.1 5060 1000000")
+        client.ask("find sip:a.example.com:1"), client.ask("find sip:b.example.com:1")
+        client.ask("add a.example.com. A 192.0.2.9")
+        stats = daemon.stats()
+        for name, value in ("kept", 2), ("current", 1), ("queued", 1), ("records", 4), ("held", 1):
+            checks.equal(stats.get(name), value, f"{name} of {stats}")
+        zones, holds = daemon.tell("zones"), daemon.tell("holds")
+        checks.expect(len(zones) == 3 and "example.com." in zones[0] and zones[-1].startswith("ok zones"), zones)
+        checks.expect(len(holds) == 2 and "udp 192.0.2.1 5060" in holds[0] and holds[-1].startswith("ok holds"), holds)
+        stopped(checks, daemon)
+
+
+@test
+def ends_with_its_input(checks: Checks, folder: pathlib.Path) -> None:
+    with started(checks, folder, 'stdin = "stop"', has_input=True) as daemon, Client(daemon.address) as client:
+        checks.equal(client.ask("find sip:192.0.2.1")[-1:], ["ok find 1"], "find")
+        daemon.process.stdin.close()
+        checks.equal(daemon.end(), (0, "closed 1"), "the end of its input")
+    with started(checks, folder, "", has_input=True) as daemon, Client(daemon.address) as client:
+        daemon.process.stdin.close()
+        time.sleep(0.2)
+        checks.equal(client.ask("find sip:192.0.2.1")[-1:], ["ok find 1"], "find")
+        stopped(checks, daemon, 1)
+
+
+@test
+def stops_however_clients_behave(checks: Checks, folder: pathlib.Path) -> None:
+    with started(checks, folder) as daemon, contextlib.ExitStack() as stack:
+        clients = [stack.enter_context(Client(daemon.address)) for _ in range(12)]
+        for place, client in enumerate(clients):
+            client.stream.settimeout(0.5)
+            with contextlib.suppress(OSError):
+                client.send(("", "find sip:192", "zone example.com. 9\na A 192.0.2.1\n", "find sip:192.0.2.1\n" * 30_000)[place % 4])
+        stopped(checks, daemon)
