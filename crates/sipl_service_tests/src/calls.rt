@@ -6,6 +6,8 @@ use crate::values::{
     targets, tcp,
 };
 use sipl_book::{Edit, Page};
+use sipl_evidence::Evidence;
+use sipl_records::Key;
 use sipl_service::{ClaimFault, Pass, Service, ServiceFault, Told};
 use std::alloc::Global;
 use std::process::Abort;
@@ -27,21 +29,47 @@ fn contended<R: Wait + Abort>(
         record: Mutex::new(Some(record(rt, alloc, ADDRESS_11))),
         at: 3,
     };
-    let question = question(rt, alloc, OVER_TCP);
-    service.lookup(rt, &mut pass, &question, &draws(rt, &[2, 0]), &gate)
+    let told = look_up(rt, alloc, service, &mut pass, &gate);
+    drop(gate);
+    drop(pass);
+    told
 }
 
-// The text of the key of an L1.
-fn contended_key(rt: &impl Abort, alloc: Global, told: Result<Told, ServiceFault>) -> Vec<u8> {
-    let Err(ServiceFault::Contended(key)) = told else {
-        panic!(rt; "no L1")
-    };
-    let mut text = Vec::new(alloc);
-    key.name.write(&mut text).expect(rt, "out of memory");
-    text.extend_from_slice(b" ").expect(rt, "out of memory");
-    text.extend_from_slice(key.kind.name().as_bytes())
-        .expect(rt, "out of memory");
-    text
+fn look_up<R: Wait + Abort>(
+    rt: &R,
+    alloc: Global,
+    service: &Service,
+    pass: &mut Pass,
+    gate: &Editing,
+) -> Result<Told, ServiceFault> {
+    let draws = draws(rt, &[2, 0]);
+    let question = question(rt, alloc, OVER_TCP);
+    let told = service.lookup(rt, pass, &question, &draws, gate);
+    drop(question);
+    told
+}
+
+// The key of an L1.
+fn contended_key<'a>(rt: &impl Abort, told: &'a Result<Told, ServiceFault>) -> &'a Key {
+    match told {
+        Err(ServiceFault::Contended(key)) => key,
+        _ => panic!(rt; "no L1"),
+    }
+}
+
+// Whether a key was written.
+fn is_written(key: &Key, out: &mut Vec<u8>) -> bool {
+    key.name.write(out).is_ok()
+        && out.extend_from_slice(b" ").is_ok()
+        && out.extend_from_slice(key.kind.name().as_bytes()).is_ok()
+}
+
+// Whether this is the text of a key.
+fn is_text(alloc: Global, key: &Key, text: &[u8]) -> bool {
+    let mut out = Vec::new(alloc);
+    let is_so = is_written(key, &mut out) && out.as_slice() == text;
+    drop(out);
+    is_so
 }
 
 // An L1 with this key.
@@ -51,10 +79,9 @@ pub(crate) fn is_contended(
     told: Result<Told, ServiceFault>,
     key: &[u8],
 ) {
-    assert!(rt;
-        contended_key(rt, alloc, told).as_slice() == key,
-        "another key"
-    );
+    let is_so = is_text(alloc, contended_key(rt, &told), key);
+    drop(told);
+    assert!(rt; is_so, "another key");
 }
 
 #[test]
@@ -76,16 +103,22 @@ fn pass_of_another<R: Wait + Abort>(rt: &R, alloc: Global) -> Pass {
     let other = new_service(rt, alloc, 1);
     let mut pass = other.pass();
     hold(rt, &other, &mut pass);
+    drop(other);
     pass
 }
 
 // An L2 of a service without events, for a pass with front 1.
 fn is_ahead(rt: &impl Abort, told: Result<Told, ServiceFault>) {
-    let expected = match told {
-        Err(ServiceFault::PassAhead { next, front }) => next == 0 && front == 1,
-        _ => false,
-    };
+    let expected = is_pass_ahead(&told);
+    drop(told);
     assert!(rt; expected, "an answer, or another fault");
+}
+
+fn is_pass_ahead(told: &Result<Told, ServiceFault>) -> bool {
+    match told {
+        Err(ServiceFault::PassAhead { next, front }) => *next == 0 && *front == 1,
+        _ => false,
+    }
 }
 
 #[test]
@@ -107,15 +140,21 @@ fn two_receipts_of_one_event_are_no_claim(rt: HostRuntime) {
     let service = new_service(&rt, rt.alloc(), 1);
     let mut pass = service.pass();
     hold(&rt, &service, &mut pass);
-    let passes = [pass, pass_of_another(&rt, rt.alloc())];
-    claims(&rt, rt.alloc(), &[close(&rt, service)], &passes);
+    let pages = [close(&rt, service)];
+    let other = pass_of_another(&rt, rt.alloc());
+    let passes = [pass, other];
+    claims(&rt, rt.alloc(), &pages, &passes);
+    drop(passes);
+    drop(pages);
 }
 
 // A lookup is stopped by its gate, and another one is answered.
 fn gate_stops<R: Wait + Abort>(rt: &R, alloc: Global, service: &Service, pass: &mut Pass) {
     load_zone(rt, alloc, service, pass);
+    let draws = draws(rt, &[]);
     let question = question(rt, alloc, BOB);
-    let told = service.lookup(rt, pass, &question, &draws(rt, &[]), &Closed);
+    let told = service.lookup(rt, pass, &question, &draws, &Closed);
+    drop(question);
     fails(rt, told, "L6");
     targets(
         rt,
@@ -125,10 +164,9 @@ fn gate_stops<R: Wait + Abort>(rt: &R, alloc: Global, service: &Service, pass: &
 }
 
 fn is_stopped(rt: &impl Abort, refused: Result<u64, ServiceFault>) {
-    assert!(rt;
-        matches!(refused, Err(ServiceFault::Stopped)),
-        "not stopped"
-    );
+    let is_so = matches!(&refused, Err(ServiceFault::Stopped));
+    drop(refused);
+    assert!(rt; is_so, "not stopped");
 }
 
 // The calls that are refused after `stop`; one of them would be refused for another reason as well.
@@ -142,7 +180,9 @@ fn stopped<R: Wait + Abort>(rt: &R, alloc: Global, service: &Service, pass: &mut
     is_stopped(rt, service.repair(rt).map(|_| 0));
     is_stopped(rt, service.turn_page(rt).map(|_| 0));
     let question = question(rt, alloc, BOB);
-    is_stopped(rt, service.deps(rt, &question).map(|_| 0));
+    let found = service.deps(rt, &question);
+    drop(question);
+    is_stopped(rt, found.map(|_| 0));
 }
 
 fn stops<R: Wait + Abort>(rt: &R, alloc: Global, service: &Service) -> usize {
@@ -150,7 +190,9 @@ fn stops<R: Wait + Abort>(rt: &R, alloc: Global, service: &Service) -> usize {
     gate_stops(rt, alloc, service, &mut pass);
     service.stop(rt);
     stopped(rt, alloc, service, &mut pass);
-    pass.receipts().len()
+    let count = pass.receipts().len();
+    drop(pass);
+    count
 }
 
 #[test]
@@ -164,8 +206,10 @@ fn a_stopped_service_refuses(rt: HostRuntime) {
 // Bob's question is answered by one target, and its lookup calls no gate.
 fn is_current<R: Wait + Abort>(rt: &R, alloc: Global, service: &Service, pass: &mut Pass) {
     let turns = Turns::new();
+    let draws = draws(rt, &[2, 0]);
     let question = question(rt, alloc, BOB);
-    let told = service.lookup(rt, pass, &question, &draws(rt, &[2, 0]), &turns);
+    let told = service.lookup(rt, pass, &question, &draws, &turns);
+    drop(question);
     targets(rt, told, &[SERVER_1]);
     is_not_called(rt, &turns);
 }
@@ -177,7 +221,15 @@ fn is_not_called(rt: &impl Abort, turns: &Turns) {
 // The number of record sets that the targets of Bob's question depend on.
 fn dependencies<R: Wait + Abort>(rt: &R, alloc: Global, service: &Service) -> usize {
     let question = question(rt, alloc, BOB);
-    match service.deps(rt, &question) {
+    let found = service.deps(rt, &question);
+    drop(question);
+    let count = count(&found);
+    drop(found);
+    count
+}
+
+fn count(found: &Result<Evidence, ServiceFault>) -> usize {
+    match found {
         Ok(deps) => deps.items().len(),
         Err(_) => 0,
     }
@@ -188,6 +240,7 @@ fn repaired<R: Wait + Abort>(rt: &R, alloc: Global, service: &Service) {
     outdate(rt, alloc, service, &mut pass);
     repair(rt, service);
     is_current(rt, alloc, service, &mut pass);
+    drop(pass);
     has_nine_dependencies(rt, alloc, service);
 }
 

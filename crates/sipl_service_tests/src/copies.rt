@@ -13,23 +13,36 @@ const TEXTS: [&str; 2] = [
 ];
 
 fn name(rt: &impl Abort, alloc: Global, text: &str) -> Name {
-    Name::from_text(alloc, text.as_bytes(), &Name::root(alloc)).expect(rt, "a name")
+    let root = Name::root(alloc);
+    let name = Name::from_text(alloc, text.as_bytes(), &root);
+    drop(root);
+    name.expect(rt, "a name")
+}
+
+// Copies a name a thousand times, and drops the copies.
+fn drop_copies(rt: &impl Abort, alloc: Global, name: &Name) {
+    for _ in 0..1000 {
+        drop(name.dup(alloc).expect(rt, "memory"));
+    }
 }
 
 // Copies a name and drops the copies, and then the name.
 fn drop_all(rt: &impl Abort, alloc: Global, name: Name) {
-    for _ in 0..1000 {
-        drop(name.dup(alloc).expect(rt, "memory"));
-    }
+    drop_copies(rt, alloc, &name);
+    drop(name);
+}
+
+fn is_text(alloc: Global, name: &Name, text: &str) -> bool {
+    let mut out = Vec::new(alloc);
+    let is_so = name.write(&mut out).is_ok() && out.as_slice() == text.as_bytes();
+    drop(out);
+    is_so
 }
 
 // Whether the name is the one of the text after a thousand copies.
 fn is_kept(rt: &impl Abort, alloc: Global, name: &Name, text: &str) -> bool {
-    for _ in 0..1000 {
-        drop(name.dup(alloc).expect(rt, "memory"));
-    }
-    let mut out = Vec::new(alloc);
-    name.write(&mut out).is_ok() && out.as_slice() == text.as_bytes()
+    drop_copies(rt, alloc, name);
+    is_text(alloc, name, text)
 }
 
 // Whether a name is kept while a thread drops copies that another has made.

@@ -1,8 +1,9 @@
 // What a question depends on, as the service reads it: each set with its number and its data, before and
 // after an edit.
 use super::values::{ADDRESS_11, BOB, add, load_zone, new_service, question, record};
-use sipl_evidence::Item;
-use sipl_service::Service;
+use sipl_evidence::{Evidence, Item};
+use sipl_records::Data;
+use sipl_service::{Service, ServiceFault};
 use std::alloc::Global;
 use std::process::Abort;
 use std::sync::Wait;
@@ -46,12 +47,19 @@ fn is_set(rt: &impl Abort, alloc: Global, item: &Item, set: &Set) -> bool {
         return false;
     }
     for (data, text) in item.content().iter().zip(set.1) {
-        let record = record(rt, alloc, text);
-        if item.key().name != record.owner || *data != record.value {
+        if !is_datum(rt, alloc, item, data, text) {
             return false;
         }
     }
     true
+}
+
+// Whether a set has a datum of this record, and its owner.
+fn is_datum(rt: &impl Abort, alloc: Global, item: &Item, data: &Data, text: &[u8]) -> bool {
+    let record = record(rt, alloc, text);
+    let is_so = item.key().name == record.owner && *data == record.value;
+    drop(record);
+    is_so
 }
 
 fn are_sets(rt: &impl Abort, alloc: Global, items: &[Item], sets: &[Set]) -> bool {
@@ -64,7 +72,21 @@ fn are_sets(rt: &impl Abort, alloc: Global, items: &[Item], sets: &[Set]) -> boo
 }
 
 fn has<R: Wait + Abort>(rt: &R, alloc: Global, service: &Service, sets: &[Set]) -> bool {
-    match service.deps(rt, &question(rt, alloc, BOB)) {
+    let question = question(rt, alloc, BOB);
+    let found = service.deps(rt, &question);
+    drop(question);
+    let is_so = are_found(rt, alloc, &found, sets);
+    drop(found);
+    is_so
+}
+
+fn are_found(
+    rt: &impl Abort,
+    alloc: Global,
+    found: &Result<Evidence, ServiceFault>,
+    sets: &[Set],
+) -> bool {
+    match found {
         Ok(deps) => are_sets(rt, alloc, deps.items(), sets),
         Err(_) => false,
     }

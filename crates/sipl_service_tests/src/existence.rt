@@ -1,12 +1,11 @@
 // Calls over a wildcard, and edits of which no record set changes (RFC 4592).
 use crate::calls::is_contended;
 use crate::gates::{Editing, Turns, comes};
-use crate::values::{draws, find, load_zone, new_service, question, record};
+use crate::values::{draws, edit, find, load_zone, new_service, question, record, udp};
 use sipl_book::Edit;
-use sipl_choice::Transport;
-use sipl_evidence::Item;
+use sipl_evidence::{Evidence, Item};
 use sipl_plans::{Answer, Reason};
-use sipl_records::{Address, Kind};
+use sipl_records::Kind;
 use sipl_service::{Pass, Service, ServiceFault, Told};
 use std::alloc::Global;
 use std::process::Abort;
@@ -33,11 +32,12 @@ fn adds<R: Wait + Abort>(
     text: &[u8],
     sets: u64,
 ) {
-    let edit = Edit::Add(record(rt, alloc, text));
-    let done = service
-        .edit(rt, pass, edit)
-        .expect(rt, "the edit is refused");
-    assert_eq!(rt; done.changed, sets);
+    let done = edit(rt, service, pass, Edit::Add(record(rt, alloc, text)));
+    is_changed(rt, done.changed, sets);
+}
+
+fn is_changed(rt: &impl Abort, changed: u64, sets: u64) {
+    assert_eq!(rt; changed, sets);
 }
 
 fn load<R: Wait + Abort>(rt: &R, alloc: Global, service: &Service, pass: &mut Pass) {
@@ -50,14 +50,7 @@ fn is_wildcard(answer: &Answer) -> Option<bool> {
     match answer {
         Answer::Targets(targets) => {
             let is_one = targets.len() == 1;
-            Some(
-                is_one
-                    && targets.iter().all(|target| {
-                        target.transport == Transport::Udp
-                            && target.address == Address::V4(0xC000_0209)
-                            && target.port == 5060
-                    }),
-            )
+            Some(is_one && targets.iter().all(|target| *target == udp(0xC000_0209)))
         }
         Answer::None(reason) => (*reason != Reason::NoAddress).then_some(false),
     }
@@ -71,17 +64,26 @@ fn found(told: &Result<Told, ServiceFault>) -> Option<bool> {
 }
 
 fn gives_wildcard(rt: &impl Abort, told: Result<Told, ServiceFault>) {
-    assert_eq!(rt; found(&told), Some(true));
+    let found = found(&told);
+    drop(told);
+    is_found(rt, found, Some(true));
 }
 
 fn gives_nothing(rt: &impl Abort, told: Result<Told, ServiceFault>) {
-    assert_eq!(rt; found(&told), None);
+    let found = found(&told);
+    drop(told);
+    is_found(rt, found, None);
+}
+
+fn is_found(rt: &impl Abort, found: Option<bool>, expected: Option<bool>) {
+    assert_eq!(rt; found, expected);
 }
 
 // Finds the address of the wildcard for a name, in a thread of its own.
 fn finds<R: Wait + Abort>(rt: &R, alloc: Global, service: &Service, uri: &[u8]) {
     let mut pass = service.pass();
     gives_wildcard(rt, find(rt, alloc, service, &mut pass, uri, &[]));
+    drop(pass);
 }
 
 // Two callers read what is above their names, of which the wildcard's set alone has a version.
@@ -97,7 +99,11 @@ fn two_callers<R: Threads + Wait + Abort + Sync>(rt: &R, alloc: Global, service:
 }
 
 fn has_versions<R: Wait + Abort>(rt: &R, service: &Service, count: usize) {
-    assert_eq!(rt; service.version_count(rt), count);
+    is_count(rt, service.version_count(rt), count);
+}
+
+fn is_count(rt: &impl Abort, count: usize, expected: usize) {
+    assert_eq!(rt; count, expected);
 }
 
 #[test]
@@ -116,19 +122,35 @@ const DEPENDENCIES: [(Kind, bool, usize); 5] = [
     (Kind::Address4, true, 1),
 ];
 
-fn are_dependencies(items: &[Item]) -> bool {
-    let are_equal = items.iter().zip(&DEPENDENCIES).all(|(item, expected)| {
-        let key = item.key();
-        (key.kind, key.name.is_wildcard(), item.content().len()) == *expected
-    });
-    are_equal && items.len() == DEPENDENCIES.len()
+fn is_dependency(item: &Item, expected: &(Kind, bool, usize)) -> bool {
+    let key = item.key();
+    key.kind == expected.0
+        && key.name.is_wildcard() == expected.1
+        && item.content().len() == expected.2
+}
+
+fn are_dependencies(items: &[Item], expected: &[(Kind, bool, usize)]) -> bool {
+    let are_equal = items
+        .iter()
+        .zip(expected)
+        .all(|(item, expected)| is_dependency(item, expected));
+    are_equal && items.len() == expected.len()
+}
+
+fn are_found(found: &Result<Evidence, ServiceFault>) -> bool {
+    match found {
+        Ok(deps) => are_dependencies(deps.items(), &DEPENDENCIES),
+        Err(_) => false,
+    }
 }
 
 fn has_dependencies<R: Wait + Abort>(rt: &R, alloc: Global, service: &Service) -> bool {
-    match service.deps(rt, &question(rt, alloc, FOO)) {
-        Ok(deps) => are_dependencies(deps.items()),
-        Err(_) => false,
-    }
+    let question = question(rt, alloc, FOO);
+    let found = service.deps(rt, &question);
+    drop(question);
+    let is_so = are_found(&found);
+    drop(found);
+    is_so
 }
 
 fn depends<R: Wait + Abort>(rt: &R, alloc: Global, service: &Service) {
@@ -157,8 +179,13 @@ fn contended<R: Wait + Abort>(
         record: Mutex::new(Some(record(rt, alloc, BELOW_FOO))),
         at: 4,
     };
+    let draws = draws(rt, &[]);
     let question = question(rt, alloc, FOO);
-    service.lookup(rt, &mut pass, &question, &draws(rt, &[]), &gate)
+    let told = service.lookup(rt, &mut pass, &question, &draws, &gate);
+    drop(question);
+    drop(gate);
+    drop(pass);
+    told
 }
 
 #[test]

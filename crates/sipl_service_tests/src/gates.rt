@@ -8,6 +8,31 @@ use std::sync::{Mutex, Wait};
 use std::thread;
 use std::time::{Clock, Duration};
 
+// Adds the record that is left, if one is. Whether one was.
+fn adds_once<R: Wait>(
+    rt: &R,
+    service: &Service,
+    pass: &Mutex<Pass>,
+    record: &Mutex<Option<Record>>,
+) -> bool {
+    match taken(rt, record) {
+        Some(record) => {
+            adds(rt, service, pass, record);
+            true
+        }
+        None => false,
+    }
+}
+
+fn taken<R: Wait>(rt: &R, record: &Mutex<Option<Record>>) -> Option<Record> {
+    record.lock(rt).take()
+}
+
+fn adds<R: Wait>(rt: &R, service: &Service, pass: &Mutex<Pass>, record: Record) {
+    let mut pass = pass.lock(rt);
+    let _ = service.edit(rt, &mut pass, Edit::Add(record));
+}
+
 // Adds a record once, at the read of a number.
 #[derive(Drop)]
 pub(crate) struct Editing<'a> {
@@ -20,10 +45,7 @@ pub(crate) struct Editing<'a> {
 impl Gate for Editing<'_> {
     fn turn<R: Wait>(&self, rt: &R, _who: Who, reads: u64) -> Go {
         if reads == self.at {
-            if let Some(record) = self.record.lock(rt).take() {
-                let mut pass = self.pass.lock(rt);
-                let _ = self.service.edit(rt, &mut pass, Edit::Add(record));
-            }
+            let _ = adds_once(rt, self.service, &self.pass, &self.record);
         }
         Go::On
     }
@@ -43,9 +65,7 @@ impl Gate for EditingOnce<'_> {
         if who == Who::Caller {
             return Go::On;
         }
-        if let Some(record) = self.record.lock(rt).take() {
-            let mut pass = self.pass.lock(rt);
-            let _ = self.service.edit(rt, &mut pass, Edit::Add(record));
+        if adds_once(rt, self.service, &self.pass, &self.record) {
             return Go::Stop;
         }
         self.went_on.store(1, Ordering::SeqCst);

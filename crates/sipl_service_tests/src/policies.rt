@@ -50,6 +50,7 @@ fn finds<R: Wait + Abort>(
 ) {
     let told = find(rt, alloc, service, pass, uri, WORDS);
     is_told(rt, alloc, &told, service.held(), numbers);
+    drop(told);
 }
 
 // Loads the zone, and finds its servers.
@@ -72,8 +73,9 @@ fn finds_held<R: Wait + Abort>(
 }
 
 fn end(rt: &impl Abort, service: Service, pass: Pass) -> Ended {
+    let page = close(rt, service);
     Ended {
-        pages: [close(rt, service)],
+        pages: [page],
         passes: [pass],
     }
 }
@@ -112,22 +114,22 @@ fn is_not_claimed_by(rt: &impl Abort, alloc: Global, ended: &Ended, other: &Ende
 
 #[test]
 fn receipts_by_another_policy_are_a_claim_where_nothing_is_held(rt: HostRuntime) {
-    let ended = [
-        free(&rt, rt.alloc(), Held::Out),
-        free(&rt, rt.alloc(), Held::Last),
-    ];
+    let by_out = free(&rt, rt.alloc(), Held::Out);
+    let by_last = free(&rt, rt.alloc(), Held::Last);
+    let ended = [by_out, by_last];
     is_claimed_by(&rt, rt.alloc(), &ended[0], &ended[1]);
     is_claimed_by(&rt, rt.alloc(), &ended[1], &ended[0]);
+    drop(ended);
 }
 
 #[test]
 fn receipts_by_another_policy_are_no_claim_where_an_answer_differs(rt: HostRuntime) {
-    let ended = [
-        held(&rt, rt.alloc(), Held::Out, &[SERVER_2]),
-        held(&rt, rt.alloc(), Held::Last, &[SERVER_2, SERVER_1]),
-    ];
+    let by_out = held(&rt, rt.alloc(), Held::Out, &[SERVER_2]);
+    let by_last = held(&rt, rt.alloc(), Held::Last, &[SERVER_2, SERVER_1]);
+    let ended = [by_out, by_last];
     is_claimed_by(&rt, rt.alloc(), &ended[0], &ended[0]);
     is_claimed_by(&rt, rt.alloc(), &ended[1], &ended[1]);
     is_not_claimed_by(&rt, rt.alloc(), &ended[0], &ended[1]);
     is_not_claimed_by(&rt, rt.alloc(), &ended[1], &ended[0]);
+    drop(ended);
 }

@@ -1,6 +1,6 @@
 // The README's examples of threads: a zone is loaded by one caller, and asked for by another; pages are
 // claimed one by one.
-use sipl_book::{Edit, Limits};
+use sipl_book::{Edit, Limits, Page};
 use sipl_choice::{Abilities, Families, Transport};
 use sipl_masterfile::read_zone;
 use sipl_names::Name;
@@ -47,19 +47,25 @@ fn closes(alloc: Global, service: Service, passes: Vec<Pass>) -> anyhow::Result<
     Ok(())
 }
 
-fn claims_a_page<R: Wait>(
+fn claims_a_page(ledger: &mut Ledger, page: &Page, passes: &mut [Pass]) -> anyhow::Result<()> {
+    for pass in passes {
+        if ledger.add(pass.hand_over()).is_err() {
+            anyhow::bail!("out of memory");
+        }
+    }
+    Ok(ledger.claim(page)?)
+}
+
+fn turns_a_page<R: Wait>(
     rt: &R,
     service: &Service,
     ledger: &mut Ledger,
     passes: &mut [Pass],
 ) -> anyhow::Result<()> {
     let page = service.turn_page(rt)?;
-    for pass in passes {
-        if ledger.add(pass.hand_over()).is_err() {
-            anyhow::bail!("out of memory");
-        }
-    }
-    Ok(ledger.claim(&page)?)
+    let claimed = claims_a_page(ledger, &page, passes);
+    drop(page);
+    claimed
 }
 
 // How many events are claimed of a service whose pages are turned twice.
@@ -69,9 +75,9 @@ fn claimed<R: Wait>(rt: &R, alloc: Global) -> anyhow::Result<u64> {
     let mut ledger = Ledger::new(alloc);
     let mut passes = [service.pass()];
     loads(rt, alloc, &service, &mut passes[0])?;
-    claims_a_page(rt, &service, &mut ledger, &mut passes)?;
+    turns_a_page(rt, &service, &mut ledger, &mut passes)?;
     asks(rt, alloc, &service, &mut passes[0])?;
-    claims_a_page(rt, &service, &mut ledger, &mut passes)?;
+    turns_a_page(rt, &service, &mut ledger, &mut passes)?;
     Ok(ledger.next())
 }
 

@@ -2,9 +2,9 @@
 // of a caller in fifty turns the page, and by one seed hands the receipts over, for a ledger that claims
 // page by page. What each caller is told is drawn anew from its parts, and the events of all pages are
 // replayed: each answer among them is that of the plain program on the records and the holds at its place.
-use crate::told::is_drawn_anew;
+use crate::told::are_drawn_anew;
 use crate::values::{
-    close, is_claimed, load_zone, new_service_by, question, record, tcp, turn_page,
+    close, is_by_wildcard, is_claimed, load_zone, new_service_by, question, record, tcp, turn_page,
 };
 use rand_core::utils::NextWord;
 use rand_pcg::Pcg32;
@@ -12,7 +12,6 @@ use sipl_book::{Edit, Event, Page};
 use sipl_choice::{Abilities, Endpoint};
 use sipl_outages::{Board, Held};
 use sipl_plans::{Answer, plan_of};
-use sipl_records::Address;
 use sipl_service::{ClaimFault, Ledger, OpenGate, Pass, Service};
 use sipl_srv::Draws;
 use sipl_uri::Question;
@@ -89,12 +88,13 @@ fn edit<R: Wait + Abort>(rt: &R, alloc: Global, service: &Service, pass: &mut Pa
 fn look_up<R: Wait + Abort>(rt: &R, alloc: Global, service: &Service, pass: &mut Pass, word: u32) {
     let question = question(rt, alloc, choice(&URIS, word));
     let draws = Draws::from_seed(u64::from(word));
-    if let Ok(told) = service.lookup(rt, pass, &question, &draws, &OpenGate) {
-        // One in four, for the sake of time.
-        if word % 4 == 0 {
-            is_drawn_anew(rt, alloc, &told);
-        }
+    let told = service.lookup(rt, pass, &question, &draws, &OpenGate);
+    drop(question);
+    // One in four, for the sake of time.
+    if word % 4 == 0 {
+        are_drawn_anew(rt, alloc, &told);
     }
+    drop(told);
 }
 
 fn call<R: Wait + Abort>(
@@ -341,7 +341,10 @@ fn is_plain(
     draws: &Draws,
     answer: &Answer,
 ) -> bool {
-    plain_answer(rt, alloc, store, board, asker, question, draws) == *answer
+    let plain = plain_answer(rt, alloc, store, board, asker, question, draws);
+    let is_so = plain == *answer;
+    drop(plain);
+    is_so
 }
 
 fn changed(store: &mut ZoneStore, edit: &Edit) -> Result<Changed, StoreFault> {
@@ -387,16 +390,6 @@ impl Seen {
 
 fn count(is_seen: bool, counter: &mut u64) {
     *counter = counter.saturating_add(u64::from(is_seen));
-}
-
-// Whether the answer has an address that wildcards alone have.
-fn is_by_wildcard(answer: &Answer) -> bool {
-    match answer {
-        Answer::Targets(targets) => targets
-            .iter()
-            .any(|target| target.address == Address::V4(0xC000_0209)),
-        Answer::None(_) => false,
-    }
 }
 
 // Whether an event is legal, which is made.
@@ -463,6 +456,8 @@ fn legal_in(
             counts.1.saturating_add(events.len()),
         );
     }
+    drop(board);
+    drop(store);
     counts
 }
 
@@ -482,6 +477,8 @@ fn replay<R: Threads + Wait + Abort + Sync>(rt: &R, alloc: Global, seed: u64, se
         held: service.held(),
     };
     are_legal(rt, alloc, asker, pages.as_slice(), seen);
+    drop(service);
+    drop(pages);
 }
 
 fn are_seen(rt: &impl Abort, seen: Seen) {

@@ -1,7 +1,7 @@
 // Gates that stop a run after each number of its reads.
 use crate::gates::{Closed, EditingOnce, Stopping, comes, rest};
 use crate::values::{
-    ADDRESS_11, BOB, SERVER_1, SERVER_2, draws, events, fails, is_tcp, load_zone, new_service,
+    ADDRESS_11, BOB, SERVER_1, SERVER_2, draws, events, fails, gives, load_zone, new_service,
     outdate, question, record, targets,
 };
 use sipl_service::{Pass, Service, ServiceFault, Told};
@@ -22,8 +22,11 @@ fn lookup_until<R: Wait + Abort>(
     pass: &mut Pass,
     at: u64,
 ) -> Result<Told, ServiceFault> {
+    let draws = draws(rt, &[2, 0]);
     let question = question(rt, alloc, BOB);
-    service.lookup(rt, pass, &question, &draws(rt, &[2, 0]), &Stopping::new(at))
+    let told = service.lookup(rt, pass, &question, &draws, &Stopping::new(at));
+    drop(question);
+    told
 }
 
 fn has_receipts(rt: &impl Abort, pass: &Pass, count: usize) {
@@ -45,6 +48,7 @@ fn stops_at_each_read<R: Wait + Abort>(rt: &R, alloc: Global, service: &Service,
 fn lookups_stop<R: Wait + Abort>(rt: &R, alloc: Global, service: &Service) {
     let mut pass = service.pass();
     stops_at_each_read(rt, alloc, service, &mut pass);
+    drop(pass);
 }
 
 fn has_events(rt: &impl Abort, service: Service, count: usize) {
@@ -60,11 +64,13 @@ fn a_lookup_that_is_stopped_leaves_no_receipt(rt: HostRuntime) {
 
 // Whether Bob's question has a current answer, of one target. A lookup that would read is stopped.
 fn is_current<R: Wait + Abort>(rt: &R, alloc: Global, service: &Service, pass: &mut Pass) -> bool {
+    let draws = draws(rt, &[2, 0]);
     let question = question(rt, alloc, BOB);
-    match service.lookup(rt, pass, &question, &draws(rt, &[2, 0]), &Closed) {
-        Ok(told) => is_tcp(told.answer(), &[SERVER_1]),
-        Err(_) => false,
-    }
+    let told = service.lookup(rt, pass, &question, &draws, &Closed);
+    drop(question);
+    let is_so = gives(&told, &[SERVER_1]);
+    drop(told);
+    is_so
 }
 
 // Whether others can repair what the worker has begun, in so many turns at most.
@@ -92,7 +98,9 @@ fn repairs_after<R: Wait + Clock + Abort>(
 ) -> bool {
     let mut pass = service.pass();
     outdate(rt, alloc, service, &mut pass);
-    comes(rt, &gate.stopped) && is_repaired(rt, alloc, service, &mut pass)
+    let is_so = comes(rt, &gate.stopped) && is_repaired(rt, alloc, service, &mut pass);
+    drop(pass);
+    is_so
 }
 
 fn waits<R: Wait + Clock + Abort>(rt: &R, alloc: Global, service: &Service, gate: &Stopping) {
@@ -133,6 +141,7 @@ fn a_worker_that_is_stopped_gives_its_lease_back(rt: HostRuntime) {
 fn goes_on<R: Wait + Clock + Abort>(rt: &R, alloc: Global, service: &Service, gate: &EditingOnce) {
     let mut pass = service.pass();
     outdate(rt, alloc, service, &mut pass);
+    drop(pass);
     let went_on = comes(rt, &gate.went_on);
     service.stop(rt);
     assert!(rt; went_on, "the edit was missed");
@@ -154,6 +163,7 @@ fn edits_while_stopped<R: Threads + Wait + Clock + Abort + Sync>(
         || service.run_workers(rt, 1, &gate),
         || goes_on(rt, alloc, service, &gate),
     );
+    drop(gate);
 }
 
 #[test]

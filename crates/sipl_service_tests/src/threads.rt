@@ -2,13 +2,11 @@
 use crate::gates::{Turns, Waiting, comes};
 use crate::values::{
     BOB, OVER_TCP, SERVER_1, SERVER_2, add, close, draws, events, find, has_events, is_claimed,
-    is_no_claim, load_zone, new_service, outdate, question, targets, turn_page,
+    is_no_claim, load_zone, new_service, outdate, question, targets, turn_page, udp,
 };
 use sipl_book::Page;
-use sipl_choice::Transport;
 use sipl_plans::Answer;
-use sipl_records::Address;
-use sipl_service::{ClaimFault, Pass, Service};
+use sipl_service::{ClaimFault, Pass, Service, ServiceFault, Told};
 use std::alloc::Global;
 use std::process::Abort;
 use std::sync::Wait;
@@ -22,11 +20,16 @@ use std::time::Clock;
 fn add_and_find<R: Wait + Abort>(rt: &R, alloc: Global, service: &Service, pass: &mut Pass) {
     add(rt, alloc, service, pass, b"other.example.com. A 192.0.2.50");
     let told = find(rt, alloc, service, pass, b"sip:other.example.com:5060", &[]);
-    let expected = match told {
+    let expected = gives_other(&told);
+    drop(told);
+    assert!(rt; expected, "another answer");
+}
+
+fn gives_other(told: &Result<Told, ServiceFault>) -> bool {
+    match told {
         Ok(told) => is_other(told.answer()),
         Err(_) => false,
-    };
-    assert!(rt; expected, "another answer");
+    }
 }
 
 fn adds<R: Wait + Abort>(rt: &R, alloc: Global, service: &Service, mut pass: Pass) -> Pass {
@@ -37,12 +40,9 @@ fn adds<R: Wait + Abort>(rt: &R, alloc: Global, service: &Service, mut pass: Pas
 // Whether an answer is 192.0.2.50 over UDP at port 5060.
 fn is_other(answer: &Answer) -> bool {
     match answer {
-        Answer::Targets(targets) => targets.len() == 1
-            && targets.iter().all(|target| {
-                target.transport == Transport::Udp
-                    && target.address == Address::V4(0xC000_0232)
-                    && target.port == 5060
-            }),
+        Answer::Targets(targets) => {
+            targets.len() == 1 && targets.iter().all(|target| *target == udp(0xC000_0232))
+        }
         Answer::None(_) => false,
     }
 }
@@ -102,6 +102,7 @@ fn pass_of_another<R: Wait + Abort>(rt: &R, alloc: Global) -> Pass {
     let other = new_service(rt, alloc, 1);
     let mut pass = other.pass();
     advance(rt, &other, &mut pass);
+    drop(other);
     pass
 }
 
@@ -111,13 +112,19 @@ fn the_receipts_of_two_threads_are_the_journal(rt: HostRuntime) {
     let (first, second) = two_callers(&rt, rt.alloc(), &service);
     let other = pass_of_another(&rt, rt.alloc());
     let pages = [close(&rt, service)];
-    claims(&rt, rt.alloc(), &pages, &[other, first, second]);
+    let passes = [other, first, second];
+    claims(&rt, rt.alloc(), &pages, &passes);
+    drop(passes);
+    drop(pages);
 }
 
 fn held<R: Wait + Abort + Clock>(rt: &R, alloc: Global, service: &Service, gate: &Waiting<R>) {
-    let mut pass = service.pass();
+    let draws = draws(rt, &[2, 0]);
     let question = question(rt, alloc, OVER_TCP);
-    let told = service.lookup(rt, &mut pass, &question, &draws(rt, &[2, 0]), gate);
+    let mut pass = service.pass();
+    let told = service.lookup(rt, &mut pass, &question, &draws, gate);
+    drop(pass);
+    drop(question);
     targets(rt, told, &[SERVER_2, SERVER_1]);
 }
 
@@ -129,12 +136,14 @@ fn answered<R: Wait + Abort + Clock>(rt: &R, alloc: Global, service: &Service, g
         find(rt, alloc, service, &mut pass, BOB, &[2, 0]),
         &[SERVER_2, SERVER_1],
     );
+    drop(pass);
     gate.is_answered.store(1, Ordering::SeqCst);
 }
 
 fn overtaken<R: Threads + Wait + Abort + Clock + Sync>(rt: &R, alloc: Global, service: &Service) {
     let mut pass = service.pass();
     load_zone(rt, alloc, service, &mut pass);
+    drop(pass);
     let gate = Waiting {
         clock: rt,
         is_held: AtomicU64::new(0),
@@ -157,6 +166,7 @@ fn a_lookup_overtakes_one_that_is_held(rt: HostRuntime) {
 fn outdates<R: Wait + Abort>(rt: &R, alloc: Global, service: &Service) {
     let mut pass = service.pass();
     outdate(rt, alloc, service, &mut pass);
+    drop(pass);
 }
 
 // An entry becomes outdated, and a worker looks it up again.
@@ -188,20 +198,42 @@ fn reads_twice<R: Wait + Abort>(rt: &R, alloc: Global, service: &Service) {
     let mut first = service.pass();
     load_zone(rt, alloc, service, &mut first);
     let mut second = service.pass();
-    let expected = [SERVER_2, SERVER_1];
-    targets(
+    finds_both(rt, alloc, service, &mut first, BOB);
+    drop(first);
+    has_versions(rt, service.version_count(rt), 4);
+    finds_both(rt, alloc, service, &mut second, OVER_TCP);
+    drop(second);
+    has_versions(rt, service.version_count(rt), 4);
+}
+
+fn finds_both<R: Wait + Abort>(
+    rt: &R,
+    alloc: Global,
+    service: &Service,
+    pass: &mut Pass,
+    uri: &[u8],
+) {
+    let told = find(rt, alloc, service, pass, uri, &[2, 0]);
+    targets(rt, told, &[SERVER_2, SERVER_1]);
+}
+
+fn has_versions(rt: &impl Abort, count: usize, expected: usize) {
+    assert_eq!(rt; count, expected);
+}
+
+// Finds server1's address over TCP by its name.
+fn finds_server_1<R: Wait + Abort>(rt: &R, alloc: Global, service: &Service) {
+    let mut pass = service.pass();
+    let told = find(
         rt,
-        find(rt, alloc, service, &mut first, BOB, &[2, 0]),
-        &expected,
+        alloc,
+        service,
+        &mut pass,
+        b"sip:server1.example.com:5060;transport=tcp",
+        &[],
     );
-    let versions = service.version_count(rt);
-    assert_eq!(rt; versions, 4);
-    targets(
-        rt,
-        find(rt, alloc, service, &mut second, OVER_TCP, &[2, 0]),
-        &expected,
-    );
-    assert_eq!(rt; service.version_count(rt), versions);
+    drop(pass);
+    targets(rt, told, &[SERVER_1]);
 }
 
 // The versions go with the page; a lookup that reads has its own.
@@ -209,21 +241,10 @@ fn turns_and_reads<R: Wait + Abort>(rt: &R, alloc: Global, service: &Service) {
     reads_twice(rt, alloc, service);
     let page = turn_page(rt, service);
     has_events(rt, &page, 3);
-    assert_eq!(rt; service.version_count(rt), 0);
-    let mut pass = service.pass();
-    targets(
-        rt,
-        find(
-            rt,
-            alloc,
-            service,
-            &mut pass,
-            b"sip:server1.example.com:5060;transport=tcp",
-            &[],
-        ),
-        &[SERVER_1],
-    );
-    assert_eq!(rt; service.version_count(rt), 1);
+    has_versions(rt, service.version_count(rt), 0);
+    finds_server_1(rt, alloc, service);
+    has_versions(rt, service.version_count(rt), 1);
+    drop(page);
 }
 
 #[test]

@@ -4,7 +4,7 @@ ghost use Rattle.sipl_plans.specs.Runs.{IsSet};
 
 use sipl_evidence::Item;
 use sipl_plans::{Answer, Finding, Run, draw};
-use sipl_service::Told;
+use sipl_service::{ServiceFault, Told};
 use std::alloc::Global;
 use std::process::Abort;
 
@@ -35,22 +35,45 @@ fn give_all(rt: &impl Abort, alloc: Global, run: &mut Run, told: &Told) -> bool 
 fn finding(rt: &impl Abort, alloc: Global, told: &Told) -> Option<Finding> {
     let question = told.question().dup(alloc).expect(rt, "out of memory");
     let mut run = Run::start(alloc, question, told.abilities()).expect(rt, "out of memory");
-    if !give_all(rt, alloc, &mut run, told) {
-        return None;
+    if give_all(rt, alloc, &mut run, told) {
+        run.finish().ok()
+    } else {
+        drop(run);
+        None
     }
-    run.finish().ok()
+}
+
+fn drawn(rt: &impl Abort, alloc: Global, finding: &Finding, told: &Told) -> Answer {
+    let layout = finding.layout();
+    draw(alloc, layout, told.draws(), told.holds(), told.held()).expect(rt, "out of memory")
 }
 
 fn answer(rt: &impl Abort, alloc: Global, told: &Told) -> Option<Answer> {
-    let finding = finding(rt, alloc, told)?;
-    let layout = finding.layout();
-    Some(draw(alloc, layout, told.draws(), told.holds(), told.held()).expect(rt, "out of memory"))
+    match finding(rt, alloc, told) {
+        Some(finding) => {
+            let answer = drawn(rt, alloc, &finding, told);
+            drop(finding);
+            Some(answer)
+        }
+        None => None,
+    }
+}
+
+fn is_answer(answer: &Option<Answer>, expected: &Answer) -> bool {
+    answer.as_ref() == Some(expected)
+}
+
+// What was told, if anything, is what its parts give.
+pub(crate) fn are_drawn_anew(rt: &impl Abort, alloc: Global, told: &Result<Told, ServiceFault>) {
+    if let Ok(told) = told {
+        is_drawn_anew(rt, alloc, told);
+    }
 }
 
 // The answer is what its parts give.
 pub(crate) fn is_drawn_anew(rt: &impl Abort, alloc: Global, told: &Told) {
-    assert!(rt;
-        answer(rt, alloc, told).as_ref() == Some(told.answer()),
-        "another answer"
-    );
+    let answer = answer(rt, alloc, told);
+    let is_so = is_answer(&answer, told.answer());
+    drop(answer);
+    assert!(rt; is_so, "another answer");
 }

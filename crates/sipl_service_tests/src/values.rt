@@ -52,10 +52,21 @@ pub(crate) fn new_service_by(rt: &impl Abort, alloc: Global, tries: u64, held: H
     requires once { 1 ≤ tries }
     requires most { tries ≤ 16 }
 {
-    let preference = Vec::from_slice(alloc, &[Transport::Tcp, Transport::Udp]).expect(
-        rt,
-        "out of memory",
-    );
+    service_for(rt, alloc, &[Transport::Tcp, Transport::Udp], tries, held)
+}
+
+// A service for a client of these transports over IPv4.
+pub(crate) fn service_for(
+    rt: &impl Abort,
+    alloc: Global,
+    transports: &[Transport],
+    tries: u64,
+    held: Held,
+) -> Service
+    requires once { 1 ≤ tries }
+    requires most { tries ≤ 16 }
+{
+    let preference = Vec::from_slice(alloc, transports).expect(rt, "out of memory");
     let abilities = Abilities::new(preference, Families::V4).expect(rt, "the abilities");
     Service::new(alloc, abilities, &Limits::greatest(), tries, held).expect(rt, "out of memory")
 }
@@ -69,15 +80,24 @@ pub(crate) fn draws(rt: &impl Abort, words: &[u32]) -> Draws {
 }
 
 pub(crate) fn record(rt: &impl Abort, alloc: Global, text: &[u8]) -> Record {
-    read_record(alloc, text, &Name::root(alloc)).expect(rt, "the record is refused")
+    let root = Name::root(alloc);
+    let record = read_record(alloc, text, &root);
+    drop(root);
+    record.expect(rt, "the record is refused")
 }
 
 fn apex(rt: &impl Abort, alloc: Global) -> Name {
-    Name::from_text(alloc, b"example.com.", &Name::root(alloc)).expect(rt, "the name is refused")
+    let root = Name::root(alloc);
+    let apex = Name::from_text(alloc, b"example.com.", &root);
+    drop(root);
+    apex.expect(rt, "the name is refused")
 }
 
 fn zone(rt: &impl Abort, alloc: Global) -> ZoneText {
-    read_zone(alloc, ZONE, &apex(rt, alloc)).expect(rt, "the zone is refused")
+    let apex = apex(rt, alloc);
+    let zone = read_zone(alloc, ZONE, &apex);
+    drop(apex);
+    zone.expect(rt, "the zone is refused")
 }
 
 // A TCP endpoint at port 5060.
@@ -89,9 +109,23 @@ pub(crate) fn tcp(number: u32) -> Endpoint {
     }
 }
 
+// A UDP endpoint at port 5060.
+pub(crate) fn udp(number: u32) -> Endpoint {
+    Endpoint {
+        transport: Transport::Udp,
+        address: Address::V4(number),
+        port: 5060,
+    }
+}
+
 // ---- calls of the service
 
-fn edit<R: Wait + Abort>(rt: &R, service: &Service, pass: &mut Pass, edit: Edit) -> Done {
+pub(crate) fn edit<R: Wait + Abort>(
+    rt: &R,
+    service: &Service,
+    pass: &mut Pass,
+    edit: Edit,
+) -> Done {
     service
         .edit(rt, pass, edit)
         .expect(rt, "the edit is refused")
@@ -134,14 +168,22 @@ pub(crate) fn find<R: Wait + Abort>(
     uri: &[u8],
     words: &[u32],
 ) -> Result<Told, ServiceFault> {
+    let draws = draws(rt, words);
     let question = question(rt, alloc, uri);
-    service.lookup(rt, pass, &question, &draws(rt, words), &OpenGate)
+    let told = service.lookup(rt, pass, &question, &draws, &OpenGate);
+    drop(question);
+    told
 }
 
 // Holds server1's endpoint for a millisecond.
 pub(crate) fn hold<R: Wait + Abort>(rt: &R, service: &Service, pass: &mut Pass) {
+    hold_for(rt, service, pass, 1);
+}
+
+// Holds server1's endpoint for so many milliseconds.
+pub(crate) fn hold_for<R: Wait + Abort>(rt: &R, service: &Service, pass: &mut Pass, ms: u64) {
     service
-        .hold(rt, pass, &tcp(SERVER_1), 1)
+        .hold(rt, pass, &tcp(SERVER_1), ms)
         .expect(rt, "the hold is refused");
 }
 
@@ -172,8 +214,18 @@ pub(crate) fn is_tcp(answer: &Answer, numbers: &[u32]) -> bool {
     }
 }
 
+// Whether the answer has an address that wildcards alone have.
+pub(crate) fn is_by_wildcard(answer: &Answer) -> bool {
+    match answer {
+        Answer::Targets(targets) => targets
+            .iter()
+            .any(|target| target.address == Address::V4(0xC000_0209)),
+        Answer::None(_) => false,
+    }
+}
+
 // Whether a lookup has given these targets over TCP at port 5060.
-fn gives(told: &Result<Told, ServiceFault>, numbers: &[u32]) -> bool {
+pub(crate) fn gives(told: &Result<Told, ServiceFault>, numbers: &[u32]) -> bool {
     match told {
         Ok(told) => is_tcp(told.answer(), numbers),
         Err(_) => false,
@@ -181,7 +233,9 @@ fn gives(told: &Result<Told, ServiceFault>, numbers: &[u32]) -> bool {
 }
 
 pub(crate) fn targets(rt: &impl Abort, told: Result<Told, ServiceFault>, numbers: &[u32]) {
-    assert!(rt; gives(&told, numbers), "other targets, or a fault");
+    let is_so = gives(&told, numbers);
+    drop(told);
+    assert!(rt; is_so, "other targets, or a fault");
 }
 
 fn code_of(told: &Result<Told, ServiceFault>) -> Option<&'static str> {
@@ -192,7 +246,9 @@ fn code_of(told: &Result<Told, ServiceFault>) -> Option<&'static str> {
 }
 
 pub(crate) fn fails(rt: &impl Abort, told: Result<Told, ServiceFault>, code: &str) {
-    assert!(rt; code_of(&told) == Some(code), "an answer, or another fault");
+    let found = code_of(&told);
+    drop(told);
+    assert!(rt; found == Some(code), "an answer, or another fault");
 }
 
 pub(crate) fn turn_page<R: Wait + Abort>(rt: &R, service: &Service) -> Page {
@@ -211,7 +267,10 @@ pub(crate) fn close(rt: &impl Abort, service: Service) -> Page {
 
 // The number of events of a service of one page, which is closed.
 pub(crate) fn events(rt: &impl Abort, service: Service) -> usize {
-    close(rt, service).events().len()
+    let page = close(rt, service);
+    let count = page.events().len();
+    drop(page);
+    count
 }
 
 // The pages are claimed with the passes.

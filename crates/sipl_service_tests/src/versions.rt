@@ -16,8 +16,11 @@ use std::test::*;
 fn key(rt: &impl Abort, alloc: Global, owner: &[u8]) -> Key
     ensures { result.kind ≡ Kind.Address4 }
 {
+    let root = Name::root(alloc);
+    let name = Name::from_text(alloc, owner, &root);
+    drop(root);
     Key {
-        name: Name::from_text(alloc, owner, &Name::root(alloc)).expect(rt, "a name"),
+        name: name.expect(rt, "a name"),
         kind: Kind::Address4,
     }
 }
@@ -47,7 +50,20 @@ fn number_at(
     let found = versions
         .item(alloc, place, key, number)
         .expect(rt, "out of memory");
-    found.map(|item| item.number())
+    let number = found.as_ref().map(|item| item.number());
+    drop(found);
+    number
+}
+
+fn is_number(rt: &impl Abort, number: Option<u64>, expected: Option<u64>) {
+    assert_eq!(rt; number, expected);
+}
+
+// The version at the place has this key and the number 3, and there is no other.
+fn is_found_by(rt: &impl Abort, alloc: Global, versions: &Versions, place: usize, key: &Key) {
+    is_number(rt, number_at(rt, alloc, versions, place, key, 3), Some(3));
+    is_number(rt, number_at(rt, alloc, versions, place, key, 4), None);
+    is_number(rt, number_at(rt, alloc, versions, 1, key, 3), None);
 }
 
 fn are_found<R: Wait + Abort>(rt: &R, alloc: Global, versions: &Versions) {
@@ -56,10 +72,10 @@ fn are_found<R: Wait + Abort>(rt: &R, alloc: Global, versions: &Versions) {
         .expect(rt, "out of memory");
     let server = key(rt, alloc, b"server1.example.com.");
     let other = key(rt, alloc, b"server2.example.com.");
-    assert_eq!(rt; number_at(rt, alloc, versions, place, &server, 3), Some(3));
-    assert_eq!(rt; number_at(rt, alloc, versions, place, &server, 4), None);
-    assert_eq!(rt; number_at(rt, alloc, versions, place, &other, 3), None);
-    assert_eq!(rt; number_at(rt, alloc, versions, 1, &server, 3), None);
+    is_found_by(rt, alloc, versions, place, &server);
+    is_number(rt, number_at(rt, alloc, versions, place, &other, 3), None);
+    drop(other);
+    drop(server);
     assert_eq!(rt; versions.len(), 1);
 }
 
