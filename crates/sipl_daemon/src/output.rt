@@ -65,7 +65,7 @@ impl<'a, R: Wait + Clock> Output<'a, R> {
 
     // Gives a client up that takes the replies to one read too slowly: its receipts wait for it, and all
     // pages for them. Where the clock of the machine can't be read it has time.
-    fn give_up_if_late(&self, since: &Instant) -> io::Result<()> {
+    fn give_up_if_late(&self, since: Instant) -> io::Result<()> {
         match since.elapsed(self.rt) {
             Ok(passed) if passed >= Duration::from_millis(WRITE) => {
                 Err(io::Error::from(ErrorKind::TimedOut))
@@ -84,16 +84,14 @@ pub(crate) fn set_patience(daemon: &Daemon, stream: &Stream) -> io::Result<()> {
 impl<R: Wait + Clock> Write for Output<'_, R> {
     fn write(&mut self, buf: &[u8]) -> io::Result<usize> {
         self.sync()?;
-        let since = match self.since.take() {
+        let since = match self.since {
             Some(since) => Some(since),
             None => Instant::now(self.rt).ok(),
         };
         let count = self.write_piece(buf)?;
-        if count < buf.len() {
-            if let Some(since) = &since {
-                self.give_up_if_late(since)?;
-            }
-            self.since = since;
+        self.since = if count < buf.len() { since } else { None };
+        if let Some(since) = self.since {
+            self.give_up_if_late(since)?;
         }
         Ok(count)
     }
