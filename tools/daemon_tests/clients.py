@@ -253,7 +253,7 @@ def gives_up_a_client_that_takes_its_replies_slowly(checks: Checks, folder: path
         # some kilobytes at a time: the last client gets none, and so takes nothing.
         with concurrent.futures.ThreadPoolExecutor(3) as pool:
             works = {"over TCP": (75, pool.submit(use, daemon.address, 4, 4_096, 0.2)),
-                     "at a Unix socket": (30, pool.submit(use, unix, 4, 4_096, 0.2)),
+                     "at a Unix socket": (30, pool.submit(use, unix, 5, 4_096, 0.2)),
                      "of a Unix socket's nothing": (30, pool.submit(use, unix, 1, 100, 1))}
         for name, (most, work) in works.items():
             least, seen = work.result()
