@@ -1,5 +1,6 @@
 //! Boards that share their copies.
 use super::endpoint;
+use crate::assertions::expects_equal;
 use sipl_outages::{Board, ShareableBoard, SharedBoard};
 use std::alloc::Global;
 use std::process::Abort;
@@ -66,21 +67,19 @@ fn a_shared_board_stays_as_it_was(rt: HostRuntime) {
     let mut board = ShareableBoard::new(rt.alloc(), Board::new(rt.alloc()));
     let shown = shares(&rt, &mut board);
     drop(board);
-    assert_eq!(rt;
-        shown,
-        [
-            (0, 0, false, false),
-            (0, 1, true, false),
-            (0, 2, true, true),
-            (0, 2, true, true),
-            (20, 1, false, true),
-            (20, 0, false, false),
-        ]
-    );
+    let expected = [
+        (0, 0, false, false),
+        (0, 1, true, false),
+        (0, 2, true, true),
+        (0, 2, true, true),
+        (20, 1, false, true),
+        (20, 0, false, false),
+    ];
+    expects_equal(&rt, &shown, &expected, "what is shared");
 }
 
 #[test]
 fn a_shared_board_outlives_the_board(rt: HostRuntime) {
     let shown = shown(&last_share(&rt, rt.alloc()));
-    assert_eq!(rt; shown, (0, 1, true, false));
+    expects_equal(&rt, &shown, &(0, 1, true, false), "the last share");
 }

@@ -3,6 +3,7 @@
 mod plain;
 mod values;
 
+use crate::assertions::expects;
 use plain::{
     Changes, NAMES, Plain, RECORDS, SETS, alter, change, changes_of, edited, exists, new_plain,
     number_of, push_all, select,
@@ -161,11 +162,6 @@ fn is_made(
         Ok(changed) => is_changed(rt, alloc, &changed, expected),
         Err(_) => false,
     }
-}
-
-// Ends the test where this is not so.
-fn expects(rt: &impl Abort, is_so: bool, what: &str) {
-    assert!(rt; is_so, "{what}");
 }
 
 // Makes an edit of the store and of the list.
