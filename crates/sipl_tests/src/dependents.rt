@@ -23,6 +23,7 @@ enum Step {
 fn play(rt: &impl Abort, alloc: Global, steps: &[Step]) {
     let mut dependents = Dependents::new(alloc);
     take_each(rt, alloc, &mut dependents, steps);
+    drop(dependents);
 }
 
 fn take_each(rt: &impl Abort, alloc: Global, dependents: &mut Dependents, steps: &[Step]) {

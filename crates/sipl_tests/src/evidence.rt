@@ -80,6 +80,7 @@ fn play_from(rt: &impl Abort, alloc: Global, start: (&'static str, Kind), steps:
         start,
     };
     take_each(rt, &mut lookup, steps);
+    drop(lookup);
 }
 
 fn first_walk(rt: &impl Abort, alloc: Global, start: (&str, Kind)) -> Walk {
@@ -199,7 +200,7 @@ fn is_item(found: &Item, expected: &Item) -> bool {
 
 fn are_addresses(found: &[Data], addresses: &[u32]) -> bool {
     for (datum, address) in found.iter().zip(addresses.iter()) {
-        if *datum != Data::Address4(*address) {
+        if !matches!(datum, Data::Address4(found) if found == address) {
             return false;
         }
     }
@@ -295,10 +296,14 @@ fn pushes_link(rt: &impl Abort, lookup: &mut Lookup, owner: &'static str, target
 // Each name's sets are read when the walk wants them.
 fn walks_over(rt: &impl Abort, lookup: &mut Lookup, names: &[&'static str]) {
     for (owner, target) in names.iter().zip(names.iter().skip(1)) {
-        wants(rt, lookup, owner, A);
-        pushes_link(rt, lookup, owner, target);
-        goes_on(rt, lookup);
+        walks_to(rt, lookup, owner, target);
     }
+}
+
+fn walks_to(rt: &impl Abort, lookup: &mut Lookup, owner: &'static str, target: &'static str) {
+    wants(rt, lookup, owner, A);
+    pushes_link(rt, lookup, owner, target);
+    goes_on(rt, lookup);
 }
 
 fn goes_on(rt: &impl Abort, lookup: &mut Lookup) {

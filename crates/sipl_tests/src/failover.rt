@@ -53,6 +53,7 @@ fn play(
 ) {
     let mut failover = start(rt, alloc, targets, request, 0);
     run(rt, alloc, &mut failover, scenario);
+    drop(failover);
 }
 
 // The failover of a request of this kind and base that is sent at this time. It takes at most 2,048

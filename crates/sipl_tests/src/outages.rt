@@ -29,11 +29,13 @@ fn play(rt: &impl Abort, alloc: Global, max_holds: usize, scenario: Scenario) {
     assert!(rt; max_holds <= MAX_HOLDS);
     let mut board = Board::with(alloc, max_holds);
     run(rt, alloc, &mut board, scenario);
+    drop(board);
 }
 
 fn play_default(rt: &impl Abort, alloc: Global, scenario: Scenario) {
     let mut board = Board::new(alloc);
     run(rt, alloc, &mut board, scenario);
+    drop(board);
 }
 
 fn run(rt: &impl Abort, alloc: Global, board: &mut Board, scenario: Scenario) {
@@ -296,6 +298,7 @@ fn change_the_copy(rt: &impl Abort, copy: &mut Board) {
 fn copy_and_change(rt: &impl Abort, alloc: Global, board: &mut Board) {
     let mut copy = board.dup(alloc).expect(rt, "out of memory");
     change_the_copy(rt, &mut copy);
+    drop(copy);
 }
 
 fn copies(rt: &impl Abort, alloc: Global, board: &mut Board) {

@@ -145,7 +145,7 @@ fn is_reason(rt: &impl Abort, reason: Reason, found: Reason, name: &str) {
 fn are_targets(rt: &impl Abort, targets: &[Endpoint], found: &[Target], name: &str) {
     is_len(rt, targets.len(), found.len(), name);
     for (endpoint, target) in targets.iter().zip(found.iter()) {
-        is_endpoint(rt, *endpoint, endpoint_of(rt, *target), name);
+        is_target(rt, endpoint, target, name);
     }
 }
 
@@ -153,8 +153,8 @@ fn is_len(rt: &impl Abort, len: usize, expected: usize, name: &str) {
     expects_equal(rt, &len, &expected, name);
 }
 
-fn is_endpoint(rt: &impl Abort, endpoint: Endpoint, expected: Endpoint, name: &str) {
-    expects_equal(rt, &endpoint, &expected, name);
+fn is_target(rt: &impl Abort, endpoint: &Endpoint, target: &Target, name: &str) {
+    expects_equal(rt, endpoint, &endpoint_of(rt, *target), name);
 }
 
 fn endpoint_of(rt: &impl Abort, target: Target) -> Endpoint {

@@ -29,6 +29,7 @@ enum Scenario {
 fn play(rt: &impl Abort, alloc: Global, capacity: usize, scenario: Scenario) {
     let mut queue = queue_of(rt, alloc, capacity);
     run(rt, alloc, &mut queue, scenario);
+    drop(queue);
 }
 
 fn queue_of(rt: &impl Abort, alloc: Global, capacity: usize) -> Queue {
@@ -54,7 +55,7 @@ fn run(rt: &impl Abort, alloc: Global, queue: &mut Queue, scenario: Scenario) {
 }
 
 fn mark(rt: &impl Abort, queue: &mut Queue, id: u64) {
-    expects_at(rt, queue.has_capacity_for(id), "no capacity for", &id);
+    assert!(rt; queue.has_capacity_for(id), "no capacity for {id}");
     queue.mark(id);
 }
 
@@ -367,6 +368,7 @@ fn leases_of_another(rt: &impl Abort, other: &mut Queue, queue: &mut Queue) {
 fn with_another(rt: &impl Abort, alloc: Global, queue: &mut Queue) {
     let mut other = queue_of(rt, alloc, 3);
     leases_of_another(rt, &mut other, queue);
+    drop(other);
 }
 
 #[test]

@@ -72,12 +72,14 @@ fn play(rt: &impl Abort, alloc: Global, next: u64, max_records: u64, steps: &[St
 {
     let mut store = ZoneStore::with(alloc, next, max_records);
     take_each(rt, alloc, &mut store, steps);
+    drop(store);
 }
 
 // Takes the steps with a new store of the greatest size.
 fn play_new(rt: &impl Abort, alloc: Global, steps: &[Step]) {
     let mut store = ZoneStore::new(alloc);
     take_each(rt, alloc, &mut store, steps);
+    drop(store);
 }
 
 fn take_each(rt: &impl Abort, alloc: Global, store: &mut ZoneStore, steps: &[Step]) {
@@ -307,10 +309,24 @@ fn are_existence(rt: &impl Abort, alloc: Global, keys: &[Key], names: &[&str]) -
     keys.len() == names.len()
 }
 
+fn is_record(rt: &impl Abort, alloc: Global, found: &Record, line: &str) -> bool {
+    let expected = record(rt, alloc, line);
+    let is_equal = *found == expected;
+    drop(expected);
+    is_equal
+}
+
+fn is_datum(rt: &impl Abort, alloc: Global, found: &Data, line: &str) -> bool {
+    let expected = record(rt, alloc, line);
+    let is_equal = *found == expected.value;
+    drop(expected);
+    is_equal
+}
+
 // Whether the records are those of the lines.
 fn are_records(rt: &impl Abort, alloc: Global, records: &[Record], lines: &[&str]) -> bool {
     for (found, line) in records.iter().zip(lines.iter()) {
-        if *found != record(rt, alloc, line) {
+        if !is_record(rt, alloc, found, line) {
             return false;
         }
     }
@@ -320,7 +336,7 @@ fn are_records(rt: &impl Abort, alloc: Global, records: &[Record], lines: &[&str
 // Whether the data are those of the lines.
 fn are_data(rt: &impl Abort, alloc: Global, data: &[Data], lines: &[&str]) -> bool {
     for (found, line) in data.iter().zip(lines.iter()) {
-        if *found != record(rt, alloc, line).value {
+        if !is_datum(rt, alloc, found, line) {
             return false;
         }
     }

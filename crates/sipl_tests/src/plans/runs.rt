@@ -392,7 +392,7 @@ fn pointers_choose_the_service(rt: HostRuntime) {
 }
 
 // Both addresses are read, one of them over an alias.
-const OVER_AN_ALIAS: Reading = Reading {
+const OVER_AN_ALIAS: &Reading = &Reading {
     row: Row {
         name: "both families, one of them over an alias",
         zone: &["a. A 192.0.2.1", "a. CNAME b.", "b. AAAA 2001:db8::2"],
@@ -428,21 +428,26 @@ fn has_parts(rt: &impl Abort, finding: &Finding) {
     expects_equal(rt, &families, &V4ThenV6, "the families");
 }
 
+fn is_finding_of(rt: &impl Abort, alloc: Global, finding: &Finding, reading: &Reading) {
+    is_answered(rt, alloc, finding, &reading.row);
+    has_numbers(rt, finding);
+}
+
+fn reads_one_set_after_another(rt: &impl Abort, alloc: Global, reading: &Reading) {
+    let finding = complete(rt, alloc, start(rt, alloc, &reading.row), reading);
+    is_finding_of(rt, alloc, &finding, reading);
+    has_parts(rt, &finding);
+    drop(finding);
+}
+
 #[test]
 fn a_run_reads_one_set_after_another(rt: HostRuntime) {
-    let run = start(&rt, rt.alloc(), &OVER_AN_ALIAS.row);
-    let finding = complete(&rt, rt.alloc(), run, &OVER_AN_ALIAS);
-    is_answered(&rt, rt.alloc(), &finding, &OVER_AN_ALIAS.row);
-    has_numbers(&rt, &finding);
-    has_parts(&rt, &finding);
+    reads_one_set_after_another(&rt, rt.alloc(), OVER_AN_ALIAS);
 }
 
 // The run, which still wants a set, as an early finish returns it.
 fn finish_early(rt: &impl Abort, run: Run) -> Run {
-    let Err(unfinished) = run.finish() else {
-        panic!(rt; "a finding");
-    };
-    run_of(rt, unfinished)
+    run_of(rt, run.finish().err().expect(rt, "a finding"))
 }
 
 fn run_of(rt: &impl Abort, unfinished: Unfinished) -> Run {
@@ -460,13 +465,13 @@ fn found_after_all(rt: &impl Abort, alloc: Global, reading: &Reading) -> Finding
     complete(rt, alloc, run, reading)
 }
 
-fn is_finding_of(rt: &impl Abort, alloc: Global, finding: &Finding, reading: &Reading) {
-    is_answered(rt, alloc, finding, &reading.row);
-    has_numbers(rt, finding);
+fn goes_on_after_an_early_finish(rt: &impl Abort, alloc: Global, reading: &Reading) {
+    let finding = found_after_all(rt, alloc, reading);
+    is_finding_of(rt, alloc, &finding, reading);
+    drop(finding);
 }
 
 #[test]
 fn a_run_goes_on_after_an_early_finish(rt: HostRuntime) {
-    let finding = found_after_all(&rt, rt.alloc(), &OVER_AN_ALIAS);
-    is_finding_of(&rt, rt.alloc(), &finding, &OVER_AN_ALIAS);
+    goes_on_after_an_early_finish(&rt, rt.alloc(), OVER_AN_ALIAS);
 }
