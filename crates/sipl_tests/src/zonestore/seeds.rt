@@ -170,7 +170,6 @@ fn make_edit(rt: &impl Abort, alloc: Global, store: &mut ZoneStore, plain: &mut 
     let changes = changes_of(rt, alloc, &plain.records, &new, edit);
     let is_made = is_made(rt, alloc, store, edit, &changes);
     change(plain, new, &changes);
-    drop(changes);
     expects(rt, is_made, "the changes");
 }
 
