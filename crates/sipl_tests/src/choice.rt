@@ -1,6 +1,7 @@
 //! What a client chooses from: transports, families, services and its abilities.
 mod pointers;
 
+use crate::assertions::{expects, expects_codes, expects_equal, expects_equal_at};
 use sipl_choice::Transport::{Sctp, Tcp, Tls, Udp};
 use sipl_choice::{Abilities, AbilitiesFault, Families, Transport, default_port, service_name};
 use sipl_names::Name;
@@ -65,16 +66,16 @@ fn equals(alloc: Global, transports: &[Transport], families: Families) -> Option
 
 #[test]
 fn new_refuses_an_empty_list(rt: HostRuntime) {
-    assert_eq!(rt;
-        fault_of(rt.alloc(), &[]),
-        Some(AbilitiesFault::EmptyAbilities)
-    );
+    has_fault(&rt, rt.alloc(), &[], AbilitiesFault::EmptyAbilities);
+}
+
+fn has_fault(rt: &impl Abort, alloc: Global, transports: &[Transport], fault: AbilitiesFault) {
+    expects_equal(rt, &fault_of(alloc, transports), &Some(fault), "the fault");
 }
 
 fn are_repeated(rt: &impl Abort, alloc: Global, lists: &[[Transport; 3]]) {
     for transports in lists {
-        let fault = fault_of(alloc, transports);
-        assert_eq!(rt; fault, Some(AbilitiesFault::RepeatedTransport));
+        has_fault(rt, alloc, transports, AbilitiesFault::RepeatedTransport);
     }
 }
 
@@ -87,23 +88,39 @@ fn new_refuses_a_transport_listed_twice(rt: HostRuntime) {
 #[test]
 fn abilities_keep_the_order_of_preference(rt: HostRuntime) {
     let transports = [Udp, Tcp];
-    assert!(rt; keeps(rt.alloc(), &transports, Families::V4));
-    assert_eq!(rt; supports(rt.alloc(), &transports, Tcp), Some(true));
-    assert_eq!(rt; supports(rt.alloc(), &transports, Tls), Some(false));
+    let alloc = rt.alloc();
+    expects(
+        &rt,
+        keeps(alloc, &transports, Families::V4),
+        "other abilities",
+    );
+    expects_equal(&rt, &supports(alloc, &transports, Tcp), &Some(true), "TCP");
+    expects_equal(&rt, &supports(alloc, &transports, Tls), &Some(false), "TLS");
+}
+
+// That a client of these abilities equals one of UDP and TCP over IPv4, or does not.
+fn is_equal(
+    rt: &impl Abort,
+    alloc: Global,
+    transports: &[Transport],
+    families: Families,
+    expected: bool,
+) {
+    let found = equals(alloc, transports, families);
+    expects_equal(rt, &found, &Some(expected), "equality");
 }
 
 // That clients of these abilities differ from one of UDP and TCP over IPv4.
 fn are_others(rt: &impl Abort, alloc: Global, clients: &[(&[Transport], Families)]) {
     for (transports, families) in clients {
-        assert_eq!(rt; equals(alloc, transports, *families), Some(false));
+        is_equal(rt, alloc, transports, *families, false);
     }
 }
 
 #[test]
 fn equality_sees_the_order_of_preference_and_the_families(rt: HostRuntime) {
-    assert_eq!(rt; equals(rt.alloc(), &[Udp, Tcp], Families::V4), Some(true));
-    let others = [
-        ([Udp, Tls].as_slice(), Families::V4),
+    const OTHERS: &[(&[Transport], Families)] = &[
+        (&[Udp, Tls], Families::V4),
         (&[Tcp, Udp], Families::V4),
         (&[Udp], Families::V4),
         (&[Udp, Tcp, Tls], Families::V4),
@@ -111,23 +128,28 @@ fn equality_sees_the_order_of_preference_and_the_families(rt: HostRuntime) {
         (&[Udp, Tcp], Families::V4ThenV6),
         (&[Udp, Tcp], Families::V6ThenV4),
     ];
-    are_others(&rt, rt.alloc(), &others);
+    is_equal(&rt, rt.alloc(), &[Udp, Tcp], Families::V4, true);
+    are_others(&rt, rt.alloc(), OTHERS);
 }
 
 #[test]
 fn new_accepts_each_transport_once(rt: HostRuntime) {
-    assert!(rt; keeps(rt.alloc(), &[Sctp, Tls, Tcp, Udp], Families::V4));
+    let are_kept = keeps(rt.alloc(), &[Sctp, Tls, Tcp, Udp], Families::V4);
+    expects(&rt, are_kept, "other abilities");
 }
 
 #[test]
 fn faults_have_their_codes(rt: HostRuntime) {
-    assert_eq!(rt; AbilitiesFault::EmptyAbilities.code(), "C1");
-    assert_eq!(rt; AbilitiesFault::RepeatedTransport.code(), "C2");
+    let codes = [
+        (AbilitiesFault::EmptyAbilities.code(), "C1"),
+        (AbilitiesFault::RepeatedTransport.code(), "C2"),
+    ];
+    expects_codes(&rt, &codes);
 }
 
 fn has_kinds_each(rt: &impl Abort, rows: &[(Families, &[Kind])]) {
     for (families, kinds) in rows {
-        assert_eq!(rt; families.kinds(), *kinds);
+        expects_equal(rt, &families.kinds(), kinds, "the kinds");
     }
 }
 
@@ -151,9 +173,9 @@ fn prints(alloc: Global, transport: Transport, text: &str) -> bool {
 }
 
 fn is_described(rt: &impl Abort, alloc: Global, transport: Transport, name: &str, port: u16) {
-    assert!(rt; prints(alloc, transport, name));
-    assert_eq!(rt; transport.name(), name);
-    assert_eq!(rt; default_port(transport), port);
+    expects(rt, prints(alloc, transport, name), name);
+    expects_equal(rt, &transport.name(), &name, "the name");
+    expects_equal(rt, &default_port(transport), &port, "the port");
 }
 
 fn are_described(rt: &impl Abort, alloc: Global, rows: &[(Transport, &str, u16)]) {
@@ -178,15 +200,17 @@ type Named = (&'static [u8], Option<Transport>, Option<Transport>);
 
 fn are_read(rt: &impl Abort, rows: &[Named]) {
     for (name, exact, without_case) in rows {
-        assert_eq!(rt; Transport::from_name(name), *exact);
-        assert_eq!(rt; Transport::from_name_ignore_case(name), *without_case);
+        let found = Transport::from_name(name);
+        expects_equal(rt, &found, exact, "with case");
+        let found = Transport::from_name_ignore_case(name);
+        expects_equal(rt, &found, without_case, "without case");
     }
 }
 
 #[test]
 fn names_of_transports_are_read_with_and_without_case(rt: HostRuntime) {
-    let rows = [
-        (b"udp".as_slice(), Some(Udp), Some(Udp)),
+    const ROWS: &[Named] = &[
+        (b"udp", Some(Udp), Some(Udp)),
         (b"tcp", Some(Tcp), Some(Tcp)),
         (b"tls", Some(Tls), Some(Tls)),
         (b"sctp", Some(Sctp), Some(Sctp)),
@@ -197,7 +221,7 @@ fn names_of_transports_are_read_with_and_without_case(rt: HostRuntime) {
         (b"tcps", None, None),
         (b"ws", None, None),
     ];
-    are_read(&rt, &rows);
+    are_read(&rt, ROWS);
 }
 
 fn name(alloc: Global, text: &[u8]) -> Option<Name> {
@@ -221,7 +245,8 @@ fn has_service_name(alloc: Global, transport: Transport, text: &[u8]) -> bool {
 
 fn has_service_name_each(rt: &impl Abort, alloc: Global, rows: &[(Transport, &[u8])]) {
     for (transport, text) in rows {
-        assert!(rt; has_service_name(alloc, *transport, text));
+        let is_named = has_service_name(alloc, *transport, text);
+        expects(rt, is_named, transport.name());
     }
 }
 
@@ -255,7 +280,8 @@ fn is_long_named(alloc: Global, last: usize, transport: Transport) -> Option<boo
 
 fn is_long_named_each(rt: &impl Abort, alloc: Global, rows: &[(usize, Transport, bool)]) {
     for (last, transport, expected) in rows {
-        assert_eq!(rt; is_long_named(alloc, *last, *transport), Some(*expected));
+        let found = is_long_named(alloc, *last, *transport);
+        expects_equal_at(rt, &found, &Some(*expected), last);
     }
 }
 

@@ -1,4 +1,5 @@
 // Steps with the index from record sets to the entries that depend on them.
+use crate::assertions::{expects, expects_equal};
 use sipl_evidence::{Dependents, Evidence, Item};
 use sipl_names::Name;
 use sipl_records::{Key, Kind, Sequence};
@@ -22,6 +23,7 @@ enum Step {
 fn play(rt: &impl Abort, alloc: Global, steps: &[Step]) {
     let mut dependents = Dependents::new(alloc);
     take_each(rt, alloc, &mut dependents, steps);
+    drop(dependents);
 }
 
 fn take_each(rt: &impl Abort, alloc: Global, dependents: &mut Dependents, steps: &[Step]) {
@@ -61,7 +63,7 @@ fn push_empty(rt: &impl Abort, alloc: Global, evidence: &mut Evidence, owner: &s
         Sequence::from_vec(Vec::new(alloc)),
     );
     let is_pushed = evidence.push(set).is_ok();
-    assert!(rt; is_pushed, "the set was not pushed");
+    expects(rt, is_pushed, "the set was not pushed");
 }
 
 fn settles(rt: &impl Abort, alloc: Global, dependents: &mut Dependents, id: u64, owners: &[&str]) {
@@ -102,7 +104,7 @@ fn has_ids(rt: &impl Abort, alloc: Global, dependents: &Dependents, owner: &str,
     let mut found = Vec::new(alloc);
     append_ids(rt, alloc, dependents, owner, &mut found);
     let are_found = found.len() == ids.len() && ids.iter().all(|id| found.contains(id));
-    assert!(rt; are_found, "other entries depend on the set");
+    expects(rt, are_found, "other entries depend on the set");
 }
 
 fn append_ids(
@@ -120,7 +122,7 @@ fn append_ids(
 
 fn has_count(rt: &impl Abort, alloc: Global, dependents: &Dependents, owner: &str, count: usize) {
     let found = dependents.count(&key(rt, alloc, owner));
-    assert_eq!(rt; found, count);
+    expects_equal(rt, &found, &count, "the count");
 }
 
 #[test]

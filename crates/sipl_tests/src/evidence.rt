@@ -3,6 +3,7 @@
 mod walks;
 mod wildcards;
 
+use crate::assertions::{expects, expects_at, expects_codes, expects_equal, expects_equal_at};
 use sipl_evidence::{Evidence, EvidenceFault, Item, Walk};
 use sipl_names::Name;
 use sipl_records::{Data, Key, Kind, Sequence};
@@ -79,6 +80,7 @@ fn play_from(rt: &impl Abort, alloc: Global, start: (&'static str, Kind), steps:
         start,
     };
     take_each(rt, &mut lookup, steps);
+    drop(lookup);
 }
 
 fn first_walk(rt: &impl Abort, alloc: Global, start: (&str, Kind)) -> Walk {
@@ -114,8 +116,9 @@ fn read_or_walk(rt: &impl Abort, lookup: &mut Lookup, step: Step) {
 }
 
 fn has_len(rt: &impl Abort, lookup: &Lookup, len: usize) {
-    assert_eq!(rt; lookup.evidence.len(), len);
-    assert_eq!(rt; lookup.evidence.is_empty(), len == 0);
+    expects_equal(rt, &lookup.evidence.len(), &len, "the length");
+    let is_empty = lookup.evidence.is_empty();
+    expects_equal(rt, &is_empty, &(len == 0), "whether it is empty");
 }
 
 fn take_with_walk(rt: &impl Abort, lookup: &mut Lookup, step: Step) {
@@ -197,7 +200,7 @@ fn is_item(found: &Item, expected: &Item) -> bool {
 
 fn are_addresses(found: &[Data], addresses: &[u32]) -> bool {
     for (datum, address) in found.iter().zip(addresses.iter()) {
-        if *datum != Data::Address4(*address) {
+        if !matches!(datum, Data::Address4(found) if found == address) {
             return false;
         }
     }
@@ -206,7 +209,7 @@ fn are_addresses(found: &[Data], addresses: &[u32]) -> bool {
 
 fn pushes(rt: &impl Abort, lookup: &mut Lookup, set: Set) {
     let is_pushed = lookup.evidence.push(item(rt, lookup.alloc, set)).is_ok();
-    assert!(rt; is_pushed, "the set was not pushed");
+    expects(rt, is_pushed, "the set was not pushed");
 }
 
 fn refuses_to_push(rt: &impl Abort, lookup: &mut Lookup, set: Set) {
@@ -217,9 +220,10 @@ fn refuses_to_push(rt: &impl Abort, lookup: &mut Lookup, set: Set) {
                 && is_set(rt, lookup.alloc, &refused.item, set)
         }
     };
-    assert!(rt;
+    expects(
+        rt,
         is_refused,
-        "the set was pushed, or another one was returned"
+        "the set was pushed, or another one was returned",
     );
 }
 
@@ -228,18 +232,19 @@ fn pops(rt: &impl Abort, lookup: &mut Lookup, set: Set) {
         Some(last) => is_set(rt, lookup.alloc, &last, set),
         None => false,
     };
-    assert!(rt; is_popped, "another set was popped, or none");
+    expects(rt, is_popped, "another set was popped, or none");
 }
 
 fn pops_nothing(rt: &impl Abort, lookup: &mut Lookup) {
     let is_empty = lookup.evidence.pop().is_none();
-    assert!(rt; is_empty, "a set was popped");
+    expects(rt, is_empty, "a set was popped");
 }
 
 fn has_items(rt: &impl Abort, lookup: &Lookup, sets: &[Set]) {
     let has_items = are_sets(rt, lookup.alloc, lookup.evidence.items(), sets);
     let copy_has_items = copy_has_items(rt, lookup, sets);
-    assert_eq!(rt; (has_items, copy_has_items), (true, true));
+    expects(rt, has_items, "other items");
+    expects(rt, copy_has_items, "other items of a copy");
 }
 
 fn copy_has_items(rt: &impl Abort, lookup: &Lookup, sets: &[Set]) -> bool {
@@ -261,7 +266,7 @@ fn are_sets(rt: &impl Abort, alloc: Global, items: &[Item], sets: &[Set]) -> boo
 fn has_places(rt: &impl Abort, lookup: &Lookup, places: &[(&str, Kind, Option<usize>)]) {
     for (owner, kind, place) in places {
         let found = place_of(rt, lookup, owner, *kind);
-        assert_eq!(rt; found, *place, "at {owner}");
+        expects_equal_at(rt, &found, place, owner);
     }
 }
 
@@ -271,11 +276,12 @@ fn place_of(rt: &impl Abort, lookup: &Lookup, owner: &str, kind: Kind) -> Option
 
 fn has_content(rt: &impl Abort, lookup: &Lookup, owner: &str, addresses: &[u32]) {
     let content = content_of(rt, lookup, owner).expect(rt, "the set was not read");
-    assert!(rt; are_addresses(content, addresses), "other addresses");
+    expects(rt, are_addresses(content, addresses), "other addresses");
 }
 
 fn lacks_content(rt: &impl Abort, lookup: &Lookup, owner: &str) {
-    assert!(rt; content_of(rt, lookup, owner).is_none(), "the set was read");
+    let is_unread = content_of(rt, lookup, owner).is_none();
+    expects(rt, is_unread, "the set was read");
 }
 
 fn content_of<'a>(rt: &impl Abort, lookup: &'a Lookup, owner: &str) -> Option<&'a [Data]> {
@@ -290,15 +296,19 @@ fn pushes_link(rt: &impl Abort, lookup: &mut Lookup, owner: &'static str, target
 // Each name's sets are read when the walk wants them.
 fn walks_over(rt: &impl Abort, lookup: &mut Lookup, names: &[&'static str]) {
     for (owner, target) in names.iter().zip(names.iter().skip(1)) {
-        wants(rt, lookup, owner, A);
-        pushes_link(rt, lookup, owner, target);
-        goes_on(rt, lookup);
+        walks_to(rt, lookup, owner, target);
     }
+}
+
+fn walks_to(rt: &impl Abort, lookup: &mut Lookup, owner: &'static str, target: &'static str) {
+    wants(rt, lookup, owner, A);
+    pushes_link(rt, lookup, owner, target);
+    goes_on(rt, lookup);
 }
 
 fn goes_on(rt: &impl Abort, lookup: &mut Lookup) {
     let is_made = lookup.walk.step(lookup.alloc, &lookup.evidence).is_ok();
-    assert!(rt; is_made, "out of memory");
+    expects(rt, is_made, "out of memory");
 }
 
 fn lacks(rt: &impl Abort, lookup: &mut Lookup, sets: &[(&'static str, Kind)]) {
@@ -312,13 +322,13 @@ fn lacks(rt: &impl Abort, lookup: &mut Lookup, sets: &[(&'static str, Kind)]) {
 
 fn wants(rt: &impl Abort, lookup: &Lookup, owner: &str, kind: Kind) {
     let is_wanted = is_wanted(rt, lookup, &lookup.walk, owner, kind);
-    assert!(rt; is_wanted, "the walk does not want {owner}");
+    expects_at(rt, is_wanted, "the walk does not want", &owner);
 }
 
 fn wants_anew(rt: &impl Abort, lookup: &Lookup, owner: &str, kind: Kind) {
     let walk = first_walk(rt, lookup.alloc, lookup.start);
     let is_wanted = is_wanted(rt, lookup, &walk, owner, kind);
-    assert!(rt; is_wanted, "a new walk does not want {owner}");
+    expects_at(rt, is_wanted, "a new walk does not want", &owner);
 }
 
 fn is_wanted(rt: &impl Abort, lookup: &Lookup, walk: &Walk, owner: &str, kind: Kind) -> bool {
@@ -331,7 +341,7 @@ fn is_wanted(rt: &impl Abort, lookup: &Lookup, walk: &Walk, owner: &str, kind: K
 fn wants_nothing(rt: &impl Abort, lookup: &Lookup) {
     let wanted = lookup.walk.wants(lookup.alloc, &lookup.evidence);
     let is_nothing = matches!(wanted, Ok(None));
-    assert!(rt; is_nothing, "the walk wants a set");
+    expects(rt, is_nothing, "the walk wants a set");
 }
 
 // Whether the walk's answer has these addresses, or it has none yet.
@@ -347,7 +357,11 @@ fn is_answered(lookup: &Lookup, addresses: Option<&[u32]>) -> bool {
 }
 
 fn answers(rt: &impl Abort, lookup: &Lookup, addresses: Option<&[u32]>) {
-    assert!(rt; is_answered(lookup, addresses), "another answer, or none");
+    expects(
+        rt,
+        is_answered(lookup, addresses),
+        "another answer, or none",
+    );
 }
 
 #[test]
@@ -410,17 +424,11 @@ fn a_removed_key_can_be_read_again(rt: HostRuntime) {
     play(&rt, rt.alloc(), A, STEPS);
 }
 
-fn has_code_each(rt: &impl Abort, rows: &[(EvidenceFault, &str)]) {
-    for (fault, code) in rows {
-        assert_eq!(rt; fault.code(), *code);
-    }
-}
-
 #[test]
 fn faults_have_codes(rt: HostRuntime) {
-    let rows = [
-        (EvidenceFault::AlreadyRead, "E1"),
-        (EvidenceFault::Memory, "Memory"),
+    let codes = [
+        (EvidenceFault::AlreadyRead.code(), "E1"),
+        (EvidenceFault::Memory.code(), "Memory"),
     ];
-    has_code_each(&rt, &rows);
+    expects_codes(&rt, &codes);
 }

@@ -1,5 +1,6 @@
 //! Failovers step by step: worked sessions, and each rule of RFC 3263, 4.3.
 
+use crate::assertions::expects_equal;
 use sipl_choice::Transport::{Sctp, Tcp, Tls, Udp};
 use sipl_choice::{Endpoint, Transport};
 use sipl_failover::{Failover, FailoverFault, Step, Steps};
@@ -52,6 +53,7 @@ fn play(
 ) {
     let mut failover = start(rt, alloc, targets, request, 0);
     run(rt, alloc, &mut failover, scenario);
+    drop(failover);
 }
 
 // The failover of a request of this kind and base that is sent at this time. It takes at most 2,048
@@ -97,7 +99,7 @@ fn result_of(failover: &mut Failover, call: Call) -> Result<Steps, FailoverFault
 }
 
 fn are_steps(rt: &impl Abort, found: &Steps, expected: &[Step]) {
-    assert_eq!(rt; found.as_slice(), expected);
+    expects_equal(rt, &found.as_slice(), &expected, "the steps");
 }
 
 // This call returns these steps.
@@ -113,7 +115,7 @@ fn fault_of(failover: &mut Failover, call: Call) -> Option<FailoverFault> {
 // Each of these calls is refused with this fault.
 fn expect_faults(rt: &impl Abort, failover: &mut Failover, calls: &[(Call, FailoverFault)]) {
     for &(call, fault) in calls {
-        assert_eq!(rt; fault_of(failover, call), Some(fault));
+        expects_equal(rt, &fault_of(failover, call), &Some(fault), "the fault");
     }
 }
 
@@ -139,21 +141,29 @@ fn is_sent(
     to: Endpoint,
     branch: &[u8],
 ) {
-    assert_eq!(rt; failover.endpoint(attempt), Ok(to));
+    is_sent_to(rt, failover, attempt, to);
     has_branch(rt, alloc, failover, attempt, branch);
+}
+
+fn is_sent_to(rt: &impl Abort, failover: &Failover, attempt: u32, to: Endpoint) {
+    expects_equal(rt, &failover.endpoint(attempt), &Ok(to), "the endpoint");
 }
 
 fn has_branch(rt: &impl Abort, alloc: Global, failover: &Failover, attempt: u32, text: &[u8]) {
     let mut out = Vec::new(alloc);
     let result = failover.branch(attempt, &mut out);
-    assert_eq!(rt; (result, out.as_slice()), (Ok(()), text));
+    expects_equal(rt, &result, &Ok(()), "a branch");
+    expects_equal(rt, &out.as_slice(), &text, "the branch");
 }
 
 // Whether it has ended, and the attempt that a CANCEL goes to.
 fn is_in_state(rt: &impl Abort, failover: &Failover, ended: bool, cancel: Option<u32>) {
-    assert_eq!(rt;
-        (failover.has_ended(), failover.cancel_target()),
-        (ended, cancel)
+    expects_equal(rt, &failover.has_ended(), &ended, "whether it has ended");
+    expects_equal(
+        rt,
+        &failover.cancel_target(),
+        &cancel,
+        "the target of a CANCEL",
     );
 }
 

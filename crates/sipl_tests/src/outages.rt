@@ -1,6 +1,7 @@
 //! Holds and the clock.
 mod shared;
 
+use crate::assertions::{expects, expects_codes, expects_equal};
 use sipl_choice::{Endpoint, Transport};
 use sipl_outages::{Board, BoardFault, MAX_HOLDS, MAX_TIME};
 use sipl_records::Address;
@@ -28,11 +29,13 @@ fn play(rt: &impl Abort, alloc: Global, max_holds: usize, scenario: Scenario) {
     assert!(rt; max_holds <= MAX_HOLDS);
     let mut board = Board::with(alloc, max_holds);
     run(rt, alloc, &mut board, scenario);
+    drop(board);
 }
 
 fn play_default(rt: &impl Abort, alloc: Global, scenario: Scenario) {
     let mut board = Board::new(alloc);
     run(rt, alloc, &mut board, scenario);
+    drop(board);
 }
 
 fn run(rt: &impl Abort, alloc: Global, board: &mut Board, scenario: Scenario) {
@@ -69,7 +72,12 @@ fn hold(rt: &impl Abort, board: &mut Board, number: u32, ms: u64) {
 }
 
 fn refuses_hold(rt: &impl Abort, board: &mut Board, number: u32, ms: u64, fault: BoardFault) {
-    assert_eq!(rt; board.hold(&endpoint(number), ms), Err(fault));
+    expects_equal(
+        rt,
+        &board.hold(&endpoint(number), ms),
+        &Err(fault),
+        "a hold",
+    );
 }
 
 fn advance(rt: &impl Abort, board: &mut Board, to: u64) {
@@ -77,11 +85,12 @@ fn advance(rt: &impl Abort, board: &mut Board, to: u64) {
 }
 
 fn refuses_time(rt: &impl Abort, board: &mut Board, to: u64, fault: BoardFault) {
-    assert_eq!(rt; board.advance(to), Err(fault));
+    expects_equal(rt, &board.advance(to), &Err(fault), "a time");
 }
 
 fn release(rt: &impl Abort, board: &mut Board, number: u32, expected: Result<(), BoardFault>) {
-    assert_eq!(rt; board.release(&endpoint(number)), expected);
+    let result = board.release(&endpoint(number));
+    expects_equal(rt, &result, &expected, "a release");
 }
 
 // Which of the first endpoints are held.
@@ -94,15 +103,16 @@ fn held(board: &Board) -> [bool; 3] {
 }
 
 fn are_held(rt: &impl Abort, board: &Board, expected: [bool; 3]) {
-    assert_eq!(rt; held(board), expected);
+    expects_equal(rt, &held(board), &expected, "the held endpoints");
 }
 
 fn has_len(rt: &impl Abort, board: &Board, len: usize) {
-    assert_eq!(rt; (board.len(), board.is_empty()), (len, len == 0));
+    expects_equal(rt, &board.len(), &len, "the length");
+    expects_equal(rt, &board.is_empty(), &(len == 0), "whether it is empty");
 }
 
 fn is_at(rt: &impl Abort, board: &Board, time: u64) {
-    assert_eq!(rt; board.now(), time);
+    expects_equal(rt, &board.now(), &time, "the time");
 }
 
 fn keeps_the_later_end(rt: &impl Abort, board: &mut Board) {
@@ -192,7 +202,7 @@ fn holds_no_other_endpoint(rt: &impl Abort, board: &mut Board) {
             ..endpoint(2)
         },
     ] {
-        assert!(rt; !board.is_held(&other));
+        expects(rt, !board.is_held(&other), "another endpoint is held");
     }
 }
 
@@ -288,6 +298,7 @@ fn change_the_copy(rt: &impl Abort, copy: &mut Board) {
 fn copy_and_change(rt: &impl Abort, alloc: Global, board: &mut Board) {
     let mut copy = board.dup(alloc).expect(rt, "out of memory");
     change_the_copy(rt, &mut copy);
+    drop(copy);
 }
 
 fn copies(rt: &impl Abort, alloc: Global, board: &mut Board) {
@@ -321,20 +332,14 @@ fn holds_4096_endpoints(rt: HostRuntime) {
     play_default(&rt, rt.alloc(), Scenario::ManyHolds);
 }
 
-fn has_code_each(rt: &impl Abort, rows: &[(BoardFault, &str)]) {
-    for (fault, code) in rows {
-        assert_eq!(rt; fault.code(), *code);
-    }
-}
-
 #[test]
 fn faults_have_their_codes(rt: HostRuntime) {
-    let rows = [
-        (BoardFault::ClockBack, "O1"),
-        (BoardFault::TooFar, "O2"),
-        (BoardFault::NotHeld, "O3"),
-        (BoardFault::BoardFull, "O4"),
-        (BoardFault::from(AllocError), "Memory"),
+    let codes = [
+        (BoardFault::ClockBack.code(), "O1"),
+        (BoardFault::TooFar.code(), "O2"),
+        (BoardFault::NotHeld.code(), "O3"),
+        (BoardFault::BoardFull.code(), "O4"),
+        (BoardFault::from(AllocError).code(), "Memory"),
     ];
-    has_code_each(&rt, &rows);
+    expects_codes(&rt, &codes);
 }

@@ -10,6 +10,7 @@ mod runs;
 mod services;
 mod wildcards;
 
+use crate::assertions::{expects_codes, expects_equal};
 use sipl_choice::{Abilities, Endpoint, Families, Transport};
 use sipl_masterfile::read_record;
 use sipl_names::Name;
@@ -138,22 +139,22 @@ fn is_found(rt: &impl Abort, answer: &Answer, row: &Row) {
 }
 
 fn is_reason(rt: &impl Abort, reason: Reason, found: Reason, name: &str) {
-    assert_eq!(rt; reason, found, "{name}");
+    expects_equal(rt, &reason, &found, name);
 }
 
 fn are_targets(rt: &impl Abort, targets: &[Endpoint], found: &[Target], name: &str) {
     is_len(rt, targets.len(), found.len(), name);
     for (endpoint, target) in targets.iter().zip(found.iter()) {
-        is_endpoint(rt, *endpoint, endpoint_of(rt, *target), name);
+        is_target(rt, endpoint, target, name);
     }
 }
 
 fn is_len(rt: &impl Abort, len: usize, expected: usize, name: &str) {
-    assert!(rt; len == expected, "{name}");
+    expects_equal(rt, &len, &expected, name);
 }
 
-fn is_endpoint(rt: &impl Abort, endpoint: Endpoint, expected: Endpoint, name: &str) {
-    assert_eq!(rt; endpoint, expected, "{name}");
+fn is_target(rt: &impl Abort, endpoint: &Endpoint, target: &Target, name: &str) {
+    expects_equal(rt, endpoint, &endpoint_of(rt, *target), name);
 }
 
 fn endpoint_of(rt: &impl Abort, target: Target) -> Endpoint {
@@ -168,13 +169,11 @@ fn endpoint_of(rt: &impl Abort, target: Target) -> Endpoint {
 
 #[test]
 fn reasons_have_names(rt: HostRuntime) {
-    let reasons = [
-        (Reason::NoAddress, "NoAddress"),
-        (Reason::NotAvailable, "NotAvailable"),
-        (Reason::NoTransport, "NoTransport"),
-        (Reason::AllHeld, "AllHeld"),
+    let names = [
+        (Reason::NoAddress.name(), "NoAddress"),
+        (Reason::NotAvailable.name(), "NotAvailable"),
+        (Reason::NoTransport.name(), "NoTransport"),
+        (Reason::AllHeld.name(), "AllHeld"),
     ];
-    for (reason, name) in reasons {
-        assert_eq!(rt; reason.name(), name);
-    }
+    expects_codes(&rt, &names);
 }

@@ -1,5 +1,6 @@
 //! Queues and their leases, by scenarios.
 
+use crate::assertions::{expects, expects_at, expects_equal, expects_equal_at};
 use sipl_repair::{Lease, Queue, QueueFault};
 use std::alloc::Global;
 use std::ops::Range;
@@ -28,6 +29,7 @@ enum Scenario {
 fn play(rt: &impl Abort, alloc: Global, capacity: usize, scenario: Scenario) {
     let mut queue = queue_of(rt, alloc, capacity);
     run(rt, alloc, &mut queue, scenario);
+    drop(queue);
 }
 
 fn queue_of(rt: &impl Abort, alloc: Global, capacity: usize) -> Queue {
@@ -95,12 +97,12 @@ fn give_back_next(rt: &impl Abort, queue: &mut Queue) {
 }
 
 fn is_id(rt: &impl Abort, found: u64, expected: u64) {
-    assert_eq!(rt; found, expected);
+    expects_equal(rt, &found, &expected, "the id");
 }
 
 // How many ids are queued.
 fn has_len(rt: &impl Abort, queue: &Queue, len: usize) {
-    assert_eq!(rt; queue.len(), len);
+    expects_equal(rt, &queue.len(), &len, "the length");
 }
 
 fn settles_each(rt: &impl Abort, queue: &mut Queue, ids: &[u64]) {
@@ -113,6 +115,10 @@ fn settles_all(rt: &impl Abort, queue: &mut Queue, ids: Range<u64>) {
     for id in ids {
         is_id(rt, settle_next(rt, queue), id);
     }
+}
+
+fn has_capacity(rt: &impl Abort, queue: &Queue, capacity: usize) {
+    expects_equal(rt, &queue.capacity(), &capacity, "the capacity");
 }
 
 // The fault of a lease, or none where an id is queued, which stays queued.
@@ -129,7 +135,8 @@ fn fault_of_lease(queue: &mut Queue) -> Option<QueueFault> {
 // A lease is refused with Q1, and no id is queued.
 fn has_no_more(rt: &impl Abort, queue: &mut Queue) {
     let fault = fault_of_lease(queue);
-    assert_eq!(rt; (fault, queue.is_empty()), (Some(QueueFault::Empty), true));
+    expects_equal(rt, &fault, &Some(QueueFault::Empty), "a lease");
+    expects(rt, queue.is_empty(), "an id is queued");
 }
 
 // Whether an id is queued, and whether it is leased.
@@ -138,7 +145,7 @@ fn states(queue: &Queue, id: u64) -> (bool, bool) {
 }
 
 fn is_in_state(rt: &impl Abort, queue: &Queue, id: u64, state: (bool, bool)) {
-    assert_eq!(rt; states(queue, id), state, "{id}");
+    expects_equal_at(rt, &states(queue, id), &state, &id);
 }
 
 fn leases_in_order(rt: &impl Abort, queue: &mut Queue) {
@@ -163,10 +170,9 @@ fn states_by_its_lease(rt: &impl Abort, queue: &mut Queue) -> [(bool, bool); 2] 
 fn states_of_one(rt: &impl Abort, queue: &mut Queue) {
     mark(rt, queue, 1);
     is_in_state(rt, queue, 1, (true, false));
-    assert_eq!(rt;
-        states_by_its_lease(rt, queue),
-        [(false, true), (false, false)]
-    );
+    let [leased, idle] = states_by_its_lease(rt, queue);
+    expects_equal(rt, &leased, &(false, true), "leased");
+    expects_equal(rt, &idle, &(false, false), "idle");
 }
 
 #[test]
@@ -180,25 +186,25 @@ fn new_capacity(alloc: Global) -> usize {
 
 fn capacity_of_one(rt: &impl Abort, queue: &mut Queue) {
     mark(rt, queue, 1);
-    assert_eq!(rt;
-        (
-            queue.capacity(),
-            queue.has_capacity_for(1),
-            queue.has_capacity_for(2)
-        ),
-        (1, true, false)
-    );
+    has_capacity(rt, queue, 1);
+    expects(rt, queue.has_capacity_for(1), "no capacity for a queued id");
+    has_no_capacity_for(rt, queue, 2);
 }
 
 #[test]
 fn reports_its_capacity(rt: HostRuntime) {
-    assert_eq!(rt; new_capacity(rt.alloc()), 0);
+    expects_equal(
+        &rt,
+        &new_capacity(rt.alloc()),
+        &0,
+        "the capacity of a new queue",
+    );
     play(&rt, rt.alloc(), 1, Scenario::Capacity);
 }
 
 #[test]
 fn fault_has_its_code(rt: HostRuntime) {
-    assert_eq!(rt; QueueFault::Empty.code(), "Q1");
+    expects_equal(&rt, &QueueFault::Empty.code(), &"Q1", "a code");
 }
 
 fn gives_back_and_requeues(rt: &impl Abort, queue: &mut Queue) {
@@ -311,7 +317,7 @@ fn gives_back_before_a_forgotten_id(rt: HostRuntime) {
 }
 
 fn has_no_capacity_for(rt: &impl Abort, queue: &Queue, id: u64) {
-    assert!(rt; !queue.has_capacity_for(id), "capacity for {id}");
+    expects_at(rt, !queue.has_capacity_for(id), "capacity for", &id);
 }
 
 fn mark_and_forget_others(rt: &impl Abort, queue: &mut Queue) {
@@ -362,6 +368,7 @@ fn leases_of_another(rt: &impl Abort, other: &mut Queue, queue: &mut Queue) {
 fn with_another(rt: &impl Abort, alloc: Global, queue: &mut Queue) {
     let mut other = queue_of(rt, alloc, 3);
     leases_of_another(rt, &mut other, queue);
+    drop(other);
 }
 
 #[test]
@@ -382,7 +389,7 @@ fn reuses_space_four_times(rt: &impl Abort, queue: &mut Queue) {
     for round in 0..4 {
         reuses_space(rt, queue, round * MANY..(round + 1) * MANY);
     }
-    assert_eq!(rt; queue.capacity(), 65_536);
+    has_capacity(rt, queue, 65_536);
 }
 
 #[test]

@@ -1,4 +1,5 @@
 //! Service records: their order, the words that decide it, and what a set offers.
+use crate::assertions::{expects, expects_equal, expects_equal_at};
 use sipl_names::Name;
 use sipl_records::Data;
 use sipl_srv::{Draws, DrawsFault, Offer, Pick, arrange, offer};
@@ -172,7 +173,8 @@ fn thirty_two_picks_take_thirty_two_words(rt: HostRuntime) {
 // The first of picks of the weights 1 and 2.
 fn chooses_each(rt: &impl Abort, alloc: Global, rows: &[(u32, usize)]) {
     for (word, place) in rows {
-        assert_eq!(rt; first(alloc, &[(0, 1), (0, 2)], *word), Some(*place));
+        let found = first(alloc, &[(0, 1), (0, 2)], *word);
+        expects_equal_at(rt, &found, &Some(*place), word);
     }
 }
 
@@ -187,7 +189,8 @@ type Shares = ([(u16, u16); 3], u32, [usize; 3]);
 fn has_shares(rt: &impl Abort, alloc: Global, row: &Shares) {
     let (ranks, last_word, shares) = row;
     for (place, expected) in shares.iter().enumerate() {
-        assert_eq!(rt; share(alloc, ranks, *last_word, place), *expected);
+        let found = share(alloc, ranks, *last_word, place);
+        expects_equal_at(rt, &found, expected, &place);
     }
 }
 
@@ -220,22 +223,27 @@ fn given_words_are_followed_by_0(rt: HostRuntime) {
     let mut words = [0; 32];
     words[0] = 7;
     words[1] = u32::MAX;
-    assert!(rt; has_words(&[7, u32::MAX], &words));
-    assert!(rt; has_words(&[], &[0; 32]));
-    assert!(rt; has_words(&[5; 32], &[5; 32]));
+    expects(&rt, has_words(&[7, u32::MAX], &words), "two words");
+    expects(&rt, has_words(&[], &[0; 32]), "no words");
+    expects(&rt, has_words(&[5; 32], &[5; 32]), "32 words");
 }
 
 #[test]
 fn more_than_32_words_are_refused(rt: HostRuntime) {
     let fault = Draws::from_words(&[0; 33]).err();
-    assert_eq!(rt; fault, Some(DrawsFault::TooManyWords));
-    assert_eq!(rt; DrawsFault::TooManyWords.code(), "V1");
+    expects_equal(&rt, &fault, &Some(DrawsFault::TooManyWords), "33 words");
+    expects_equal(&rt, &DrawsFault::TooManyWords.code(), &"V1", "a code");
 }
 
 fn begins_with(rt: &impl Abort, rows: &[(u64, [u32; 4])]) {
     for (seed, expected) in rows {
-        assert_eq!(rt; &Draws::from_seed(*seed).words()[..4], expected.as_slice());
+        let draws = Draws::from_seed(*seed);
+        expects_equal_at(rt, &&draws.words()[..4], &expected.as_slice(), seed);
     }
+}
+
+fn ends_with(rt: &impl Abort, seed: u64, expected: u32) {
+    expects_equal_at(rt, &Draws::from_seed(seed).words()[31], &expected, &seed);
 }
 
 // The words of the reference implementation pcg32 (O'Neill, pcg-c-basic), of the seeds on stream 0.
@@ -251,17 +259,18 @@ fn seeds_give_the_words_of_pcg32(rt: HostRuntime) {
         ),
     ];
     begins_with(&rt, &rows);
-    assert_eq!(rt; Draws::from_seed(0).words()[31], 0xa1cb_dcd9);
-    assert_eq!(rt; Draws::from_seed(42).words()[31], 0x12a6_b721);
+    ends_with(&rt, 0, 0xa1cb_dcd9);
+    ends_with(&rt, 42, 0x12a6_b721);
 }
 
 #[test]
 fn draws_are_equal_where_their_words_are(rt: HostRuntime) {
     let draws = Draws::from_seed(9);
     let copy = draws;
-    assert!(rt; copy == draws);
-    assert!(rt; Draws::from_words(draws.words()) == Ok(draws));
-    assert!(rt; Draws::from_seed(8) != draws);
+    expects(&rt, copy == draws, "a copy");
+    let is_read = Draws::from_words(draws.words()) == Ok(draws);
+    expects(&rt, is_read, "the same words");
+    expects(&rt, Draws::from_seed(8) != draws, "another seed");
 }
 
 fn offers(alloc: Global, set: &[Data], expected: Offer) -> bool {
@@ -297,15 +306,16 @@ fn are_closed(alloc: Global, services: &[(u16, u16, &[u8])]) -> bool {
 
 #[test]
 fn set_without_srv_data_offers_nothing(rt: HostRuntime) {
-    assert!(rt; offers(rt.alloc(), &[], Offer::Nothing));
+    expects(&rt, offers(rt.alloc(), &[], Offer::Nothing), "no data");
     let others = offers(rt.alloc(), &[Data::Bare, Data::Address4(1)], Offer::Nothing);
-    assert!(rt; others);
+    expects(&rt, others, "other data");
 }
 
 #[test]
 fn root_targets_alone_are_closed(rt: HostRuntime) {
-    assert!(rt; are_closed(rt.alloc(), &[(0, 0, b".")]));
-    assert!(rt; are_closed(rt.alloc(), &[(1, 2, b"."), (3, 4, b".")]));
+    expects(&rt, are_closed(rt.alloc(), &[(0, 0, b".")]), "one target");
+    let are_closed = are_closed(rt.alloc(), &[(1, 2, b"."), (3, 4, b".")]);
+    expects(&rt, are_closed, "two targets");
 }
 
 fn have_weights(picks: &[Pick], weights: &[u16]) -> bool {
@@ -345,7 +355,7 @@ fn two_of_three_are_offered(alloc: Global) -> bool {
 
 #[test]
 fn other_targets_are_offered_in_the_order_of_the_set(rt: HostRuntime) {
-    assert!(rt; two_of_three_are_offered(rt.alloc()));
+    expects(&rt, two_of_three_are_offered(rt.alloc()), "other weights");
 }
 
 fn data_of_a(alloc: Global) -> Option<Data> {
@@ -410,7 +420,7 @@ fn a_is_another_pick(alloc: Global) -> bool {
 
 #[test]
 fn picks_have_the_fields_of_the_data(rt: HostRuntime) {
-    assert!(rt; a_is_offered(rt.alloc()));
-    assert!(rt; a_equals_its_copy(rt.alloc()));
-    assert!(rt; a_is_another_pick(rt.alloc()));
+    expects(&rt, a_is_offered(rt.alloc()), "the offer");
+    expects(&rt, a_equals_its_copy(rt.alloc()), "the copy");
+    expects(&rt, a_is_another_pick(rt.alloc()), "another pick");
 }

@@ -1,5 +1,6 @@
 //! The machines of RFC 3261, figures 5 and 6, and its timers, with values from the RFC.
 
+use crate::assertions::{expects_codes, expects_equal, expects_equal_at};
 use sipl_tx::{Acts, ClientTx, Kind, Report, State, TxFault};
 use std::process::Abort;
 
@@ -81,7 +82,7 @@ enum Scenario {
 // Plays a scenario with a transaction that starts at time 0, which sends its request.
 fn play(rt: &impl Abort, kind: Kind, reliable: bool, scenario: Scenario) {
     let (mut transaction, acts) = ClientTx::start(kind, reliable, 0);
-    are_acts(rt, acts, SEND);
+    expects_equal(rt, &acts, &SEND, "the first acts");
     run(rt, &mut transaction, scenario);
 }
 
@@ -104,16 +105,12 @@ fn run(rt: &impl Abort, transaction: &mut ClientTx, scenario: Scenario) {
     }
 }
 
-fn are_acts(rt: &impl Abort, found: Acts, expected: Acts) {
-    assert_eq!(rt; found, expected);
-}
-
 fn is_in_state(rt: &impl Abort, transaction: &ClientTx, state: State) {
-    assert_eq!(rt; transaction.state(), state);
+    expects_equal(rt, &transaction.state(), &state, "the state");
 }
 
 fn is_at(rt: &impl Abort, transaction: &ClientTx, now: u64) {
-    assert_eq!(rt; transaction.now(), now);
+    expects_equal(rt, &transaction.now(), &now, "the time");
 }
 
 fn ticks(
@@ -122,11 +119,8 @@ fn ticks(
     moment: u32,
     expected: Result<Acts, TxFault>,
 ) {
-    assert_eq!(rt;
-        transaction.tick(u64::from(moment)),
-        expected,
-        "at {moment}"
-    );
+    let acts = transaction.tick(u64::from(moment));
+    expects_equal_at(rt, &acts, &expected, &moment);
 }
 
 // Each tick at this time returns these acts.
@@ -142,7 +136,8 @@ fn receives(
     code: u16,
     expected: Result<Acts, TxFault>,
 ) {
-    assert_eq!(rt; transaction.receive(code, Some(5)), expected, "at {code}");
+    let acts = transaction.receive(code, Some(5));
+    expects_equal_at(rt, &acts, &expected, &code);
 }
 
 // Each response with this status code has these acts.
@@ -365,13 +360,19 @@ fn late_tick_fires_one_timer(rt: HostRuntime) {
     play(&rt, Kind::Invite, false, Scenario::LateTicks);
 }
 
+// An error of the transport has this result.
+fn fails(rt: &impl Abort, transaction: &mut ClientTx, expected: Result<Acts, TxFault>) {
+    let acts = transaction.transport_error();
+    expects_equal(rt, &acts, &expected, "an error of the transport");
+}
+
 // An error of the transport ends the transaction.
 fn breaks(rt: &impl Abort, transaction: &mut ClientTx) {
-    assert_eq!(rt; transaction.transport_error(), Ok(BROKEN_AND_ENDED));
+    fails(rt, transaction, Ok(BROKEN_AND_ENDED));
 }
 
 fn refuses_an_error(rt: &impl Abort, transaction: &mut ClientTx) {
-    assert_eq!(rt; transaction.transport_error(), Err(TxFault::Ended));
+    fails(rt, transaction, Err(TxFault::Ended));
 }
 
 fn breaks_without_response(rt: &impl Abort, transaction: &mut ClientTx) {
@@ -438,22 +439,19 @@ fn tick_up_to_the_last_time() -> Result<Acts, TxFault> {
 
 #[test]
 fn times_up_to_2_to_the_52_are_accepted(rt: HostRuntime) {
-    assert_eq!(rt; tick_at_the_last_time(), (Ok(NO_ACTS), 1 << 52));
-    assert_eq!(rt; tick_up_to_the_last_time(), Ok(TIMEOUT_AND_ENDED));
-}
-
-fn has_code_each(rt: &impl Abort, rows: &[(TxFault, &str)]) {
-    for (fault, code) in rows {
-        assert_eq!(rt; fault.code(), *code);
-    }
+    let (acts, now) = tick_at_the_last_time();
+    expects_equal(&rt, &acts, &Ok(NO_ACTS), "a tick at the last time");
+    expects_equal(&rt, &now, &(1 << 52), "the last time");
+    let acts = tick_up_to_the_last_time();
+    expects_equal(&rt, &acts, &Ok(TIMEOUT_AND_ENDED), "a tick up to it");
 }
 
 #[test]
 fn faults_have_codes(rt: HostRuntime) {
-    let faults = [
-        (TxFault::ClockBack, "X1"),
-        (TxFault::BadCode, "X2"),
-        (TxFault::Ended, "X3"),
+    let codes = [
+        (TxFault::ClockBack.code(), "X1"),
+        (TxFault::BadCode.code(), "X2"),
+        (TxFault::Ended.code(), "X3"),
     ];
-    has_code_each(&rt, &faults);
+    expects_codes(&rt, &codes);
 }

@@ -7,6 +7,7 @@ mod seeds;
 
 ghost use Rattle.std.specs.Prelude.{◌^◌, ◌≤◌};
 
+use crate::assertions::{expects, expects_at, expects_equal, expects_equal_at};
 use sipl_masterfile::{ZoneText, read_record, read_zone};
 use sipl_names::Name;
 use sipl_records::{Data, Key, Kind, Record};
@@ -71,12 +72,14 @@ fn play(rt: &impl Abort, alloc: Global, next: u64, max_records: u64, steps: &[St
 {
     let mut store = ZoneStore::with(alloc, next, max_records);
     take_each(rt, alloc, &mut store, steps);
+    drop(store);
 }
 
 // Takes the steps with a new store of the greatest size.
 fn play_new(rt: &impl Abort, alloc: Global, steps: &[Step]) {
     let mut store = ZoneStore::new(alloc);
     take_each(rt, alloc, &mut store, steps);
+    drop(store);
 }
 
 fn take_each(rt: &impl Abort, alloc: Global, store: &mut ZoneStore, steps: &[Step]) {
@@ -99,48 +102,30 @@ fn take(rt: &impl Abort, alloc: Global, store: &mut ZoneStore, step: Step) {
         Step::HasSet(owner, kind, number, lines) => {
             has_set(rt, alloc, store, owner, kind, number, lines);
         }
-        Step::HasLooks(looks) => assert_eq!(rt; store.looks(), looks),
+        Step::HasLooks(looks) => expects_equal(rt, &store.looks(), &looks, "the looks"),
     }
 }
 
-fn start(rt: &impl Abort, alloc: Global, store: &mut ZoneStore) {
-    changes(
-        rt,
-        alloc,
-        store,
-        Edit::Load("example.com.", EMPTY),
-        &[],
-        &[],
-    );
-    adds(
-        rt,
-        alloc,
-        store,
-        "server1 A 192.0.2.1",
-        "server1",
+// The edits of the step `Starts`, with the sets that each changes and the names that begin to exist.
+const START: &[(Edit, Sets, Names)] = &[
+    (Edit::Load("example.com.", EMPTY), &[], &[]),
+    (
+        Edit::Add("server1 A 192.0.2.1"),
+        &[("server1", A)],
         FIRST_NAMES,
-    );
-    adds(
-        rt,
-        alloc,
-        store,
-        "server2 A 192.0.2.2",
-        "server2",
+    ),
+    (
+        Edit::Add("server2 A 192.0.2.2"),
+        &[("server2", A)],
         &["server2"],
-    );
-    adds(rt, alloc, store, "SERVER1 A 192.0.2.3", "server1", &[]);
-}
+    ),
+    (Edit::Add("SERVER1 A 192.0.2.3"), &[("server1", A)], &[]),
+];
 
-// Adds an address of the owner, with which these names begin to exist.
-fn adds(
-    rt: &impl Abort,
-    alloc: Global,
-    store: &mut ZoneStore,
-    line: &'static str,
-    owner: &'static str,
-    names: &[&str],
-) {
-    changes(rt, alloc, store, Edit::Add(line), &[(owner, A)], names);
+fn start(rt: &impl Abort, alloc: Global, store: &mut ZoneStore) {
+    for (edit, sets, names) in START {
+        changes(rt, alloc, store, *edit, sets, names);
+    }
 }
 
 fn changes(
@@ -155,7 +140,7 @@ fn changes(
         Ok(changed) => is_changed(rt, alloc, &changed, sets, names),
         Err(_) => false,
     };
-    assert!(rt; changed, "other sets changed, or the edit was refused");
+    expects(rt, changed, "other sets changed, or the edit was refused");
 }
 
 fn changes_all(
@@ -175,18 +160,18 @@ fn changes_all(
         }
         Err(_) => false,
     };
-    assert!(rt; changed, "other names begin or cease to exist");
+    expects(rt, changed, "other names begin or cease to exist");
 }
 
 fn refuses(rt: &impl Abort, alloc: Global, store: &mut ZoneStore, edit: Edit, fault: StoreFault) {
     let found = apply(rt, alloc, store, edit).err();
-    assert_eq!(rt; found, Some(fault));
+    expects_equal(rt, &found, &Some(fault), "the fault");
 }
 
 fn fills(rt: &impl Abort, alloc: Global, store: &mut ZoneStore, owner: &'static str, count: u32) {
     for address in 0..count {
         let is_added = apply(rt, alloc, store, Edit::AddAddress(owner, address)).is_ok();
-        assert!(rt; is_added, "at {address}");
+        expects_at(rt, is_added, "at", &address);
     }
 }
 
@@ -324,10 +309,24 @@ fn are_existence(rt: &impl Abort, alloc: Global, keys: &[Key], names: &[&str]) -
     keys.len() == names.len()
 }
 
+fn is_record(rt: &impl Abort, alloc: Global, found: &Record, line: &str) -> bool {
+    let expected = record(rt, alloc, line);
+    let is_equal = *found == expected;
+    drop(expected);
+    is_equal
+}
+
+fn is_datum(rt: &impl Abort, alloc: Global, found: &Data, line: &str) -> bool {
+    let expected = record(rt, alloc, line);
+    let is_equal = *found == expected.value;
+    drop(expected);
+    is_equal
+}
+
 // Whether the records are those of the lines.
 fn are_records(rt: &impl Abort, alloc: Global, records: &[Record], lines: &[&str]) -> bool {
     for (found, line) in records.iter().zip(lines.iter()) {
-        if *found != record(rt, alloc, line) {
+        if !is_record(rt, alloc, found, line) {
             return false;
         }
     }
@@ -337,7 +336,7 @@ fn are_records(rt: &impl Abort, alloc: Global, records: &[Record], lines: &[&str
 // Whether the data are those of the lines.
 fn are_data(rt: &impl Abort, alloc: Global, data: &[Data], lines: &[&str]) -> bool {
     for (found, line) in data.iter().zip(lines.iter()) {
-        if *found != record(rt, alloc, line).value {
+        if !is_datum(rt, alloc, found, line) {
             return false;
         }
     }
@@ -355,23 +354,19 @@ fn are_apexes(rt: &impl Abort, alloc: Global, apexes: &[Name], names: &[&str]) -
 }
 
 fn has_apexes(rt: &impl Abort, alloc: Global, store: &ZoneStore, names: &[&str]) {
-    assert!(rt;
-        are_apexes(rt, alloc, store.apexes(), names),
-        "other apexes"
-    );
+    let are_as_expected = are_apexes(rt, alloc, store.apexes(), names);
+    expects(rt, are_as_expected, "other apexes");
 }
 
 fn has_records(rt: &impl Abort, alloc: Global, store: &mut ZoneStore, lines: &[&str]) {
-    assert!(rt;
-        are_records(rt, alloc, store.records(), lines),
-        "other records"
-    );
+    let are_as_expected = are_records(rt, alloc, store.records(), lines);
+    expects(rt, are_as_expected, "other records");
 }
 
 fn has_numbers(rt: &impl Abort, alloc: Global, store: &ZoneStore, numbers: &[(&str, Kind, u64)]) {
     for (owner, kind, number) in numbers {
         let found = number_of(rt, alloc, store, owner, *kind);
-        assert_eq!(rt; found, *number, "at {owner}");
+        expects_equal_at(rt, &found, number, owner);
     }
 }
 
@@ -389,7 +384,7 @@ fn has_set(
     lines: &[&str],
 ) {
     let is_as_expected = is_set(rt, alloc, store, owner, kind, number, lines);
-    assert!(rt; is_as_expected, "another set at {owner}");
+    expects_at(rt, is_as_expected, "another set at", &owner);
 }
 
 fn is_set(

@@ -122,13 +122,11 @@ fn decides(
     assert_eq!(rt; found, Some(expected), "{transports:?} of {records:?}");
 }
 
-// What decides for clients of these transports, for `sips` or not.
-fn decides_each(
-    rt: &impl Abort,
-    alloc: Global,
-    records: &[Fields],
-    rows: &[(&[Transport], bool, Decision)],
-) {
+// The transports of a client, whether `sips` is asked for, and what decides.
+type Choice = (&'static [Transport], bool, Decision);
+
+// What decides for each of these clients.
+fn decides_each(rt: &impl Abort, alloc: Global, records: &[Fields], rows: &[Choice]) {
     for (transports, secure, expected) in rows {
         decides(rt, alloc, transports, *secure, records, *expected);
     }
@@ -137,36 +135,36 @@ fn decides_each(
 #[test]
 fn the_first_supported_record_of_the_example_decides(rt: HostRuntime) {
     // RFC 3263, 4.1.
-    let records = [
+    const RECORDS: &[Fields] = &[
         (50, 50, "s", "SIPS+D2T", "", "_sips._tcp.example.com."),
         (90, 50, "s", "SIP+D2T", "", "_sip._tcp.example.com."),
         (100, 50, "s", "SIP+D2U", "", "_sip._udp.example.com."),
     ];
-    let rows = [
-        ([Tcp, Udp].as_slice(), false, Some((1, Tcp))),
+    const ROWS: &[Choice] = &[
+        (&[Tcp, Udp], false, Some((1, Tcp))),
         (&[Udp], false, Some((2, Udp))),
         (&[Udp, Tcp, Tls], false, Some((0, Tls))),
         (&[Udp, Tcp, Tls], true, Some((0, Tls))),
         (&[Udp, Tcp], true, None),
         (&[Sctp], false, None),
     ];
-    decides_each(&rt, rt.alloc(), &records, &rows);
+    decides_each(&rt, rt.alloc(), RECORDS, ROWS);
 }
 
 #[test]
 fn the_least_order_and_then_the_least_preference_decide(rt: HostRuntime) {
-    let records = [
+    const RECORDS: &[Fields] = &[
         (20, 1, "s", "SIP+D2U", "", "a."),
         (10, 9, "s", "SIP+D2T", "", "b."),
         (10, 8, "s", "SIP+D2S", "", "c."),
         (10, 8, "s", "SIP+D2U", "", "d."),
     ];
-    let rows = [
-        ([Udp, Tcp, Sctp].as_slice(), false, Some((2, Sctp))),
+    const ROWS: &[Choice] = &[
+        (&[Udp, Tcp, Sctp], false, Some((2, Sctp))),
         (&[Udp, Tcp], false, Some((3, Udp))),
         (&[Tcp], false, Some((1, Tcp))),
     ];
-    decides_each(&rt, rt.alloc(), &records, &rows);
+    decides_each(&rt, rt.alloc(), RECORDS, ROWS);
 }
 
 const ALL: [Transport; 4] = [Udp, Tcp, Tls, Sctp];
@@ -186,7 +184,7 @@ fn do_not_apply(rt: &impl Abort, alloc: Global, records: &[Fields]) {
 
 #[test]
 fn other_flags_services_and_replacements_do_not_apply(rt: HostRuntime) {
-    let records = [
+    const RECORDS: &[Fields] = &[
         (1, 1, "", "SIP+D2U", "", "a."),
         (1, 1, "u", "SIP+D2U", "", "a."),
         (1, 1, "ss", "SIP+D2U", "", "a."),
@@ -197,7 +195,7 @@ fn other_flags_services_and_replacements_do_not_apply(rt: HostRuntime) {
         (1, 1, "s", "SIPS+D2U", "", "a."),
         (1, 1, "s", "E2U+sip", "", "a."),
     ];
-    do_not_apply(&rt, rt.alloc(), &records);
+    do_not_apply(&rt, rt.alloc(), RECORDS);
 }
 
 // That records of these flags and services decide, and their transports.
@@ -210,13 +208,13 @@ fn apply_each(rt: &impl Abort, alloc: Global, rows: &[(&'static str, &'static st
 
 #[test]
 fn flags_and_services_ignore_case(rt: HostRuntime) {
-    let rows = [
+    const ROWS: &[(&str, &str, Transport)] = &[
         ("s", "sip+d2u", Udp),
         ("S", "SIP+d2t", Tcp),
         ("s", "Sip+D2s", Sctp),
         ("S", "sips+d2t", Tls),
     ];
-    apply_each(&rt, rt.alloc(), &rows);
+    apply_each(&rt, rt.alloc(), ROWS);
 }
 
 fn service(alloc: Global) -> Option<Data> {
@@ -252,9 +250,19 @@ fn chosen_after_others(alloc: Global, records: &[Fields]) -> Option<Option<usize
     }
 }
 
+fn chooses_after_others(
+    rt: &impl Abort,
+    alloc: Global,
+    records: &[Fields],
+    expected: Option<usize>,
+) {
+    let found = chosen_after_others(alloc, records);
+    expects_equal(rt, &found, &Some(expected), "the place");
+}
+
 #[test]
 fn other_data_do_not_count(rt: HostRuntime) {
-    assert_eq!(rt; chosen_after_others(rt.alloc(), &[]), Some(None));
+    chooses_after_others(&rt, rt.alloc(), &[], None);
     let records = [(1, 1, "s", "SIP+D2U", "", "a.")];
-    assert_eq!(rt; chosen_after_others(rt.alloc(), &records), Some(Some(3)));
+    chooses_after_others(&rt, rt.alloc(), &records, Some(3));
 }

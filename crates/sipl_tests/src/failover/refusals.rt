@@ -1,8 +1,10 @@
 // What a failover refuses, and its limits.
 use super::Call::{Receive, Tick, TransportError};
 use super::{
-    LAST, Scenario, are_steps, endpoint, expect, expect_faults, is_sent, play, start, two_over_udp,
+    LAST, Scenario, are_steps, endpoint, expect, expect_faults, is_sent, is_sent_to, play, start,
+    two_over_udp,
 };
+use crate::assertions::{expects, expects_codes, expects_equal};
 use sipl_choice::Transport::{Tcp, Udp};
 use sipl_failover::Step::{Deliver, Exhausted, Resend, Send};
 use sipl_failover::{Failover, FailoverFault};
@@ -36,7 +38,7 @@ pub(super) fn refusals(rt: &impl Abort, call: &mut Failover) {
             (Tick(0), FailoverFault::Ended),
         ],
     );
-    assert_eq!(rt; call.endpoint(1), Ok(endpoint(Udp, 1)));
+    is_sent_to(rt, call, 1, endpoint(Udp, 1));
 }
 
 #[test]
@@ -55,14 +57,10 @@ fn is_unsent(rt: &impl Abort, alloc: Global, call: &Failover, attempt: u32) {
     let branch = call.branch(attempt, &mut out);
     let is_empty = out.is_empty();
     drop(out);
-    assert_eq!(rt;
-        (call.endpoint(attempt).err(), branch.err(), is_empty),
-        (
-            Some(FailoverFault::NoAttempt),
-            Some(FailoverFault::NoAttempt),
-            true
-        )
-    );
+    let unsent = Some(FailoverFault::NoAttempt);
+    expects_equal(rt, &call.endpoint(attempt).err(), &unsent, "the endpoint");
+    expects_equal(rt, &branch.err(), &unsent, "the branch");
+    expects(rt, is_empty, "a part of a branch");
 }
 
 pub(super) fn unsent_attempts(rt: &impl Abort, alloc: Global, call: &Failover) {
@@ -72,10 +70,8 @@ pub(super) fn unsent_attempts(rt: &impl Abort, alloc: Global, call: &Failover) {
 
 #[test]
 fn attempts_that_were_not_sent_are_refused(rt: HostRuntime) {
-    assert_eq!(rt;
-        fault_without_targets(rt.alloc()),
-        Some(FailoverFault::NoTargets)
-    );
+    let fault = fault_without_targets(rt.alloc());
+    expects_equal(&rt, &fault, &Some(FailoverFault::NoTargets), "no targets");
     let targets = [endpoint(Tcp, 1)];
     play(
         &rt,
@@ -133,21 +129,15 @@ fn times_up_to_2_to_the_52_are_accepted(rt: HostRuntime) {
     tick_at_the_last_time(&rt, &mut call);
 }
 
-fn has_code_each(rt: &impl Abort, rows: &[(FailoverFault, &str)]) {
-    for (fault, code) in rows {
-        assert_eq!(rt; fault.code(), *code);
-    }
-}
-
 #[test]
 fn faults_have_codes(rt: HostRuntime) {
-    let faults = [
-        (FailoverFault::NoTargets, "F1"),
-        (FailoverFault::Ended, "F2"),
-        (FailoverFault::NoAttempt, "F3"),
-        (FailoverFault::ClockBack, "X1"),
-        (FailoverFault::BadCode, "X2"),
-        (FailoverFault::Memory, "Memory"),
+    let codes = [
+        (FailoverFault::NoTargets.code(), "F1"),
+        (FailoverFault::Ended.code(), "F2"),
+        (FailoverFault::NoAttempt.code(), "F3"),
+        (FailoverFault::ClockBack.code(), "X1"),
+        (FailoverFault::BadCode.code(), "X2"),
+        (FailoverFault::Memory.code(), "Memory"),
     ];
-    has_code_each(&rt, &faults);
+    expects_codes(&rt, &codes);
 }

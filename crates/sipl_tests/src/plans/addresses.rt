@@ -13,7 +13,7 @@ const TWO_NAMES: &[&str] = &[
     "server1 A 192.0.2.2",
 ];
 
-const ADDRESSES: [Row; 2] = [
+const ADDRESSES: &[Row] = &[
     Row {
         name: "targets are the addresses of the name",
         zone: TWO_NAMES,
@@ -34,12 +34,12 @@ const ADDRESSES: [Row; 2] = [
 
 #[test]
 fn targets_are_the_addresses_of_the_name(rt: HostRuntime) {
-    find_each(&rt, rt.alloc(), &ADDRESSES);
+    find_each(&rt, rt.alloc(), ADDRESSES);
 }
 
 const ONE_ADDRESS: &[&str] = &["a. A 192.0.2.1"];
 
-const TRANSPORTS: [Row; 3] = [
+const TRANSPORTS: &[Row] = &[
     Row {
         name: "sips uses TLS",
         zone: ONE_ADDRESS,
@@ -68,10 +68,10 @@ const TRANSPORTS: [Row; 3] = [
 
 #[test]
 fn transport_is_the_given_or_that_of_the_scheme(rt: HostRuntime) {
-    find_each(&rt, rt.alloc(), &TRANSPORTS);
+    find_each(&rt, rt.alloc(), TRANSPORTS);
 }
 
-const UNSUPPORTED: [Row; 4] = [
+const UNSUPPORTED: &[Row] = &[
     Row {
         name: "UDP of the scheme, with a port",
         zone: ONE_ADDRESS,
@@ -108,10 +108,10 @@ const UNSUPPORTED: [Row; 4] = [
 
 #[test]
 fn unsupported_transport_has_no_targets(rt: HostRuntime) {
-    find_each(&rt, rt.alloc(), &UNSUPPORTED);
+    find_each(&rt, rt.alloc(), UNSUPPORTED);
 }
 
-const PORT: [Row; 1] = [Row {
+const PORT: &[Row] = &[Row {
     name: "a port passes over services and pointers",
     zone: &[
         "@ NAPTR 50 50 s SIP+D2T \"\" _sip._tcp",
@@ -128,12 +128,12 @@ const PORT: [Row; 1] = [Row {
 
 #[test]
 fn port_passes_over_services_and_pointers(rt: HostRuntime) {
-    find_each(&rt, rt.alloc(), &PORT);
+    find_each(&rt, rt.alloc(), PORT);
 }
 
 const BOTH_FAMILIES: &[&str] = &["server1 AAAA 2001:db8::1", "server1 A 192.0.2.1"];
 
-const FAMILIES: [Row; 4] = [
+const FAMILIES: &[Row] = &[
     Row {
         name: "IPv4",
         zone: BOTH_FAMILIES,
@@ -170,5 +170,5 @@ const FAMILIES: [Row; 4] = [
 
 #[test]
 fn addresses_are_in_the_order_of_the_families(rt: HostRuntime) {
-    find_each(&rt, rt.alloc(), &FAMILIES);
+    find_each(&rt, rt.alloc(), FAMILIES);
 }

@@ -19,7 +19,7 @@ const NINE_ALIASES: &[&str] = &[
     "n9 A 192.0.2.1",
 ];
 
-const CHAINS: [Row; 3] = [
+const CHAINS: &[Row] = &[
     Row {
         name: "eight aliases lead to addresses",
         zone: NINE_ALIASES,
@@ -48,10 +48,10 @@ const CHAINS: [Row; 3] = [
 
 #[test]
 fn eight_aliases_are_followed_and_no_ninth(rt: HostRuntime) {
-    find_each(&rt, rt.alloc(), &CHAINS);
+    find_each(&rt, rt.alloc(), CHAINS);
 }
 
-const ALIASES_OF_ALL_KINDS: [Row; 1] = [Row {
+const ALIASES_OF_ALL_KINDS: &[Row] = &[Row {
     name: "pointers, services and servers are behind aliases",
     zone: &[
         "@ CNAME voice",
@@ -69,5 +69,5 @@ const ALIASES_OF_ALL_KINDS: [Row; 1] = [Row {
 
 #[test]
 fn pointers_services_and_servers_may_be_aliases(rt: HostRuntime) {
-    find_each(&rt, rt.alloc(), &ALIASES_OF_ALL_KINDS);
+    find_each(&rt, rt.alloc(), ALIASES_OF_ALL_KINDS);
 }

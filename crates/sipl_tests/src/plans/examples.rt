@@ -21,7 +21,7 @@ const NAPTR_EXAMPLE: &[&str] = &[
 ];
 
 // Of the words from 0 to 3, the sum of the weights.
-const TCP_AND_UDP: [Row; 3] = [
+const TCP_AND_UDP: &[Row] = &[
     Row {
         name: "word 1 chooses the server of weight 1",
         zone: NAPTR_EXAMPLE,
@@ -50,10 +50,10 @@ const TCP_AND_UDP: [Row; 3] = [
 
 #[test]
 fn client_of_tcp_and_udp_uses_tcp(rt: HostRuntime) {
-    find_each(&rt, rt.alloc(), &TCP_AND_UDP);
+    find_each(&rt, rt.alloc(), TCP_AND_UDP);
 }
 
-const TLS: [Row; 2] = [
+const TLS: &[Row] = &[
     Row {
         name: "the pointer to TLS is first for sip too",
         zone: NAPTR_EXAMPLE,
@@ -74,10 +74,10 @@ const TLS: [Row; 2] = [
 
 #[test]
 fn client_of_tls_uses_tls(rt: HostRuntime) {
-    find_each(&rt, rt.alloc(), &TLS);
+    find_each(&rt, rt.alloc(), TLS);
 }
 
-const UDP: [Row; 2] = [
+const UDP: &[Row] = &[
     Row {
         name: "without SRV records the domain's address is used",
         zone: NAPTR_EXAMPLE,
@@ -98,7 +98,7 @@ const UDP: [Row; 2] = [
 
 #[test]
 fn client_of_udp_finds_no_service(rt: HostRuntime) {
-    find_each(&rt, rt.alloc(), &UDP);
+    find_each(&rt, rt.alloc(), UDP);
 }
 
 // The records of RFC 2782, "Fictional example": of SIP over TCP in place of `_foobar._tcp`, and with
@@ -131,7 +131,7 @@ const NEW_BOX_FIRST: Found = Targets(&[
 ]);
 
 // The words from 0 to 4, the sum of the weights.
-const WORDS: [(&[u32], Found); 5] = [
+const WORDS: &[(&[u32], Found)] = &[
     (&[0], OLD_BOX_FIRST),
     (&[1], OLD_BOX_FIRST),
     (&[2], NEW_BOX_FIRST),
@@ -159,10 +159,10 @@ fn finds_box_each(rt: &impl Abort, alloc: Global, rows: &[(&'static [u32], Found
 
 #[test]
 fn new_fast_box_is_first_for_most_words(rt: HostRuntime) {
-    finds_box_each(&rt, rt.alloc(), &WORDS);
+    finds_box_each(&rt, rt.alloc(), WORDS);
 }
 
-const OTHER_SERVICES: [&str; 3] = [
+const OTHER_SERVICES: &[&str] = &[
     "sips:example.com",
     "sip:example.com;transport=udp",
     "sip:example.com;transport=tls",
@@ -188,5 +188,5 @@ fn are_not_available(rt: &impl Abort, alloc: Global, uris: &[&'static str]) {
 
 #[test]
 fn no_other_service_is_available(rt: HostRuntime) {
-    are_not_available(&rt, rt.alloc(), &OTHER_SERVICES);
+    are_not_available(&rt, rt.alloc(), OTHER_SERVICES);
 }

@@ -60,7 +60,7 @@ const SECOND: Target = (Tcp, "192.0.2.2", 5060);
 
 const THIRD: Target = (Tcp, "192.0.2.1", 5060);
 
-const HELD_OF_THREE: [Case; 5] = [
+const HELD_OF_THREE: &[Case] = &[
     (&[], 0, Targets(&[FIRST, SECOND, THIRD])),
     (&[FIRST], 0, Targets(&[SECOND, THIRD])),
     (&[SECOND], 0, Targets(&[FIRST, THIRD])),
@@ -70,20 +70,20 @@ const HELD_OF_THREE: [Case; 5] = [
 
 #[test]
 fn held_server_is_missing_and_others_keep_their_order(rt: HostRuntime) {
-    find_each_while_held(&rt, rt.alloc(), &THREE_SERVERS, Held::Out, &HELD_OF_THREE);
+    find_each_while_held(&rt, rt.alloc(), &THREE_SERVERS, Held::Out, HELD_OF_THREE);
 }
 
-const END_OF_A_HOLD: [Case; 2] = [
+const END_OF_A_HOLD: &[Case] = &[
     (&[FIRST], 4999, Targets(&[SECOND, THIRD])),
     (&[FIRST], 5000, Targets(&[FIRST, SECOND, THIRD])),
 ];
 
 #[test]
 fn hold_that_ended_leaves_nothing_out(rt: HostRuntime) {
-    find_each_while_held(&rt, rt.alloc(), &THREE_SERVERS, Held::Out, &END_OF_A_HOLD);
+    find_each_while_held(&rt, rt.alloc(), &THREE_SERVERS, Held::Out, END_OF_A_HOLD);
 }
 
-const LAST_OF_THREE: [Case; 7] = [
+const LAST_OF_THREE: &[Case] = &[
     (&[], 0, Targets(&[FIRST, SECOND, THIRD])),
     (&[FIRST], 0, Targets(&[SECOND, THIRD, FIRST])),
     (&[SECOND], 0, Targets(&[FIRST, THIRD, SECOND])),
@@ -95,7 +95,7 @@ const LAST_OF_THREE: [Case; 7] = [
 
 #[test]
 fn held_servers_come_last_and_all_keep_their_order(rt: HostRuntime) {
-    find_each_while_held(&rt, rt.alloc(), &THREE_SERVERS, Held::Last, &LAST_OF_THREE);
+    find_each_while_held(&rt, rt.alloc(), &THREE_SERVERS, Held::Last, LAST_OF_THREE);
 }
 
 // A server at one port, and one without addresses at another.
@@ -120,17 +120,17 @@ const OTHERS: &[Target] = &[
     (Tcp, "::192.0.2.1", 5060),
 ];
 
-const HELD_OF_ONE: [Case; 2] = [(OTHERS, 0, Targets(&[THIRD])), (&[THIRD], 0, None(AllHeld))];
+const HELD_OF_ONE: &[Case] = &[(OTHERS, 0, Targets(&[THIRD])), (&[THIRD], 0, None(AllHeld))];
 
 #[test]
 fn other_ports_transports_and_addresses_are_not_held(rt: HostRuntime) {
-    find_each_while_held(&rt, rt.alloc(), &ONE_SERVER, Held::Out, &HELD_OF_ONE);
+    find_each_while_held(&rt, rt.alloc(), &ONE_SERVER, Held::Out, HELD_OF_ONE);
 }
 
 #[test]
 fn only_server_is_tried_though_it_is_held(rt: HostRuntime) {
-    let cases: [Case; 1] = [(&[THIRD], 0, Targets(&[THIRD]))];
-    find_each_while_held(&rt, rt.alloc(), &ONE_SERVER, Held::Last, &cases);
+    const CASES: &[Case] = &[(&[THIRD], 0, Targets(&[THIRD]))];
+    find_each_while_held(&rt, rt.alloc(), &ONE_SERVER, Held::Last, CASES);
 }
 
 const NO_SERVER: Row = Row {
@@ -141,12 +141,12 @@ const NO_SERVER: Row = Row {
 
 #[test]
 fn servers_without_addresses_have_none_while_others_are_held(rt: HostRuntime) {
-    let cases: [Case; 1] = [(&[THIRD], 0, None(NoAddress))];
-    find_each_while_held(&rt, rt.alloc(), &NO_SERVER, Held::Out, &cases);
+    const CASES: &[Case] = &[(&[THIRD], 0, None(NoAddress))];
+    find_each_while_held(&rt, rt.alloc(), &NO_SERVER, Held::Out, CASES);
 }
 
 #[test]
 fn servers_without_addresses_have_none_where_held_ones_come_last(rt: HostRuntime) {
-    let cases: [Case; 2] = [(&[], 0, None(NoAddress)), (&[THIRD], 0, None(NoAddress))];
-    find_each_while_held(&rt, rt.alloc(), &NO_SERVER, Held::Last, &cases);
+    const CASES: &[Case] = &[(&[], 0, None(NoAddress)), (&[THIRD], 0, None(NoAddress))];
+    find_each_while_held(&rt, rt.alloc(), &NO_SERVER, Held::Last, CASES);
 }

@@ -5,7 +5,7 @@ use sipl_choice::Families::{V4, V6};
 use sipl_choice::Transport::{Sctp, Tcp, Tls, Udp};
 use sipl_plans::Reason::NoTransport;
 
-const NUMERIC: [Row; 4] = [
+const NUMERIC: &[Row] = &[
     Row {
         name: "sip uses UDP at port 5060",
         zone: &[],
@@ -42,5 +42,5 @@ const NUMERIC: [Row; 4] = [
 
 #[test]
 fn numeric_targets_are_their_own_addresses(rt: HostRuntime) {
-    find_each(&rt, rt.alloc(), &NUMERIC);
+    find_each(&rt, rt.alloc(), NUMERIC);
 }

@@ -5,7 +5,7 @@ use sipl_choice::Families::V4;
 use sipl_choice::Transport::{Sctp, Tcp, Tls, Udp};
 use sipl_plans::Reason::{NoTransport, NotAvailable};
 
-const BEFORE_SERVICES: [Row; 2] = [
+const BEFORE_SERVICES: &[Row] = &[
     Row {
         name: "a pointer goes before the services of the domain",
         zone: &[
@@ -39,7 +39,7 @@ const BEFORE_SERVICES: [Row; 2] = [
 
 #[test]
 fn pointers_go_before_other_services(rt: HostRuntime) {
-    find_each(&rt, rt.alloc(), &BEFORE_SERVICES);
+    find_each(&rt, rt.alloc(), BEFORE_SERVICES);
 }
 
 const THREE_POINTERS: &[&str] = &[
@@ -52,7 +52,7 @@ const THREE_POINTERS: &[&str] = &[
     "server1 A 192.0.2.1",
 ];
 
-const ORDERS: [Row; 3] = [
+const ORDERS: &[Row] = &[
     Row {
         name: "the lowest order, and of it the lowest preference",
         zone: THREE_POINTERS,
@@ -81,7 +81,7 @@ const ORDERS: [Row; 3] = [
 
 #[test]
 fn order_and_then_preference_decide(rt: HostRuntime) {
-    find_each(&rt, rt.alloc(), &ORDERS);
+    find_each(&rt, rt.alloc(), ORDERS);
 }
 
 const TCP_THEN_TLS: &[&str] = &[
@@ -93,7 +93,7 @@ const TCP_THEN_TLS: &[&str] = &[
     "server2 A 192.0.2.2",
 ];
 
-const SIPS: [Row; 2] = [
+const SIPS: &[Row] = &[
     Row {
         name: "sips passes over a pointer to TCP",
         zone: TCP_THEN_TLS,
@@ -114,10 +114,10 @@ const SIPS: [Row; 2] = [
 
 #[test]
 fn sips_follows_pointers_to_tls_alone(rt: HostRuntime) {
-    find_each(&rt, rt.alloc(), &SIPS);
+    find_each(&rt, rt.alloc(), SIPS);
 }
 
-const FINAL: [Row; 2] = [
+const FINAL: &[Row] = &[
     Row {
         name: "where the chosen service is closed, no other is tried",
         zone: &[
@@ -150,5 +150,5 @@ const FINAL: [Row; 2] = [
 
 #[test]
 fn chosen_pointer_is_final(rt: HostRuntime) {
-    find_each(&rt, rt.alloc(), &FINAL);
+    find_each(&rt, rt.alloc(), FINAL);
 }

@@ -4,6 +4,7 @@ ghost use Rattle.sipl_records.specs.Sets.{has_kind};
 
 use super::Found::{None, Targets};
 use super::{Row, abilities_of, draws_of, is_found, is_len, name, question_of, records_of};
+use crate::assertions::{expects, expects_equal};
 use sipl_choice::Abilities;
 use sipl_choice::Families::{V4, V4ThenV6, V6ThenV4};
 use sipl_choice::Transport::{Tcp, Tls, Udp};
@@ -72,7 +73,7 @@ fn give_each(rt: &impl Abort, alloc: Global, run: &mut Run, records: &[Record], 
 }
 
 fn wants_no_more(rt: &impl Abort, run: &Run, name: &str) {
-    assert!(rt; run.wants().is_none(), "{name}");
+    expects(rt, run.wants().is_none(), name);
 }
 
 // The run wants this set.
@@ -84,7 +85,7 @@ fn wants(rt: &impl Abort, alloc: Global, run: &Run, owner: &str, kind: Kind) {
         };
         run.wants() == Some(&key)
     };
-    assert!(rt; is_wanted, "{owner}");
+    expects(rt, is_wanted, owner);
 }
 
 // Gives the run the set that it wants.
@@ -166,7 +167,7 @@ fn draw_with(
     draw(alloc, finding.layout(), draws, board, Held::Out).expect(rt, "out of memory")
 }
 
-const NUMERIC_AND_PORTS: [Reading; 3] = [
+const NUMERIC_AND_PORTS: &[Reading] = &[
     Reading {
         row: Row {
             name: "a numeric target needs no records",
@@ -208,10 +209,10 @@ const NUMERIC_AND_PORTS: [Reading; 3] = [
 
 #[test]
 fn ports_lead_to_the_addresses_of_the_domain(rt: HostRuntime) {
-    read_each(&rt, rt.alloc(), &NUMERIC_AND_PORTS);
+    read_each(&rt, rt.alloc(), NUMERIC_AND_PORTS);
 }
 
-const SERVERS: [Reading; 2] = [
+const SERVERS: &[Reading] = &[
     Reading {
         row: Row {
             name: "the addresses of one server after another, and aliases where there are none",
@@ -267,10 +268,10 @@ const SERVERS: [Reading; 2] = [
 
 #[test]
 fn servers_are_read_one_after_another(rt: HostRuntime) {
-    read_each(&rt, rt.alloc(), &SERVERS);
+    read_each(&rt, rt.alloc(), SERVERS);
 }
 
-const SERVICES: [Reading; 3] = [
+const SERVICES: &[Reading] = &[
     Reading {
         row: Row {
             name: "a closed service over TCP, and then servers over UDP",
@@ -341,10 +342,10 @@ const SERVICES: [Reading; 3] = [
 
 #[test]
 fn services_are_tried_in_the_order_of_preference(rt: HostRuntime) {
-    read_each(&rt, rt.alloc(), &SERVICES);
+    read_each(&rt, rt.alloc(), SERVICES);
 }
 
-const POINTERS: [Reading; 2] = [
+const POINTERS: &[Reading] = &[
     Reading {
         row: Row {
             name: "the pointer to TCP, since the client does not support SCTP",
@@ -387,11 +388,11 @@ const POINTERS: [Reading; 2] = [
 
 #[test]
 fn pointers_choose_the_service(rt: HostRuntime) {
-    read_each(&rt, rt.alloc(), &POINTERS);
+    read_each(&rt, rt.alloc(), POINTERS);
 }
 
 // Both addresses are read, one of them over an alias.
-const OVER_AN_ALIAS: Reading = Reading {
+const OVER_AN_ALIAS: &Reading = &Reading {
     row: Row {
         name: "both families, one of them over an alias",
         zone: &["a. A 192.0.2.1", "a. CNAME b.", "b. AAAA 2001:db8::2"],
@@ -409,38 +410,44 @@ const OVER_AN_ALIAS: Reading = Reading {
 };
 
 // The numbers of the sets, which are the counts of their records.
-const NUMBERS: [u64; 4] = [1, 0, 1, 1];
+const NUMBERS: &[u64] = &[1, 0, 1, 1];
 
 // The evidence has each set, and its number.
 fn has_numbers(rt: &impl Abort, finding: &Finding) {
     let items = finding.evidence().items();
     is_len(rt, items.len(), NUMBERS.len(), "sets");
     for (item, number) in items.iter().zip(NUMBERS.iter()) {
-        assert_eq!(rt; item.number(), *number);
+        expects_equal(rt, &item.number(), number, "the number");
     }
 }
 
 // The finding keeps the question and the abilities of the client.
 fn has_parts(rt: &impl Abort, finding: &Finding) {
-    assert!(rt; finding.question().port == Some(5070));
-    assert!(rt; finding.abilities().families() == V4ThenV6);
+    expects_equal(rt, &finding.question().port, &Some(5070), "the port");
+    let families = finding.abilities().families();
+    expects_equal(rt, &families, &V4ThenV6, "the families");
+}
+
+fn is_finding_of(rt: &impl Abort, alloc: Global, finding: &Finding, reading: &Reading) {
+    is_answered(rt, alloc, finding, &reading.row);
+    has_numbers(rt, finding);
+}
+
+fn reads_one_set_after_another(rt: &impl Abort, alloc: Global, reading: &Reading) {
+    let finding = complete(rt, alloc, start(rt, alloc, &reading.row), reading);
+    is_finding_of(rt, alloc, &finding, reading);
+    has_parts(rt, &finding);
+    drop(finding);
 }
 
 #[test]
 fn a_run_reads_one_set_after_another(rt: HostRuntime) {
-    let run = start(&rt, rt.alloc(), &OVER_AN_ALIAS.row);
-    let finding = complete(&rt, rt.alloc(), run, &OVER_AN_ALIAS);
-    is_answered(&rt, rt.alloc(), &finding, &OVER_AN_ALIAS.row);
-    has_numbers(&rt, &finding);
-    has_parts(&rt, &finding);
+    reads_one_set_after_another(&rt, rt.alloc(), OVER_AN_ALIAS);
 }
 
 // The run, which still wants a set, as an early finish returns it.
 fn finish_early(rt: &impl Abort, run: Run) -> Run {
-    let Err(unfinished) = run.finish() else {
-        panic!(rt; "a finding");
-    };
-    run_of(rt, unfinished)
+    run_of(rt, run.finish().err().expect(rt, "a finding"))
 }
 
 fn run_of(rt: &impl Abort, unfinished: Unfinished) -> Run {
@@ -449,7 +456,7 @@ fn run_of(rt: &impl Abort, unfinished: Unfinished) -> Run {
 }
 
 fn is_code(rt: &impl Abort, code: &str) {
-    assert_eq!(rt; code, "P1");
+    expects_equal(rt, &code, &"P1", "the code");
 }
 
 // The finding of a run that was to finish before it had read anything.
@@ -458,13 +465,13 @@ fn found_after_all(rt: &impl Abort, alloc: Global, reading: &Reading) -> Finding
     complete(rt, alloc, run, reading)
 }
 
-fn is_finding_of(rt: &impl Abort, alloc: Global, finding: &Finding, reading: &Reading) {
-    is_answered(rt, alloc, finding, &reading.row);
-    has_numbers(rt, finding);
+fn goes_on_after_an_early_finish(rt: &impl Abort, alloc: Global, reading: &Reading) {
+    let finding = found_after_all(rt, alloc, reading);
+    is_finding_of(rt, alloc, &finding, reading);
+    drop(finding);
 }
 
 #[test]
 fn a_run_goes_on_after_an_early_finish(rt: HostRuntime) {
-    let finding = found_after_all(&rt, rt.alloc(), &OVER_AN_ALIAS);
-    is_finding_of(&rt, rt.alloc(), &finding, &OVER_AN_ALIAS);
+    goes_on_after_an_early_finish(&rt, rt.alloc(), OVER_AN_ALIAS);
 }

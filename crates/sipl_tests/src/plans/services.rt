@@ -1,6 +1,7 @@
 // Services by SRV records, where no NAPTR record decides (RFC 3263, 4.1 and 4.2; RFC 2782).
 use super::Found::{None, Targets};
 use super::{Row, find_each, name};
+use crate::assertions::expects_equal;
 use sipl_choice::Families::V4;
 use sipl_choice::Transport::{Tcp, Tls, Udp};
 use sipl_plans::Reason::{NoAddress, NoTransport, NotAvailable};
@@ -15,7 +16,7 @@ const TWO_SERVERS: &[&str] = &[
     "server2 A 192.0.2.2",
 ];
 
-const WORDS: [Row; 4] = [
+const WORDS: &[Row] = &[
     Row {
         name: "word 1 chooses the server of weight 1",
         zone: TWO_SERVERS,
@@ -52,7 +53,7 @@ const WORDS: [Row; 4] = [
 
 #[test]
 fn words_decide_the_order_of_servers(rt: HostRuntime) {
-    find_each(&rt, rt.alloc(), &WORDS);
+    find_each(&rt, rt.alloc(), WORDS);
 }
 
 // A server without addresses before two of one priority, and one after them.
@@ -66,7 +67,7 @@ const NO_ADDRESS_FIRST: &[&str] = &[
     "server3 A 192.0.2.3",
 ];
 
-const A_WORD_FOR_EACH: [Row; 2] = [
+const A_WORD_FOR_EACH: &[Row] = &[
     Row {
         name: "the second word, 2, chooses the second server of priority 1",
         zone: NO_ADDRESS_FIRST,
@@ -95,10 +96,10 @@ const A_WORD_FOR_EACH: [Row; 2] = [
 
 #[test]
 fn servers_without_addresses_take_a_word(rt: HostRuntime) {
-    find_each(&rt, rt.alloc(), &A_WORD_FOR_EACH);
+    find_each(&rt, rt.alloc(), A_WORD_FOR_EACH);
 }
 
-const REPEATED_ENDPOINTS: [Row; 1] = [Row {
+const REPEATED_ENDPOINTS: &[Row] = &[Row {
     name: "the server of priority 1 repeats an endpoint of that of priority 0",
     zone: &[
         "_sip._tcp SRV 3 0 5080 server4",
@@ -123,10 +124,10 @@ const REPEATED_ENDPOINTS: [Row; 1] = [Row {
 
 #[test]
 fn each_endpoint_is_drawn_once_at_its_first_place(rt: HostRuntime) {
-    find_each(&rt, rt.alloc(), &REPEATED_ENDPOINTS);
+    find_each(&rt, rt.alloc(), REPEATED_ENDPOINTS);
 }
 
-const GIVEN_TRANSPORT: [Row; 3] = [
+const GIVEN_TRANSPORT: &[Row] = &[
     Row {
         name: "UDP passes over the service over TCP",
         zone: TWO_SERVERS,
@@ -161,7 +162,7 @@ const GIVEN_TRANSPORT: [Row; 3] = [
 
 #[test]
 fn given_transport_passes_over_other_services_and_pointers(rt: HostRuntime) {
-    find_each(&rt, rt.alloc(), &GIVEN_TRANSPORT);
+    find_each(&rt, rt.alloc(), GIVEN_TRANSPORT);
 }
 
 const CLOSED_UDP: &[&str] = &["_sip._udp SRV 0 0 0 .", "@ A 192.0.2.1"];
@@ -172,7 +173,7 @@ const CLOSED_UDP_AND_TCP: &[&str] = &[
     "server1 A 192.0.2.1",
 ];
 
-const CLOSED: [Row; 5] = [
+const CLOSED: &[Row] = &[
     Row {
         name: "a closed service over one transport, none over the other",
         zone: CLOSED_UDP,
@@ -217,10 +218,10 @@ const CLOSED: [Row; 5] = [
 
 #[test]
 fn closed_service_is_not_available_and_leaves_other_transports(rt: HostRuntime) {
-    find_each(&rt, rt.alloc(), &CLOSED);
+    find_each(&rt, rt.alloc(), CLOSED);
 }
 
-const WITHOUT_SERVICES: [Row; 2] = [
+const WITHOUT_SERVICES: &[Row] = &[
     Row {
         name: "the domain's address over UDP",
         zone: &["@ A 192.0.2.1"],
@@ -241,7 +242,7 @@ const WITHOUT_SERVICES: [Row; 2] = [
 
 #[test]
 fn domain_without_services_has_its_addresses(rt: HostRuntime) {
-    find_each(&rt, rt.alloc(), &WITHOUT_SERVICES);
+    find_each(&rt, rt.alloc(), WITHOUT_SERVICES);
 }
 
 // One server over UDP, another over TCP.
@@ -252,7 +253,7 @@ const BOTH_TRANSPORTS: &[&str] = &[
     "server2 A 192.0.2.2",
 ];
 
-const PREFERENCES: [Row; 3] = [
+const PREFERENCES: &[Row] = &[
     Row {
         name: "UDP is preferred",
         zone: BOTH_TRANSPORTS,
@@ -286,7 +287,7 @@ const PREFERENCES: [Row; 3] = [
 
 #[test]
 fn first_preferred_transport_with_picks_is_used_alone(rt: HostRuntime) {
-    find_each(&rt, rt.alloc(), &PREFERENCES);
+    find_each(&rt, rt.alloc(), PREFERENCES);
 }
 
 const TLS_AND_TCP: &[&str] = &[
@@ -296,7 +297,7 @@ const TLS_AND_TCP: &[&str] = &[
     "server2 A 192.0.2.2",
 ];
 
-const SIPS: [Row; 5] = [
+const SIPS: &[Row] = &[
     Row {
         name: "sip passes over the service over TLS",
         zone: TLS_AND_TCP,
@@ -341,7 +342,7 @@ const SIPS: [Row; 5] = [
 
 #[test]
 fn tls_is_for_sips_alone(rt: HostRuntime) {
-    find_each(&rt, rt.alloc(), &SIPS);
+    find_each(&rt, rt.alloc(), SIPS);
 }
 
 // A name of four labels, of 250 octets on the wire with that of the root.
@@ -351,7 +352,7 @@ const LONG_NAME: &str = "\
     aaaaaaaaaaaaaaaaaaaaaaaaaaaaaaaaaaaaaaaaaaaaaaaaaaaaaaaaaaaaaaa.\
     aaaaaaaaaaaaaaaaaaaaaaaaaaaaaaaaaaaaaaaaaaaaaaaaaaaaaaaa.";
 
-const LONG_DOMAIN: [Row; 1] = [Row {
+const LONG_DOMAIN: &[Row] = &[Row {
     name: "no service name of the domain is short enough",
     zone: &[
         "\
@@ -376,6 +377,7 @@ fn wire_len_of(rt: &impl Abort, alloc: Global, text: &str) -> usize {
 
 #[test]
 fn long_domain_has_no_service_name(rt: HostRuntime) {
-    assert_eq!(rt; wire_len_of(&rt, rt.alloc(), LONG_NAME), 250);
-    find_each(&rt, rt.alloc(), &LONG_DOMAIN);
+    let wire_len = wire_len_of(&rt, rt.alloc(), LONG_NAME);
+    expects_equal(&rt, &wire_len, &250, "the length on the wire");
+    find_each(&rt, rt.alloc(), LONG_DOMAIN);
 }

@@ -63,7 +63,7 @@ const EXAMPLE: Zone = &[
 // wildcard, since host1 exists, and over TCP since `_tcp.host1` does.
 #[test]
 fn wildcards_stand_for_names_that_do_not_exist(rt: HostRuntime) {
-    let cases = [
+    const CASES: &[Case] = &[
         ("sip:host3.example:5060", WILDCARD),
         ("sip:foo.bar.example:5060", WILDCARD),
         (
@@ -81,14 +81,14 @@ fn wildcards_stand_for_names_that_do_not_exist(rt: HostRuntime) {
             Targets(&[(Tcp, "192.0.2.1", 5060)]),
         ),
     ];
-    find_each_in(&rt, rt.alloc(), EXAMPLE, &cases);
+    find_each_in(&rt, rt.alloc(), EXAMPLE, CASES);
 }
 
 // host2 is an empty non-terminal, host.subdel is below a name that exists, `sub.*` exists, and
 // `ghost.*` is below the wildcard, whose own wildcard there is none of.
 #[test]
 fn names_that_exist_keep_wildcards_from_answering(rt: HostRuntime) {
-    let cases = [
+    const CASES: &[Case] = &[
         ("sip:host2.example:5060", NOTHING),
         ("sip:example:5060", NOTHING),
         ("sip:host.subdel.example:5060", NOTHING),
@@ -97,7 +97,7 @@ fn names_that_exist_keep_wildcards_from_answering(rt: HostRuntime) {
         ("sip:ghost-alias.example:5060", NOTHING),
         ("sip:other:5060", NOTHING),
     ];
-    find_each_in(&rt, rt.alloc(), EXAMPLE, &cases);
+    find_each_in(&rt, rt.alloc(), EXAMPLE, CASES);
 }
 
 // Wildcards at several depths, one of them without addresses.
@@ -112,7 +112,7 @@ const DEPTHS: Zone = &[
 
 #[test]
 fn the_closest_encloser_alone_has_the_wildcard(rt: HostRuntime) {
-    let cases = [
+    const CASES: &[Case] = &[
         ("sip:x.example.com:5060", WILDCARD),
         ("sip:x.y.example.com:5060", WILDCARD),
         ("sip:x.b.example.com:5060", NOTHING),
@@ -126,7 +126,7 @@ fn the_closest_encloser_alone_has_the_wildcard(rt: HostRuntime) {
         // A service below an asterisk is no wildcard.
         ("sip:x.example.com;transport=udp", WILDCARD),
     ];
-    find_each_in(&rt, rt.alloc(), DEPTHS, &cases);
+    find_each_in(&rt, rt.alloc(), DEPTHS, CASES);
 }
 
 // Aliases of wildcards, and aliases whose targets are answered by wildcards.
@@ -143,7 +143,7 @@ const ALIASES: Zone = &[
 
 #[test]
 fn aliases_lead_to_wildcards_and_from_them(rt: HostRuntime) {
-    let cases = [
+    const CASES: &[Case] = &[
         ("sip:q.w.example.com:5060", HOST_1),
         ("sip:w.example.com:5060", NOTHING),
         ("sip:n.example.com:5060", WILDCARD),
@@ -151,7 +151,7 @@ fn aliases_lead_to_wildcards_and_from_them(rt: HostRuntime) {
         ("sip:a.loop.example.com:5060", NOTHING),
         ("sip:x.t.example.com:5060", NOTHING),
     ];
-    find_each_in(&rt, rt.alloc(), ALIASES, &cases);
+    find_each_in(&rt, rt.alloc(), ALIASES, CASES);
 }
 
 // A pointer, a service and an address of wildcards.
@@ -165,24 +165,24 @@ const POINTER: Zone = &[
 
 #[test]
 fn wildcards_have_pointers_and_services(rt: HostRuntime) {
-    let cases = [
+    const CASES: &[Case] = &[
         ("sip:x.example.com", Targets(&[(Tcp, "192.0.2.9", 5080)])),
         // t has no pointer, and its services are those of the wildcard below it.
         ("sip:t.example.com", Targets(&[(Udp, "192.0.2.9", 5080)])),
         ("sip:u.example.com", NOTHING),
     ];
-    find_each_in(&rt, rt.alloc(), POINTER, &cases);
+    find_each_in(&rt, rt.alloc(), POINTER, CASES);
 }
 
 const ROOT: Zone = &["*. A 192.0.2.9", "com. TXT x"];
 
 #[test]
 fn the_root_may_have_a_wildcard(rt: HostRuntime) {
-    let cases = [
+    const CASES: &[Case] = &[
         ("sip:a.b:5060", WILDCARD),
         ("sip:a:5060", WILDCARD),
         ("sip:com:5060", NOTHING),
         ("sip:a.com:5060", NOTHING),
     ];
-    find_each_in(&rt, rt.alloc(), ROOT, &cases);
+    find_each_in(&rt, rt.alloc(), ROOT, CASES);
 }

@@ -1,8 +1,8 @@
 // What edits do to the apexes and the records, and which are refused.
 use super::{A, EMPTY, Edit, FIRST_NAMES, Step, play, play_new};
+use crate::assertions::expects_codes;
 use sipl_records::Kind;
 use sipl_zonestore::{MAX_RECORDS, StoreFault};
-use std::process::Abort;
 
 #[test]
 fn records_and_apexes_are_in_order_of_addition(rt: HostRuntime) {
@@ -180,25 +180,19 @@ fn an_unloaded_zone_is_gone(rt: HostRuntime) {
     play(&rt, rt.alloc(), 1, MAX_RECORDS as u64, STEPS);
 }
 
-fn has_code_each(rt: &impl Abort, rows: &[(StoreFault, &str)]) {
-    for (fault, code) in rows {
-        assert_eq!(rt; fault.code(), *code);
-    }
-}
-
 #[test]
 fn faults_have_codes(rt: HostRuntime) {
-    let rows = [
-        (StoreFault::Overlap, "S1"),
-        (StoreFault::NoZone, "S2"),
-        (StoreFault::Duplicate, "S3"),
-        (StoreFault::Absent, "S4"),
-        (StoreFault::AliasBesideData, "S5"),
-        (StoreFault::SetFull, "S6"),
-        (StoreFault::StoreFull, "S7"),
-        (StoreFault::NumberSpent, "S8"),
-        (StoreFault::WildApex, "S9"),
-        (StoreFault::Memory, "Memory"),
+    let codes = [
+        (StoreFault::Overlap.code(), "S1"),
+        (StoreFault::NoZone.code(), "S2"),
+        (StoreFault::Duplicate.code(), "S3"),
+        (StoreFault::Absent.code(), "S4"),
+        (StoreFault::AliasBesideData.code(), "S5"),
+        (StoreFault::SetFull.code(), "S6"),
+        (StoreFault::StoreFull.code(), "S7"),
+        (StoreFault::NumberSpent.code(), "S8"),
+        (StoreFault::WildApex.code(), "S9"),
+        (StoreFault::Memory.code(), "Memory"),
     ];
-    has_code_each(&rt, &rows);
+    expects_codes(&rt, &codes);
 }

@@ -3,6 +3,7 @@
 mod plain;
 mod values;
 
+use crate::assertions::expects;
 use plain::{
     Changes, NAMES, Plain, RECORDS, SETS, alter, change, changes_of, edited, exists, new_plain,
     number_of, push_all, select,
@@ -38,7 +39,7 @@ enum Act {
 }
 
 // The acts of a play, and how often each is done.
-const ACTS: [(Act, u32); 25] = [
+const ACTS: &[(Act, u32)] = &[
     (Act::Load(0, 0), 1),
     (Act::Load(1, 40), 1),
     (Act::Toggle, 900),
@@ -163,11 +164,6 @@ fn is_made(
     }
 }
 
-// Ends the test where this is not so.
-fn expects(rt: &impl Abort, is_so: bool, what: &str) {
-    assert!(rt; is_so, "{what}");
-}
-
 // Makes an edit of the store and of the list.
 fn make_edit(rt: &impl Abort, alloc: Global, store: &mut ZoneStore, plain: &mut Plain, edit: Edit) {
     let new = edited(rt, alloc, &plain.records, edit);
@@ -187,15 +183,48 @@ fn reload(
     zone: u32,
 ) {
     let text = altered(rt, alloc, &plain.records, seed, zone);
-    let mut new = select(rt, alloc, &plain.records, 2, zone, false);
-    push_all(rt, &mut new, &text);
-    let changes = changes_of(rt, alloc, &plain.records, &new, Edit::Load(zone, 0));
-    let is_made = match store.load(&zone_of(rt, alloc, &text, zone)) {
-        Ok(changed) => is_changed(rt, alloc, &changed, &changes),
-        Err(_) => false,
-    };
-    change(plain, new, &changes);
+    let is_made = is_reloaded(rt, alloc, store, plain, &text, zone);
+    drop(text);
     expects(rt, is_made, "the changes of a reload");
+}
+
+// Loads a zone with these records, which become those of the list: whether the load makes the changes.
+fn is_reloaded(
+    rt: &impl Abort,
+    alloc: Global,
+    store: &mut ZoneStore,
+    plain: &mut Plain,
+    text: &[u32],
+    zone: u32,
+) -> bool {
+    let new = reloaded(rt, alloc, &plain.records, text, zone);
+    let changes = changes_of(rt, alloc, &plain.records, &new, Edit::Load(zone, 0));
+    let is_made = loads(rt, alloc, store, text, zone, &changes);
+    change(plain, new, &changes);
+    drop(changes);
+    is_made
+}
+
+// The records after a load of a zone with these ones.
+fn reloaded(rt: &impl Abort, alloc: Global, records: &[u32], text: &[u32], zone: u32) -> Vec<u32> {
+    let mut new = select(rt, alloc, records, 2, zone, false);
+    push_all(rt, &mut new, text);
+    new
+}
+
+// Whether a load of a zone with these records is accepted, and makes these changes.
+fn loads(
+    rt: &impl Abort,
+    alloc: Global,
+    store: &mut ZoneStore,
+    text: &[u32],
+    zone: u32,
+    expected: &Changes,
+) -> bool {
+    match store.load(&zone_of(rt, alloc, text, zone)) {
+        Ok(changed) => is_changed(rt, alloc, &changed, expected),
+        Err(_) => false,
+    }
 }
 
 // The records of a zone, but for at most three.
@@ -211,18 +240,32 @@ fn altered(rt: &impl Abort, alloc: Global, records: &[u32], seed: &mut u32, zone
 
 // ---- what the store has
 
+fn is_record(rt: &impl Abort, alloc: Global, found: &Record, number: u32) -> bool {
+    let expected = record(rt, alloc, number);
+    let is_equal = *found == expected;
+    drop(expected);
+    is_equal
+}
+
 fn are_records(rt: &impl Abort, alloc: Global, records: &[Record], numbers: &[u32]) -> bool {
     for (found, number) in records.iter().zip(numbers.iter()) {
-        if *found != record(rt, alloc, *number) {
+        if !is_record(rt, alloc, found, *number) {
             return false;
         }
     }
     records.len() == numbers.len()
 }
 
+fn is_value(found: &Data, number: u32) -> bool {
+    let expected = value_of(number);
+    let is_equal = *found == expected;
+    drop(expected);
+    is_equal
+}
+
 fn are_data(data: &[Data], numbers: &[u32]) -> bool {
     for (found, number) in data.iter().zip(numbers.iter()) {
-        if *found != value_of(*number) {
+        if !is_value(found, *number) {
             return false;
         }
     }
@@ -302,8 +345,8 @@ fn do_each(
     seed: &mut u32,
 ) {
     for (act, times) in ACTS {
-        for _ in 0..times {
-            do_act(rt, alloc, store, plain, seed, act);
+        for _ in 0..*times {
+            do_act(rt, alloc, store, plain, seed, *act);
         }
     }
 }
@@ -314,7 +357,10 @@ fn play(rt: &impl Abort, alloc: Global, seed: u32) {
     let mut plain = new_plain(rt, alloc);
     let mut store = ZoneStore::new(alloc);
     do_each(rt, alloc, &mut store, &mut plain, &mut seed);
-    are_mixed(rt, plain.naming, plain.others);
+    drop(store);
+    let (naming, others) = (plain.naming, plain.others);
+    drop(plain);
+    are_mixed(rt, naming, others);
 }
 
 // Many edits change which names exist, and many do not.

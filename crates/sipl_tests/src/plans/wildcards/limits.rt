@@ -2,6 +2,7 @@
 use super::super::runs::{finish, give_next, is_answered, start, start_with};
 use super::super::{Row, abilities_of, records_of};
 use super::{NOTHING, WILDCARD, Zone, row};
+use crate::assertions::expects_equal;
 use sipl_choice::Families::V4;
 use sipl_choice::Transport::Udp;
 use sipl_masterfile::read_record;
@@ -34,7 +35,7 @@ fn reads(rt: &impl Abort, alloc: Global, run: Run, records: &[Record], row: &Row
 }
 
 fn is_count(rt: &impl Abort, found: usize, count: usize) {
-    assert_eq!(rt; found, count);
+    expects_equal(rt, &found, &count, "the sets");
 }
 
 fn reads_of_row(rt: &impl Abort, alloc: Global, row: &Row, count: usize) {

@@ -7,7 +7,7 @@ use sipl_choice::Transport::{Tcp, Udp};
 use sipl_plans::Reason::NoAddress;
 use sipl_records::Kind::{Address4, Address6, Alias, Exists, Pointer, Service};
 
-const WITHOUT_RECORDS: [Reading; 1] = [Reading {
+const WITHOUT_RECORDS: &[Reading] = &[Reading {
     row: Row {
         name: "no name exists, up to the root",
         zone: &[],
@@ -28,10 +28,10 @@ const WITHOUT_RECORDS: [Reading; 1] = [Reading {
 
 #[test]
 fn names_are_looked_up_to_the_root(rt: HostRuntime) {
-    read_each(&rt, rt.alloc(), &WITHOUT_RECORDS);
+    read_each(&rt, rt.alloc(), WITHOUT_RECORDS);
 }
 
-const BY_WILDCARD: [Reading; 2] = [
+const BY_WILDCARD: &[Reading] = &[
     Reading {
         row: Row {
             name: "the addresses of the wildcard",
@@ -71,10 +71,10 @@ const BY_WILDCARD: [Reading; 2] = [
 
 #[test]
 fn existence_is_read_before_the_wildcard(rt: HostRuntime) {
-    read_each(&rt, rt.alloc(), &BY_WILDCARD);
+    read_each(&rt, rt.alloc(), BY_WILDCARD);
 }
 
-const CIRCLE: [Reading; 1] = [Reading {
+const CIRCLE: &[Reading] = &[Reading {
     row: Row {
         name: "the alias of a wildcard leads to the wildcard again",
         zone: &["*.e. CNAME loop.e."],
@@ -101,12 +101,12 @@ const CIRCLE: [Reading; 1] = [Reading {
 
 #[test]
 fn a_circle_of_wildcards_reads_each_set_once(rt: HostRuntime) {
-    read_each(&rt, rt.alloc(), &CIRCLE);
+    read_each(&rt, rt.alloc(), CIRCLE);
 }
 
 // Without a NAPTR record and without services, over two transports: the names between the services and
 // the domain are read once.
-const SERVICES: [Reading; 1] = [Reading {
+const SERVICES: &[Reading] = &[Reading {
     row: Row {
         name: "no service, since the name exists",
         zone: &["*.e. SRV 0 0 5070 s.", "s. A 192.0.2.1", "_udp.x.e. TXT x"],
@@ -138,5 +138,5 @@ const SERVICES: [Reading; 1] = [Reading {
 
 #[test]
 fn services_below_a_name_that_exists_read_no_wildcard_above(rt: HostRuntime) {
-    read_each(&rt, rt.alloc(), &SERVICES);
+    read_each(&rt, rt.alloc(), SERVICES);
 }
