@@ -1,40 +1,23 @@
 //! Tests of a book over a zone of three NAPTR records, two SRV records and two addresses.
-ghost use Rattle.std.specs.Prelude.{◌≡◌, ◌≤◌, [], ◌∷◌};
+ghost use Rattle.std.specs.Prelude.{◌≤◌};
 
+pub(crate) mod calls;
 mod existence;
+mod expected;
 mod lookups;
 mod repairs;
+pub(crate) mod values;
 
-use sipl_book::{Book, BookFault, Done, Edit, Limits, MAX_ENTRIES, MAX_EVENTS};
-use sipl_choice::{Abilities, Endpoint, Families, Transport};
-use sipl_masterfile::{ZoneText, read_record, read_zone};
-use sipl_names::Name;
+use self::calls::{add, commit, commit_finding, entry, find, hand, load_zone, remove};
+use self::expected::{
+    changes, fails, has_events, has_looks, has_no_address, is_entry, is_event, targets,
+};
+use self::values::{ADDRESS_1, ADDRESS_2, BOB, SERVER_1, SERVER_2, draws, new_book, tcp};
+use sipl_book::{Book, BookFault, MAX_ENTRIES, MAX_EVENTS};
 use sipl_outages::{BoardFault, Held};
-use sipl_plans::{Answer, Finding, Reason, Run};
-use sipl_records::{Address, Record};
-use sipl_srv::Draws;
-use sipl_uri::{Question, Uri};
+use sipl_plans::Answer;
 use std::alloc::Global;
 use std::process::Abort;
-
-pub(crate) const ZONE: &[u8] = b"@ NAPTR 50 50 \"s\" \"SIPS+D2T\" \"\" _sips._tcp
-@ NAPTR 90 50 \"s\" \"SIP+D2T\" \"\" _sip._tcp
-@ NAPTR 100 50 \"s\" \"SIP+D2U\" \"\" _sip._udp
-_sip._tcp SRV 0 1 5060 server1
-_sip._tcp SRV 0 2 5060 server2
-server1 A 192.0.2.1
-server2 A 192.0.2.2
-";
-
-const SERVER_1: u32 = 0xC000_0201;
-
-const SERVER_2: u32 = 0xC000_0202;
-
-const ADDRESS_1: &[u8] = b"server1.example.com. A 192.0.2.1";
-
-const ADDRESS_2: &[u8] = b"server2.example.com. A 192.0.2.2";
-
-const BOB: &[u8] = b"sip:bob@example.com";
 
 // Each test plays one of these.
 enum Scenario {
@@ -67,36 +50,6 @@ fn play(rt: &impl Abort, alloc: Global, entries: usize, journal: usize, scenario
     drop(book);
 }
 
-// A book for a client of TCP and UDP over IPv4.
-fn new_book(rt: &impl Abort, alloc: Global, entries: usize, journal: usize, held: Held) -> Book
-    requires entries { entries ≤ 65536 }
-    requires journal { journal ≤ 1048576 }
-    ensures { result.client ≡ record {
-      preference = Transport.Tcp ∷ Transport.Udp ∷ [];
-      families = Families.V4;
-    } }
-{
-    let limits = Limits {
-        entries,
-        journal,
-        ..Limits::greatest()
-    };
-    Book::new(alloc, abilities(rt, alloc), &limits, held)
-}
-
-pub(crate) fn abilities(rt: &impl Abort, alloc: Global) -> Abilities
-    ensures { result ≡ record {
-      preference = Transport.Tcp ∷ Transport.Udp ∷ [];
-      families = Families.V4;
-    } }
-{
-    let preference = Vec::from_slice(alloc, &[Transport::Tcp, Transport::Udp]).expect(
-        rt,
-        "out of memory",
-    );
-    Abilities::new(preference, Families::V4).unwrap()
-}
-
 fn run(rt: &impl Abort, alloc: Global, book: &mut Book, scenario: Scenario) {
     load_zone(rt, alloc, book);
     match scenario {
@@ -115,201 +68,6 @@ fn run(rt: &impl Abort, alloc: Global, book: &mut Book, scenario: Scenario) {
         Scenario::Wildcard => existence::wildcard(rt, alloc, book),
     }
 }
-
-// ---- values
-
-// A TCP endpoint at port 5060.
-fn tcp(number: u32) -> Endpoint {
-    Endpoint {
-        transport: Transport::Tcp,
-        address: Address::V4(number),
-        port: 5060,
-    }
-}
-
-pub(crate) fn question(rt: &impl Abort, alloc: Global, uri: &[u8]) -> Question {
-    Uri::parse(alloc, uri).expect(rt, "the URI is refused")
-}
-
-pub(crate) fn draws(rt: &impl Abort, words: &[u32]) -> Draws {
-    Draws::from_words(words).expect(rt, "the words are refused")
-}
-
-pub(crate) fn record(rt: &impl Abort, alloc: Global, text: &[u8]) -> Record {
-    read_record(alloc, text, &Name::root(alloc)).expect(rt, "the record is refused")
-}
-
-pub(crate) fn apex(rt: &impl Abort, alloc: Global) -> Name {
-    Name::from_text(alloc, b"example.com.", &Name::root(alloc)).expect(rt, "the name is refused")
-}
-
-// The zone of the apex with this text.
-pub(crate) fn zone(rt: &impl Abort, alloc: Global, text: &[u8]) -> ZoneText {
-    read_zone(alloc, text, &apex(rt, alloc)).expect(rt, "the zone is refused")
-}
-
-// ---- calls of the book
-
-fn change(rt: &impl Abort, book: &mut Book, edit: Edit) -> Done
-    ensures { book.new.client ≡ book.old.client }
-{
-    book.change(edit).expect(rt, "the edit is refused")
-}
-
-fn load_zone(rt: &impl Abort, alloc: Global, book: &mut Book)
-    ensures { book.new.client ≡ book.old.client }
-{
-    changes(
-        rt,
-        change(rt, book, Edit::Load(zone(rt, alloc, ZONE))),
-        0,
-        4,
-    );
-}
-
-fn add(rt: &impl Abort, alloc: Global, book: &mut Book, text: &[u8]) -> Done
-    ensures { book.new.client ≡ book.old.client }
-{
-    change(rt, book, Edit::Add(record(rt, alloc, text)))
-}
-
-fn remove(rt: &impl Abort, alloc: Global, book: &mut Book, text: &[u8]) -> Done
-    ensures { book.new.client ≡ book.old.client }
-{
-    change(rt, book, Edit::Remove(record(rt, alloc, text)))
-}
-
-// What a run over the book's sets finds for a URI.
-fn find(rt: &impl Abort, alloc: Global, book: &mut Book, uri: &[u8]) -> Finding
-    ensures client { book.new.client ≡ book.old.client }
-    ensures finding { result.client ≡ book.old.client }
-{
-    find_for(rt, alloc, book, question(rt, alloc, uri))
-}
-
-fn find_for(rt: &impl Abort, alloc: Global, book: &mut Book, question: Question) -> Finding
-    ensures client { book.new.client ≡ book.old.client }
-    ensures finding { result.client ≡ book.old.client }
-{
-    let run = Run::start(alloc, question, book.abilities()).expect(rt, "out of memory");
-    complete(rt, alloc, book, run)
-}
-
-fn complete(rt: &impl Abort, alloc: Global, book: &mut Book, run: Run) -> Finding
-    ensures client { book.new.client ≡ book.old.client }
-    ensures finding { result.client ≡ run.client }
-{
-    let mut run = run;
-    while let Some(key) = run.wants() {
-        let (number, content) = book.read(key).expect(rt, "out of memory");
-        run.give(alloc, number, content).expect(rt, "out of memory");
-    }
-    run.finish().ok().unwrap()
-}
-
-// Commits what a run finds. Returns the answer, or the fault.
-fn commit(
-    rt: &impl Abort,
-    alloc: Global,
-    book: &mut Book,
-    uri: &[u8],
-    words: &[u32],
-) -> Result<Answer, BookFault>
-    ensures { book.new.client ≡ book.old.client }
-{
-    let finding = find(rt, alloc, book, uri);
-    commit_finding(book, finding, &draws(rt, words))
-}
-
-fn commit_finding(book: &mut Book, finding: Finding, draws: &Draws) -> Result<Answer, BookFault>
-    requires { finding.client ≡ book.old.client }
-    ensures { book.new.client ≡ book.old.client }
-{
-    match book.commit_checked(finding, draws) {
-        Ok(handed) => Ok(handed.answer),
-        Err(refused) => Err(refused.fault),
-    }
-}
-
-// The answer from the current entry, or the fault.
-fn hand(
-    rt: &impl Abort,
-    alloc: Global,
-    book: &mut Book,
-    words: &[u32],
-) -> Result<Answer, BookFault> {
-    match book.hand(&question(rt, alloc, BOB), &draws(rt, words)) {
-        Ok(handed) => Ok(handed.answer),
-        Err(fault) => Err(fault),
-    }
-}
-
-// The number of the entry of a URI's question, and whether it is current.
-fn entry(rt: &impl Abort, alloc: Global, book: &Book, uri: &[u8]) -> Option<(u64, bool)> {
-    let question = question(rt, alloc, uri);
-    let entry = book.entry(&question)?;
-    Some((entry.id(), entry.is_current()))
-}
-
-// ---- what is expected
-
-fn changes(rt: &impl Abort, done: Done, number: u64, changed: u64) {
-    assert_eq!(rt; done, Done { number, changed });
-}
-
-// Whether an answer is these targets over TCP at port 5060.
-fn is_tcp(answer: &Answer, numbers: &[u32]) -> bool {
-    match answer {
-        Answer::Targets(targets) => {
-            targets.len() == numbers.len()
-                && targets
-                    .iter()
-                    .zip(numbers)
-                    .all(|(target, number)| *target == tcp(*number))
-        }
-        Answer::None(_) => false,
-    }
-}
-
-// The answer is these targets over TCP at port 5060.
-fn targets(rt: &impl Abort, answer: Result<Answer, BookFault>, numbers: &[u32]) {
-    let expected = match answer {
-        Ok(answer) => is_tcp(&answer, numbers),
-        Err(_) => false,
-    };
-    assert!(rt; expected, "other targets, or a fault");
-}
-
-// The answer is that there is no address.
-fn has_no_address(rt: &impl Abort, answer: Result<Answer, BookFault>) {
-    let expected = match answer {
-        Ok(answer) => matches!(&answer, Answer::None(Reason::NoAddress)),
-        Err(_) => false,
-    };
-    assert!(rt; expected, "an address, or a fault");
-}
-
-fn fails(rt: &impl Abort, answer: Result<Answer, BookFault>, fault: BookFault) {
-    assert_eq!(rt; answer.err(), Some(fault));
-}
-
-fn is_event(rt: &impl Abort, number: Result<u64, BookFault>, expected: Result<u64, BookFault>) {
-    assert_eq!(rt; number, expected);
-}
-
-fn is_entry(rt: &impl Abort, entry: Option<(u64, bool)>, expected: Option<(u64, bool)>) {
-    assert_eq!(rt; entry, expected);
-}
-
-fn has_events(rt: &impl Abort, book: &Book, count: usize) {
-    assert_eq!(rt; book.journal().len(), count);
-}
-
-fn has_looks(rt: &impl Abort, book: &Book, looks: u64) {
-    assert_eq!(rt; book.looks(), looks);
-}
-
-// ---- the scenarios
 
 fn edits(rt: &impl Abort, alloc: Global, book: &mut Book) {
     fails(rt, hand(rt, alloc, book, &[]), BookFault::NotCurrent);

@@ -10,7 +10,7 @@ mod pages;
 mod script;
 mod wildcards;
 
-use crate::book::abilities;
+use crate::book::values::abilities;
 use sipl_book::Limits;
 use sipl_choice::Abilities;
 use sipl_interleave::{Reply, Step, World, play};

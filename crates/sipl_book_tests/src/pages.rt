@@ -3,8 +3,9 @@ ghost use Rattle.std.specs.Prelude.{◌≡◌, ◌≤◌, ◌-◌, ◌^◌};
 
 mod order;
 
-use crate::book::{abilities, draws, question, record, zone};
-use sipl_book::{Book, BookFault, Done, Edit, Extent, Limits, MAX_FIRST};
+use crate::book::calls::fault_of;
+use crate::book::values::{abilities, draws, question, record, zone};
+use sipl_book::{Book, BookFault, Done, Edit, Extent, Handed, Limits, MAX_FIRST, Page};
 use sipl_choice::{Endpoint, Transport};
 use sipl_outages::Held;
 use sipl_plans::{Answer, Finding, Run};
@@ -102,17 +103,34 @@ fn find(
 ) -> Result<u64, BookFault>
     ensures { book.new.client ≡ book.old.client }
 {
-    let handed = book.find(question(rt, alloc, uri), &draws(rt, &[]))?;
+    match book.find(question(rt, alloc, uri), &draws(rt, &[])) {
+        Ok(handed) => Ok(number_of(rt, handed, address)),
+        Err(fault) => Err(fault),
+    }
+}
+
+fn number_of(rt: &impl Abort, handed: Handed, address: u32) -> u64 {
+    let number = handed.number;
     is_address(rt, &handed.answer, address);
-    Ok(handed.number)
+    drop(handed);
+    number
 }
 
 // Which events the page has that is turned, and that no event is left; or the fault.
 fn turn(rt: &impl Abort, book: &mut Book) -> Result<Extent, BookFault>
     ensures { book.new.client ≡ book.old.client }
 {
-    let extent = book.turn_page().map(|page| page.extent());
+    let extent = match book.turn_page() {
+        Ok(page) => Ok(extent_of(page)),
+        Err(fault) => Err(fault),
+    };
     is_empty_page(rt, book, extent.is_ok());
+    extent
+}
+
+fn extent_of(page: Page) -> Extent {
+    let extent = page.extent();
+    drop(page);
     extent
 }
 
@@ -181,11 +199,25 @@ fn a_page_begins_with_at_most_the_greatest_first_number(rt: HostRuntime) {
 // The id of a question's entry.
 fn id_of(rt: &impl Abort, alloc: Global, book: &Book, uri: &[u8]) -> Option<u64> {
     let question = question(rt, alloc, uri);
-    book.entry(&question).map(|entry| entry.id())
+    let id = book.entry(&question).map(|entry| entry.id());
+    drop(question);
+    id
 }
 
 fn has_id(rt: &impl Abort, id: Option<u64>, expected: u64) {
     assert_eq!(rt; id, Some(expected));
+}
+
+// Forgets the entry of a question.
+fn forget(rt: &impl Abort, alloc: Global, book: &mut Book, uri: &[u8]) -> Result<(), BookFault> {
+    let question = question(rt, alloc, uri);
+    let forgotten = book.forget(&question);
+    drop(question);
+    forgotten
+}
+
+fn is_forgotten(rt: &impl Abort, forgotten: Result<(), BookFault>) {
+    assert_eq!(rt; forgotten, Ok(()));
 }
 
 fn loads_two_servers(rt: &impl Abort, alloc: Global, book: &mut Book) {
@@ -203,8 +235,7 @@ fn ids(rt: &impl Abort, alloc: Global, book: &mut Book) {
     is_page(rt, turn(rt, book), 4, 1);
     has_id(rt, id_of(rt, alloc, book, SERVER), 3);
     has_id(rt, id_of(rt, alloc, book, OTHER), 4);
-    let forgotten = book.forget(&question(rt, alloc, SERVER));
-    assert_eq!(rt; forgotten, Ok(()));
+    is_forgotten(rt, forget(rt, alloc, book, SERVER));
     is_event(rt, find(rt, alloc, book, SERVER, 0xC000_0201), Ok(5));
     has_id(rt, id_of(rt, alloc, book, SERVER), 5);
 }
@@ -264,7 +295,7 @@ fn commit(rt: &impl Abort, book: &mut Book, finding: Finding) -> Result<u64, Boo
 {
     match book.commit_checked(finding, &draws(rt, &[])) {
         Ok(handed) => Ok(handed.number),
-        Err(refused) => Err(refused.fault),
+        Err(uncommitted) => Err(fault_of(uncommitted)),
     }
 }
 
@@ -306,7 +337,7 @@ fn settle_over_pages(rt: &impl Abort, alloc: Global, book: &mut Book) -> (u64, O
     let finding = complete(rt, alloc, book, question);
     match book.settle_checked(lease, finding) {
         Ok(()) => (id, None),
-        Err(refused) => (id, Some(refused.fault)),
+        Err(uncommitted) => (id, Some(fault_of(uncommitted))),
     }
 }
 

@@ -1,10 +1,10 @@
 //! Tests of names that exist or not, and of answers by a wildcard (RFC 4592).
-use super::{
-    ADDRESS_2, Scenario, add, changes, draws, entry, has_events, has_looks, is_entry, play,
-    question, remove,
-};
+use super::calls::{add, entry, remove};
+use super::expected::{changes, has_events, has_looks, is_entry};
+use super::values::{ADDRESS_2, draws, question};
+use super::{Scenario, play};
 use sipl_book::{Book, MAX_ENTRIES, MAX_EVENTS};
-use sipl_choice::Transport;
+use sipl_choice::{Endpoint, Transport};
 use sipl_names::Name;
 use sipl_plans::{Answer, Reason};
 use sipl_records::{Address, Data, Key, Kind};
@@ -17,6 +17,12 @@ const WILDCARD: &[u8] = b"*.example.com. A 192.0.2.9";
 
 const BELOW_FOO: &[u8] = b"x.foo.example.com. TXT y";
 
+const BY_WILDCARD: Endpoint = Endpoint {
+    transport: Transport::Udp,
+    address: Address::V4(0xC000_0209),
+    port: 5060,
+};
+
 fn existence_of(rt: &impl Abort, alloc: Global, name: &[u8]) -> Key {
     Key {
         name: Name::from_text(alloc, name, &Name::root(alloc)).expect(rt, "a name"),
@@ -28,12 +34,17 @@ fn existence_of(rt: &impl Abort, alloc: Global, name: &[u8]) -> Key {
 // says.
 fn number_read(book: &mut Book, key: &Key) -> Option<u64> {
     let (number, content) = book.read(key).ok()?;
-    let is_as_numbered = match content.as_slice() {
+    let is_so = is_numbered(number, content.as_slice());
+    drop(content);
+    is_so.then_some(number)
+}
+
+fn is_numbered(number: u64, content: &[Data]) -> bool {
+    match content {
         [Data::Bare] => number == 1,
         [] => number == 0,
         _ => false,
-    };
-    is_as_numbered.then_some(number)
+    }
 }
 
 // The name exists where the number is 1, and does not where it is 0. A read counts a look.
@@ -41,8 +52,13 @@ fn has_existence(rt: &impl Abort, alloc: Global, book: &mut Book, name: &[u8], n
     let key = existence_of(rt, alloc, name);
     let looks = book.looks();
     let found = (book.number(&key), number_read(book, &key));
-    assert_eq!(rt; found, (number, Some(number)));
+    drop(key);
+    are_numbers(rt, found, (number, Some(number)));
     has_looks(rt, book, looks.saturating_add(1));
+}
+
+fn are_numbers(rt: &impl Abort, found: (u64, Option<u64>), expected: (u64, Option<u64>)) {
+    assert_eq!(rt; found, expected);
 }
 
 // Server2 exists until its address is removed, and what is above it exists after that.
@@ -74,14 +90,7 @@ fn a_set_of_existence_has_one_element_or_none(rt: HostRuntime) {
 // Whether an answer is the wildcard's address over UDP.
 fn is_wildcard(answer: &Answer) -> bool {
     match answer {
-        Answer::Targets(targets) => {
-            targets.len() == 1
-                && targets.iter().all(|target| {
-                    target.transport == Transport::Udp
-                        && target.address == Address::V4(0xC000_0209)
-                        && target.port == 5060
-                })
-        }
+        Answer::Targets(targets) => targets.as_slice() == [BY_WILDCARD].as_slice(),
         Answer::None(_) => false,
     }
 }
@@ -89,13 +98,18 @@ fn is_wildcard(answer: &Answer) -> bool {
 // What the book finds for the question of `foo`: whether that is the wildcard's address; `None` where
 // there is no address.
 fn found(rt: &impl Abort, alloc: Global, book: &mut Book) -> Option<bool> {
-    match book.find(question(rt, alloc, FOO), &draws(rt, &[])) {
-        Ok(handed) => {
-            let is_absent = matches!(handed.answer, Answer::None(Reason::NoAddress));
-            (!is_absent).then_some(is_wildcard(&handed.answer))
-        }
+    let handed = book.find(question(rt, alloc, FOO), &draws(rt, &[]));
+    let found = match &handed {
+        Ok(handed) => given(&handed.answer),
         Err(_) => Some(false),
-    }
+    };
+    drop(handed);
+    found
+}
+
+fn given(answer: &Answer) -> Option<bool> {
+    let is_absent = matches!(answer, Answer::None(Reason::NoAddress));
+    (!is_absent).then_some(is_wildcard(answer))
 }
 
 fn finds_wildcard(rt: &impl Abort, alloc: Global, book: &mut Book) {
@@ -108,7 +122,9 @@ fn finds_nothing(rt: &impl Abort, alloc: Global, book: &mut Book) {
 
 // So many current entries depend on whether the name exists.
 fn has_dependents(rt: &impl Abort, alloc: Global, book: &Book, name: &[u8], count: u64) {
-    let found = book.dependents(&existence_of(rt, alloc, name));
+    let key = existence_of(rt, alloc, name);
+    let found = book.dependents(&key);
+    drop(key);
     assert_eq!(rt; found, count);
 }
 

@@ -1,8 +1,8 @@
 //! Tests of questions that a book looks up itself.
-use super::{
-    ADDRESS_2, BOB, SERVER_1, SERVER_2, Scenario, draws, entry, has_events, has_looks, is_entry,
-    play, question, remove, targets,
-};
+use super::calls::{entry, remove};
+use super::expected::{has_events, has_looks, is_entry, targets};
+use super::values::{ADDRESS_2, BOB, SERVER_1, SERVER_2, draws, question};
+use super::{Scenario, play};
 use sipl_book::{Book, BookFault, MAX_ENTRIES, MAX_EVENTS};
 use sipl_names::Name;
 use sipl_plans::Answer;
@@ -17,8 +17,10 @@ fn find(
     book: &mut Book,
     words: &[u32],
 ) -> Result<Answer, BookFault> {
-    book.find(question(rt, alloc, BOB), &draws(rt, words))
-        .map(|handed| handed.answer)
+    match book.find(question(rt, alloc, BOB), &draws(rt, words)) {
+        Ok(handed) => Ok(handed.answer),
+        Err(fault) => Err(fault),
+    }
 }
 
 fn address4(rt: &impl Abort, alloc: Global, owner: &[u8]) -> Key {
@@ -30,16 +32,24 @@ fn address4(rt: &impl Abort, alloc: Global, owner: &[u8]) -> Key {
 
 // So many current entries have the owner's IPv4 addresses in their evidence.
 fn has_dependents(rt: &impl Abort, alloc: Global, book: &Book, owner: &[u8], count: u64) {
-    let found = book.dependents(&address4(rt, alloc, owner));
+    let key = address4(rt, alloc, owner);
+    let found = book.dependents(&key);
+    drop(key);
     assert_eq!(rt; found, count);
+}
+
+// So is the number of the set of the owner's IPv4 addresses.
+fn has_number(rt: &impl Abort, alloc: Global, book: &Book, owner: &[u8], number: u64) {
+    let key = address4(rt, alloc, owner);
+    let found = book.number(&key);
+    drop(key);
+    assert_eq!(rt; found, number);
 }
 
 // The sets of the zone are numbered in the order of its text: that of server1's address is the third.
 fn has_numbers(rt: &impl Abort, alloc: Global, book: &Book) {
-    let number = book.number(&address4(rt, alloc, b"server1.example.com."));
-    assert_eq!(rt; number, 3);
-    let none = book.number(&address4(rt, alloc, b"other.example.com."));
-    assert_eq!(rt; none, 0);
+    has_number(rt, alloc, book, b"server1.example.com.", 3);
+    has_number(rt, alloc, book, b"other.example.com.", 0);
 }
 
 // The question depends on so many sets.

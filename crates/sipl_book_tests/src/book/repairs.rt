@@ -1,10 +1,10 @@
 //! Tests of leases, settlements and forgotten entries.
 ghost use Rattle.std.specs.Prelude.{◌≡◌};
 
-use super::{
-    ADDRESS_2, BOB, SERVER_1, SERVER_2, Scenario, add, commit, commit_finding, draws, entry, fails,
-    find, find_for, hand, has_events, has_looks, is_entry, play, question, remove, targets,
-};
+use super::calls::{add, commit, commit_finding, entry, fault_of, find, find_for, hand, remove};
+use super::expected::{fails, has_events, has_looks, is_entry, targets};
+use super::values::{ADDRESS_2, BOB, SERVER_1, SERVER_2, draws, question};
+use super::{Scenario, play};
 use sipl_book::{Book, BookFault, MAX_ENTRIES, MAX_EVENTS};
 use sipl_plans::{Answer, Finding};
 use sipl_repair::{Lease, QueueFault};
@@ -22,7 +22,7 @@ fn settle(book: &mut Book, lease: Lease, finding: Finding) -> Option<BookFault>
 {
     match book.settle_checked(lease, finding) {
         Ok(()) => None,
-        Err(refused) => Some(refused.fault),
+        Err(uncommitted) => Some(fault_of(uncommitted)),
     }
 }
 
@@ -48,8 +48,9 @@ fn lease_fault(book: &mut Book) -> Option<BookFault>
     ensures { book.new.client ≡ book.old.client }
 {
     match book.lease() {
-        Ok((lease, _)) => {
+        Ok((lease, question)) => {
             book.give_back(lease);
+            drop(question);
             None
         }
         Err(fault) => Some(fault),
@@ -131,7 +132,8 @@ fn entries_are_queued_in_the_order_in_which_they_were_made(rt: HostRuntime) {
 fn settle_after_edit(rt: &impl Abort, alloc: Global, book: &mut Book) -> Option<BookFault> {
     let finding = find(rt, alloc, book, TCP);
     add(rt, alloc, book, b"server1.example.com. A 192.0.2.11");
-    let (lease, _) = lease(rt, book);
+    let (lease, question) = lease(rt, book);
+    drop(question);
     settle(book, lease, finding)
 }
 
@@ -168,7 +170,10 @@ fn a_finding_with_a_set_that_changed_is_not_settled(rt: HostRuntime) {
 fn forget(rt: &impl Abort, alloc: Global, book: &mut Book, uri: &[u8]) -> Option<BookFault>
     ensures { book.new.client ≡ book.old.client }
 {
-    book.forget(&question(rt, alloc, uri)).err()
+    let question = question(rt, alloc, uri);
+    let forgotten = book.forget(&question);
+    drop(question);
+    forgotten.err()
 }
 
 // Leases the next entry, which is forgotten then.
@@ -177,6 +182,7 @@ fn lease_and_forget(rt: &impl Abort, book: &mut Book) -> Lease
 {
     let (lease, question) = lease(rt, book);
     let _ = book.forget(&question);
+    drop(question);
     lease
 }
 

@@ -14,7 +14,7 @@ use self::work::{Work, idle};
 use super::counts::{Counts, are_mixed, count};
 use super::numbers::{Numbers, URIS};
 use super::{copy_of, expects, is_same, plain_answer};
-use crate::book::{apex, question, zone};
+use crate::book::values::{apex, question, zone};
 use sipl_book::{Book, Edit, Extent, Limits};
 use sipl_choice::Abilities;
 use sipl_evidence::Item;
@@ -125,6 +125,7 @@ impl Beside {
     fn take(&mut self, rt: &impl Abort, world: &World, reply: Reply) -> Outcome {
         self.judge(rt, world, &reply);
         let outcome = outcome_of(&reply);
+        drop(reply);
         count(outcome == Err("B3"), &mut self.full);
         outcome
     }
@@ -158,11 +159,10 @@ impl Beside {
             &self.draws,
             book.held(),
         );
-        expects(
-            rt,
-            is_same(&plain, answer),
-            "the answer of the plain program",
-        );
+        drop(question);
+        let is_so = is_same(&plain, answer);
+        drop(plain);
+        expects(rt, is_so, "the answer of the plain program");
         count(has_held(&self.board, answer), &mut self.held_targets);
     }
 
@@ -338,6 +338,7 @@ fn play_beside(
     counts.held_targets = counts.held_targets.saturating_add(beside.held_targets);
     counts.pages = counts.pages.saturating_add(beside.pages);
     counts.full = counts.full.saturating_add(beside.full);
+    drop(beside);
 }
 
 // Plays with so many workers, or up to three more.

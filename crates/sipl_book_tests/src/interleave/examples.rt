@@ -3,7 +3,7 @@ ghost use Rattle.std.specs.Prelude.{◌≤◌};
 
 use super::script::{Line, Script, Shown, Target, plays, plays_at_once, question_of};
 use super::{expects, new_world};
-use crate::book::ZONE;
+use crate::book::values::ZONE;
 use sipl_book::{MAX_ENTRIES, MAX_EVENTS};
 use sipl_choice::Transport::{Tcp, Udp};
 use sipl_interleave::World;
@@ -123,6 +123,7 @@ pub(super) fn run_script(rt: &impl Abort, alloc: Global, workers: usize, script:
 fn is_entry(rt: &impl Abort, alloc: Global, world: &World, uri: &str, expected: Option<bool>) {
     let question = question_of(rt, alloc, uri);
     has_entry(rt, world, &question, expected);
+    drop(question);
 }
 
 fn has_entry(rt: &impl Abort, world: &World, question: &Question, expected: Option<bool>) {

@@ -1,5 +1,5 @@
 //! Records, questions, endpoints, clients and policies on held endpoints by chance, from seeds.
-use crate::book::apex;
+use crate::book::values::apex;
 use sipl_choice::Transport::{Sctp, Tcp, Tls, Udp};
 use sipl_choice::{Abilities, Endpoint, Families, Transport};
 use sipl_masterfile::read_record;

@@ -7,7 +7,7 @@ mod materials;
 
 use super::counts::count;
 use super::{expects, new_world, play_all};
-use crate::book::{draws, zone};
+use crate::book::values::{draws, zone};
 use materials::{Change, Expected, Materials, Table, push};
 use sipl_book::{Edit, MAX_ENTRIES, MAX_EVENTS};
 use sipl_interleave::{Reply, Step, World};
@@ -336,6 +336,8 @@ fn play_walk(
     } = walk;
     let replies = play_all(rt, world, steps);
     let refused = replied(rt, materials, &replies, &expected);
+    drop(replies);
+    drop(expected);
     counts.refused = counts.refused.saturating_add(refused);
     count(true, &mut counts.plays);
 }
@@ -378,4 +380,5 @@ fn are_counted(rt: &impl Abort, counts: Counts) {
 fn commits_in_each_order_are_refused_where_a_set_changed(rt: HostRuntime) {
     let materials = Materials::new(&rt, rt.alloc(), TABLE);
     play_each(&rt, &materials);
+    drop(materials);
 }

@@ -4,7 +4,7 @@ ghost use Rattle.std.specs.Prelude.{◌≤◌, ◌-◌, ◌^◌};
 use super::examples::run_script;
 use super::expects;
 use super::script::{Line, Script, Shown, Target, plays, plays_at_once};
-use crate::book::abilities;
+use crate::book::values::abilities;
 use sipl_book::{Limits, MAX_EVENTS, MAX_FIRST};
 use sipl_choice::Transport::Udp;
 use sipl_interleave::World;

@@ -1,6 +1,6 @@
 //! Scripts: steps of a world, with the replies to them.
 use super::{expects, play_all};
-use crate::book::{apex, draws, question, record, zone};
+use crate::book::values::{apex, draws, question, record, zone};
 use sipl_book::{BookFault, Edit, Uncommitted};
 use sipl_choice::{Endpoint, Transport};
 use sipl_evidence::Item;
@@ -134,7 +134,9 @@ fn is_reason(answer: &Answer, reason: Reason) -> bool {
 
 fn is_key(rt: &impl Abort, alloc: Global, key: &Key, owner: &str, kind: Kind) -> bool {
     let name = Name::from_text(alloc, owner.as_bytes(), &Name::root(alloc)).expect(rt, "a name");
-    key.name == name && key.kind == kind
+    let is_so = key.name == name && key.kind == kind;
+    drop(name);
+    is_so
 }
 
 fn is_item(
@@ -149,7 +151,10 @@ fn is_item(
 }
 
 fn is_question(rt: &impl Abort, alloc: Global, asked: &Question, uri: &str) -> bool {
-    *asked == question_of(rt, alloc, uri)
+    let question = question_of(rt, alloc, uri);
+    let is_so = *asked == question;
+    drop(question);
+    is_so
 }
 
 // Whether the set at this place of the finding is outdated, and is that of this key.
@@ -222,14 +227,16 @@ fn plays_line(
     shown: Shown,
     index: usize,
 ) {
-    let step = step(rt, alloc, line);
-    shows(rt, alloc, &world.step(step), shown, index);
+    let reply = world.step(step(rt, alloc, line));
+    shows(rt, alloc, &reply, shown, index);
+    drop(reply);
 }
 
 // The same in one play.
 pub(super) fn plays_at_once(rt: &impl Abort, alloc: Global, world: &mut World, script: Script) {
     let replies = play_all(rt, world, steps_of(rt, alloc, script));
     are_shown(rt, alloc, &replies, script);
+    drop(replies);
 }
 
 fn are_shown(rt: &impl Abort, alloc: Global, replies: &[Reply], script: Script) {

@@ -2,7 +2,7 @@
 ghost use Rattle.std.specs.Prelude.{◌≤◌, ◌-◌, ◌^◌};
 
 use super::{ADDRESS, ENDPOINT, OTHER_ADDRESS, Scenario, add, find, is_event, load, play};
-use crate::book::{record, zone};
+use crate::book::values::{record, zone};
 use sipl_book::{Book, Edit, Event, Limits, Page, State};
 use sipl_choice::{Abilities, Families, Transport};
 use sipl_outages::Held;
@@ -104,18 +104,18 @@ pub(super) fn states(rt: &impl Abort, alloc: Global, book: &mut Book) {
 
 fn first_page(rt: &impl Abort, book: &mut Book) {
     let page = page(rt, book);
-    let page = &page;
-    is_first_page(rt, page);
-    has_numbers(rt, page, (0, 3, 3));
-    is_for_the_client(rt, book, page);
+    is_first_page(rt, &page);
+    has_numbers(rt, &page, (0, 3, 3));
+    is_for_the_client(rt, book, &page);
+    drop(page);
 }
 
 fn second_page(rt: &impl Abort, book: &mut Book) {
     let page = page(rt, book);
-    let page = &page;
-    is_second_page(rt, page);
-    has_numbers(rt, page, (3, 2, 5));
-    is_for_the_client(rt, book, page);
+    is_second_page(rt, &page);
+    has_numbers(rt, &page, (3, 2, 5));
+    is_for_the_client(rt, book, &page);
+    drop(page);
 }
 
 #[test]
@@ -256,7 +256,9 @@ fn follows_form(rt: &impl Abort, alloc: Global, form: Form, before: Form) -> boo
     requires before { before.first ≤ 2 ^ 52 - 2 ^ 20 }
 {
     let pages = [first_of(rt, alloc, before), last_of(rt, alloc, form)];
-    is_in_order(&pages)
+    let is_so = is_in_order(&pages);
+    drop(pages);
+    is_so
 }
 
 // Whether the second page follows the first one.

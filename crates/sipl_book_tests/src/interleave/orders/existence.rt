@@ -4,7 +4,7 @@ use super::super::counts::count;
 use super::super::{expects, new_world, play_all};
 use super::materials::{Change, Expected, Materials, Table, push};
 use super::{load, replied};
-use crate::book::draws;
+use crate::book::values::draws;
 use sipl_book::{MAX_ENTRIES, MAX_EVENTS};
 use sipl_interleave::{Step, World};
 use std::alloc::Global;
@@ -379,7 +379,10 @@ fn play_walk(rt: &impl Abort, materials: &Materials, world: &mut World, walk: Wa
         ..
     } = walk;
     let replies = play_all(rt, world, steps);
-    replied(rt, materials, &replies, &expected)
+    let refused = replied(rt, materials, &replies, &expected);
+    drop(replies);
+    drop(expected);
+    refused
 }
 
 fn play_each(rt: &impl Abort, materials: &Materials) {
@@ -409,4 +412,5 @@ fn are_counted(rt: &impl Abort, counts: Counts) {
 fn commits_in_each_order_are_refused_where_existence_changed(rt: HostRuntime) {
     let materials = Materials::new(&rt, rt.alloc(), TABLE);
     play_each(&rt, &materials);
+    drop(materials);
 }

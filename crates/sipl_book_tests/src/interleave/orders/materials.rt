@@ -1,7 +1,7 @@
 // What is expected of the steps of a play, and what all plays of a table need: its questions, its edits,
 // and the answers of the plain program after each number of edits.
 use super::super::{copy_of, expects, is_same, plain_answer};
-use crate::book::{abilities, draws, question, record, zone};
+use crate::book::values::{abilities, draws, question, record, zone};
 use sipl_book::{BookFault, Edit};
 use sipl_choice::Abilities;
 use sipl_interleave::{Reply, WorldFault};
@@ -78,10 +78,13 @@ impl Materials {
         }
         let mut store = ZoneStore::new(alloc);
         self.fill_answers(rt, &mut store);
+        drop(store);
     }
 
     fn fill_answers(&mut self, rt: &impl Abort, store: &mut ZoneStore) {
-        let is_loaded = store.load(&zone(rt, self.alloc, self.table.zone)).is_ok();
+        let zone = zone(rt, self.alloc, self.table.zone);
+        let is_loaded = store.load(&zone).is_ok();
+        drop(zone);
         expects(rt, is_loaded, "a zone");
         for edits in 0..=self.table.edits.len() {
             self.push_answers(rt, store);
@@ -101,6 +104,7 @@ impl Materials {
                 &abilities,
             );
         }
+        drop(abilities);
     }
 
     // Makes the next edit, after so many, if there is one.
@@ -197,5 +201,6 @@ fn push_answer(
         &draws,
         Held::Out,
     );
+    drop(board);
     push(rt, answers, answer);
 }

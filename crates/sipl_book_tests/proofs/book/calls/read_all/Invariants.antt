@@ -1,5 +1,5 @@
 use Rattle.std.proofs.Common.{◌≡◌, ◌-◌, length}
-use Rattle.sipl_book_tests.proofs.book.complete.Given as goal
+use Rattle.sipl_book_tests.proofs.book.calls.read_all.Given as goal
 
 abbrev pub invariant-loop-key : goal.invariant-loop-key
 invariant-loop-key g l = record {
