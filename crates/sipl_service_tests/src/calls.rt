@@ -88,6 +88,7 @@ pub(crate) fn is_contended(
 fn a_lookup_is_refused_where_a_set_changes_in_each_try(rt: HostRuntime) {
     let service = new_service(&rt, rt.alloc(), 1);
     let told = contended(&rt, rt.alloc(), &service);
+    drop(service);
     is_contended(&rt, rt.alloc(), told, b"server1.example.com. A");
 }
 
@@ -95,6 +96,7 @@ fn a_lookup_is_refused_where_a_set_changes_in_each_try(rt: HostRuntime) {
 fn a_lookup_is_tried_again_where_a_set_changes(rt: HostRuntime) {
     let service = new_service(&rt, rt.alloc(), 2);
     let told = contended(&rt, rt.alloc(), &service);
+    drop(service);
     targets(&rt, told, &[SERVER_2, SERVER_1, SERVER_11]);
 }
 
@@ -125,7 +127,10 @@ fn is_pass_ahead(told: &Result<Told, ServiceFault>) -> bool {
 fn a_pass_that_has_seen_more_is_refused(rt: HostRuntime) {
     let mut pass = pass_of_another(&rt, rt.alloc());
     let service = new_service(&rt, rt.alloc(), 1);
-    is_ahead(&rt, find(&rt, rt.alloc(), &service, &mut pass, BOB, &[]));
+    let told = find(&rt, rt.alloc(), &service, &mut pass, BOB, &[]);
+    drop(service);
+    drop(pass);
+    is_ahead(&rt, told);
 }
 
 // The claims of a journal of one hold with its own pass, and with that of another service as well.
@@ -163,8 +168,8 @@ fn gate_stops<R: Wait + Abort>(rt: &R, alloc: Global, service: &Service, pass: &
     );
 }
 
-fn is_stopped(rt: &impl Abort, refused: Result<u64, ServiceFault>) {
-    let is_so = matches!(&refused, Err(ServiceFault::Stopped));
+fn is_stopped(rt: &impl Abort, refused: Option<ServiceFault>) {
+    let is_so = matches!(&refused, Some(ServiceFault::Stopped));
     drop(refused);
     assert!(rt; is_so, "not stopped");
 }
@@ -173,16 +178,16 @@ fn is_stopped(rt: &impl Abort, refused: Result<u64, ServiceFault>) {
 fn stopped<R: Wait + Abort>(rt: &R, alloc: Global, service: &Service, pass: &mut Pass) {
     fails(rt, find(rt, alloc, service, pass, BOB, &[]), "L6");
     let edit = Edit::Add(record(rt, alloc, ADDRESS_11));
-    is_stopped(rt, service.edit(rt, pass, edit).map(|done| done.number));
-    is_stopped(rt, service.hold(rt, pass, &tcp(SERVER_1), 1));
-    is_stopped(rt, service.release(rt, pass, &tcp(SERVER_1)));
-    is_stopped(rt, service.advance(rt, pass, 1));
-    is_stopped(rt, service.repair(rt).map(|_| 0));
-    is_stopped(rt, service.turn_page(rt).map(|_| 0));
+    is_stopped(rt, service.edit(rt, pass, edit).err());
+    is_stopped(rt, service.hold(rt, pass, &tcp(SERVER_1), 1).err());
+    is_stopped(rt, service.release(rt, pass, &tcp(SERVER_1)).err());
+    is_stopped(rt, service.advance(rt, pass, 1).err());
+    is_stopped(rt, service.repair(rt).err());
+    is_stopped(rt, service.turn_page(rt).err());
     let question = question(rt, alloc, BOB);
     let found = service.deps(rt, &question);
     drop(question);
-    is_stopped(rt, found.map(|_| 0));
+    is_stopped(rt, found.err());
 }
 
 fn stops<R: Wait + Abort>(rt: &R, alloc: Global, service: &Service) -> usize {
@@ -212,6 +217,7 @@ fn is_current<R: Wait + Abort>(rt: &R, alloc: Global, service: &Service, pass: &
     drop(question);
     targets(rt, told, &[SERVER_1]);
     is_not_called(rt, &turns);
+    drop(turns);
 }
 
 fn is_not_called(rt: &impl Abort, turns: &Turns) {
@@ -259,4 +265,5 @@ fn has_nine_dependencies<R: Wait + Abort>(rt: &R, alloc: Global, service: &Servi
 fn a_repaired_entry_is_current(rt: HostRuntime) {
     let service = new_service(&rt, rt.alloc(), 1);
     repaired(&rt, rt.alloc(), &service);
+    drop(service);
 }

@@ -3,7 +3,7 @@
 use super::values::{ADDRESS_11, BOB, add, load_zone, new_service, question, record};
 use sipl_evidence::{Evidence, Item};
 use sipl_records::Data;
-use sipl_service::{Service, ServiceFault};
+use sipl_service::{Pass, Service, ServiceFault};
 use std::alloc::Global;
 use std::process::Abort;
 use std::sync::Wait;
@@ -92,11 +92,10 @@ fn are_found(
     }
 }
 
-fn before_and_after<R: Wait + Abort>(rt: &R, alloc: Global, service: &Service) {
-    let mut pass = service.pass();
-    load_zone(rt, alloc, service, &mut pass);
+fn before_and_after<R: Wait + Abort>(rt: &R, alloc: Global, service: &Service, pass: &mut Pass) {
+    load_zone(rt, alloc, service, pass);
     assert!(rt; has(rt, alloc, service, &LOADED), "other sets of the zone");
-    add(rt, alloc, service, &mut pass, ADDRESS_11);
+    add(rt, alloc, service, pass, ADDRESS_11);
     assert!(rt;
         has(rt, alloc, service, &EDITED),
         "other sets after the edit"
@@ -106,5 +105,8 @@ fn before_and_after<R: Wait + Abort>(rt: &R, alloc: Global, service: &Service) {
 #[test]
 fn dependencies_are_the_sets_with_their_numbers(rt: HostRuntime) {
     let service = new_service(&rt, rt.alloc(), 4);
-    before_and_after(&rt, rt.alloc(), &service);
+    let mut pass = service.pass();
+    before_and_after(&rt, rt.alloc(), &service, &mut pass);
+    drop(pass);
+    drop(service);
 }

@@ -48,10 +48,7 @@ fn load<R: Wait + Abort>(rt: &R, alloc: Global, service: &Service, pass: &mut Pa
 // Whether an answer is the wildcard's address; `None` where there is no address.
 fn is_wildcard(answer: &Answer) -> Option<bool> {
     match answer {
-        Answer::Targets(targets) => {
-            let is_one = targets.len() == 1;
-            Some(is_one && targets.iter().all(|target| *target == udp(0xC000_0209)))
-        }
+        Answer::Targets(targets) => { Some(targets.as_slice() == [udp(0xC000_0209)].as_slice()) }
         Answer::None(reason) => (*reason != Reason::NoAddress).then_some(false),
     }
 }
@@ -90,6 +87,7 @@ fn finds<R: Wait + Abort>(rt: &R, alloc: Global, service: &Service, uri: &[u8]) 
 fn two_callers<R: Threads + Wait + Abort + Sync>(rt: &R, alloc: Global, service: &Service) {
     let mut pass = service.pass();
     load(rt, alloc, service, &mut pass);
+    drop(pass);
     thread::join(
         rt,
         || finds(rt, alloc, service, FOO),
@@ -110,6 +108,7 @@ fn is_count(rt: &impl Abort, count: usize, expected: usize) {
 fn existence_has_no_versions(rt: HostRuntime) {
     let service = new_service(&rt, rt.alloc(), 4);
     two_callers(&rt, rt.alloc(), &service);
+    drop(service);
 }
 
 // The sets that the answer of `foo` depends on: of each its kind, whether it is a wildcard's, and how many
@@ -156,6 +155,7 @@ fn has_dependencies<R: Wait + Abort>(rt: &R, alloc: Global, service: &Service) -
 fn depends<R: Wait + Abort>(rt: &R, alloc: Global, service: &Service) {
     let mut pass = service.pass();
     load(rt, alloc, service, &mut pass);
+    drop(pass);
     assert!(rt; has_dependencies(rt, alloc, service), "other dependencies");
 }
 
@@ -163,6 +163,7 @@ fn depends<R: Wait + Abort>(rt: &R, alloc: Global, service: &Service) {
 fn an_answer_by_a_wildcard_depends_on_existence(rt: HostRuntime) {
     let service = new_service(&rt, rt.alloc(), 4);
     depends(&rt, rt.alloc(), &service);
+    drop(service);
 }
 
 // A lookup of `foo` whose gate adds a record below it at its fourth read, with so many tries.
@@ -192,6 +193,7 @@ fn contended<R: Wait + Abort>(
 fn a_lookup_is_refused_where_existence_changes_in_each_try(rt: HostRuntime) {
     let service = new_service(&rt, rt.alloc(), 1);
     let told = contended(&rt, rt.alloc(), &service);
+    drop(service);
     is_contended(&rt, rt.alloc(), told, b"foo.example.com. EXISTS");
 }
 
@@ -199,6 +201,7 @@ fn a_lookup_is_refused_where_existence_changes_in_each_try(rt: HostRuntime) {
 fn a_lookup_is_tried_again_where_existence_changes(rt: HostRuntime) {
     let service = new_service(&rt, rt.alloc(), 2);
     let told = contended(&rt, rt.alloc(), &service);
+    drop(service);
     gives_nothing(&rt, told);
 }
 
@@ -213,6 +216,7 @@ fn outdate<R: Wait + Abort>(rt: &R, alloc: Global, service: &Service, pass: &mut
 fn waits<R: Wait + Abort + Clock>(rt: &R, alloc: Global, service: &Service, turns: &Turns) {
     let mut pass = service.pass();
     outdate(rt, alloc, service, &mut pass);
+    drop(pass);
     let is_repaired = comes(rt, &turns.first_worker);
     service.stop(rt);
     assert!(rt; is_repaired, "no worker has repaired the entry");
@@ -225,12 +229,14 @@ fn repaired<R: Threads + Wait + Abort + Clock + Sync>(rt: &R, alloc: Global, ser
         || service.run_workers(rt, 1, &turns),
         || waits(rt, alloc, service, &turns),
     );
+    drop(turns);
 }
 
 #[test]
 fn workers_are_woken_where_existence_alone_changes(rt: HostRuntime) {
     let service = new_service(&rt, rt.alloc(), 4);
     repaired(&rt, rt.alloc(), &service);
+    drop(service);
 }
 
 fn is_asked_again<R: Wait + Abort>(rt: &R, alloc: Global, service: &Service) {
@@ -239,10 +245,12 @@ fn is_asked_again<R: Wait + Abort>(rt: &R, alloc: Global, service: &Service) {
     gives_nothing(rt, find(rt, alloc, service, &mut pass, FOO, &[]));
     // The other name is still answered by the wildcard.
     gives_wildcard(rt, find(rt, alloc, service, &mut pass, BAR, &[]));
+    drop(pass);
 }
 
 #[test]
 fn an_answer_is_outdated_where_existence_alone_changes(rt: HostRuntime) {
     let service = new_service(&rt, rt.alloc(), 4);
     is_asked_again(&rt, rt.alloc(), &service);
+    drop(service);
 }

@@ -33,16 +33,27 @@ fn answered<R: Wait>(rt: &R, alloc: Global) -> anyhow::Result<Answer> {
     let abilities = Abilities::new(vec![in alloc; Transport::Udp]?, Families::V4)?;
     let service = Service::new(alloc, abilities, &Limits::greatest(), 4, Held::Out)?;
     let (mut editor, mut caller) = (service.pass(), service.pass());
-    loads(rt, alloc, &service, &mut editor)?;
-    caller.meet(&mut editor);
-    let told = asks(rt, alloc, &service, &mut caller)?;
-    closes(alloc, service, vec![in alloc; editor, caller]?)?;
+    let answer = loads_and_asks(rt, alloc, &service, &mut editor, &mut caller);
+    closes(alloc, service, [editor, caller])?;
+    answer
+}
+
+fn loads_and_asks<R: Wait>(
+    rt: &R,
+    alloc: Global,
+    service: &Service,
+    editor: &mut Pass,
+    caller: &mut Pass,
+) -> anyhow::Result<Answer> {
+    loads(rt, alloc, service, editor)?;
+    caller.meet(editor);
+    let told = asks(rt, alloc, service, caller)?;
     Ok(told.into_answer())
 }
 
-fn closes(alloc: Global, service: Service, passes: Vec<Pass>) -> anyhow::Result<()> {
+fn closes(alloc: Global, service: Service, passes: [Pass; 2]) -> anyhow::Result<()> {
     if let Ok(page) = service.close() {
-        claim(alloc, &[page], passes.as_slice())?;
+        claim(alloc, &[page], &passes)?;
     }
     Ok(())
 }
@@ -74,10 +85,24 @@ fn claimed<R: Wait>(rt: &R, alloc: Global) -> anyhow::Result<u64> {
     let service = Service::new(alloc, abilities, &Limits::greatest(), 4, Held::Out)?;
     let mut ledger = Ledger::new(alloc);
     let mut passes = [service.pass()];
-    loads(rt, alloc, &service, &mut passes[0])?;
-    turns_a_page(rt, &service, &mut ledger, &mut passes)?;
-    asks(rt, alloc, &service, &mut passes[0])?;
-    turns_a_page(rt, &service, &mut ledger, &mut passes)?;
+    let next = claims_two_pages(rt, alloc, &service, &mut ledger, &mut passes);
+    drop(passes);
+    drop(ledger);
+    drop(service);
+    next
+}
+
+fn claims_two_pages<R: Wait>(
+    rt: &R,
+    alloc: Global,
+    service: &Service,
+    ledger: &mut Ledger,
+    passes: &mut [Pass; 1],
+) -> anyhow::Result<u64> {
+    loads(rt, alloc, service, &mut passes[0])?;
+    turns_a_page(rt, service, ledger, passes)?;
+    asks(rt, alloc, service, &mut passes[0])?;
+    turns_a_page(rt, service, ledger, passes)?;
     Ok(ledger.next())
 }
 

@@ -285,7 +285,14 @@ fn closed<R: Threads + Wait + Abort + Sync>(rt: &R, alloc: Global, seed: u64) ->
     let mut claims = claims.into_inner();
     keep(rt, &mut claims.pages, close(rt, service));
     all_is_claimed(rt, alloc, &mut claims, &mut passes, seed);
-    claims.pages
+    drop(passes);
+    pages_of(claims)
+}
+
+fn pages_of(claims: Claims) -> Vec<Page> {
+    let Claims { pages, ledger, .. } = claims;
+    drop(ledger);
+    pages
 }
 
 // ---- the replay

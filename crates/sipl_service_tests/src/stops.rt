@@ -24,7 +24,9 @@ fn lookup_until<R: Wait + Abort>(
 ) -> Result<Told, ServiceFault> {
     let draws = draws(rt, &[2, 0]);
     let question = question(rt, alloc, BOB);
-    let told = service.lookup(rt, pass, &question, &draws, &Stopping::new(at));
+    let gate = Stopping::new(at);
+    let told = service.lookup(rt, pass, &question, &draws, &gate);
+    drop(gate);
     drop(question);
     told
 }
@@ -121,6 +123,7 @@ fn worker_stops<R: Threads + Wait + Clock + Abort + Sync>(
         || service.run_workers(rt, 1, &gate),
         || waits(rt, alloc, service, &gate),
     );
+    drop(gate);
 }
 
 // The worker is stopped at this read. The zone, two answers and the removal are the events.
@@ -170,4 +173,5 @@ fn edits_while_stopped<R: Threads + Wait + Clock + Abort + Sync>(
 fn a_worker_that_was_stopped_does_not_miss_an_edit(rt: HostRuntime) {
     let service = new_service(&rt, rt.alloc(), 4);
     edits_while_stopped(&rt, rt.alloc(), &service);
+    drop(service);
 }

@@ -40,9 +40,7 @@ fn adds<R: Wait + Abort>(rt: &R, alloc: Global, service: &Service, mut pass: Pas
 // Whether an answer is 192.0.2.50 over UDP at port 5060.
 fn is_other(answer: &Answer) -> bool {
     match answer {
-        Answer::Targets(targets) => {
-            targets.len() == 1 && targets.iter().all(|target| *target == udp(0xC000_0232))
-        }
+        Answer::Targets(targets) => targets.as_slice() == [udp(0xC000_0232)].as_slice(),
         Answer::None(_) => false,
     }
 }
@@ -154,12 +152,14 @@ fn overtaken<R: Threads + Wait + Abort + Clock + Sync>(rt: &R, alloc: Global, se
         || held(rt, alloc, service, &gate),
         || answered(rt, alloc, service, &gate),
     );
+    drop(gate);
 }
 
 #[test]
 fn a_lookup_overtakes_one_that_is_held(rt: HostRuntime) {
     let service = new_service(&rt, rt.alloc(), 4);
     overtaken(&rt, rt.alloc(), &service);
+    drop(service);
 }
 
 // An entry becomes outdated.
@@ -184,6 +184,7 @@ fn repaired<R: Threads + Wait + Abort + Clock + Sync>(rt: &R, alloc: Global, ser
         || service.run_workers(rt, 1, &turns),
         || waits(rt, alloc, service, &turns),
     );
+    drop(turns);
 }
 
 #[test]
@@ -251,10 +252,12 @@ fn turns_and_reads<R: Wait + Abort>(rt: &R, alloc: Global, service: &Service) {
 fn versions_are_let_go_of_with_a_page(rt: HostRuntime) {
     let service = new_service(&rt, rt.alloc(), 4);
     turns_and_reads(&rt, rt.alloc(), &service);
+    drop(service);
 }
 
 #[test]
 fn sets_that_another_caller_read_are_not_read_again(rt: HostRuntime) {
     let service = new_service(&rt, rt.alloc(), 4);
     reads_twice(&rt, rt.alloc(), &service);
+    drop(service);
 }

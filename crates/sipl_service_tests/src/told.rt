@@ -1,6 +1,7 @@
 // What was told, drawn anew from its parts: the route of its question over its record sets, for its client,
 // and the targets of that by its words, its holds and its policy.
-ghost use Rattle.sipl_plans.specs.Runs.{IsSet};
+ghost use Rattle.std.specs.Prelude.{IsTrue};
+ghost use Rattle.sipl_plans.specs.Runs.{wanted, IsSet, IsWanted};
 
 use sipl_evidence::Item;
 use sipl_plans::{Answer, Finding, Run, draw};
@@ -8,16 +9,30 @@ use sipl_service::{ServiceFault, Told};
 use std::alloc::Global;
 use std::process::Abort;
 
+// Whether a run wants the set of the item's key.
+fn wants(run: &Run, item: &Item) -> bool
+    requires { IsSet item.now.key item.now.number item.now.content }
+    ensures { IsTrue result → IsWanted (wanted run.now) item.now.number item.now.content }
+{
+    run.wants() == Some(item.key())
+}
+
+fn give_copy(rt: &impl Abort, alloc: Global, run: &mut Run, item: &Item)
+    requires { IsWanted (wanted run.old) item.now.number item.now.content }
+{
+    let copy = item.dup(alloc).expect(rt, "out of memory");
+    run.give(alloc, copy.number(), copy.into_content())
+        .expect(rt, "out of memory");
+}
+
 // Gives a run the set that it wants. Whether the item is of the key that it wants.
 fn give(rt: &impl Abort, alloc: Global, run: &mut Run, item: &Item) -> bool
     requires { IsSet item.now.key item.now.number item.now.content }
 {
-    if run.wants() != Some(item.key()) {
+    if !wants(run, item) {
         return false;
     }
-    let copy = item.dup(alloc).expect(rt, "out of memory");
-    run.give(alloc, copy.number(), copy.into_content())
-        .expect(rt, "out of memory");
+    give_copy(rt, alloc, run, item);
     true
 }
 

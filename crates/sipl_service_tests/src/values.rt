@@ -252,17 +252,11 @@ pub(crate) fn fails(rt: &impl Abort, told: Result<Told, ServiceFault>, code: &st
 }
 
 pub(crate) fn turn_page<R: Wait + Abort>(rt: &R, service: &Service) -> Page {
-    match service.turn_page(rt) {
-        Ok(page) => page,
-        Err(_) => panic!(rt; "no page"),
-    }
+    service.turn_page(rt).expect(rt, "no page")
 }
 
 pub(crate) fn close(rt: &impl Abort, service: Service) -> Page {
-    match service.close() {
-        Ok(page) => page,
-        Err(_) => panic!(rt; "not closed"),
-    }
+    service.close().ok().expect(rt, "not closed")
 }
 
 // The number of events of a service of one page, which is closed.

@@ -83,4 +83,5 @@ fn are_found<R: Wait + Abort>(rt: &R, alloc: Global, versions: &Versions) {
 fn a_version_is_found_by_its_place_key_and_number(rt: HostRuntime) {
     let versions = Versions::new(rt.alloc()).expect(&rt, "out of memory");
     are_found(&rt, rt.alloc(), &versions);
+    drop(versions);
 }
