@@ -43,19 +43,31 @@ struct Played {
     text: Vec<u8>,
 }
 
-// Plays a script for a client of TCP and UDP, with at most `limit` reads.
-fn play(alloc: Global, reader: Pieces<'_>, writer: Paper, limit: u64) -> Result<Played, Fail> {
-    let settings = Settings::from_toml(alloc, "transports = [\"tcp\", \"udp\"]")?;
+// The settings of a client of TCP and UDP.
+fn client(alloc: Global) -> Result<Settings, Fail> {
+    Ok(Settings::from_toml(alloc, "transports = [\"tcp\", \"udp\"]")?)
+}
+
+// Plays a script for a client, with at most `limit` reads.
+fn play(
+    alloc: Global,
+    reader: Pieces<'_>,
+    writer: Paper,
+    settings: Settings,
+    limit: u64,
+) -> Played {
     let mut reader = Tapped::new(reader);
     let mut writer = Tapped::new(writer);
     let ended = play_script_within(alloc, &mut reader, &mut writer, settings, limit);
-    Ok(Played {
+    let (reads, read_failed, write_failed) = (reader.reads(), reader.failed(), writer.failed());
+    drop(reader);
+    Played {
         ended,
-        reads: reader.reads(),
-        read_failed: reader.failed(),
-        write_failed: writer.failed(),
+        reads,
+        read_failed,
+        write_failed,
         text: writer.into_inner().into_text(),
-    })
+    }
 }
 
 // Whether the script ended so after this many reads, of one octet each, with the replies to the lines
@@ -68,19 +80,32 @@ fn ended_after(played: &Played, ended: ServeFault, reads: u64, replies: &[u8]) -
         && played.text.as_slice() == replies
 }
 
-// Whether the script whose read of this number fails has the replies to the lines before, and whether
-// the same script does with so many reads at most.
-fn ends_at_read(alloc: Global, texts: &Texts, rows: &[Row], number: u64) -> Result<bool, Fail> {
+// Whether the script whose read of this number fails has the replies to the lines before.
+fn fails_at_read(alloc: Global, texts: &Texts, rows: &[Row], number: u64) -> Result<bool, Fail> {
+    let settings = client(alloc)?;
     let failing = Pieces::new(&texts.input, 1, number);
-    let failed = play(alloc, failing, Paper::blank(alloc), MAX_READS)?;
+    let played = play(alloc, failing, Paper::blank(alloc), settings, MAX_READS);
+    let replies = texts.replies_within(rows, number.saturating_sub(1));
+    let is_so = ended_after(&played, ServeFault::Read, number, replies);
+    drop(played);
+    Ok(is_so)
+}
+
+// Whether the same script with so many reads at most has the replies to the lines until then.
+fn stops_at_read(alloc: Global, texts: &Texts, rows: &[Row], number: u64) -> Result<bool, Fail> {
+    let settings = client(alloc)?;
     let whole = Pieces::new(&texts.input, 1, 0);
-    let limited = play(alloc, whole, Paper::blank(alloc), number)?;
-    let before = texts.replies_within(rows, number.saturating_sub(1));
-    let until = texts.replies_within(rows, number);
-    Ok(
-        ended_after(&failed, ServeFault::Read, number, before)
-            && ended_after(&limited, ServeFault::TooManyTurns, number, until),
-    )
+    let played = play(alloc, whole, Paper::blank(alloc), settings, number);
+    let replies = texts.replies_within(rows, number);
+    let is_so = ended_after(&played, ServeFault::TooManyTurns, number, replies);
+    drop(played);
+    Ok(is_so)
+}
+
+// Whether both hold at this read.
+fn ends_at_read(alloc: Global, texts: &Texts, rows: &[Row], number: u64) -> Result<bool, Fail> {
+    let fails = fails_at_read(alloc, texts, rows, number)?;
+    Ok(stops_at_read(alloc, texts, rows, number)? && fails)
 }
 
 fn ends_at_each_read(
@@ -107,16 +132,23 @@ fn ends_at_write(
     failing: Failing,
     number: u64,
 ) -> Result<bool, Fail> {
+    let settings = client(alloc)?;
     let writer = Paper::new(alloc, 1, failing, number);
-    let played = play(alloc, Pieces::new(&texts.input, 16, 0), writer, MAX_READS)?;
+    let reader = Pieces::new(&texts.input, 16, 0);
+    let played = play(alloc, reader, writer, settings, MAX_READS);
+    let is_so = failed_at_write(&played, number, &texts.replies);
+    drop(played);
+    Ok(is_so)
+}
+
+// Whether the script failed at this write, after a prefix of the replies.
+fn failed_at_write(played: &Played, number: u64, replies: &[u8]) -> bool {
     let text = played.text.as_slice();
-    Ok(
-        played.ended == Err(ServeFault::Write)
-            && played.write_failed
-            && !played.read_failed
-            && text.len() as u64 == number.saturating_sub(1)
-            && texts.replies.starts_with(text),
-    )
+    played.ended == Err(ServeFault::Write)
+        && played.write_failed
+        && !played.read_failed
+        && text.len() as u64 == number.saturating_sub(1)
+        && replies.starts_with(text)
 }
 
 fn ends_at_each_write(
@@ -137,14 +169,20 @@ fn ends_at_each_write(
 
 // Whether the script, one octet at a time, ends with its input, and has all replies.
 fn is_played(alloc: Global, texts: &Texts) -> Result<bool, Fail> {
+    let settings = client(alloc)?;
     let reader = Pieces::new(&texts.input, 1, 0);
-    let played = play(alloc, reader, Paper::blank(alloc), MAX_READS)?;
-    Ok(
-        played.ended == Ok(Ended::EndOfInput)
-            && !played.read_failed
-            && !played.write_failed
-            && played.text.as_slice() == texts.replies.as_slice(),
-    )
+    let played = play(alloc, reader, Paper::blank(alloc), settings, MAX_READS);
+    let is_so = ended_well(&played, &texts.replies);
+    drop(played);
+    Ok(is_so)
+}
+
+// Whether the script ended with its input, and with these replies.
+fn ended_well(played: &Played, replies: &[u8]) -> bool {
+    played.ended == Ok(Ended::EndOfInput)
+        && !played.read_failed
+        && !played.write_failed
+        && played.text.as_slice() == replies
 }
 
 fn ends_everywhere(
@@ -161,7 +199,9 @@ fn ends_everywhere(
 
 fn ends_on(rt: &impl Abort, alloc: Global, rows: &[Row]) -> Result<(), Fail> {
     let texts = Texts::new(alloc, rows)?;
-    ends_everywhere(rt, alloc, &texts, rows)
+    let has_ended = ends_everywhere(rt, alloc, &texts, rows);
+    drop(texts);
+    has_ended
 }
 
 #[test]
