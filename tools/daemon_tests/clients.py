@@ -249,11 +249,12 @@ def gives_up_a_client_that_takes_its_replies_slowly(checks: Checks, folder: path
 
     unix = f"unix:{folder}/s"
     with started(checks, folder, "journal = 10000", unix=unix) as daemon:
-        # They have thirty seconds, and then writes of a second: over TCP ten of these, of which each sends a part of
-        # some megabytes; at a Unix socket one, which sends nothing, since the system frees some kilobytes at a time.
-        with concurrent.futures.ThreadPoolExecutor(2) as pool:
+        # They have thirty seconds. Over TCP the system takes some megabytes more meanwhile. At a Unix socket it frees
+        # some kilobytes at a time: the last client gets none, and so takes nothing.
+        with concurrent.futures.ThreadPoolExecutor(3) as pool:
             works = {"over TCP": (75, pool.submit(use, daemon.address, 4, 4_096, 0.2)),
-                     "at a Unix socket": (30, pool.submit(use, unix, 1, 100, 1))}
+                     "at a Unix socket": (30, pool.submit(use, unix, 4, 4_096, 0.2)),
+                     "of a Unix socket's nothing": (30, pool.submit(use, unix, 1, 100, 1))}
         for name, (most, work) in works.items():
             least, seen = work.result()
             checks.expect(least >= 30, f"ended after {least:.1f} seconds {name}")

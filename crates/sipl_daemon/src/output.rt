@@ -1,19 +1,19 @@
 //! A client's stream as the writer of its session.
+ghost use Rattle.std.specs.Io.{WritesAtMost};
+
 use crate::daemon::Daemon;
 use crate::stream::Stream;
 use std::io;
 use std::io::{ErrorKind, Write};
 use std::sync::Wait;
 use std::sync::atomic::{AtomicU64, Ordering};
-use std::time::Duration;
+use std::time::{Clock, Duration, Instant};
 
-// For how many milliseconds a client may take no reply.
+// For how many milliseconds a client may take no reply, and then not all replies to one read.
 const WRITE: u64 = 30_000;
 
-// The same for one that has just taken so long, and how often in a row.
-const LATE: u64 = 1_000;
-
-const MAX_LATE: u64 = 10;
+// The most octets of one write. A Unix socket waits for so long for each 36 KB or so.
+const PIECE: usize = 32_768;
 
 /// A client's stream as a writer: a reply is sent once the changes before it are in their file.
 #[derive(Drop)]
@@ -22,11 +22,11 @@ pub(crate) struct Output<'a, R> {
     daemon: &'a Daemon,
     stream: &'a Stream,
     place: &'a AtomicU64,
-    // How many writes in a row have waited for as long as they may, and sent a part.
-    late: u64,
+    // Since when the client is given the replies to one read, of which it has not taken all.
+    since: Option<Instant>,
 }
 
-impl<'a, R: Wait> Output<'a, R> {
+impl<'a, R: Wait + Clock> Output<'a, R> {
     /// The writer of a session, whose last change ends at this place in the file of changes.
     pub(crate) fn new(
         rt: &'a R,
@@ -39,7 +39,7 @@ impl<'a, R: Wait> Output<'a, R> {
             daemon,
             stream,
             place,
-            late: 0,
+            since: None,
         }
     }
 
@@ -55,38 +55,44 @@ impl<'a, R: Wait> Output<'a, R> {
         synced
     }
 
-    // Counts a write that was late, and sets how long the next one may wait. A client that takes its replies
-    // too slowly is given up: its receipts wait for it, and all pages for them.
-    fn count_late(&mut self, is_late: bool) -> io::Result<()> {
-        let before = self.late;
-        self.late = if is_late { before.saturating_add(1) } else { 0 };
-        if self.late > MAX_LATE {
-            return Err(io::Error::from(ErrorKind::TimedOut));
+    // Writes a piece of the octets. How many octets were taken.
+    fn write_piece(&self, buf: &[u8]) -> io::Result<usize>
+        ensures { WritesAtMost result buf.now }
+    {
+        let mut stream = self.stream;
+        stream.write(&buf[..buf.len().min(PIECE)])
+    }
+
+    // Gives a client up that takes the replies to one read too slowly: its receipts wait for it, and all
+    // pages for them. Where the clock of the machine can't be read it has time.
+    fn give_up_if_late(&self, since: Instant) -> io::Result<()> {
+        match since.elapsed(self.rt) {
+            Ok(passed) if passed >= Duration::from_millis(WRITE) => {
+                Err(io::Error::from(ErrorKind::TimedOut))
+            }
+            _ => Ok(()),
         }
-        if is_late == (before > 0) {
-            return Ok(());
-        }
-        set_timeouts(self.daemon, self.stream, if is_late { LATE } else { WRITE })
     }
 }
 
 /// Sets how long the client of a session that begins may send nothing, or take no reply.
 pub(crate) fn set_patience(daemon: &Daemon, stream: &Stream) -> io::Result<()> {
-    set_timeouts(daemon, stream, WRITE)
-}
-
-// Sets how long a client may send nothing, and for how many milliseconds it may take no reply.
-fn set_timeouts(daemon: &Daemon, stream: &Stream, write: u64) -> io::Result<()> {
     let idle = daemon.idle.map(Duration::from_secs);
-    stream.set_timeouts(idle, Some(Duration::from_millis(write)))
+    stream.set_timeouts(idle, Some(Duration::from_millis(WRITE)))
 }
 
-impl<R: Wait> Write for Output<'_, R> {
+impl<R: Wait + Clock> Write for Output<'_, R> {
     fn write(&mut self, buf: &[u8]) -> io::Result<usize> {
         self.sync()?;
-        let mut stream = self.stream;
-        let count = stream.write(buf)?;
-        self.count_late(count < buf.len())?;
+        let since = match self.since {
+            Some(since) => Some(since),
+            None => Instant::now(self.rt).ok(),
+        };
+        let count = self.write_piece(buf)?;
+        self.since = if count < buf.len() { since } else { None };
+        if let Some(since) = self.since {
+            self.give_up_if_late(since)?;
+        }
         Ok(count)
     }
 

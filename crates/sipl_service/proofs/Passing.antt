@@ -1,5 +1,5 @@
 -- A pass after an accepted call.
-use Rattle.std.proofs.Common.{◌≡◌, ◌<◌, ◌≤◌, ◌+◌, ℕ, List, [], ◌∷◌, ◌++◌, sym, ap, subst, ◌∙◌, arith}
+use Rattle.std.proofs.Common.{◌≡◌, ◌<◌, ◌≤◌, ◌+◌, ℕ, List, [], ◌∷◌, ◌++◌, sym, subst, arith}
 use Rattle.std.proofs.lemmas.List.Elements.{All-push}
 use Rattle.std.proofs.lemmas.List.Quantifiers.{all_pairs_push}
 use Rattle.sipl_book.specs.declared.event.Event.{Event}
@@ -17,10 +17,9 @@ passed pass number event h front =
       seen = All-push (λ (a : Receipt). a.number < number + 1) pass.receipts r (λ k d less. let seen = h.seen k d less in omega arith) (omega arith);
     }
 
--- the same of its parts
-pub passed-with : (pass : PassState) (receipts : List Receipt) (front number : ℕ) (event : Event) (receipt : Receipt) → IsPass pass → pass.front ≤ number
-    → receipts ≡ pass.receipts ++ receipt ∷ [] → receipt ≡ receipt_of number event → front ≡ number + 1 → IsPass (record { receipts = receipts; front = front })
-passed-with pass receipts front number event receipt h seen list is past =
-    let new : record { receipts = receipts; front = front } ≡ with_receipt pass number event =
-    λ i. record { receipts = (list ∙ ap (λ r. pass.receipts ++ r ∷ []) is) i; front = past i } in
-    subst IsPass (sym new) (passed pass number event h seen)
+-- the same of its parts, with the receipt that is added
+pub passed-with : (pass : PassState) (receipts : List Receipt) (front : ℕ) (receipt : Receipt) → IsPass pass → pass.front ≤ receipt.number
+    → receipts ≡ pass.receipts ++ receipt ∷ [] → front ≡ receipt.number + 1 → IsPass (record { receipts = receipts; front = front })
+passed-with pass receipts front receipt h seen list past =
+    let new : record { receipts = receipts; front = front } ≡ with_receipt pass receipt.number receipt.event = λ i. record { receipts = list i; front = past i } in
+    subst IsPass (sym new) (passed pass receipt.number receipt.event h seen)

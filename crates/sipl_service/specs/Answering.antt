@@ -1,5 +1,5 @@
 -- What a call under the lock is given, and what it gives.
-use Rattle.std.specs.Prelude.{◌≡◌, ℕ, ◌+◌}
+use Rattle.std.specs.Prelude.{◌≡◌, ℕ}
 use Rattle.sipl_outages.specs.Holds.{no_holds}
 use Rattle.sipl_plans.specs.Findings.{Found}
 use Rattle.sipl_plans.specs.Plan.{draw}
@@ -9,13 +9,12 @@ use Rattle.sipl_service.specs.Telling.{IsAnswerTo, event_of}
 use Rattle.sipl_service.specs.declared.answered.Answered.{Answered}
 use Rattle.sipl_service.specs.declared.asked.Asked.{Asked}
 
--- what a call records in a book whose next event has this number: an answer to what is asked, its
--- receipt, and the front of a caller who has seen it
+-- what a call records in a book whose next event has this number: an answer to what is asked, and its
+-- receipt
 pub record Records (request : Asked) (next : ℕ) (answered : Answered) : Type 0 where
   pub asked : IsAnswerTo request answered.told
   pub number : answered.told.number ≡ next
   pub receipt : answered.receipt ≡ receipt_of next (event_of answered.told)
-  pub front : answered.front ≡ next + 1
 
 -- what is asked is a finding's question, for its client, and this is its answer where nothing is held
 pub record IsDrawnFor (found : Found) (request : Asked) (answer : Answer) : Type 0 where

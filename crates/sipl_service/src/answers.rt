@@ -1,7 +1,7 @@
 // The answers that the book under the lock records: that of a current entry, and that of a finding, which
 // is committed. Copies of a question, of random words and of an answer share what they have, and are made
 // there.
-ghost use Rattle.std.specs.Prelude.{◌≡◌, ◌≢◌, ◌⊎◌, ℕ, ◌<◌, ◌≤◌, ◌++◌, [], ◌∷◌, length, false, true, None, Some, Ok, IfOk, IfErr, OnOk, OnErr};
+ghost use Rattle.std.specs.Prelude.{◌≡◌, ◌≢◌, ◌⊎◌, ◌^◌, ℕ, ◌<◌, ◌≤◌, ◌++◌, [], ◌∷◌, length, false, true, None, Some, Ok, IfOk, IfErr, OnOk, OnErr};
 ghost use Rattle.std.specs.Arc.{arc_value};
 ghost use Rattle.sipl_outages.specs.Holds.{no_holds};
 ghost use Rattle.sipl_plans.specs.Findings.{IsSound};
@@ -38,6 +38,7 @@ pub(crate) fn hand(
 ) -> Result<Answered, ServiceFault>
     requires words { words.now ≡ asked.draws }
     ensures front { OnOk result (pass.now.front ≤ next_event book.old) }
+    ensures limit { OnOk result (next_event book.old ≤ 2 ^ 52) }
     ensures answered { IfOk result (λ answered. Records asked (next_event book.old) answered) }
     ensures handed { IfOk result (λ answered. IsHanded asked.question asked.draws book.old book.new
         (Ok (record { number = answered.told.number; answer = answered.told.answer }))) }
@@ -55,7 +56,6 @@ pub(crate) fn hand(
     Ok(Answered {
         told,
         receipt,
-        front: book.next_event(),
         released: None,
     })
 }
@@ -170,6 +170,7 @@ pub(crate) fn commit(
     requires drawn { IsDrawnFor finding asked drawn }
     requires sound { IsSound finding }
     ensures front { OnOk result (pass.now.front ≤ next_event book.old) }
+    ensures limit { OnOk result (next_event book.old ≤ 2 ^ 52) }
     ensures answered { IfOk result (λ answered. Records asked (next_event book.old) answered) }
     ensures journal { IfOk result
         (λ answered. book.new.journal ≡ book.old.journal ++ event_of answered.told ∷ []) }
@@ -191,7 +192,6 @@ pub(crate) fn commit(
         Ok(committed) => Ok(Answered {
             receipt: receipt.into_receipt(told.number()),
             told,
-            front: book.next_event(),
             released: committed.released,
         }),
         Err(uncommitted) => Err(fault_of(alloc, uncommitted)),
@@ -211,6 +211,7 @@ fn tell_finding(
     requires drawn { IsDrawnFor finding.now asked drawn }
     requires sound { IsSound finding.now }
     ensures front { OnOk result (pass.now.front ≤ next_event book.old) }
+    ensures limit { OnOk result (next_event book.old ≤ 2 ^ 52) }
     ensures told { IfOk result (λ told. told ≡ told_to asked (next_event book.old)
         (draw finding.now.layout book.old.board.holds asked.draws asked.held)
         finding.now.items book.old.board) }

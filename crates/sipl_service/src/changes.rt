@@ -1,17 +1,16 @@
-// What a change does to the book that the lock lends it, and to the caller's pass. What was allocated
-// before the lock was taken is passed in.
-ghost use Rattle.std.specs.Prelude.{◌≡◌, ◌≢◌, ◌^◌, ◌<◌, ◌≤◌, ◌++◌, [], ◌∷◌, vec_len, vec_capacity, None, Some, Ok, IfOk, IfErr, OnOk, OnErr};
+// What a change does to the book that the lock lends it, and the receipt for it, whose caller has space for it.
+ghost use Rattle.std.specs.Prelude.{◌≡◌, ◌≢◌, ◌^◌, ◌-◌, ◌≤◌, length, slice_get, None, Some, Ok, IfOk, IfErr, IfSome, OnOk, OnErr};
 ghost use Rattle.sipl_outages.specs.Holds.BoardEvent.{Hold, Release, Advance};
 ghost use Rattle.sipl_book.specs.Calls.{IsChanged, MovesBoard, board_refusal, change_refusal};
-ghost use Rattle.sipl_service.specs.Passes.{GetsReceipt, receipt_of};
 ghost use Rattle.sipl_service.specs.Refusals.{change_fault, unless_ahead};
 
 use crate::checks::next_number;
 use crate::fault::ServiceFault;
 use crate::pass::Pass;
 use crate::receipt::Receipt;
-use sipl_book::{Book, BookFault, Done, Edit, Event};
+use sipl_book::{Book, Done, Edit, Event};
 use sipl_choice::Endpoint;
+use std::alloc::Global;
 
 // An edit that is to be made, and the receipt for it, which gets its number then.
 #[derive(Drop)]
@@ -20,121 +19,145 @@ pub(crate) struct NewEdit {
     pub receipt: Receipt,
 }
 
+// An edit that was made, the receipt for it, and where it loads a zone a copy of its event, which shares the
+// records of an earlier load.
+#[derive(Drop)]
+pub(crate) struct Edited {
+    pub done: Done,
+    pub receipt: Receipt,
+    pub load: Option<Event>,
+}
+
+impl Edited {
+    // The receipt. That of a load shares the records of its event; then its own are dropped.
+    pub fn into_receipt(self) -> Receipt
+        requires { IfSome self.load (λ event. event ≡ self.receipt.event) }
+        ensures { result ≡ self.receipt }
+    {
+        let Edited {
+            mut receipt,
+            load,
+            ..
+        } = self;
+        if let Some(event) = load {
+            receipt.event = event;
+        }
+        receipt
+    }
+}
+
 // Edits the zones. The receipt has a copy of the edit.
 pub(crate) fn change(
+    alloc: Global,
     book: &mut Book,
-    pass: &mut Pass,
+    pass: &Pass,
     new: Box<NewEdit>,
-) -> Result<Done, ServiceFault>
+) -> Result<Edited, ServiceFault>
     requires { new.value.receipt.event ≡ Event.Change new.value.edit }
-    ensures receipt { GetsReceipt (λ done. done.number) (λ done. new.value.receipt.event)
-        pass.old pass.new result }
-    ensures changed { IfOk result (λ done. IsChanged new.value.edit book.old book.new (Ok done)) }
+    ensures number { IfOk result (λ edited. edited.receipt.number ≡ edited.done.number) }
+    ensures event { IfOk result (λ edited. edited.receipt.event ≡ Event.Change new.value.edit) }
+    ensures load { IfOk result
+        (λ edited. IfSome edited.load (λ event. event ≡ edited.receipt.event)) }
+    ensures front { IfOk result (λ edited. pass.now.front ≤ edited.done.number) }
+    ensures limit { IfOk result (λ edited. edited.done.number ≤ 2 ^ 52) }
+    ensures changed { IfOk result
+        (λ edited. IsChanged new.value.edit book.old book.new (Ok edited.done)) }
     ensures refused { IfErr result (λ fault. fault ≢ ServiceFault.Memory
-        → change_fault pass.old book.old (change_refusal new.value.edit book.old) ≡ Some fault) }
+        → change_fault pass.now book.old (change_refusal new.value.edit book.old) ≡ Some fault) }
     ensures memory { IfErr result (λ fault. fault ≡ ServiceFault.Memory
-        → unless_ahead pass.old book.old None ≡ None) }
+        → unless_ahead pass.now book.old None ≡ None) }
     ensures unchanged { OnErr result (book.new ≡ book.old) }
 {
     next_number(book, pass)?;
-    pass.receipts.reserve(1)?;
-    let NewEdit { edit, receipt } = Box::into_inner(new);
-    let done = make_change(book, &mut pass.receipts, edit, receipt)?;
-    pass.front = book.next_event();
-    Ok(done)
-}
-
-// Edits the zones, and adds the receipt, for which there is space.
-fn make_change(
-    book: &mut Book,
-    receipts: &mut Vec<Receipt>,
-    edit: Edit,
-    mut receipt: Receipt,
-) -> Result<Done, BookFault>
-    requires { vec_len receipts.old < vec_capacity receipts.old }
-    ensures changed { IsChanged edit book.old book.new result }
-    ensures receipt { IfOk result (λ done. receipts.new.items
-        ≡ receipts.old.items ++ receipt_of done.number receipt.event ∷ []) }
-    ensures none { OnErr result (receipts.new ≡ receipts.old) }
-{
+    let NewEdit { edit, mut receipt } = Box::into_inner(new);
     let done = book.change(edit)?;
     receipt.number = done.number;
-    receipts.push_reserved(receipt);
-    Ok(done)
+    let load = dup_load(alloc, book);
+    Ok(Edited {
+        done,
+        receipt,
+        load,
+    })
+}
+
+// A copy of the last event, where it loads a zone and the copy can be had.
+fn dup_load(alloc: Global, book: &Book) -> Option<Event>
+    ensures { IfSome result
+        (λ event. slice_get book.now.journal (length book.now.journal - 1) ≡ Some event) }
+{
+    let event = book.journal().last()?;
+    match event {
+        Event::Change(Edit::Load(_)) => event.dup(alloc).ok(),
+        _ => None,
+    }
 }
 
 // Holds an endpoint for some milliseconds from now.
 pub(crate) fn hold(
     book: &mut Book,
-    pass: &mut Pass,
+    pass: &Pass,
     endpoint: &Endpoint,
     ms: u64,
-) -> Result<u64, ServiceFault>
-    ensures receipt { GetsReceipt (λ number. number) (λ number. Event.Hold endpoint.now ms)
-        pass.old pass.new result }
+) -> Result<Receipt, ServiceFault>
+    ensures event { IfOk result (λ receipt. receipt.event ≡ Event.Hold endpoint.now ms) }
+    ensures front { IfOk result (λ receipt. pass.now.front ≤ receipt.number) }
+    ensures limit { IfOk result (λ receipt. receipt.number ≤ 2 ^ 52) }
     ensures moved { IfOk result
-        (λ number. MovesBoard (Hold endpoint.now ms) book.old book.new (Ok number)) }
+        (λ receipt. MovesBoard (Hold endpoint.now ms) book.old book.new (Ok receipt.number)) }
     ensures store { book.new.store ≡ book.old.store }
     ensures refused { IfErr result (λ fault. fault ≢ ServiceFault.Memory
-        → change_fault pass.old book.old (board_refusal (Hold endpoint.now ms) book.old) ≡ Some fault) }
+        → change_fault pass.now book.old (board_refusal (Hold endpoint.now ms) book.old) ≡ Some fault) }
     ensures memory { IfErr result (λ fault. fault ≡ ServiceFault.Memory
-        → unless_ahead pass.old book.old None ≡ None) }
+        → unless_ahead pass.now book.old None ≡ None) }
     ensures unchanged { OnErr result (book.new ≡ book.old) }
 {
     next_number(book, pass)?;
-    pass.receipts.reserve(1)?;
     let number = book.hold(endpoint, ms)?;
     let event = Event::Hold(*endpoint, ms);
-    pass.receipts.push_reserved(Receipt { number, event });
-    pass.front = book.next_event();
-    Ok(number)
+    Ok(Receipt { number, event })
 }
 
 // Ends the hold of an endpoint.
 pub(crate) fn release(
     book: &mut Book,
-    pass: &mut Pass,
+    pass: &Pass,
     endpoint: &Endpoint,
-) -> Result<u64, ServiceFault>
-    ensures receipt { GetsReceipt (λ number. number) (λ number. Event.Release endpoint.now)
-        pass.old pass.new result }
+) -> Result<Receipt, ServiceFault>
+    ensures event { IfOk result (λ receipt. receipt.event ≡ Event.Release endpoint.now) }
+    ensures front { IfOk result (λ receipt. pass.now.front ≤ receipt.number) }
+    ensures limit { IfOk result (λ receipt. receipt.number ≤ 2 ^ 52) }
     ensures moved { IfOk result
-        (λ number. MovesBoard (Release endpoint.now) book.old book.new (Ok number)) }
+        (λ receipt. MovesBoard (Release endpoint.now) book.old book.new (Ok receipt.number)) }
     ensures store { book.new.store ≡ book.old.store }
     ensures refused { IfErr result (λ fault. fault ≢ ServiceFault.Memory
-        → change_fault pass.old book.old (board_refusal (Release endpoint.now) book.old) ≡ Some fault) }
+        → change_fault pass.now book.old (board_refusal (Release endpoint.now) book.old) ≡ Some fault) }
     ensures memory { IfErr result (λ fault. fault ≡ ServiceFault.Memory
-        → unless_ahead pass.old book.old None ≡ None) }
+        → unless_ahead pass.now book.old None ≡ None) }
     ensures unchanged { OnErr result (book.new ≡ book.old) }
 {
     next_number(book, pass)?;
-    pass.receipts.reserve(1)?;
     let number = book.release(endpoint)?;
     let event = Event::Release(*endpoint);
-    pass.receipts.push_reserved(Receipt { number, event });
-    pass.front = book.next_event();
-    Ok(number)
+    Ok(Receipt { number, event })
 }
 
 // Sets the time.
-pub(crate) fn advance(book: &mut Book, pass: &mut Pass, to: u64) -> Result<u64, ServiceFault>
-    ensures receipt { GetsReceipt (λ number. number) (λ number. Event.Advance to)
-        pass.old pass.new result }
+pub(crate) fn advance(book: &mut Book, pass: &Pass, to: u64) -> Result<Receipt, ServiceFault>
+    ensures event { IfOk result (λ receipt. receipt.event ≡ Event.Advance to) }
+    ensures front { IfOk result (λ receipt. pass.now.front ≤ receipt.number) }
+    ensures limit { IfOk result (λ receipt. receipt.number ≤ 2 ^ 52) }
     ensures moved { IfOk result
-        (λ number. MovesBoard (Advance to) book.old book.new (Ok number)) }
+        (λ receipt. MovesBoard (Advance to) book.old book.new (Ok receipt.number)) }
     ensures store { book.new.store ≡ book.old.store }
-    ensures limit { OnOk result (to ≤ 2 ^ 52) }
+    ensures time { OnOk result (to ≤ 2 ^ 52) }
     ensures refused { IfErr result (λ fault. fault ≢ ServiceFault.Memory
-        → change_fault pass.old book.old (board_refusal (Advance to) book.old) ≡ Some fault) }
+        → change_fault pass.now book.old (board_refusal (Advance to) book.old) ≡ Some fault) }
     ensures memory { IfErr result (λ fault. fault ≡ ServiceFault.Memory
-        → unless_ahead pass.old book.old None ≡ None) }
+        → unless_ahead pass.now book.old None ≡ None) }
     ensures unchanged { OnErr result (book.new ≡ book.old) }
 {
     next_number(book, pass)?;
-    pass.receipts.reserve(1)?;
     let number = book.advance(to)?;
     let event = Event::Advance(to);
-    pass.receipts.push_reserved(Receipt { number, event });
-    pass.front = book.next_event();
-    Ok(number)
+    Ok(Receipt { number, event })
 }

@@ -1,5 +1,5 @@
 // Whether a call may record an event, by the book and its caller's pass.
-ghost use Rattle.std.specs.Prelude.{◌≡◌, ◌≢◌, ◌≤◌, None, Some, false, IfOk, IfErr, OnOk};
+ghost use Rattle.std.specs.Prelude.{◌≡◌, ◌≢◌, ◌≤◌, ◌^◌, None, Some, false, IfOk, IfErr, OnOk};
 ghost use Rattle.sipl_book.specs.Book.{next_event};
 ghost use Rattle.sipl_book.specs.Calls.{is_full};
 ghost use Rattle.sipl_service.specs.Refusals.{early_fault, is_for, unless_ahead, unless_other};
@@ -14,6 +14,7 @@ use sipl_outages::Held;
 pub(crate) fn next_number(book: &Book, pass: &Pass) -> Result<u64, ServiceFault>
     ensures number { IfOk result (λ number. number ≡ next_event book.now) }
     ensures front { OnOk result (pass.now.front ≤ next_event book.now) }
+    ensures limit { OnOk result (next_event book.now ≤ 2 ^ 52) }
     ensures accepted { OnOk result (unless_ahead pass.now book.now None ≡ None) }
     ensures ahead { IfErr result
         (λ fault. unless_ahead pass.now book.now None ≡ Some fault) }
@@ -63,6 +64,7 @@ pub(crate) fn next_answer(
 ) -> Result<u64, ServiceFault>
     ensures number { IfOk result (λ number. number ≡ next_event book.now) }
     ensures front { OnOk result (pass.now.front ≤ next_event book.now) }
+    ensures limit { OnOk result (next_event book.now ≤ 2 ^ 52) }
     ensures same { OnOk result (book.now.client ≡ abilities.now) }
     ensures held { OnOk result (book.now.held ≡ held) }
     ensures space { OnOk result (is_full book.now ≡ false) }

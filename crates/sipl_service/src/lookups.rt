@@ -13,7 +13,7 @@ use crate::asked::Asked;
 use crate::fault::ServiceFault;
 use crate::gate::{Gate, Go, OpenGate, Who};
 use crate::marks::Mark;
-use crate::pass::Pass;
+use crate::pass::{Pass, add_receipt};
 use crate::service::Service;
 use crate::told::Told;
 use crate::versions::Versions;
@@ -82,8 +82,7 @@ impl Service {
         }
         let answered = answers::hand(self.alloc, &mut shared.book, pass, asked, &words)?;
         drop(shared);
-        pass.receipts.push_reserved(answered.receipt);
-        pass.front = answered.front;
+        add_receipt(&mut pass.receipts, &mut pass.front, answered.receipt);
         Ok(answered.told)
     }
 
@@ -127,8 +126,7 @@ impl Service {
         let book = &mut shared.book;
         let answered = answers::commit(self.alloc, book, pass, asked, &words, drawn, finding)?;
         drop(shared);
-        pass.receipts.push_reserved(answered.receipt);
-        pass.front = answered.front;
+        add_receipt(&mut pass.receipts, &mut pass.front, answered.receipt);
         Ok(answered.told)
     }
 

@@ -1,8 +1,8 @@
-ghost use Rattle.std.specs.Prelude.{◌≡◌, [], max};
+ghost use Rattle.std.specs.Prelude.{◌≡◌, ◌<◌, ◌≤◌, ◌+◌, ◌^◌, ◌++◌, ◌∷◌, [], max, vec_len, vec_capacity};
 
 use crate::receipt::Receipt;
 use crate::receipts::Receipts;
-use std::alloc::{AllocError, Global};
+use std::alloc::Global;
 use std::marker::Model;
 use std::mem;
 
@@ -63,13 +63,6 @@ impl Pass {
         Receipts::from_vec(mem::replace(&mut self.receipts, Vec::new(self.alloc)))
     }
 
-    // Reserves the space of one more receipt.
-    pub(crate) fn reserve(&mut self) -> Result<(), AllocError>
-        ensures { self.new ≡ self.old }
-    {
-        self.receipts.reserve(1)
-    }
-
     /// Two callers meet: both have then seen what one of them had. Does not allocate.
     pub fn meet(&mut self, other: &mut Pass)
         ensures own { self.new ≡ record {
@@ -85,4 +78,19 @@ impl Pass {
         self.front = front;
         other.front = front;
     }
+}
+
+// Adds the receipt of a call, for which there is space, to those of its caller, who has then seen the event.
+// Returns its number.
+pub(crate) fn add_receipt(receipts: &mut Vec<Receipt>, front: &mut u64, receipt: Receipt) -> u64
+    requires space { vec_len receipts.old < vec_capacity receipts.old }
+    requires limit { receipt.number ≤ 2 ^ 52 }
+    ensures number { result ≡ receipt.number }
+    ensures receipts { receipts.new.items ≡ receipts.old.items ++ receipt ∷ [] }
+    ensures front { front.new ≡ receipt.number + 1 }
+{
+    let number = receipt.number;
+    receipts.push_reserved(receipt);
+    *front = number + 1;
+    number
 }

@@ -7,7 +7,7 @@ use crate::changes;
 use crate::changes::NewEdit;
 use crate::checks::is_for;
 use crate::fault::ServiceFault;
-use crate::pass::Pass;
+use crate::pass::{Pass, add_receipt};
 use crate::receipt::Receipt;
 use crate::shared::{Shared, new_versions};
 use crossbeam_utils::CachePadded;
@@ -166,17 +166,19 @@ impl Service {
     {
         let new = new_edit(self.alloc, edit)?;
         let key = edited_key(self.alloc, &new.edit)?;
-        pass.reserve()?;
+        pass.receipts.reserve(1)?;
         let mut shared = self.lock(rt);
         if shared.is_stopped {
             return Err(ServiceFault::Stopped);
         }
-        let done = shared.change(pass, new, key.as_ref())?;
+        let edited = shared.change(self.alloc, pass, new, key.as_ref())?;
         let is_queued = shared.book.queued() > 0;
         drop(shared);
         if is_queued {
             self.woken.notify_all();
         }
+        let done = edited.done;
+        add_receipt(&mut pass.receipts, &mut pass.front, edited.into_receipt());
         Ok(done)
     }
 
@@ -194,12 +196,14 @@ impl Service {
         ensures { GetsReceipt (λ number. number) (λ number. Event.Hold endpoint.now ms)
             pass.old pass.new result }
     {
-        pass.reserve()?;
+        pass.receipts.reserve(1)?;
         let mut shared = self.lock(rt);
         if shared.is_stopped {
             return Err(ServiceFault::Stopped);
         }
-        changes::hold(&mut shared.book, pass, endpoint, ms)
+        let receipt = changes::hold(&mut shared.book, pass, endpoint, ms)?;
+        drop(shared);
+        Ok(add_receipt(&mut pass.receipts, &mut pass.front, receipt))
     }
 
     /// Ends the hold of an endpoint. Returns the event's number.
@@ -214,12 +218,14 @@ impl Service {
         ensures { GetsReceipt (λ number. number) (λ number. Event.Release endpoint.now)
             pass.old pass.new result }
     {
-        pass.reserve()?;
+        pass.receipts.reserve(1)?;
         let mut shared = self.lock(rt);
         if shared.is_stopped {
             return Err(ServiceFault::Stopped);
         }
-        changes::release(&mut shared.book, pass, endpoint)
+        let receipt = changes::release(&mut shared.book, pass, endpoint)?;
+        drop(shared);
+        Ok(add_receipt(&mut pass.receipts, &mut pass.front, receipt))
     }
 
     /// Sets the time, in milliseconds, at most to 2^52. Returns the event's number.
@@ -230,12 +236,14 @@ impl Service {
             pass.old pass.new result }
         ensures limit { OnOk result (to ≤ 2 ^ 52) }
     {
-        pass.reserve()?;
+        pass.receipts.reserve(1)?;
         let mut shared = self.lock(rt);
         if shared.is_stopped {
             return Err(ServiceFault::Stopped);
         }
-        changes::advance(&mut shared.book, pass, to)
+        let receipt = changes::advance(&mut shared.book, pass, to)?;
+        drop(shared);
+        Ok(add_receipt(&mut pass.receipts, &mut pass.front, receipt))
     }
 
     /// The present time, in milliseconds, at most 2^52.

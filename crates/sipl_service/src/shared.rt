@@ -1,5 +1,5 @@
 //! What is under the lock: a book, and where the versions of its record sets are.
-ghost use Rattle.std.specs.Prelude.{◌≡◌, ◌↔◌, ◌⊎◌, [], None, Some, false, IfOk, IfErr, IfSome, OnOk, OnErr};
+ghost use Rattle.std.specs.Prelude.{◌≡◌, ◌↔◌, ◌⊎◌, ◌≤◌, ◌^◌, [], None, Some, Ok, false, IfOk, IfErr, IfSome, OnOk, OnErr};
 ghost use Rattle.std.specs.Option.{option_copied};
 ghost use Rattle.sipl_records.specs.Sets.{is_existence, same_key};
 ghost use Rattle.sipl_records.specs.declared.record.Key.{Key};
@@ -7,17 +7,16 @@ ghost use Rattle.sipl_zonestore.specs.Store.{number_in};
 ghost use Rattle.sipl_book.specs.Calls.{IsChanged};
 ghost use Rattle.sipl_book.specs.Pages.{IsPage, after_turn, page_of};
 ghost use Rattle.sipl_service.specs.Marks.{book_after_mark, key_edited, mark_of, marked_at};
-ghost use Rattle.sipl_service.specs.Passes.{GetsReceipt};
 ghost use Rattle.sipl_service.specs.Refusals.{unless_other, unless_stopped};
 
 use crate::changes;
-use crate::changes::NewEdit;
+use crate::changes::{Edited, NewEdit};
 use crate::checks::check_client;
 use crate::fault::ServiceFault;
 use crate::marks::{Mark, Marks};
 use crate::pass::Pass;
 use crate::versions::Versions;
-use sipl_book::{Book, BookFault, Done, Event, Page};
+use sipl_book::{Book, BookFault, Event, Page};
 use sipl_choice::Abilities;
 use sipl_outages::Held;
 use sipl_records::Key;
@@ -132,27 +131,33 @@ impl Shared {
     // no mark is looked at: those of existence have none.
     pub fn change(
         &mut self,
-        pass: &mut Pass,
+        alloc: Global,
+        pass: &Pass,
         new: Box<NewEdit>,
         key: Option<&Key>,
-    ) -> Result<Done, ServiceFault>
+    ) -> Result<Edited, ServiceFault>
         requires receipt { new.value.receipt.event ≡ Event.Change new.value.edit }
         requires key { option_copied key ≡ key_edited new.value.edit }
-        ensures receipt { GetsReceipt (λ done. done.number) (λ done. new.value.receipt.event)
-            pass.old pass.new result }
+        ensures number { IfOk result (λ edited. edited.receipt.number ≡ edited.done.number) }
+        ensures event { IfOk result
+            (λ edited. edited.receipt.event ≡ Event.Change new.value.edit) }
+        ensures load { IfOk result
+            (λ edited. IfSome edited.load (λ event. event ≡ edited.receipt.event)) }
+        ensures front { IfOk result (λ edited. pass.now.front ≤ edited.done.number) }
+        ensures limit { IfOk result (λ edited. edited.done.number ≤ 2 ^ 52) }
         ensures changed { IfOk result
-            (λ done. IsChanged new.value.edit self.old.book self.new.book (Ok done)) }
+            (λ edited. IsChanged new.value.edit self.old.book self.new.book (Ok edited.done)) }
         ensures marks { OnOk result ((key : Key) → mark_of self.new.marks key
             ≡ marked_at (number_in self.new.book.store key) (mark_of self.old.marks key)) }
         ensures unchanged { OnErr result (self.new ≡ self.old) }
         ensures stopped { self.new.is_stopped ≡ self.old.is_stopped }
     {
-        let done = changes::change(&mut self.book, pass, new)?;
+        let edited = changes::change(alloc, &mut self.book, pass, new)?;
         self.edits = self.edits.wrapping_add(1);
-        if done.changed > 0 {
+        if edited.done.changed > 0 {
             self.marks.take_out_changed(&self.book, key);
         }
-        Ok(done)
+        Ok(edited)
     }
 
     // Turns the page of the book, and goes on with these versions, of which there is none. Those before

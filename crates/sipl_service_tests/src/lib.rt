@@ -20,6 +20,8 @@ mod policies;
 #[cfg(test)]
 mod readme;
 #[cfg(test)]
+mod reloads;
+#[cfg(test)]
 mod replay;
 #[cfg(test)]
 mod stops;

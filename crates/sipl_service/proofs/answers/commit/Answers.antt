@@ -12,10 +12,6 @@ use Rattle.sipl_service.proofs.FirstFault.{commit_before, commit_refused}
 use Rattle.sipl_service.proofs.Committing.{journal-committed, stale-within}
 use Rattle.sipl_service.proofs.answers.commit.Goals as goal
 
--- the words of the journal are those that were asked for
-words_asked : (c : goal.After-next_event) → c.in_ok-copies.copies.words ≡ c.args.asked.draws
-words_asked c = c.in_ok-copies.ensures.words ∙ ap (λ (t : ToldState). t.words) c.in_ok-told.ensures.told
-
 pub returns-in-Ok-clause-journal : goal.returns-in-Ok-clause-journal
 returns-in-Ok-clause-journal c =
     let found = c.args.finding in
@@ -23,7 +19,7 @@ returns-in-Ok-clause-journal c =
     let book : BookState = c.tell_finding.new.book in
     let same : book ≡ old = c.tell_finding.ensures.unchanged in
     let words = c.in_ok-copies.copies.words in
-    let asked : words ≡ c.args.asked.draws = words_asked c in
+    let asked : words ≡ c.args.asked.draws = c.in_ok-copies.ensures.words ∙ ap (λ (t : ToldState). t.words) c.in_ok-told.ensures.told in
     let client : found.client ≡ book.client =
     sym c.requires.drawn.client ∙ sym c.in_ok-told.ensures.client ∙ sym (ap (λ (b : BookState). b.client) same) in
     let held : book.held ≡ c.args.asked.held = ap (λ (b : BookState). b.held) same ∙ c.in_ok-told.ensures.held in
@@ -41,7 +37,8 @@ returns-in-Ok-clause-committed c =
     subst (λ (b : BookState). CommitsAnswer c.args.finding c.args.asked.draws b c.commit_answer.new.self
     (Ok (record { number = c.in_ok-told.told.number; released = c.in-Ok.committed.released }))) same
     (subst (λ (words : List ℕ). CommitsAnswer c.args.finding words c.tell_finding.new.book c.commit_answer.new.self
-    (Ok (record { number = c.in_ok-told.told.number; released = c.in-Ok.committed.released }))) (words_asked c)
+    (Ok (record { number = c.in_ok-told.told.number; released = c.in-Ok.committed.released })))
+    (c.in_ok-copies.ensures.words ∙ ap (λ (t : ToldState). t.words) c.in_ok-told.ensures.told)
     (record {
       accepted = c.in-Ok.ensures.accepted;
       number = number;

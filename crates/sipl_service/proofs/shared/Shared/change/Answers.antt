@@ -5,7 +5,7 @@ use Rattle.sipl_records.specs.declared.record.Key.{Key}
 use Rattle.sipl_zonestore.specs.Store.{number_in}
 use Rattle.sipl_service.specs.Marks.{SharedState, key_edited, mark_of, marked_at}
 use Rattle.sipl_service.proofs.Marking.{all-stay, marks-after, others-stay}
-use Rattle.sipl_service.proofs.shared.Shared.change.Goals.{then-done-gt0, else-done-gt0}
+use Rattle.sipl_service.proofs.shared.Shared.change.Goals.{then-edited-gt0, else-edited-gt0}
 use Rattle.sipl_service.proofs.shared.Shared.change.Goals as goal
 
 pub take_out_changed-requires : goal.take_out_changed-requires
@@ -14,18 +14,18 @@ take_out_changed-requires c = by c.args.key c.requires.key
     by : (key : Option (Bor Key)) → option_copied key ≡ key_edited c.args.new.value.edit
         → IfSome key (λ key. (other : Key) → same_key key.now other ≡ false → marked_at (number_in c.change.new.book.store other) (mark_of c.self.inside.marks.table.entries other) ≡ mark_of c.self.inside.marks.table.entries other)
     by None same = tt
-    by (Some key) same = others-stay c.args.new.value.edit c.self.inside.book c.change.new.book c.in_ok-done.done c.in_ok-done.ensures.changed (mark_of c.self.inside.marks.table.entries) key.now c.self.invariant (sym same)
+    by (Some key) same = others-stay c.args.new.value.edit c.self.inside.book c.change.new.book c.in_ok-edited.edited.done c.in_ok-edited.ensures.changed (mark_of c.self.inside.marks.table.entries) key.now c.self.invariant (sym same)
 
-pub invariant_of-self-then-done-gt0 : goal.invariant_of-self-then-done-gt0
-invariant_of-self-then-done-gt0 c =
-    marks-after c.args.new.value.edit c.self.inside.book c.change.new.book c.in_ok-done.done c.in_ok-done.ensures.changed
+pub invariant_of-self-then-edited-gt0 : goal.invariant_of-self-then-edited-gt0
+invariant_of-self-then-edited-gt0 c =
+    marks-after c.args.new.value.edit c.self.inside.book c.change.new.book c.in_ok-edited.edited.done c.in_ok-edited.ensures.changed
     (mark_of c.self.inside.marks.table.entries) (mark_of c.take_out_changed.new.self.table.entries) c.self.invariant c.take_out_changed.ensures
 
-pub invariant_of-self-else-done-gt0 : goal.invariant_of-self-else-done-gt0
-invariant_of-self-else-done-gt0 c =
+pub invariant_of-self-else-edited-gt0 : goal.invariant_of-self-else-edited-gt0
+invariant_of-self-else-edited-gt0 c =
     let marks = mark_of c.self.inside.marks.table.entries in
-    marks-after c.args.new.value.edit c.self.inside.book c.change.new.book c.in_ok-done.done c.in_ok-done.ensures.changed marks marks c.self.invariant
-    (all-stay c.args.new.value.edit c.self.inside.book c.change.new.book c.in_ok-done.done c.in_ok-done.ensures.changed marks c.self.invariant (omega (arith, c.if-done-gt0.false)))
+    marks-after c.args.new.value.edit c.self.inside.book c.change.new.book c.in_ok-edited.edited.done c.in_ok-edited.ensures.changed marks marks c.self.invariant
+    (all-stay c.args.new.value.edit c.self.inside.book c.change.new.book c.in_ok-edited.edited.done c.in_ok-edited.ensures.changed marks c.self.invariant (omega (arith, c.if-edited-gt0.false)))
 
 -- the marks after an edit
 abbrev AreLeft : SharedState → SharedState → Type 0
@@ -33,8 +33,8 @@ AreLeft old now = (key : Key) → mark_of now.marks key ≡ marked_at (number_in
 
 pub returns-clause-marks : goal.returns-clause-marks
 returns-clause-marks c =
-    elim c.if-done-gt0.branch [
-      | then-done-gt0 w ↦ subst (λ old. AreLeft old c.if-done-gt0.self) c.self.view_is (subst (AreLeft (record { book = c.self.inside.book; marks = c.self.inside.marks.table.entries; is_stopped = c.self.inside.is_stopped })) (sym w.self-is) w.take_out_changed.ensures)
-      | else-done-gt0 w ↦ subst (λ old. AreLeft old c.if-done-gt0.self) c.self.view_is (subst (AreLeft (record { book = c.self.inside.book; marks = c.self.inside.marks.table.entries; is_stopped = c.self.inside.is_stopped })) (sym w.self-is)
-          (all-stay c.args.new.value.edit c.self.inside.book c.change.new.book c.in_ok-done.done c.in_ok-done.ensures.changed (mark_of c.self.inside.marks.table.entries) c.self.invariant (omega (arith, w.if-done-gt0.false))))
+    elim c.if-edited-gt0.branch [
+      | then-edited-gt0 w ↦ subst (λ old. AreLeft old c.if-edited-gt0.self) c.self.view_is (subst (AreLeft (record { book = c.self.inside.book; marks = c.self.inside.marks.table.entries; is_stopped = c.self.inside.is_stopped })) (sym w.self-is) w.take_out_changed.ensures)
+      | else-edited-gt0 w ↦ subst (λ old. AreLeft old c.if-edited-gt0.self) c.self.view_is (subst (AreLeft (record { book = c.self.inside.book; marks = c.self.inside.marks.table.entries; is_stopped = c.self.inside.is_stopped })) (sym w.self-is)
+          (all-stay c.args.new.value.edit c.self.inside.book c.change.new.book c.in_ok-edited.edited.done c.in_ok-edited.ensures.changed (mark_of c.self.inside.marks.table.entries) c.self.invariant (omega (arith, w.if-edited-gt0.false))))
     ]
