@@ -43,31 +43,21 @@ struct Played {
     text: Vec<u8>,
 }
 
-// The settings of a client of TCP and UDP.
-fn client(alloc: Global) -> Result<Settings, Fail> {
-    Ok(Settings::from_toml(alloc, "transports = [\"tcp\", \"udp\"]")?)
-}
-
-// Plays a script for a client, with at most `limit` reads.
-fn play(
-    alloc: Global,
-    reader: Pieces<'_>,
-    writer: Paper,
-    settings: Settings,
-    limit: u64,
-) -> Played {
+// Plays a script for a client of TCP and UDP, with at most `limit` reads.
+fn play(alloc: Global, reader: Pieces<'_>, writer: Paper, limit: u64) -> Result<Played, Fail> {
+    let settings = Settings::from_toml(alloc, "transports = [\"tcp\", \"udp\"]")?;
     let mut reader = Tapped::new(reader);
     let mut writer = Tapped::new(writer);
     let ended = play_script_within(alloc, &mut reader, &mut writer, settings, limit);
     let (reads, read_failed, write_failed) = (reader.reads(), reader.failed(), writer.failed());
     drop(reader);
-    Played {
+    Ok(Played {
         ended,
         reads,
         read_failed,
         write_failed,
         text: writer.into_inner().into_text(),
-    }
+    })
 }
 
 // Whether the script ended so after this many reads, of one octet each, with the replies to the lines
@@ -82,9 +72,8 @@ fn ended_after(played: &Played, ended: ServeFault, reads: u64, replies: &[u8]) -
 
 // Whether the script whose read of this number fails has the replies to the lines before.
 fn fails_at_read(alloc: Global, texts: &Texts, rows: &[Row], number: u64) -> Result<bool, Fail> {
-    let settings = client(alloc)?;
     let failing = Pieces::new(&texts.input, 1, number);
-    let played = play(alloc, failing, Paper::blank(alloc), settings, MAX_READS);
+    let played = play(alloc, failing, Paper::blank(alloc), MAX_READS)?;
     let replies = texts.replies_within(rows, number.saturating_sub(1));
     let is_so = ended_after(&played, ServeFault::Read, number, replies);
     drop(played);
@@ -93,9 +82,8 @@ fn fails_at_read(alloc: Global, texts: &Texts, rows: &[Row], number: u64) -> Res
 
 // Whether the same script with so many reads at most has the replies to the lines until then.
 fn stops_at_read(alloc: Global, texts: &Texts, rows: &[Row], number: u64) -> Result<bool, Fail> {
-    let settings = client(alloc)?;
     let whole = Pieces::new(&texts.input, 1, 0);
-    let played = play(alloc, whole, Paper::blank(alloc), settings, number);
+    let played = play(alloc, whole, Paper::blank(alloc), number)?;
     let replies = texts.replies_within(rows, number);
     let is_so = ended_after(&played, ServeFault::TooManyTurns, number, replies);
     drop(played);
@@ -132,10 +120,9 @@ fn ends_at_write(
     failing: Failing,
     number: u64,
 ) -> Result<bool, Fail> {
-    let settings = client(alloc)?;
     let writer = Paper::new(alloc, 1, failing, number);
     let reader = Pieces::new(&texts.input, 16, 0);
-    let played = play(alloc, reader, writer, settings, MAX_READS);
+    let played = play(alloc, reader, writer, MAX_READS)?;
     let is_so = failed_at_write(&played, number, &texts.replies);
     drop(played);
     Ok(is_so)
@@ -169,9 +156,8 @@ fn ends_at_each_write(
 
 // Whether the script, one octet at a time, ends with its input, and has all replies.
 fn is_played(alloc: Global, texts: &Texts) -> Result<bool, Fail> {
-    let settings = client(alloc)?;
     let reader = Pieces::new(&texts.input, 1, 0);
-    let played = play(alloc, reader, Paper::blank(alloc), settings, MAX_READS);
+    let played = play(alloc, reader, Paper::blank(alloc), MAX_READS)?;
     let is_so = ended_well(&played, &texts.replies);
     drop(played);
     Ok(is_so)
