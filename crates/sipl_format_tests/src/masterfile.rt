@@ -1,5 +1,7 @@
 // Master files, read by `read_zone` with the apex `example.com.` and by `read_record` with that
 // origin.
+use super::names::is_code;
+use super::records::name;
 use sipl_masterfile::{ZoneCause, ZoneFault, ZoneText, read_record, read_zone};
 use sipl_names::{InvalidName, Name};
 use sipl_records::{Boxed, Data, Record, Sequence};
@@ -17,10 +19,6 @@ const ADDRESS: Data = Data::Address4(0xc000_0201);
 const EMPTY_LABEL: ZoneCause = ZoneCause::InName(InvalidName::EmptyLabel);
 
 const BAD_ESCAPE: ZoneCause = ZoneCause::InName(InvalidName::BadEscape);
-
-fn name(rt: &impl Abort, alloc: Global, text: &str) -> Name {
-    Name::from_text(alloc, text.as_bytes(), &Name::root(alloc)).expect(rt, "a name")
-}
 
 fn zone(rt: &impl Abort, alloc: Global, text: &[u8]) -> Result<ZoneText, ZoneFault> {
     read_zone(alloc, text, &name(rt, alloc, "example.com."))
@@ -130,6 +128,11 @@ fn has_record_fault(rt: &impl Abort, alloc: Global, text: &str, line: u64, cause
     assert_eq!(rt; found, Some(ZoneFault { line, cause }), "{text}");
 }
 
+// That of a record's text, which is too long to be printed, or that it has none.
+fn is_fault(rt: &impl Abort, alloc: Global, text: &[u8], want: Option<ZoneFault>) {
+    assert_eq!(rt; record_fault(rt, alloc, text), want);
+}
+
 fn has_record_fault_each(rt: &impl Abort, alloc: Global, rows: &[(&str, u64, ZoneCause)]) {
     for (text, line, cause) in rows {
         has_record_fault(rt, alloc, text, *line, *cause);
@@ -184,35 +187,36 @@ fn reads_as(rt: &impl Abort, alloc: Global, text: &[u8], want: Result<Counts, Zo
     assert_eq!(rt; counts(rt, alloc, text), want);
 }
 
-fn has_code(rt: &impl Abort, cause: ZoneCause, code: &str) {
-    assert_eq!(rt; (ZoneFault { line: 3, cause }).code(), code);
-}
-
 fn has_code_each(rt: &impl Abort, rows: &[(ZoneCause, &str)]) {
     for (cause, code) in rows {
-        has_code(rt, *cause, code);
+        let fault = ZoneFault {
+            line: 3,
+            cause: *cause,
+        };
+        is_code(rt, fault.code(), code);
     }
 }
 
+const CODES: [(ZoneCause, &str); 16] = [
+    (EMPTY_LABEL, "Z1"),
+    (ZoneCause::MissingField, "Z2"),
+    (ZoneCause::BadNumber, "Z3"),
+    (ZoneCause::BadAddress, "Z4"),
+    (ZoneCause::Parenthesis, "Z5"),
+    (ZoneCause::OpenQuote, "Z6"),
+    (ZoneCause::ClassNotIn, "Z7"),
+    (ZoneCause::Include, "Z8"),
+    (ZoneCause::Generate, "Z9"),
+    (ZoneCause::GenericForm, "Z10"),
+    (ZoneCause::StringTooLong, "Z11"),
+    (ZoneCause::NoOwner, "Z12"),
+    (ZoneCause::ExtraField, "Z13"),
+    (ZoneCause::AliasBesideData, "Z14"),
+    (ZoneCause::SetFull, "Z15"),
+    (ZoneCause::Memory, "Memory"),
+];
+
 #[test]
 fn causes_have_their_codes(rt: HostRuntime) {
-    let rows = [
-        (EMPTY_LABEL, "Z1"),
-        (ZoneCause::MissingField, "Z2"),
-        (ZoneCause::BadNumber, "Z3"),
-        (ZoneCause::BadAddress, "Z4"),
-        (ZoneCause::Parenthesis, "Z5"),
-        (ZoneCause::OpenQuote, "Z6"),
-        (ZoneCause::ClassNotIn, "Z7"),
-        (ZoneCause::Include, "Z8"),
-        (ZoneCause::Generate, "Z9"),
-        (ZoneCause::GenericForm, "Z10"),
-        (ZoneCause::StringTooLong, "Z11"),
-        (ZoneCause::NoOwner, "Z12"),
-        (ZoneCause::ExtraField, "Z13"),
-        (ZoneCause::AliasBesideData, "Z14"),
-        (ZoneCause::SetFull, "Z15"),
-        (ZoneCause::Memory, "Memory"),
-    ];
-    has_code_each(&rt, &rows);
+    has_code_each(&rt, &CODES);
 }

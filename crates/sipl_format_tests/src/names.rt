@@ -2,6 +2,7 @@
 mod copies;
 mod labels;
 
+use super::records::name;
 use sipl_names::{InvalidName, MAX_NAME_TEXT_LEN, Name, NameFault, read_escape};
 use std::alloc::{AllocError, Global};
 use std::hash::{DefaultHasher, Hash, Hasher};
@@ -20,7 +21,7 @@ enum Part {
     Service,
 }
 
-fn name(alloc: Global, text: &[u8]) -> Result<Name, NameFault> {
+fn parse(alloc: Global, text: &[u8]) -> Result<Name, NameFault> {
     Name::from_text(alloc, text, &Name::root(alloc))
 }
 
@@ -32,13 +33,32 @@ fn code_of(made: Result<(), NameFault>) -> &'static str {
     }
 }
 
+// The same for a call that makes a name.
+fn code_of_made(made: Result<Name, NameFault>) -> &'static str {
+    match made {
+        Ok(_) => "ok",
+        Err(fault) => fault.code(),
+    }
+}
+
 // The code of the text's fault, or `ok`.
 fn code_of_text(alloc: Global, text: &[u8]) -> &'static str {
-    code_of(name(alloc, text).map(|_| ()))
+    code_of_made(parse(alloc, text))
+}
+
+pub(crate) fn is_code(rt: &impl Abort, found: &str, expected: &str) {
+    assert_eq!(rt; found, expected);
 }
 
 fn write_parent(alloc: Global, name: &Name, out: &mut Vec<u8>) -> Result<(), AllocError> {
-    match name.parent(alloc)? {
+    let parent = name.parent(alloc)?;
+    let written = write_or_none(&parent, out);
+    drop(parent);
+    written
+}
+
+fn write_or_none(parent: &Option<Name>, out: &mut Vec<u8>) -> Result<(), AllocError> {
+    match parent {
         Some(parent) => parent.write(out),
         None => out.extend_from_slice(b"none"),
     }
@@ -47,7 +67,9 @@ fn write_parent(alloc: Global, name: &Name, out: &mut Vec<u8>) -> Result<(), All
 fn write_service(alloc: Global, name: &Name, out: &mut Vec<u8>) -> Result<(), NameFault> {
     let labels: [&[u8]; 2] = [b"_sip", b"_UDP"];
     let service = name.prefixed(alloc, &labels)?;
-    service.write(out).map_err(NameFault::from)
+    let written = service.write(out);
+    drop(service);
+    Ok(written?)
 }
 
 fn write_part(alloc: Global, part: Part, name: &Name, out: &mut Vec<u8>) -> Result<(), NameFault> {
@@ -78,7 +100,7 @@ fn write(
     origin: &[u8],
     out: &mut Vec<u8>,
 ) -> Result<(), NameFault> {
-    let origin = name(alloc, origin)?;
+    let origin = parse(alloc, origin)?;
     write_below(alloc, part, text, &origin, out)
 }
 
@@ -103,46 +125,71 @@ const PRINTED: [[&str; 3]; 11] = [
     ["x-_*!~", ".", "x-_*!~."],
 ];
 
+fn print_each(rt: &impl Abort, alloc: Global, rows: &[[&str; 3]]) {
+    for [text, origin, expected] in rows {
+        let [text, origin] = [text.as_bytes(), origin.as_bytes()];
+        assert!(rt; prints(alloc, Part::Whole, text, origin, expected.as_bytes()));
+    }
+}
+
 #[test]
 fn parses_and_prints_names(rt: HostRuntime) {
-    for row in &PRINTED {
-        let [text, origin, expected] = row.map(|text| text.as_bytes());
-        assert!(rt; prints(rt.alloc(), Part::Whole, text, origin, expected));
+    print_each(&rt, rt.alloc(), &PRINTED);
+}
+
+const FAULTS: [(&[u8], &str); 10] = [
+    (b"", "N1"),
+    (b"a..b", "N1"),
+    (b".a", "N1"),
+    (b"..", "N1"),
+    (b"a\\25", "N4"),
+    (b"a\\256", "N4"),
+    (b"a\\25x", "N4"),
+    (b"a\\", "N4"),
+    (b"..\\", "N1"),
+    (b"\\..\\", "N4"),
+];
+
+fn have_codes(rt: &impl Abort, alloc: Global, rows: &[(&[u8], &str)]) {
+    for (text, expected) in rows {
+        is_code(rt, code_of_text(alloc, text), expected);
     }
 }
 
 #[test]
 fn parsing_reports_the_first_fault(rt: HostRuntime) {
-    let rows: [(&[u8], &str); 10] = [
-        (b"", "N1"),
-        (b"a..b", "N1"),
-        (b".a", "N1"),
-        (b"..", "N1"),
-        (b"a\\25", "N4"),
-        (b"a\\256", "N4"),
-        (b"a\\25x", "N4"),
-        (b"a\\", "N4"),
-        (b"..\\", "N1"),
-        (b"\\..\\", "N4"),
-    ];
-    for (text, expected) in rows {
-        assert_eq!(rt; code_of_text(rt.alloc(), text), expected);
-    }
+    have_codes(&rt, rt.alloc(), &FAULTS);
 }
 
-// Appends as many `a` as this, and a dot.
-fn push_label(out: &mut Vec<u8>, length: usize) -> Result<(), AllocError> {
-    for _ in 0..length {
-        out.extend_from_slice(b"a")?;
+// Appends the octets as often as this.
+pub(crate) fn push_times(out: &mut Vec<u8>, octets: &[u8], times: usize) -> Result<(), AllocError> {
+    for _ in 0..times {
+        out.extend_from_slice(octets)?;
     }
+    Ok(())
+}
+
+// Appends the octet as often as this, and a dot.
+fn push_label(out: &mut Vec<u8>, octet: &[u8], length: usize) -> Result<(), AllocError> {
+    push_times(out, octet, length)?;
     out.extend_from_slice(b".")
 }
 
-// Appends labels of these lengths, and then the tail.
-fn push_labels(out: &mut Vec<u8>, lengths: &[usize], tail: &[u8]) -> Result<(), AllocError> {
+// Appends labels of these lengths, of the same octet each.
+pub(crate) fn push_labels(
+    out: &mut Vec<u8>,
+    octet: &[u8],
+    lengths: &[usize],
+) -> Result<(), AllocError> {
     for length in lengths {
-        push_label(out, *length)?;
+        push_label(out, octet, *length)?;
     }
+    Ok(())
+}
+
+// Appends labels of these lengths, and then the tail.
+fn push_text(out: &mut Vec<u8>, lengths: &[usize], tail: &[u8]) -> Result<(), AllocError> {
+    push_labels(out, b"a", lengths)?;
     out.extend_from_slice(tail)
 }
 
@@ -150,7 +197,7 @@ fn push_labels(out: &mut Vec<u8>, lengths: &[usize], tail: &[u8]) -> Result<(), 
 // tail, or `ok`.
 fn code_of_labels(alloc: Global, lengths: &[usize], tail: &[u8]) -> &'static str {
     let mut text = Vec::new(alloc);
-    match push_labels(&mut text, lengths, tail) {
+    match push_text(&mut text, lengths, tail) {
         Ok(()) => code_of_text(alloc, &text),
         Err(_) => "Memory",
     }
@@ -173,14 +220,19 @@ const LABELS: [(&[usize], &str, &str); 10] = [
     (&[63, 63, 63, 63], "\\256", "N4"),
 ];
 
-#[test]
-fn accepts_63_and_255_octets_and_no_more(rt: HostRuntime) {
-    for (lengths, tail, expected) in &LABELS {
-        assert_eq!(rt;
-            code_of_labels(rt.alloc(), lengths, tail.as_bytes()),
-            *expected
+fn have_label_codes(rt: &impl Abort, alloc: Global, rows: &[(&[usize], &str, &str)]) {
+    for (lengths, tail, expected) in rows {
+        is_code(
+            rt,
+            code_of_labels(alloc, lengths, tail.as_bytes()),
+            expected,
         );
     }
+}
+
+#[test]
+fn accepts_63_and_255_octets_and_no_more(rt: HostRuntime) {
+    have_label_codes(&rt, rt.alloc(), &LABELS);
 }
 
 // Appends an octet of a label as the rules of printing have it, after lower-casing.
@@ -303,56 +355,65 @@ fn read_escape_returns_octet_and_length(rt: HostRuntime) {
     assert!(rt; read_escape(b"").is_none());
 }
 
-fn is_below(alloc: Global, text: &[u8], apex: &Name) -> Option<bool> {
-    let name = name(alloc, text).ok()?;
-    Some(name.is_within(apex))
+fn is_within(rt: &impl Abort, alloc: Global, text: &str, apex: &str) -> bool {
+    let names = [name(rt, alloc, text), name(rt, alloc, apex)];
+    let is_so = names[0].is_within(&names[1]);
+    drop(names);
+    is_so
 }
 
-fn is_within(alloc: Global, text: &[u8], apex: &[u8]) -> Option<bool> {
-    let apex = name(alloc, apex).ok()?;
-    is_below(alloc, text, &apex)
+fn are_within(rt: &impl Abort, alloc: Global, rows: &[(&str, &str, bool)]) {
+    for (text, apex, expected) in rows {
+        assert!(rt; is_within(rt, alloc, text, apex) == *expected);
+    }
 }
+
+const WITHIN: [(&str, &str, bool); 8] = [
+    ("Example.COM", "com", true),
+    ("example.com", "eXample.com", true),
+    ("example.com", ".", true),
+    (".", ".", true),
+    ("com", "example.com", false),
+    (".", "com", false),
+    // The octets of the wire form end with those of `com`, and the labels do not.
+    ("a\\003com", "com", false),
+    ("example.org", "com", false),
+];
 
 #[test]
 fn is_within_compares_labels(rt: HostRuntime) {
-    let rows: [(&[u8], &[u8], bool); 8] = [
-        (b"Example.COM", b"com", true),
-        (b"example.com", b"eXample.com", true),
-        (b"example.com", b".", true),
-        (b".", b".", true),
-        (b"com", b"example.com", false),
-        (b".", b"com", false),
-        // The octets of the wire form end with those of `com`, and the labels do not.
-        (b"a\\003com", b"com", false),
-        (b"example.org", b"com", false),
-    ];
-    for (text, apex, expected) in rows {
-        assert!(rt; is_within(rt.alloc(), text, apex) == Some(expected));
+    are_within(&rt, rt.alloc(), &WITHIN);
+}
+
+fn have_parents(rt: &impl Abort, alloc: Global, rows: &[(&[u8], &[u8])]) {
+    for (text, expected) in rows {
+        assert!(rt; prints(alloc, Part::Parent, text, b".", expected));
     }
 }
+
+const PARENTS: [(&[u8], &[u8]); 3] = [
+    (b"WWW.Example\\.x", b"example\\.x."),
+    (b"com", b"."),
+    (b".", b"none"),
+];
 
 #[test]
 fn parent_drops_the_first_label(rt: HostRuntime) {
-    let rows: [(&[u8], &[u8]); 3] = [
-        (b"WWW.Example\\.x", b"example\\.x."),
-        (b"com", b"."),
-        (b".", b"none"),
-    ];
-    for (text, expected) in rows {
-        assert!(rt; prints(rt.alloc(), Part::Parent, text, b".", expected));
-    }
+    have_parents(&rt, rt.alloc(), &PARENTS);
 }
 
 // The length of the name's wire form, and whether the name is the root.
-fn length_and_root(alloc: Global, text: &[u8]) -> Option<(usize, bool)> {
-    let name = name(alloc, text).ok()?;
-    Some((name.wire_len(), name.is_root()))
+fn length_and_root(rt: &impl Abort, alloc: Global, text: &str) -> (usize, bool) {
+    let name = name(rt, alloc, text);
+    let found = (name.wire_len(), name.is_root());
+    drop(name);
+    found
 }
 
 #[test]
 fn reports_wire_length_root_and_top_label(rt: HostRuntime) {
-    assert!(rt; length_and_root(rt.alloc(), b"example.com") == Some((13, false)));
-    assert!(rt; length_and_root(rt.alloc(), b".") == Some((1, true)));
+    assert!(rt; length_and_root(&rt, rt.alloc(), "example.com") == (13, false));
+    assert!(rt; length_and_root(&rt, rt.alloc(), ".") == (1, true));
     assert!(rt; prints(rt.alloc(), Part::TopLabel, b"example.com", b".", b"com"));
     assert!(rt; prints(rt.alloc(), Part::TopLabel, b".", b".", b"none"));
 }
@@ -364,32 +425,39 @@ fn prefixed_prepends_labels_in_lower_case(rt: HostRuntime) {
 }
 
 fn code_of_prefixed(alloc: Global, full: &Name, labels: &[&[u8]]) -> &'static str {
-    code_of(full.prefixed(alloc, labels).map(|_| ()))
+    code_of_made(full.prefixed(alloc, labels))
 }
 
 fn full_name(rt: &impl Abort, alloc: Global) -> Name {
     let label = "aaaaaaaaaaaaaaaaaaaaaaaaaaaaaaaaaaaaaaaaaaaaaaaaaaaaaaaaaaaaaaa";
     let text = format!(in alloc; "{label}.{label}.{label}.{}", &label[..59]);
-    name(alloc, text.expect(rt, "a text").as_bytes()).expect(rt, "a name")
+    let text = text.expect(rt, "a text");
+    let full = name(rt, alloc, text.as_str());
+    drop(text);
+    full
 }
 
-fn reports_codes(rt: &impl Abort, alloc: Global, full: &Name) {
-    let long: &[u8] = &[b'a'; 64];
-    let rows: [([&[u8]; 2], &str); 4] = [
-        ([b"b", b"b"], "N3"),
-        ([b"bb", b""], "N1"),
-        ([long, b""], "N2"),
-        ([b"", long], "N1"),
-    ];
+// A label that is too long.
+const LONG: &[u8] = &[b'a'; 64];
+
+const PREFIXES: [([&[u8]; 2], &str); 4] = [
+    ([b"b", b"b"], "N3"),
+    ([b"bb", b""], "N1"),
+    ([LONG, b""], "N2"),
+    ([b"", LONG], "N1"),
+];
+
+fn reports_codes(rt: &impl Abort, alloc: Global, full: &Name, rows: &[([&[u8]; 2], &str)]) {
     for (labels, expected) in rows {
-        assert_eq!(rt; code_of_prefixed(alloc, full, &labels), expected);
+        is_code(rt, code_of_prefixed(alloc, full, labels), expected);
     }
 }
 
 #[test]
 fn prefixed_reports_the_first_fault(rt: HostRuntime) {
     let full = full_name(&rt, rt.alloc());
-    reports_codes(&rt, rt.alloc(), &full);
+    reports_codes(&rt, rt.alloc(), &full, &PREFIXES);
+    drop(full);
 }
 
 fn hash_of(name: &Name) -> u64 {
@@ -403,20 +471,17 @@ fn compare(name: &Name, other: &Name) -> [bool; 2] {
     [name == other, hash_of(name) == hash_of(other)]
 }
 
-fn compare_text(alloc: Global, text: &[u8], other: &Name) -> Option<[bool; 2]> {
-    let name = name(alloc, text).ok()?;
-    Some(compare(&name, other))
-}
-
-fn compare_texts(alloc: Global, text: &[u8], other: &[u8]) -> Option<[bool; 2]> {
-    let other = name(alloc, other).ok()?;
-    compare_text(alloc, text, &other)
+fn compare_texts(rt: &impl Abort, alloc: Global, text: &str, other: &str) -> [bool; 2] {
+    let names = [name(rt, alloc, text), name(rt, alloc, other)];
+    let found = compare(&names[0], &names[1]);
+    drop(names);
+    found
 }
 
 #[test]
 fn compares_and_hashes_without_case(rt: HostRuntime) {
-    assert!(rt; compare_texts(rt.alloc(), b"A.B", b"a.b.") == Some([true, true]));
-    assert!(rt; compare_texts(rt.alloc(), b"A.B", b"a\\.b.") == Some([false, false]));
+    assert!(rt; compare_texts(&rt, rt.alloc(), "A.B", "a.b.") == [true, true]);
+    assert!(rt; compare_texts(&rt, rt.alloc(), "A.B", "a\\.b.") == [false, false]);
 }
 
 // Whether the name's text is appended to what is there, and the capacity stays.
@@ -439,25 +504,10 @@ fn write_needs_no_more_than_the_reserved_space(rt: HostRuntime) {
     appends(&rt, rt.alloc(), &mut out, b"a.\\\\.", b"a.\\\\.");
 }
 
-// Appends as many octets of zero as this, each as an escape, and a dot.
-fn push_zeros(text: &mut Vec<u8>, length: usize) -> Result<(), AllocError> {
-    for _ in 0..length {
-        text.extend_from_slice(b"\\000")?;
-    }
-    text.extend_from_slice(b".")
-}
-
-fn push_longest_text(text: &mut Vec<u8>) -> Result<(), AllocError> {
-    for length in [63, 63, 63, 61] {
-        push_zeros(text, length)?;
-    }
-    Ok(())
-}
-
-// How many octets the longest text has, where its name prints it again.
+// How many octets the longest text has, of labels of escapes, where its name prints it again.
 fn longest_text_length(alloc: Global) -> Option<usize> {
     let mut text = Vec::new(alloc);
-    let is_pushed = push_longest_text(&mut text).is_ok();
+    let is_pushed = push_labels(&mut text, b"\\000", &[63, 63, 63, 61]).is_ok();
     let is_printed = prints(alloc, Part::Whole, &text, b".", &text);
     (is_pushed && is_printed).then_some(text.len())
 }
@@ -470,6 +520,6 @@ fn longest_text_has_1004_octets(rt: HostRuntime) {
 
 #[test]
 fn faults_have_codes(rt: HostRuntime) {
-    assert_eq!(rt; NameFault::Memory.code(), "Memory");
-    assert_eq!(rt; InvalidName::BadEscape.code(), "N4");
+    is_code(&rt, NameFault::Memory.code(), "Memory");
+    is_code(&rt, InvalidName::BadEscape.code(), "N4");
 }

@@ -5,12 +5,15 @@ mod sets;
 mod texts;
 
 use sipl_names::Name;
-use sipl_records::{Address, Data, Key, Kind, Record, Sequence};
+use sipl_records::{Address, AddressFault, Data, Key, Kind, Record, Sequence};
 use std::alloc::Global;
 use std::process::Abort;
 
-fn name(rt: &impl Abort, alloc: Global, text: &str) -> Name {
-    Name::from_text(alloc, text.as_bytes(), &Name::root(alloc)).expect(rt, "a name")
+pub(crate) fn name(rt: &impl Abort, alloc: Global, text: &str) -> Name {
+    let root = Name::root(alloc);
+    let name = Name::from_text(alloc, text.as_bytes(), &root);
+    drop(root);
+    name.expect(rt, "a name")
 }
 
 fn string(rt: &impl Abort, alloc: Global, text: &str) -> Sequence<u8> {
@@ -31,6 +34,11 @@ fn key(rt: &impl Abort, alloc: Global, owner: &str, kind: Kind) -> Key {
         name: name(rt, alloc, owner),
         kind,
     }
+}
+
+// That this is read of an address's text.
+fn reads_as(rt: &impl Abort, text: &[u8], want: Result<Address, AddressFault>) {
+    assert_eq!(rt; Address::from_text(text), want, "{text:?}");
 }
 
 // Whether the address appends this text to what is there.

@@ -7,10 +7,12 @@ mod params;
 mod questions;
 mod torture;
 
+use super::names::push_times;
 use sipl_choice::Transport;
 use sipl_names::Name;
 use sipl_uri::{Question, Target, Uri};
 use std::alloc::{AllocError, Global};
+use std::fmt::Debug;
 use std::process::Abort;
 
 fn name(alloc: Global, text: &[u8]) -> Option<Name> {
@@ -29,8 +31,13 @@ fn code_of(alloc: Global, uri: &[u8]) -> &'static str {
     }
 }
 
+// That a code is this one, at what is printed.
+fn is_code_at<D: Debug>(rt: &impl Abort, found: &str, code: &str, at: &D) {
+    assert_eq!(rt; found, code, "at {at:?}");
+}
+
 fn has_code(rt: &impl Abort, alloc: Global, uri: &[u8], code: &str) {
-    assert_eq!(rt; code_of(alloc, uri), code, "at {uri:?}");
+    is_code_at(rt, code_of(alloc, uri), code, &uri);
 }
 
 fn have_code(rt: &impl Abort, alloc: Global, uris: &[&[u8]], code: &str) {
@@ -95,9 +102,7 @@ fn print(rt: &impl Abort, alloc: Global, rows: &[(&[u8], &[u8])]) {
 // Appends each text as often as it says.
 fn repeat(out: &mut Vec<u8>, pieces: &[(&[u8], usize)]) -> Result<(), AllocError> {
     for (text, count) in pieces {
-        for _ in 0..*count {
-            out.extend_from_slice(text)?;
-        }
+        push_times(out, text, *count)?;
     }
     Ok(())
 }

@@ -67,6 +67,15 @@ fn comments_end_before_the_line_end(rt: HostRuntime) {
     fault_each(&rt, rt.alloc(), &[(";a\n b", 2)], ZoneCause::NoOwner);
 }
 
+const UNBALANCED: [(&str, u64); 6] = [
+    ("(", 1),
+    (")", 1),
+    ("a TXT\n\n)", 3),
+    ("a (\nb (\n)\n\n", 1),
+    ("a ( b\n) c )\n", 1),
+    ("a TXT\n ( b\n\n", 2),
+];
+
 #[test]
 fn parentheses_join_lines(rt: HostRuntime) {
     let texts = [
@@ -86,15 +95,7 @@ fn parentheses_join_lines(rt: HostRuntime) {
         ],
     );
     fault_each(&rt, rt.alloc(), &[(" ( \n a )\nb", 1)], ZoneCause::NoOwner);
-    let unbalanced = [
-        ("(", 1),
-        (")", 1),
-        ("a TXT\n\n)", 3),
-        ("a (\nb (\n)\n\n", 1),
-        ("a ( b\n) c )\n", 1),
-        ("a TXT\n ( b\n\n", 2),
-    ];
-    fault_each(&rt, rt.alloc(), &unbalanced, ZoneCause::Parenthesis);
+    fault_each(&rt, rt.alloc(), &UNBALANCED, ZoneCause::Parenthesis);
 }
 
 // That the text is that of a record `@ NAPTR 1 2 FLAGS SERVICES REGEXP .`.
@@ -111,28 +112,30 @@ fn has_strings_each(rt: &impl Abort, alloc: Global, rows: &[(&str, [&str; 3])]) 
     }
 }
 
+const QUOTED: [(&str, [&str; 3]); 4] = [
+    ("@ NAPTR 1 2 \"a b\" \"\" \"a\\\"b\" .", ["a b", "", "a\"b"]),
+    ("@ NAPTR 1 2 \"a\\\\\"b\"\" .", ["a\\", "b", ""]),
+    ("@ NAPTR 1 2 a\"b\"c .", ["a", "b", "c"]),
+    (
+        "@ NAPTR 1 2 \"( ; )\t\r\" a\\\"b x .",
+        ["( ; )\t\r", "a\"b", "x"],
+    ),
+];
+
+const OPEN: [(&str, u64); 7] = [
+    ("\"", 1),
+    ("a \"b\nc\"", 1),
+    ("a \"b\\\nc\"", 1),
+    ("a TXT\n( b\n\"c", 2),
+    ("\"(", 1),
+    ("( \"", 1),
+    ("a TXT \") ( \"\nb \"\\\"", 2),
+];
+
 #[test]
 fn quoted_fields_keep_their_octets(rt: HostRuntime) {
-    let rows = [
-        ("@ NAPTR 1 2 \"a b\" \"\" \"a\\\"b\" .", ["a b", "", "a\"b"]),
-        ("@ NAPTR 1 2 \"a\\\\\"b\"\" .", ["a\\", "b", ""]),
-        ("@ NAPTR 1 2 a\"b\"c .", ["a", "b", "c"]),
-        (
-            "@ NAPTR 1 2 \"( ; )\t\r\" a\\\"b x .",
-            ["( ; )\t\r", "a\"b", "x"],
-        ),
-    ];
-    has_strings_each(&rt, rt.alloc(), &rows);
-    let open = [
-        ("\"", 1),
-        ("a \"b\nc\"", 1),
-        ("a \"b\\\nc\"", 1),
-        ("a TXT\n( b\n\"c", 2),
-        ("\"(", 1),
-        ("( \"", 1),
-        ("a TXT \") ( \"\nb \"\\\"", 2),
-    ];
-    fault_each(&rt, rt.alloc(), &open, ZoneCause::OpenQuote);
+    has_strings_each(&rt, rt.alloc(), &QUOTED);
+    fault_each(&rt, rt.alloc(), &OPEN, ZoneCause::OpenQuote);
     fault_each(&rt, rt.alloc(), &[(") \"", 1)], ZoneCause::Parenthesis);
 }
 

@@ -1,6 +1,6 @@
 // Zones: which records are taken in, and which fault is the first.
 use super::{
-    ADDRESS, EMPTY_LABEL, are_empty, counts_of, has_at, has_counts, has_counts_each,
+    ADDRESS, Counts, EMPTY_LABEL, are_empty, counts_of, has_at, has_counts, has_counts_each,
     has_fault_each, has_owner_each, name, push, reads_as, zone,
 };
 use sipl_masterfile::{ZoneCause, ZoneFault, ZoneText};
@@ -28,128 +28,133 @@ fn is_apex(rt: &impl Abort, alloc: Global, text: &str, apex: &str) -> bool {
 
 #[test]
 fn zone_has_the_records_within_its_apex_once(rt: HostRuntime) {
-    let alloc = rt.alloc();
-    assert!(rt; is_apex(&rt, alloc, ZONE, "example.com."));
-    has_counts(&rt, alloc, ZONE, (2, 1, 3));
-    has_at(&rt, alloc, ZONE, 0, ("example.com.", &Data::Bare));
-    has_at(&rt, alloc, ZONE, 1, ("server1.example.com.", &ADDRESS));
+    let (alloc, text) = (rt.alloc(), ZONE);
+    assert!(rt; is_apex(&rt, alloc, text, "example.com."));
+    has_counts(&rt, alloc, text, (2, 1, 3));
+    has_at(&rt, alloc, text, 0, ("example.com.", &Data::Bare));
+    has_at(&rt, alloc, text, 1, ("server1.example.com.", &ADDRESS));
 }
+
+const BLANKS: [&str; 7] = [
+    "",
+    "\n",
+    " \t\r\n; comment\r\n\n  ; a A 192.0.2.1",
+    ";",
+    ";;\n",
+    "(\n)",
+    "$TTL 5\n$ORIGIN a",
+];
 
 #[test]
 fn blanks_and_comments_are_no_entries(rt: HostRuntime) {
-    let texts = [
-        "",
-        "\n",
-        " \t\r\n; comment\r\n\n  ; a A 192.0.2.1",
-        ";",
-        ";;\n",
-        "(\n)",
-        "$TTL 5\n$ORIGIN a",
-    ];
-    are_empty(&rt, rt.alloc(), &texts);
+    are_empty(&rt, rt.alloc(), &BLANKS);
 }
+
+const OWNERS: [(&str, usize, &str); 8] = [
+    ("a A 192.0.2.1", 0, "a.example.com."),
+    ("$ORIGIN b\na A 192.0.2.1", 0, "a.b.example.com."),
+    ("$origin b\n$ORIGIN c\n@ A 192.0.2.1", 0, "c.b.example.com."),
+    (
+        "$ORIGIN org.\n$ORIGIN example.com.\na A 192.0.2.1",
+        0,
+        "a.example.com.",
+    ),
+    (
+        "a A 192.0.2.2\n$ORIGIN b\n A 192.0.2.1",
+        1,
+        "a.example.com.",
+    ),
+    (
+        "a A 192.0.2.2\na A 192.0.2.2\n A 192.0.2.1",
+        1,
+        "a.example.com.",
+    ),
+    (
+        "a A 192.0.2.2\n$TTL 5\n\n\t300 A 192.0.2.1",
+        1,
+        "a.example.com.",
+    ),
+    ("a A 192.0.2.2\n(b) A 192.0.2.1", 1, "b.example.com."),
+];
 
 #[test]
 fn owners_follow_the_origin_and_the_record_before(rt: HostRuntime) {
-    let rows = [
-        ("a A 192.0.2.1", 0, "a.example.com."),
-        ("$ORIGIN b\na A 192.0.2.1", 0, "a.b.example.com."),
-        ("$origin b\n$ORIGIN c\n@ A 192.0.2.1", 0, "c.b.example.com."),
-        (
-            "$ORIGIN org.\n$ORIGIN example.com.\na A 192.0.2.1",
-            0,
-            "a.example.com.",
-        ),
-        (
-            "a A 192.0.2.2\n$ORIGIN b\n A 192.0.2.1",
-            1,
-            "a.example.com.",
-        ),
-        (
-            "a A 192.0.2.2\na A 192.0.2.2\n A 192.0.2.1",
-            1,
-            "a.example.com.",
-        ),
-        (
-            "a A 192.0.2.2\n$TTL 5\n\n\t300 A 192.0.2.1",
-            1,
-            "a.example.com.",
-        ),
-        ("a A 192.0.2.2\n(b) A 192.0.2.1", 1, "b.example.com."),
-    ];
-    has_owner_each(&rt, rt.alloc(), &rows);
+    has_owner_each(&rt, rt.alloc(), &OWNERS);
 }
+
+const COUNTS: [(&str, Counts); 7] = [
+    // An owner outside the apex is that of the next record too.
+    ("a A 192.0.2.1\nb.org. A 192.0.2.1\n A 192.0.2.1", (1, 2, 0)),
+    // Records outside are neither repeated nor in conflict.
+    (
+        "b.org. A 192.0.2.1\nb.org. A 192.0.2.1\nb.org. CNAME a",
+        (0, 3, 0),
+    ),
+    // The parent and a name that only ends alike are outside.
+    ("com. A 192.0.2.1\nxexample.com. A 192.0.2.1", (0, 2, 0)),
+    // Names are equal without case, data of other types in any form.
+    ("a A 192.0.2.1\nA.Example.COM. A 192.0.2.001", (1, 0, 1)),
+    ("a TXT x\na TYPE99 \\# 0\na MX 10 b", (1, 0, 2)),
+    // Data of other types are beside an alias, and an alias beside itself is repeated.
+    ("a CNAME b\na TXT x\na CNAME B", (2, 0, 1)),
+    (
+        "a A 192.0.2.1\na AAAA ::1\na SRV 0 0 5060 b\nb CNAME a",
+        (4, 0, 0),
+    ),
+];
 
 #[test]
 fn records_outside_and_repeated_are_counted(rt: HostRuntime) {
-    let rows = [
-        // An owner outside the apex is that of the next record too.
-        ("a A 192.0.2.1\nb.org. A 192.0.2.1\n A 192.0.2.1", (1, 2, 0)),
-        // Records outside are neither repeated nor in conflict.
-        (
-            "b.org. A 192.0.2.1\nb.org. A 192.0.2.1\nb.org. CNAME a",
-            (0, 3, 0),
-        ),
-        // The parent and a name that only ends alike are outside.
-        ("com. A 192.0.2.1\nxexample.com. A 192.0.2.1", (0, 2, 0)),
-        // Names are equal without case, data of other types in any form.
-        ("a A 192.0.2.1\nA.Example.COM. A 192.0.2.001", (1, 0, 1)),
-        ("a TXT x\na TYPE99 \\# 0\na MX 10 b", (1, 0, 2)),
-        // Data of other types are beside an alias, and an alias beside itself is repeated.
-        ("a CNAME b\na TXT x\na CNAME B", (2, 0, 1)),
-        (
-            "a A 192.0.2.1\na AAAA ::1\na SRV 0 0 5060 b\nb CNAME a",
-            (4, 0, 0),
-        ),
-    ];
-    has_counts_each(&rt, rt.alloc(), &rows);
+    has_counts_each(&rt, rt.alloc(), &COUNTS);
 }
+
+const FAULTY: [(&str, u64, ZoneCause); 12] = [
+    ("\n a..b A 192.0.2.1", 2, ZoneCause::NoOwner),
+    ("a..b A 192.0.2.1", 1, EMPTY_LABEL),
+    ("$TTL 5\n\na", 3, ZoneCause::MissingField),
+    ("; a\r\n \t\n\"\" x\n", 3, EMPTY_LABEL),
+    ("a SRV 0 0 65536 b", 1, ZoneCause::BadNumber),
+    ("$TTL x", 1, ZoneCause::BadNumber),
+    ("@ A 192.0.2.1\\", 1, ZoneCause::BadAddress),
+    ("a A (\n192.0.2.256\n)", 1, ZoneCause::BadAddress),
+    (
+        "@ A 192.0.2.1\nb A (\n192.0.2.2\n",
+        2,
+        ZoneCause::Parenthesis,
+    ),
+    ("a A 192.0.2.256 )", 1, ZoneCause::Parenthesis),
+    ("\n\n\n;\n)", 5, ZoneCause::Parenthesis),
+    ("a TXT \"b\nc\"", 1, ZoneCause::OpenQuote),
+];
 
 #[test]
 fn first_faulty_entry_is_reported_at_its_line(rt: HostRuntime) {
-    let rows = [
-        ("\n a..b A 192.0.2.1", 2, ZoneCause::NoOwner),
-        ("a..b A 192.0.2.1", 1, EMPTY_LABEL),
-        ("$TTL 5\n\na", 3, ZoneCause::MissingField),
-        ("; a\r\n \t\n\"\" x\n", 3, EMPTY_LABEL),
-        ("a SRV 0 0 65536 b", 1, ZoneCause::BadNumber),
-        ("$TTL x", 1, ZoneCause::BadNumber),
-        ("@ A 192.0.2.1\\", 1, ZoneCause::BadAddress),
-        ("a A (\n192.0.2.256\n)", 1, ZoneCause::BadAddress),
-        (
-            "@ A 192.0.2.1\nb A (\n192.0.2.2\n",
-            2,
-            ZoneCause::Parenthesis,
-        ),
-        ("a A 192.0.2.256 )", 1, ZoneCause::Parenthesis),
-        ("\n\n\n;\n)", 5, ZoneCause::Parenthesis),
-        ("a TXT \"b\nc\"", 1, ZoneCause::OpenQuote),
-    ];
-    has_fault_each(&rt, rt.alloc(), &rows);
+    has_fault_each(&rt, rt.alloc(), &FAULTY);
 }
+
+const REFUSED: [(&str, u64, ZoneCause); 12] = [
+    ("a CH A 192.0.2.1", 1, ZoneCause::ClassNotIn),
+    (
+        "$TTL 5\n@ A 192.0.2.1\n$INCLUDE x\n)",
+        3,
+        ZoneCause::Include,
+    ),
+    ("$generate 1-2 a A 192.0.2.$", 1, ZoneCause::Generate),
+    ("a A \\# 4 c0000201", 1, ZoneCause::GenericForm),
+    (" A 192.0.2.1", 1, ZoneCause::NoOwner),
+    ("$ORIGIN a\n\tA 192.0.2.1", 2, ZoneCause::NoOwner),
+    ("$ORIGIN a b", 1, ZoneCause::ExtraField),
+    ("a A 192.0.2.1 b", 1, ZoneCause::ExtraField),
+    ("@ CNAME a\n@ A 192.0.2.1", 2, ZoneCause::AliasBesideData),
+    ("@ A 192.0.2.1\n\n@ CNAME a", 3, ZoneCause::AliasBesideData),
+    ("@ CNAME a\n@ CNAME b", 2, ZoneCause::AliasBesideData),
+    // Faults of records outside the apex are faults.
+    ("a.org. A 192.0.2.256", 1, ZoneCause::BadAddress),
+];
 
 #[test]
 fn first_refused_entry_is_reported_at_its_line(rt: HostRuntime) {
-    let rows = [
-        ("a CH A 192.0.2.1", 1, ZoneCause::ClassNotIn),
-        (
-            "$TTL 5\n@ A 192.0.2.1\n$INCLUDE x\n)",
-            3,
-            ZoneCause::Include,
-        ),
-        ("$generate 1-2 a A 192.0.2.$", 1, ZoneCause::Generate),
-        ("a A \\# 4 c0000201", 1, ZoneCause::GenericForm),
-        (" A 192.0.2.1", 1, ZoneCause::NoOwner),
-        ("$ORIGIN a\n\tA 192.0.2.1", 2, ZoneCause::NoOwner),
-        ("$ORIGIN a b", 1, ZoneCause::ExtraField),
-        ("a A 192.0.2.1 b", 1, ZoneCause::ExtraField),
-        ("@ CNAME a\n@ A 192.0.2.1", 2, ZoneCause::AliasBesideData),
-        ("@ A 192.0.2.1\n\n@ CNAME a", 3, ZoneCause::AliasBesideData),
-        ("@ CNAME a\n@ CNAME b", 2, ZoneCause::AliasBesideData),
-        // Faults of records outside the apex are faults.
-        ("a.org. A 192.0.2.256", 1, ZoneCause::BadAddress),
-    ];
-    has_fault_each(&rt, rt.alloc(), &rows);
+    has_fault_each(&rt, rt.alloc(), &REFUSED);
 }
 
 // Reads a pointer whose first string has so many octets.

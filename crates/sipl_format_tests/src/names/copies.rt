@@ -1,5 +1,6 @@
 // Copies of names: what is done to one is not seen through another.
-use super::{compare, name};
+use super::compare;
+use crate::records::name;
 use sipl_names::Name;
 use std::alloc::Global;
 use std::process::Abort;
@@ -13,22 +14,18 @@ const TEXTS: [&str; 5] = [
     "a-name-of-many-octets.in.several.labels.below.example.com",
 ];
 
-fn name_of(rt: &impl Abort, alloc: Global, text: &str) -> Name {
-    name(alloc, text.as_bytes()).expect(rt, "a name")
-}
-
 fn copy_of(rt: &impl Abort, alloc: Global, name: &Name) -> Name {
     name.dup(alloc).expect(rt, "memory")
 }
 
 // A copy of a name that is gone.
 fn left_copy(rt: &impl Abort, alloc: Global, text: &str) -> Name {
-    let owner = name_of(rt, alloc, text);
+    let owner = name(rt, alloc, text);
     copy_of(rt, alloc, &owner)
 }
 
 fn is_same(rt: &impl Abort, alloc: Global, found: &Name, text: &str) -> bool {
-    compare(found, &name_of(rt, alloc, text)) == [true, true]
+    compare(found, &name(rt, alloc, text)) == [true, true]
 }
 
 #[test]
@@ -48,7 +45,7 @@ fn push_copies(rt: &impl Abort, alloc: Global, name: &Name, copies: &mut Vec<Nam
 // A thousand copies of a name that is gone.
 fn thousand_copies(rt: &impl Abort, alloc: Global, text: &str) -> Vec<Name> {
     let mut copies = Vec::new(alloc);
-    let owner = name_of(rt, alloc, text);
+    let owner = name(rt, alloc, text);
     push_copies(rt, alloc, &owner, &mut copies);
     copies
 }
@@ -73,7 +70,7 @@ fn one_of_a_thousand_copies_outlives_the_others(rt: HostRuntime) {
 
 // Whether a name is the same after its copy has lost its labels.
 fn keeps_its_labels(rt: &impl Abort, alloc: Global, text: &str) -> bool {
-    let owner = name_of(rt, alloc, text);
+    let owner = name(rt, alloc, text);
     let mut copy = copy_of(rt, alloc, &owner);
     for _ in 0..8 {
         copy.pop_label();

@@ -1,11 +1,11 @@
 // Labels that are dropped from a name, and wildcard domain names (RFC 4592, 2.1.1).
-use super::name;
+use super::{parse, push_times};
 use sipl_names::Name;
-use std::alloc::{AllocError, Global};
+use std::alloc::Global;
 
 // The name without its first label, and whether it had one.
 fn popped(alloc: Global, text: &[u8]) -> Option<(Name, bool)> {
-    let mut left = name(alloc, text).ok()?;
+    let mut left = parse(alloc, text).ok()?;
     let is_popped = left.pop_label();
     Some((left, is_popped))
 }
@@ -19,7 +19,7 @@ fn pops(alloc: Global, text: &[u8], expected: Option<&[u8]>) -> bool {
 }
 
 fn is_name(alloc: Global, found: &Name, text: &[u8]) -> bool {
-    match name(alloc, text) {
+    match parse(alloc, text) {
         Ok(expected) => *found == expected,
         Err(_) => false,
     }
@@ -27,7 +27,7 @@ fn is_name(alloc: Global, found: &Name, text: &[u8]) -> bool {
 
 // The wildcard domain name beside the name.
 fn beside(alloc: Global, text: &[u8]) -> Option<Name> {
-    name(alloc, text).ok()?.wildcard_beside(alloc).ok()
+    parse(alloc, text).ok()?.wildcard_beside(alloc).ok()
 }
 
 // Whether this is the wildcard domain name beside the name.
@@ -64,22 +64,15 @@ fn count_labels(name: &mut Name) -> usize {
 
 // How many labels the name of a text has, and whether it is the root without them.
 fn popped_labels(alloc: Global, text: &[u8]) -> Option<(usize, bool)> {
-    let mut name = name(alloc, text).ok()?;
+    let mut name = parse(alloc, text).ok()?;
     let count = count_labels(&mut name);
     Some((count, name.is_root()))
-}
-
-fn push_short_labels(text: &mut Vec<u8>, count: usize) -> Result<(), AllocError> {
-    for _ in 0..count {
-        text.extend_from_slice(b"a.")?;
-    }
-    Ok(())
 }
 
 // The same for a name of so many labels of an octet each.
 fn popped_short_labels(alloc: Global, count: usize) -> Option<(usize, bool)> {
     let mut text = Vec::new(alloc);
-    push_short_labels(&mut text, count).ok()?;
+    push_times(&mut text, b"a.", count).ok()?;
     popped_labels(alloc, &text)
 }
 
@@ -107,7 +100,7 @@ fn wildcard_beside_replaces_the_first_label(rt: HostRuntime) {
 }
 
 fn is_wildcard(alloc: Global, text: &[u8]) -> Option<bool> {
-    Some(name(alloc, text).ok()?.is_wildcard())
+    Some(parse(alloc, text).ok()?.is_wildcard())
 }
 
 #[test]

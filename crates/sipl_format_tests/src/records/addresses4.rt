@@ -1,5 +1,6 @@
 // IPv4 addresses in text.
-use super::is_written_as;
+use super::{is_written_as, reads_as};
+use crate::names::is_code;
 use sipl_records::{Address, AddressFault};
 use std::process::Abort;
 
@@ -22,8 +23,7 @@ fn address_reads_and_prints_its_text(rt: HostRuntime) {
 
 #[test]
 fn address_allows_leading_zeros(rt: HostRuntime) {
-    let address = Address::from_text(b"192.0.02.001");
-    assert_eq!(rt; address, Ok(Address::V4(0xC000_0201)));
+    reads_as(&rt, b"192.0.02.001", Ok(Address::V4(0xC000_0201)));
 }
 
 const OTHER_TEXTS: [&str; 14] = [
@@ -46,11 +46,7 @@ const OTHER_TEXTS: [&str; 14] = [
 #[test]
 fn address_refuses_other_texts(rt: HostRuntime) {
     for text in &OTHER_TEXTS {
-        assert_eq!(rt;
-            Address::from_text(text.as_bytes()),
-            Err(AddressFault::BadAddress),
-            "{text}"
-        );
+        reads_as(&rt, text.as_bytes(), Err(AddressFault::BadAddress));
     }
 }
 
@@ -86,18 +82,14 @@ fn address_accepts_digits_and_dots_in_their_places_only(rt: HostRuntime) {
         for octet in 0..=255u8 {
             let mut text = *b"1.2.3.4";
             text[place] = octet;
-            assert_eq!(rt;
-                Address::from_text(&text),
-                address_with(place, octet),
-                "{octet} at {place}"
-            );
+            reads_as(&rt, &text, address_with(place, octet));
         }
     }
 }
 
 #[test]
 fn address_fault_has_its_code(rt: HostRuntime) {
-    assert_eq!(rt; AddressFault::BadAddress.code(), "A1");
+    is_code(&rt, AddressFault::BadAddress.code(), "A1");
 }
 
 fn equal_each(rt: &impl Abort, rows: &[(Address, Address, bool)]) {
@@ -106,13 +98,14 @@ fn equal_each(rt: &impl Abort, rows: &[(Address, Address, bool)]) {
     }
 }
 
+const PAIRS: [(Address, Address, bool); 4] = [
+    (Address::V6(1), Address::V6(1), true),
+    (Address::V6(1), Address::V6(2), false),
+    (Address::V4(1), Address::V4(2), false),
+    (Address::V4(1), Address::V6(1), false),
+];
+
 #[test]
 fn addresses_are_equal_where_families_and_numbers_are(rt: HostRuntime) {
-    let rows = [
-        (Address::V6(1), Address::V6(1), true),
-        (Address::V6(1), Address::V6(2), false),
-        (Address::V4(1), Address::V4(2), false),
-        (Address::V4(1), Address::V6(1), false),
-    ];
-    equal_each(&rt, &rows);
+    equal_each(&rt, &PAIRS);
 }

@@ -1,5 +1,5 @@
 // IPv6 addresses in text.
-use super::is_written_as;
+use super::{is_written_as, reads_as};
 use sipl_records::{Address, read_ipv6};
 use std::alloc::Global;
 use std::process::Abort;
@@ -79,7 +79,7 @@ fn reads_addresses(rt: HostRuntime) {
 #[test]
 fn address_is_read_in_either_case(rt: HostRuntime) {
     let address = Address::V6(0x2001_0db8_0000_0000_0000_0000_0000_0001);
-    assert_eq!(rt; Address::from_text(b"2001:DB8::1"), Ok(address));
+    reads_as(&rt, b"2001:DB8::1", Ok(address));
 }
 
 const OTHER_TEXTS: [&str; 32] = [
@@ -203,20 +203,21 @@ fn writes_each(rt: &impl Abort, alloc: Global, rows: &[([u16; 8], &[u8])]) {
     }
 }
 
+const WRITTEN: [([u16; 8], &[u8]); 5] = [
+    ([0; 8], b"0:0:0:0:0:0:0:0"),
+    ([0xffff; 8], b"ffff:ffff:ffff:ffff:ffff:ffff:ffff:ffff"),
+    ([0x2001, 0xdb8, 0, 0, 0, 0, 0, 1], b"2001:db8:0:0:0:0:0:1"),
+    (
+        [1, 0x23, 0x456, 0x789a, 0xbcde, 0xf, 0x10, 0x100],
+        b"1:23:456:789a:bcde:f:10:100",
+    ),
+    (
+        [0, 0, 0, 0, 0, 0xffff, 0xc000, 0x201],
+        b"0:0:0:0:0:ffff:c000:201",
+    ),
+];
+
 #[test]
 fn writes_addresses(rt: HostRuntime) {
-    let rows: [([u16; 8], &[u8]); 5] = [
-        ([0; 8], b"0:0:0:0:0:0:0:0"),
-        ([0xffff; 8], b"ffff:ffff:ffff:ffff:ffff:ffff:ffff:ffff"),
-        ([0x2001, 0xdb8, 0, 0, 0, 0, 0, 1], b"2001:db8:0:0:0:0:0:1"),
-        (
-            [1, 0x23, 0x456, 0x789a, 0xbcde, 0xf, 0x10, 0x100],
-            b"1:23:456:789a:bcde:f:10:100",
-        ),
-        (
-            [0, 0, 0, 0, 0, 0xffff, 0xc000, 0x201],
-            b"0:0:0:0:0:ffff:c000:201",
-        ),
-    ];
-    writes_each(&rt, rt.alloc(), &rows);
+    writes_each(&rt, rt.alloc(), &WRITTEN);
 }

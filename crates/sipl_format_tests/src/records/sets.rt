@@ -91,10 +91,17 @@ fn equals_a_copy(alloc: Global, value: &Data, other: &Data) -> bool {
     }
 }
 
-// Whether data of this type and of the two rows are equal, and so are their copies.
-fn are_equal(rt: &impl Abort, alloc: Global, kind: Option<Kind>, row: &Row, other: &Row) -> bool {
-    let values = [data(rt, alloc, kind, row), data(rt, alloc, kind, other)];
-    equals_a_copy(alloc, &values[0], &values[1])
+// Data of this type, of the first row.
+fn first(rt: &impl Abort, alloc: Global, kind: Option<Kind>) -> Data {
+    data(rt, alloc, kind, &FIRST)
+}
+
+// Whether data of this type, of the first row and of this one, are equal, and so are their copies.
+fn are_equal(rt: &impl Abort, alloc: Global, kind: Option<Kind>, row: &Row) -> bool {
+    let values = [first(rt, alloc, kind), data(rt, alloc, kind, row)];
+    let is_so = equals_a_copy(alloc, &values[0], &values[1]);
+    drop(values);
+    is_so
 }
 
 fn equals_first(
@@ -105,7 +112,7 @@ fn equals_first(
     index: usize,
     expected: bool,
 ) {
-    let is_equal = are_equal(rt, alloc, kind, &FIRST, row);
+    let is_equal = are_equal(rt, alloc, kind, row);
     assert!(rt; is_equal == expected, "row {index}");
 }
 
@@ -135,21 +142,25 @@ fn differ_within_each(
     }
 }
 
+const DIFFERENT: [(Option<Kind>, (usize, usize)); 6] = [
+    (Some(Kind::Address4), (1, 2)),
+    (Some(Kind::Address6), (1, 2)),
+    (Some(Kind::Alias), (3, 4)),
+    (Some(Kind::Service), (1, 4)),
+    (Some(Kind::Pointer), (1, 8)),
+    (None, (0, 0)),
+];
+
 #[test]
 fn data_are_equal_where_their_fields_are(rt: HostRuntime) {
-    let different = [
-        (Some(Kind::Address4), (1, 2)),
-        (Some(Kind::Address6), (1, 2)),
-        (Some(Kind::Alias), (3, 4)),
-        (Some(Kind::Service), (1, 4)),
-        (Some(Kind::Pointer), (1, 8)),
-        (None, (0, 0)),
-    ];
-    differ_within_each(&rt, rt.alloc(), &ROWS, &different);
+    differ_within_each(&rt, rt.alloc(), &ROWS, &DIFFERENT);
 }
 
 fn kind_of(rt: &impl Abort, alloc: Global, kind: Option<Kind>) -> Option<Kind> {
-    data(rt, alloc, kind, &FIRST).kind()
+    let value = first(rt, alloc, kind);
+    let found = value.kind();
+    drop(value);
+    found
 }
 
 #[test]
@@ -161,7 +172,10 @@ fn data_have_the_kind_of_their_type(rt: HostRuntime) {
 
 // Whether data of this type are of a kind.
 fn is_of_kind(rt: &impl Abort, alloc: Global, own: Option<Kind>, kind: Kind) -> bool {
-    data(rt, alloc, own, &FIRST).has_kind(kind)
+    let value = first(rt, alloc, own);
+    let is_so = value.has_kind(kind);
+    drop(value);
+    is_so
 }
 
 // Data of this type are of one kind and no other: that of existence where the type is not read.
@@ -192,17 +206,18 @@ fn are_printed_as(rt: &impl Abort, alloc: Global, rows: &[(Kind, &str)]) {
     }
 }
 
+const MNEMONICS: [(Kind, &str); 6] = [
+    (Kind::Address4, "A"),
+    (Kind::Address6, "AAAA"),
+    (Kind::Alias, "CNAME"),
+    (Kind::Service, "SRV"),
+    (Kind::Pointer, "NAPTR"),
+    (Kind::Exists, "EXISTS"),
+];
+
 #[test]
 fn kind_prints_its_mnemonic(rt: HostRuntime) {
-    let rows = [
-        (Kind::Address4, "A"),
-        (Kind::Address6, "AAAA"),
-        (Kind::Alias, "CNAME"),
-        (Kind::Service, "SRV"),
-        (Kind::Pointer, "NAPTR"),
-        (Kind::Exists, "EXISTS"),
-    ];
-    are_printed_as(&rt, rt.alloc(), &rows);
+    are_printed_as(&rt, rt.alloc(), &MNEMONICS);
 }
 
 // Whether a record of this owner and type of data conflicts with one of `example.com.`.
@@ -216,14 +231,16 @@ fn do_conflict(
     let records = [
         Record {
             owner: name(rt, alloc, owner),
-            value: data(rt, alloc, kind, &FIRST),
+            value: first(rt, alloc, kind),
         },
         Record {
             owner: name(rt, alloc, "example.com."),
             value: data(rt, alloc, other, &OTHER_NAME),
         },
     ];
-    records[0].conflicts_with(&records[1])
+    let is_so = records[0].conflicts_with(&records[1]);
+    drop(records);
+    is_so
 }
 
 // An owner, its type of data, that of `example.com.`, and whether they conflict.
@@ -278,16 +295,17 @@ fn have_keys(rt: &impl Abort, alloc: Global, rows: &[(&str, Kind, [bool; 3])]) {
     }
 }
 
+const MEMBERS: [(&str, Kind, [bool; 3]); 5] = [
+    ("www.example.com.", Kind::Address4, [true, false, true]),
+    ("EXAMPLE.com.", Kind::Address4, [false, true, false]),
+    ("com.", Kind::Address4, [false, false, false]),
+    ("www.example.com.", Kind::Address6, [false, false, false]),
+    ("www.example.com.", Kind::Exists, [false, false, false]),
+];
+
 #[test]
 fn record_has_the_key_of_its_owner_and_kind(rt: HostRuntime) {
-    let rows = [
-        ("www.example.com.", Kind::Address4, [true, false, true]),
-        ("EXAMPLE.com.", Kind::Address4, [false, true, false]),
-        ("com.", Kind::Address4, [false, false, false]),
-        ("www.example.com.", Kind::Address6, [false, false, false]),
-        ("www.example.com.", Kind::Exists, [false, false, false]),
-    ];
-    have_keys(&rt, rt.alloc(), &rows);
+    have_keys(&rt, rt.alloc(), &MEMBERS);
 }
 
 // Whether the record has no key, whether it is in no set with itself, and whether that of its owner's

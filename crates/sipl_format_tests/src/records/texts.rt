@@ -26,16 +26,17 @@ fn trims_each(rt: &impl Abort, rows: &[(&str, &str)]) {
     }
 }
 
+const TRIMMED: [(&str, &str); 5] = [
+    ("", ""),
+    ("a b ", "a b "),
+    ("\t  a b ", "a b "),
+    (" \t", ""),
+    ("\r a", "\r a"),
+];
+
 #[test]
 fn trim_start_removes_spaces_and_tabs_only(rt: HostRuntime) {
-    let rows = [
-        ("", ""),
-        ("a b ", "a b "),
-        ("\t  a b ", "a b "),
-        (" \t", ""),
-        ("\r a", "\r a"),
-    ];
-    trims_each(&rt, &rows);
+    trims_each(&rt, &TRIMMED);
 }
 
 fn is_number(rt: &impl Abort, text: &str, max: u64, expected: Option<u64>) {
@@ -49,63 +50,61 @@ fn are_numbers(rt: &impl Abort, rows: &[(&str, u64, Option<u64>)]) {
     }
 }
 
+const NUMBERS: [(&str, u64, Option<u64>); 11] = [
+    ("0", u64::MAX, Some(0)),
+    ("007", u64::MAX, Some(7)),
+    ("18446744073709551615", u64::MAX, Some(u64::MAX)),
+    ("018446744073709551615", u64::MAX, Some(u64::MAX)),
+    ("18446744073709551616", u64::MAX, None),
+    ("100000000000000000000", u64::MAX, None),
+    ("", u64::MAX, None),
+    ("+1", u64::MAX, None),
+    ("-1", u64::MAX, None),
+    ("1 ", u64::MAX, None),
+    ("1a", u64::MAX, None),
+];
+
 #[test]
 fn read_number_accepts_digits_only(rt: HostRuntime) {
-    let rows = [
-        ("0", u64::MAX, Some(0)),
-        ("007", u64::MAX, Some(7)),
-        ("18446744073709551615", u64::MAX, Some(u64::MAX)),
-        ("018446744073709551615", u64::MAX, Some(u64::MAX)),
-        ("18446744073709551616", u64::MAX, None),
-        ("100000000000000000000", u64::MAX, None),
-        ("", u64::MAX, None),
-        ("+1", u64::MAX, None),
-        ("-1", u64::MAX, None),
-        ("1 ", u64::MAX, None),
-        ("1a", u64::MAX, None),
-    ];
-    are_numbers(&rt, &rows);
+    are_numbers(&rt, &NUMBERS);
 }
+
+const BOUNDED: [(&str, u64, Option<u64>); 5] = [
+    ("65535", 65_535, Some(65_535)),
+    ("65536", 65_535, None),
+    ("0065535", 65_535, Some(65_535)),
+    ("0", 0, Some(0)),
+    ("1", 0, None),
+];
 
 #[test]
 fn read_number_refuses_what_is_over_the_maximum(rt: HostRuntime) {
-    let rows = [
-        ("65535", 65_535, Some(65_535)),
-        ("65536", 65_535, None),
-        ("0065535", 65_535, Some(65_535)),
-        ("0", 0, Some(0)),
-        ("1", 0, None),
-    ];
-    are_numbers(&rt, &rows);
+    are_numbers(&rt, &BOUNDED);
 }
 
-// Whether the text is split into these two at its first colon.
-fn splits_into(text: &str, before: &str, after: Option<&str>) -> bool {
-    let (first, rest) = split_once(text.as_bytes(), b':');
-    first == before.as_bytes() && rest == after.map(|after| after.as_bytes())
-}
-
-fn splits_each(rt: &impl Abort, rows: &[(&str, &str, Option<&str>)]) {
+// That the texts are split into these two at their first colons.
+fn splits_each(rt: &impl Abort, rows: &[(&[u8], &[u8], Option<&[u8]>)]) {
     for (text, before, after) in rows {
-        assert!(rt; splits_into(text, before, *after), "at {text}");
+        assert!(rt; split_once(text, b':') == (*before, *after), "at {text:?}");
     }
 }
 
+const SPLIT: [(&[u8], &[u8], Option<&[u8]>); 8] = [
+    (b"a:b", b"a", Some(b"b")),
+    (b"a:b:c", b"a", Some(b"b:c")),
+    (b":a", b"", Some(b"a")),
+    (b"a:", b"a", Some(b"")),
+    (b":", b"", Some(b"")),
+    (b"", b"", None),
+    (b"a;b", b"a;b", None),
+    (
+        b"an octet far from the start: here",
+        b"an octet far from the start",
+        Some(b" here"),
+    ),
+];
+
 #[test]
 fn split_once_splits_at_the_first_separator(rt: HostRuntime) {
-    let rows = [
-        ("a:b", "a", Some("b")),
-        ("a:b:c", "a", Some("b:c")),
-        (":a", "", Some("a")),
-        ("a:", "a", Some("")),
-        (":", "", Some("")),
-        ("", "", None),
-        ("a;b", "a;b", None),
-        (
-            "an octet far from the start: here",
-            "an octet far from the start",
-            Some(" here"),
-        ),
-    ];
-    splits_each(&rt, &rows);
+    splits_each(&rt, &SPLIT);
 }

@@ -56,36 +56,35 @@ fn ask_as(rt: &impl Abort, alloc: Global, one: &[u8], uris: &[&[u8]], expected: 
     }
 }
 
+const COPIED: [&[u8]; 3] = [b"sip:a.b:1", b"sip:1.2.3.4", b"sips:[::1]:1;transport=tcp"];
+
+const OTHERS: [&[u8]; 7] = [
+    b"sip:a.b:2;transport=tls",
+    b"sip:a.c:1;transport=tls",
+    b"sip:1.2.3.4:1;transport=tls",
+    b"sip:a.b:1;transport=tcp",
+    b"sip:a.b:1",
+    b"sip:a.b;transport=tls",
+    b"sips:a.b:1;transport=tls",
+];
+
 #[test]
 fn questions_equal_their_copies_only(rt: HostRuntime) {
-    let uris = [
-        b"sip:a.b:1".as_slice(),
-        b"sip:1.2.3.4",
-        b"sips:[::1]:1;transport=tcp",
-    ];
-    equal_copies(&rt, rt.alloc(), &uris);
+    equal_copies(&rt, rt.alloc(), &COPIED);
     let one = b"sip:a.b:1;transport=tls".as_slice();
-    let others = [
-        b"sip:a.b:2;transport=tls".as_slice(),
-        b"sip:a.c:1;transport=tls",
-        b"sip:1.2.3.4:1;transport=tls",
-        b"sip:a.b:1;transport=tcp",
-        b"sip:a.b:1",
-        b"sip:a.b;transport=tls",
-        b"sips:a.b:1;transport=tls",
-    ];
-    ask_as(&rt, rt.alloc(), one, &others, false);
+    ask_as(&rt, rt.alloc(), one, &OTHERS, false);
 }
+
+const CASES: [&[u8]; 3] = [
+    b"SIP:server1.example.com:5070;transport=tcp",
+    b"sip:SERVER1.EXAMPLE.COM:5070;TRANSPORT=TCP",
+    b"sIp:Server1.eXample.Com:5070;Transport=Tcp",
+];
 
 #[test]
 fn parsing_ignores_case(rt: HostRuntime) {
     let lower = b"sip:server1.example.com:5070;transport=tcp".as_slice();
-    let uris = [
-        b"SIP:server1.example.com:5070;transport=tcp".as_slice(),
-        b"sip:SERVER1.EXAMPLE.COM:5070;TRANSPORT=TCP",
-        b"sIp:Server1.eXample.Com:5070;Transport=Tcp",
-    ];
-    ask_as(&rt, rt.alloc(), lower, &uris, true);
+    ask_as(&rt, rt.alloc(), lower, &CASES, true);
 }
 
 fn ask_the_same_each(rt: &impl Abort, alloc: Global, rows: &[(&[u8], &[u8])]) {
@@ -94,27 +93,29 @@ fn ask_the_same_each(rt: &impl Abort, alloc: Global, rows: &[(&[u8], &[u8])]) {
     }
 }
 
+const WRITTEN: [(&[u8], &[u8]); 9] = [
+    (b"sip:Example.com", b"sip:example.com."),
+    (b"sips:example.com.:5061", b"sips:example.com.:5061"),
+    (b"sip:a_.-.b;transport=udp", b"sip:a_.-.b.;transport=udp"),
+    (b"sips:a;transport=tcp", b"sips:a.;transport=tls"),
+    (
+        b"sip:u@192.0.2.9:65535;transport=sctp?h",
+        b"sip:192.0.2.9:65535;transport=sctp",
+    ),
+    (b"sip:010.0.0.1", b"sip:10.0.0.1"),
+    (b"sip:[2001:DB8::1]", b"sip:[2001:db8:0:0:0:0:0:1]"),
+    (
+        b"sips:[::]:00001;transport=tls;x",
+        b"sips:[0:0:0:0:0:0:0:0]:1;transport=tls",
+    ),
+    (b"sip:a;maddr=b;x", b"sip:b."),
+];
+
 #[test]
 fn questions_are_written_as_uris(rt: HostRuntime) {
-    let rows: [(&[u8], &[u8]); 9] = [
-        (b"sip:Example.com", b"sip:example.com."),
-        (b"sips:example.com.:5061", b"sips:example.com.:5061"),
-        (b"sip:a_.-.b;transport=udp", b"sip:a_.-.b.;transport=udp"),
-        (b"sips:a;transport=tcp", b"sips:a.;transport=tls"),
-        (
-            b"sip:u@192.0.2.9:65535;transport=sctp?h",
-            b"sip:192.0.2.9:65535;transport=sctp",
-        ),
-        (b"sip:010.0.0.1", b"sip:10.0.0.1"),
-        (b"sip:[2001:DB8::1]", b"sip:[2001:db8:0:0:0:0:0:1]"),
-        (
-            b"sips:[::]:00001;transport=tls;x",
-            b"sips:[0:0:0:0:0:0:0:0]:1;transport=tls",
-        ),
-        (b"sip:a;maddr=b;x", b"sip:b."),
-    ];
-    print(&rt, rt.alloc(), &rows);
-    ask_the_same_each(&rt, rt.alloc(), &rows);
+    let rows = &WRITTEN;
+    print(&rt, rt.alloc(), rows);
+    ask_the_same_each(&rt, rt.alloc(), rows);
 }
 
 // Appends the URIs of two questions after other text.

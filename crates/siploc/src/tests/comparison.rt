@@ -8,6 +8,7 @@ use sipl_masterfile::{ZoneText, read_record, read_zone};
 use sipl_names::Name;
 use sipl_outages::{Board, Held};
 use sipl_plans::{Answer, plan_of};
+use sipl_records::Record;
 use sipl_srv::Draws;
 use sipl_uri::{Question, Uri};
 use sipl_zonestore::ZoneStore;
@@ -159,14 +160,18 @@ impl Numbers {
     // the store refuses are left out.
     fn fill(&mut self, alloc: Global, book: &mut Book, store: &mut ZoneStore) -> Result<(), Fail> {
         load(alloc, b"* A 192.0.2.9\n", book, store)?;
-        let root = Name::root(alloc);
         for _ in 0..24 {
-            let record = read_record(alloc, &self.record(alloc)?, &root)?;
-            if store.add(&record).is_ok() {
-                book.change(Edit::Add(record))?;
-            }
+            self.add(alloc, book, store)?;
         }
         Ok(())
+    }
+
+    // Adds a record to a store, and to a book where the store takes it.
+    fn add(&mut self, alloc: Global, book: &mut Book, store: &mut ZoneStore) -> Result<(), Fail> {
+        let text = self.record(alloc)?;
+        let record = read(alloc, &text);
+        drop(text);
+        add_to_both(record?, book, store)
     }
 
     pub fn abilities(&mut self, alloc: Global) -> Result<Abilities, Fail> {
@@ -185,25 +190,53 @@ impl Numbers {
     }
 }
 
+// The record of a text.
+pub fn read(alloc: Global, text: &[u8]) -> Result<Record, Fail> {
+    let root = Name::root(alloc);
+    let record = read_record(alloc, text, &root);
+    drop(root);
+    Ok(record?)
+}
+
+fn add_to_both(record: Record, book: &mut Book, store: &mut ZoneStore) -> Result<(), Fail> {
+    if store.add(&record).is_ok() {
+        change(book, Edit::Add(record))
+    } else {
+        drop(record);
+        Ok(())
+    }
+}
+
+fn apex(alloc: Global) -> Result<Name, Fail> {
+    let root = Name::root(alloc);
+    let apex = Name::from_text(alloc, b"e.", &root);
+    drop(root);
+    Ok(apex?)
+}
+
 // The zone `e.` of a text.
 pub fn zone(alloc: Global, text: &[u8]) -> Result<ZoneText, Fail> {
-    let apex = Name::from_text(alloc, b"e.", &Name::root(alloc))?;
-    Ok(read_zone(alloc, text, &apex)?)
+    let apex = apex(alloc)?;
+    let zone = read_zone(alloc, text, &apex);
+    drop(apex);
+    Ok(zone?)
 }
 
 // Loads the zone `e.` into a book and a store.
 fn load(alloc: Global, text: &[u8], book: &mut Book, store: &mut ZoneStore) -> Result<(), Fail> {
     load_store(store, zone(alloc, text)?)?;
-    load_book(book, zone(alloc, text)?)
+    change(book, Edit::Load(zone(alloc, text)?))
 }
 
-fn load_store(store: &mut ZoneStore, zone: ZoneText) -> Result<(), Fail> {
-    store.load(&zone)?;
+pub fn load_store(store: &mut ZoneStore, zone: ZoneText) -> Result<(), Fail> {
+    let loaded = store.load(&zone);
+    drop(zone);
+    loaded?;
     Ok(())
 }
 
-fn load_book(book: &mut Book, zone: ZoneText) -> Result<(), Fail> {
-    book.change(Edit::Load(zone))?;
+fn change(book: &mut Book, edit: Edit) -> Result<(), Fail> {
+    book.change(edit)?;
     Ok(())
 }
 
@@ -246,32 +279,49 @@ fn agreed(
     draws: &Draws,
 ) -> Result<Option<usize>, Fail> {
     let found = book.find(Uri::parse(alloc, uri)?, draws)?;
+    let agreed = agreed_with(alloc, &found.answer, book, store, uri, draws);
+    drop(found);
+    agreed
+}
+
+// How many targets a URI has, where the plain program agrees with the book's answer.
+fn agreed_with(
+    alloc: Global,
+    found: &Answer,
+    book: &Book,
+    store: &mut ZoneStore,
+    uri: &[u8],
+    draws: &Draws,
+) -> Result<Option<usize>, Fail> {
     let question = Uri::parse(alloc, uri)?;
     let (board, abilities) = (book.board(), book.abilities());
     let held = book.held();
-    let plain = plain_answer(alloc, store, board, &question, abilities, draws, held)?;
-    if !is_same(&found.answer, &plain) {
-        return Ok(None);
-    }
-    Ok(Some(match plain {
-        Answer::Targets(targets) => targets.as_slice().len(),
-        Answer::None(_) => 0,
-    }))
+    let plain = plain_answer(alloc, store, board, &question, abilities, draws, held);
+    drop(question);
+    let plain = plain?;
+    let agreed = is_same(found, &plain).then_some(count_targets(&plain));
+    drop(plain);
+    Ok(agreed)
 }
 
-// Counts the answers over the zone of a seed. Whether the book and the plain program agree on all.
+fn count_targets(answer: &Answer) -> usize {
+    match answer {
+        Answer::Targets(targets) => targets.as_slice().len(),
+        Answer::None(_) => 0,
+    }
+}
+
+// Counts the answers. Whether the book and the plain program agree on all.
 fn are_agreed(
     alloc: Global,
-    seed: u64,
-    numbers: &mut Numbers,
+    uris: &[&str],
     book: &mut Book,
     store: &mut ZoneStore,
+    draws: &Draws,
     shares: &mut Shares,
 ) -> Result<bool, Fail> {
-    numbers.fill(alloc, book, store)?;
-    let draws = Draws::from_seed(seed);
-    for uri in URIS {
-        match agreed(alloc, book, store, uri.as_bytes(), &draws)? {
+    for uri in uris {
+        match agreed(alloc, book, store, uri.as_bytes(), draws)? {
             Some(0) => count(true, &mut shares.none),
             Some(_) => count(true, &mut shares.found),
             None => return Ok(false),
@@ -281,14 +331,31 @@ fn are_agreed(
     Ok(true)
 }
 
+// The same over the zone of a seed.
+fn are_agreed_over(
+    alloc: Global,
+    seed: u64,
+    numbers: &mut Numbers,
+    book: &mut Book,
+    store: &mut ZoneStore,
+    shares: &mut Shares,
+) -> Result<bool, Fail> {
+    numbers.fill(alloc, book, store)?;
+    let draws = Draws::from_seed(seed);
+    are_agreed(alloc, &URIS, book, store, &draws, shares)
+}
+
 // The same for a new book and a new store.
 fn are_agreed_anew(alloc: Global, seed: u64, shares: &mut Shares) -> Result<bool, Fail> {
     let mut numbers = Numbers::new(seed);
     let abilities = numbers.abilities(alloc)?;
     let held = numbers.held();
-    let mut store = ZoneStore::new(alloc);
     let mut book = new_book(alloc, abilities, held)?;
-    are_agreed(alloc, seed, &mut numbers, &mut book, &mut store, shares)
+    let mut store = ZoneStore::new(alloc);
+    let are_agreed = are_agreed_over(alloc, seed, &mut numbers, &mut book, &mut store, shares);
+    drop(store);
+    drop(book);
+    are_agreed
 }
 
 #[test]
@@ -310,13 +377,12 @@ fn push_texts(text: &mut Vec<u8>, parts: &[&str]) -> Result<(), AllocError> {
     Ok(())
 }
 
-// A zone's text of 32 servers with 32 addresses each.
-fn full_service(alloc: Global) -> Result<Vec<u8>, AllocError> {
-    let mut text = Vec::new(alloc);
+// Appends a zone's text of 32 servers with 32 addresses each.
+fn push_servers(text: &mut Vec<u8>) -> Result<(), AllocError> {
     for server in 0..32_u8 {
-        push_server(&mut text, Buffer::new().format(server))?;
+        push_server(text, Buffer::new().format(server))?;
     }
-    Ok(text)
+    Ok(())
 }
 
 // Appends a server's record and its addresses.
@@ -345,14 +411,24 @@ fn agreed_over(
 fn agreed_anew(alloc: Global, text: &[u8]) -> Result<Option<usize>, Fail> {
     let preference = Vec::from_slice(alloc, &[Transport::Udp, Transport::Tcp])?;
     let abilities = Abilities::new(preference, Families::V4)?;
-    let mut store = ZoneStore::new(alloc);
     let mut book = new_book(alloc, abilities, Held::Out)?;
-    agreed_over(alloc, text, &mut book, &mut store)
+    let mut store = ZoneStore::new(alloc);
+    let agreed = agreed_over(alloc, text, &mut book, &mut store);
+    drop(store);
+    drop(book);
+    agreed
+}
+
+fn agreed_over_servers(alloc: Global) -> Result<Option<usize>, Fail> {
+    let mut text = Vec::new(alloc);
+    push_servers(&mut text)?;
+    let agreed = agreed_anew(alloc, &text);
+    drop(text);
+    agreed
 }
 
 #[test]
 fn answers_agree_over_32_servers_of_32_addresses(rt: HostRuntime) -> Result<(), Fail> {
-    let text = full_service(rt.alloc())?;
-    assert_eq!(rt; agreed_anew(rt.alloc(), &text)?, Some(1024));
+    assert_eq!(rt; agreed_over_servers(rt.alloc())?, Some(1024));
     Ok(())
 }

@@ -1,6 +1,7 @@
 // A session with holds and a call whose streams fail at each read and at each write.
 use super::rows::{Row, Texts, rows_before, rows_within};
-use super::streams::{Failing, Paper, Pieces, Served, new_desk, serve_at};
+use super::streams::{Failing, Paper, Pieces, Served, has_ended, new_desk, serve_at};
+use sipl_book::Book;
 use sipl_lines::{MAX_READS, ServeFault};
 use std::alloc::Global;
 use std::process::Abort;
@@ -84,27 +85,31 @@ fn failed_at_read(served: &Served, fails_at: u64, replies: &[u8]) -> bool {
         && served.flushed == replies.len()
 }
 
-// What serving a session over a new book came to, and how many events the book has.
-fn serve_new(
+// What serving a session over a book came to, and how many events the book has.
+fn serve_once(
     alloc: Global,
     reader: Pieces<'_>,
     writer: Paper,
+    mut book: Box<Book>,
     limit: u64,
-) -> Result<(Served, usize), Fail> {
-    let mut book = new_desk(alloc)?;
+) -> (Served, usize) {
     let served = serve_at(alloc, reader, writer, &mut book, limit);
-    Ok((served, book.journal().len()))
+    let events = book.journal().len();
+    drop(book);
+    (served, events)
 }
 
 // Whether the session whose read of this number fails shows the commands that were accepted, and no
 // others.
 fn fails_at_read(alloc: Global, case: &Case<'_>, fails_at: u64) -> Result<bool, Fail> {
+    let book = new_desk(alloc)?;
     let reader = Pieces::new(&case.texts.input, 1, fails_at);
-    let (served, events) = serve_new(alloc, reader, Paper::blank(alloc), MAX_READS)?;
+    let (served, events) = serve_once(alloc, reader, Paper::blank(alloc), book, MAX_READS);
     let read = fails_at.saturating_sub(1);
     let replies = case.texts.replies_within(case.rows, read);
-    let rows = rows_within(case.rows, read);
-    Ok(failed_at_read(&served, fails_at, replies) && events == case.events_of(rows))
+    let has_failed = failed_at_read(&served, fails_at, replies);
+    drop(served);
+    Ok(has_failed && events == case.events_of(rows_within(case.rows, read)))
 }
 
 fn fails_at_each_read(rt: &impl Abort, alloc: Global, case: &Case<'_>) -> Result<(), Fail> {
@@ -132,12 +137,13 @@ fn fails_at_write(
     failing: Failing,
     fails_at: u64,
 ) -> Result<bool, Fail> {
+    let book = new_desk(alloc)?;
     let writer = Paper::new(alloc, 1, failing, fails_at);
     let reader = Pieces::new(&case.texts.input, 1, 0);
-    let (served, events) = serve_new(alloc, reader, writer, MAX_READS)?;
-    let rows = rows_before(case.rows, fails_at);
+    let (served, events) = serve_once(alloc, reader, writer, book, MAX_READS);
     let is_prefix = failed_at_write(&served, fails_at, &case.texts.replies);
-    Ok(is_prefix && events == case.events_of(rows))
+    drop(served);
+    Ok(is_prefix && events == case.events_of(rows_before(case.rows, fails_at)))
 }
 
 fn fails_at_each_write(
@@ -158,14 +164,13 @@ fn fails_at_each_write(
 
 // Whether three reads of one octet are too few, and nothing was done.
 fn needs_more_reads(alloc: Global, texts: &Texts) -> Result<bool, Fail> {
+    let book = new_desk(alloc)?;
     let reader = Pieces::new(&texts.input, 1, 0);
-    let (served, events) = serve_new(alloc, reader, Paper::blank(alloc), 3)?;
-    Ok(
-        served.ended == Err(ServeFault::TooManyTurns)
-            && served.reads == 3
-            && served.text.is_empty()
-            && events == 0,
-    )
+    let (served, events) = serve_once(alloc, reader, Paper::blank(alloc), book, 3);
+    let has_ended = has_ended(&served, Err(ServeFault::TooManyTurns), b"");
+    let reads = served.reads;
+    drop(served);
+    Ok(has_ended && reads == 3 && events == 0)
 }
 
 // That the session fails so at each of its reads and writes.
@@ -179,15 +184,14 @@ fn fails_everywhere(rt: &impl Abort, alloc: Global, case: &Case<'_>) -> Result<(
 
 fn fails_on(rt: &impl Abort, alloc: Global, rows: &[Row], events: &[usize]) -> Result<(), Fail> {
     let texts = Texts::new(alloc, rows)?;
-    fails_everywhere(
-        rt,
-        alloc,
-        &Case {
-            rows,
-            events,
-            texts: &texts,
-        },
-    )
+    let case = Case {
+        rows,
+        events,
+        texts: &texts,
+    };
+    let has_failed = fails_everywhere(rt, alloc, &case);
+    drop(texts);
+    has_failed
 }
 
 #[test]

@@ -2,20 +2,18 @@
 // each line is what these give, and that to a `find` is the plain program's on the records and the
 // holds as they are, by the book's policy on held endpoints. A page in fifty lines has the number of the
 // first event since the last one, and how many there were.
-use super::comparison::{Numbers, URIS, plain_answer, zone};
+use super::comparison::{Numbers, URIS, load_store, plain_answer, read, zone};
 use super::shares::{Shares, are_held, are_mixed, are_paged, count, count_answer, count_entries};
-use super::streams::{new_book, replies_at};
+use super::streams::{has_replies_at, new_book};
 use itoa::Buffer;
 use sipl_book::Book;
 use sipl_choice::{Abilities, Endpoint, Transport};
-use sipl_masterfile::read_record;
-use sipl_names::Name;
 use sipl_outages::{Board, Held};
 use sipl_plans::Answer;
 use sipl_records::Address;
 use sipl_srv::Draws;
 use sipl_uri::Uri;
-use sipl_zonestore::ZoneStore;
+use sipl_zonestore::{Changed, StoreFault, ZoneStore};
 use std::alloc::{AllocError, Global};
 use std::mem;
 use std::test::Fail;
@@ -76,10 +74,17 @@ fn push_extent(text: &mut Vec<u8>, first: u64, count: u64) -> Result<(), AllocEr
     push_line(text, &[b" ", Buffer::new().format(count).as_bytes()])
 }
 
-// Loads the empty zone `e.`.
-fn load_empty(alloc: Global, store: &mut ZoneStore) -> Result<(), Fail> {
-    store.load(&zone(alloc, b"")?)?;
-    Ok(())
+// The reply to an edit of a record, one of these two, or the code of the refusal.
+fn outcome(
+    changed: Result<Changed, StoreFault>,
+    none: &'static str,
+    one: &'static str,
+) -> Result<&'static str, &'static str> {
+    match changed {
+        Ok(changed) if changed.sets == 0 => Ok(none),
+        Ok(_) => Ok(one),
+        Err(fault) => Err(fault.code()),
+    }
 }
 
 // Adds a record to a store. Returns the reply, or the code of the refusal.
@@ -88,12 +93,10 @@ fn add(
     store: &mut ZoneStore,
     text: &[u8],
 ) -> Result<Result<&'static str, &'static str>, Fail> {
-    let record = read_record(alloc, text, &Name::root(alloc))?;
-    Ok(match store.add(&record) {
-        Ok(changed) if changed.sets == 0 => Ok("ok add 0"),
-        Ok(_) => Ok("ok add 1"),
-        Err(fault) => Err(fault.code()),
-    })
+    let record = read(alloc, text)?;
+    let changed = store.add(&record);
+    drop(record);
+    Ok(outcome(changed, "ok add 0", "ok add 1"))
 }
 
 // The same for a record that is removed.
@@ -102,12 +105,10 @@ fn remove(
     store: &mut ZoneStore,
     text: &[u8],
 ) -> Result<Result<&'static str, &'static str>, Fail> {
-    let record = read_record(alloc, text, &Name::root(alloc))?;
-    Ok(match store.remove(&record) {
-        Ok(changed) if changed.sets == 0 => Ok("ok del 0"),
-        Ok(_) => Ok("ok del 1"),
-        Err(fault) => Err(fault.code()),
-    })
+    let record = read(alloc, text)?;
+    let changed = store.remove(&record);
+    drop(record);
+    Ok(outcome(changed, "ok del 0", "ok del 1"))
 }
 
 // Appends the reply of the plain program to a question, counts it, and returns its first target.
@@ -124,10 +125,15 @@ fn push_plain_answer(
 ) -> Result<Option<Endpoint>, Fail> {
     let question = Uri::parse(alloc, uri.as_bytes())?;
     let draws = Draws::from_seed(seed);
-    let answer = plain_answer(alloc, store, board, &question, abilities, &draws, held)?;
+    let answer = plain_answer(alloc, store, board, &question, abilities, &draws, held);
+    drop(question);
+    let answer = answer?;
     count_answer(&answer, board, shares);
-    push_answer(want, &answer)?;
-    Ok(first_target(&answer))
+    let pushed = push_answer(want, &answer);
+    let target = first_target(&answer);
+    drop(answer);
+    pushed?;
+    Ok(target)
 }
 
 fn first_target(answer: &Answer) -> Option<Endpoint> {
@@ -184,7 +190,7 @@ impl Live {
 
     // Loads the empty zone `e.`.
     fn load(&mut self) -> Result<(), Fail> {
-        load_empty(self.alloc, &mut self.store)?;
+        load_store(&mut self.store, zone(self.alloc, b"")?)?;
         count(true, &mut self.events);
         self.push("zone e. 0", "ok zone 0 0 0 0")
     }
@@ -222,7 +228,25 @@ impl Live {
             return Ok(());
         }
         let text = mem::replace(&mut self.added, Vec::new(self.alloc));
-        self.remove(&text)
+        let removed = self.remove(&text);
+        drop(text);
+        removed
+    }
+
+    // Adds a record by chance.
+    fn add_any(&mut self, numbers: &mut Numbers) -> Result<(), Fail> {
+        let text = numbers.record(self.alloc)?;
+        let added = self.add(&text);
+        drop(text);
+        added
+    }
+
+    // Removes a record by chance.
+    fn remove_any(&mut self, numbers: &mut Numbers) -> Result<(), Fail> {
+        let text = numbers.record(self.alloc)?;
+        let removed = self.remove(&text);
+        drop(text);
+        removed
     }
 
     fn hold(&mut self, endpoint: &Endpoint, ms: u64) -> Result<(), AllocError> {
@@ -306,9 +330,9 @@ impl Live {
             return Ok(self.page()?);
         }
         match numbers.below(9) {
-            0 | 1 => self.add(&numbers.record(self.alloc)?),
+            0 | 1 => self.add_any(numbers),
             2 => self.remove_added(),
-            3 => self.remove(&numbers.record(self.alloc)?),
+            3 => self.remove_any(numbers),
             4 | 5 => Ok(self.turn_outage(numbers)?),
             _ => {
                 let uri = numbers.one_of(&URIS);
@@ -350,8 +374,7 @@ impl Live {
     // Whether a session of the lines at a book replies so, and leaves so many events in its journal. The
     // next session has no lines yet.
     fn is_replied(&mut self, book: &mut Book) -> Result<bool, Fail> {
-        let text = replies_at(self.alloc, book, &self.input)?;
-        let is_wanted = text.as_slice() == self.want.as_slice();
+        let is_wanted = has_replies_at(self.alloc, book, &self.input, &self.want)?;
         self.input.clear();
         self.want.clear();
         Ok(is_wanted && book.journal().len() as u64 == self.events)
@@ -385,8 +408,14 @@ fn repaired(alloc: Global, seed: u64, shares: Shares) -> Result<Option<(u64, Sha
     let held = numbers.held();
     let mut book = new_book(alloc, abilities, held)?;
     let mut live = Live::new(alloc, held, shares);
-    let repaired = live.repaired(&mut numbers, &mut book)?;
-    Ok(repaired.map(|repaired| (repaired, live.shares)))
+    let repaired = live.repaired(&mut numbers, &mut book);
+    let shares = live.shares;
+    drop(live);
+    drop(book);
+    match repaired? {
+        Some(repaired) => Ok(Some((repaired, shares))),
+        None => Ok(None),
+    }
 }
 
 #[test]

@@ -1,24 +1,25 @@
 // Pages of a session's journal whose numbers no session's settings give, and lines that ask for them.
 use super::rows::{Row, Texts};
-use super::streams::{replies_at, replies_each};
+use super::streams::{has_replies_at, replies_each};
 use sipl_book::{Book, Limits, MAX_FIRST};
 use sipl_choice::{Abilities, Families, Transport};
 use sipl_outages::Held;
 use std::alloc::Global;
 use std::test::Fail;
 
+const PAGE_ROWS: [(&[u8], &[u8]); 7] = [
+    (b"page", b"ok page 0 0\n"),
+    (b" \tpage \t\r\n", b"ok page 0 0\n"),
+    (b"page x\n", b"err K1\n"),
+    (b"page 0 0\n", b"err K1\n"),
+    (b"Page\n", b"err K1\n"),
+    (b"pages\n", b"err K1\n"),
+    (b"page\x00\n", b"err K1\n"),
+];
+
 #[test]
 fn a_page_has_no_fields(rt: HostRuntime) -> Result<(), Fail> {
-    let rows = [
-        (b"page".as_slice(), b"ok page 0 0\n".as_slice()),
-        (b" \tpage \t\r\n", b"ok page 0 0\n"),
-        (b"page x\n", b"err K1\n"),
-        (b"page 0 0\n", b"err K1\n"),
-        (b"Page\n", b"err K1\n"),
-        (b"pages\n", b"err K1\n"),
-        (b"page\x00\n", b"err K1\n"),
-    ];
-    replies_each(&rt, rt.alloc(), &rows)
+    replies_each(&rt, rt.alloc(), &PAGE_ROWS)
 }
 
 // A page of the greatest first number, and of one event.
@@ -55,10 +56,18 @@ fn book_from(alloc: Global, first: u64) -> Result<Box<Book>, Fail> {
 
 // Whether a session at a book whose events are numbered from there replies so.
 fn replies_from(alloc: Global, first: u64, rows: &[Row]) -> Result<bool, Fail> {
-    let texts = Texts::new(alloc, rows)?;
     let mut book = book_from(alloc, first)?;
-    let text = replies_at(alloc, &mut book, &texts.input)?;
-    Ok(text.as_slice() == texts.replies.as_slice())
+    let has_replies = has_replies_to(alloc, &mut book, rows);
+    drop(book);
+    has_replies
+}
+
+// Whether a session at a book replies so.
+fn has_replies_to(alloc: Global, book: &mut Book, rows: &[Row]) -> Result<bool, Fail> {
+    let texts = Texts::new(alloc, rows)?;
+    let has_replies = has_replies_at(alloc, book, &texts.input, &texts.replies);
+    drop(texts);
+    has_replies
 }
 
 #[test]

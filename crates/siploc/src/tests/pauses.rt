@@ -1,5 +1,5 @@
 // When `serve` gives a desk a pause.
-use super::streams::Pieces;
+use super::streams::{Pieces, push_times};
 use sipl_book::{Book, BookFault, Done, Edit, Extent, Handed};
 use sipl_choice::Endpoint;
 use sipl_evidence::Evidence;
@@ -99,15 +99,23 @@ impl Desk for CountingDesk {
 
 // Serves so many `repair` lines, read in pieces of `most` octets. Returns how many pauses there were,
 // and the maximum number of calls between two.
-fn pauses_of(alloc: Global, lines: u64, most: usize) -> Result<(u64, u64), Fail> {
+fn pauses_of(alloc: Global, lines: usize, most: usize) -> Result<(u64, u64), Fail> {
     let mut text = Vec::new(alloc);
-    for _ in 0..lines {
-        text.extend_from_slice(b"repair\n")?;
-    }
+    push_times(&mut text, b"repair\n", lines)?;
+    let pauses = pauses_over(alloc, Pieces::new(&text, most, 0));
+    drop(text);
+    pauses
+}
+
+// The same for lines that are read so.
+fn pauses_over(alloc: Global, lines: Pieces<'_>) -> Result<(u64, u64), Fail> {
     let mut desk = CountingDesk::new();
-    let mut reader = Tapped::new(Pieces::new(&text, most, 0));
+    let mut reader = Tapped::new(lines);
     let mut writer = Tapped::new(Vec::new(alloc));
-    serve(alloc, &mut reader, &mut writer, &mut desk)?;
+    let served = serve(alloc, &mut reader, &mut writer, &mut desk);
+    drop(writer);
+    drop(reader);
+    served?;
     Ok((desk.pauses, desk.most_calls))
 }
 

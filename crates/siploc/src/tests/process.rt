@@ -115,10 +115,13 @@ impl<'a> Input for Process<'a> {
 // Appends to what a stream was given.
 fn append(stream: &RefCell<Vec<u8>>, text: &[u8]) -> io::Result<()> {
     match stream.try_borrow_mut() {
-        Ok(mut written) => written.extend_from_slice(text)?,
-        Err(_) => return Err(io::Error::from(ErrorKind::Other)),
+        Ok(mut written) => {
+            let appended = written.extend_from_slice(text);
+            drop(written);
+            Ok(appended?)
+        }
+        Err(_) => Err(io::Error::from(ErrorKind::Other)),
     }
-    Ok(())
 }
 
 impl Print for Process<'_> {

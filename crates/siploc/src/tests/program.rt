@@ -11,14 +11,17 @@ const USAGE: &[u8] =
     b"usage: siploc run [SETTINGS] | check APEX | world [SETTINGS] | serve [SETTINGS]\n";
 
 // Whether the process ends with this status, and with this on its standard output and error.
-fn ends<H>(host: &H, process: Process<'_>, status: u8, output: &[u8], errors: &[u8]) -> bool
+pub fn ends<H>(host: &H, process: Process<'_>, status: u8, output: &[u8], errors: &[u8]) -> bool
 where
     H: Net<Listener = TcpListener, Stream = TcpStream> + Threads + Wait + Sync,
 {
     let ended = start(&process, host) == ExitCode::from(status);
     let written = process.output.into_inner();
     let reported = process.errors.into_inner();
-    ended && written.as_slice() == output && reported.as_slice() == errors
+    let is_so = ended && written.as_slice() == output && reported.as_slice() == errors;
+    drop(reported);
+    drop(written);
+    is_so
 }
 
 #[test]

@@ -17,11 +17,16 @@ impl Texts {
             input: Vec::new(alloc),
             replies: Vec::new(alloc),
         };
-        for (lines, reply) in rows {
-            texts.input.extend_from_slice(lines)?;
-            texts.replies.extend_from_slice(reply)?;
-        }
+        texts.push_each(rows)?;
         Ok(texts)
+    }
+
+    fn push_each(&mut self, rows: &[Row]) -> Result<(), AllocError> {
+        for (lines, reply) in rows {
+            self.input.extend_from_slice(lines)?;
+            self.replies.extend_from_slice(reply)?;
+        }
+        Ok(())
     }
 
     // The replies to the rows whose lines end within so many octets of the input.

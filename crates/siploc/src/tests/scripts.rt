@@ -49,11 +49,13 @@ fn play(alloc: Global, reader: Pieces<'_>, writer: Paper, limit: u64) -> Result<
     let mut reader = Tapped::new(reader);
     let mut writer = Tapped::new(writer);
     let ended = play_script_within(alloc, &mut reader, &mut writer, settings, limit);
+    let (reads, read_failed, write_failed) = (reader.reads(), reader.failed(), writer.failed());
+    drop(reader);
     Ok(Played {
         ended,
-        reads: reader.reads(),
-        read_failed: reader.failed(),
-        write_failed: writer.failed(),
+        reads,
+        read_failed,
+        write_failed,
         text: writer.into_inner().into_text(),
     })
 }
@@ -68,19 +70,30 @@ fn ended_after(played: &Played, ended: ServeFault, reads: u64, replies: &[u8]) -
         && played.text.as_slice() == replies
 }
 
-// Whether the script whose read of this number fails has the replies to the lines before, and whether
-// the same script does with so many reads at most.
-fn ends_at_read(alloc: Global, texts: &Texts, rows: &[Row], number: u64) -> Result<bool, Fail> {
+// Whether the script whose read of this number fails has the replies to the lines before.
+fn fails_at_read(alloc: Global, texts: &Texts, rows: &[Row], number: u64) -> Result<bool, Fail> {
     let failing = Pieces::new(&texts.input, 1, number);
-    let failed = play(alloc, failing, Paper::blank(alloc), MAX_READS)?;
+    let played = play(alloc, failing, Paper::blank(alloc), MAX_READS)?;
+    let replies = texts.replies_within(rows, number.saturating_sub(1));
+    let is_so = ended_after(&played, ServeFault::Read, number, replies);
+    drop(played);
+    Ok(is_so)
+}
+
+// Whether the same script with so many reads at most has the replies to the lines until then.
+fn stops_at_read(alloc: Global, texts: &Texts, rows: &[Row], number: u64) -> Result<bool, Fail> {
     let whole = Pieces::new(&texts.input, 1, 0);
-    let limited = play(alloc, whole, Paper::blank(alloc), number)?;
-    let before = texts.replies_within(rows, number.saturating_sub(1));
-    let until = texts.replies_within(rows, number);
-    Ok(
-        ended_after(&failed, ServeFault::Read, number, before)
-            && ended_after(&limited, ServeFault::TooManyTurns, number, until),
-    )
+    let played = play(alloc, whole, Paper::blank(alloc), number)?;
+    let replies = texts.replies_within(rows, number);
+    let is_so = ended_after(&played, ServeFault::TooManyTurns, number, replies);
+    drop(played);
+    Ok(is_so)
+}
+
+// Whether both hold at this read.
+fn ends_at_read(alloc: Global, texts: &Texts, rows: &[Row], number: u64) -> Result<bool, Fail> {
+    let fails = fails_at_read(alloc, texts, rows, number)?;
+    Ok(stops_at_read(alloc, texts, rows, number)? && fails)
 }
 
 fn ends_at_each_read(
@@ -108,15 +121,21 @@ fn ends_at_write(
     number: u64,
 ) -> Result<bool, Fail> {
     let writer = Paper::new(alloc, 1, failing, number);
-    let played = play(alloc, Pieces::new(&texts.input, 16, 0), writer, MAX_READS)?;
+    let reader = Pieces::new(&texts.input, 16, 0);
+    let played = play(alloc, reader, writer, MAX_READS)?;
+    let is_so = failed_at_write(&played, number, &texts.replies);
+    drop(played);
+    Ok(is_so)
+}
+
+// Whether the script failed at this write, after a prefix of the replies.
+fn failed_at_write(played: &Played, number: u64, replies: &[u8]) -> bool {
     let text = played.text.as_slice();
-    Ok(
-        played.ended == Err(ServeFault::Write)
-            && played.write_failed
-            && !played.read_failed
-            && text.len() as u64 == number.saturating_sub(1)
-            && texts.replies.starts_with(text),
-    )
+    played.ended == Err(ServeFault::Write)
+        && played.write_failed
+        && !played.read_failed
+        && text.len() as u64 == number.saturating_sub(1)
+        && replies.starts_with(text)
 }
 
 fn ends_at_each_write(
@@ -139,12 +158,17 @@ fn ends_at_each_write(
 fn is_played(alloc: Global, texts: &Texts) -> Result<bool, Fail> {
     let reader = Pieces::new(&texts.input, 1, 0);
     let played = play(alloc, reader, Paper::blank(alloc), MAX_READS)?;
-    Ok(
-        played.ended == Ok(Ended::EndOfInput)
-            && !played.read_failed
-            && !played.write_failed
-            && played.text.as_slice() == texts.replies.as_slice(),
-    )
+    let is_so = ended_well(&played, &texts.replies);
+    drop(played);
+    Ok(is_so)
+}
+
+// Whether the script ended with its input, and with these replies.
+fn ended_well(played: &Played, replies: &[u8]) -> bool {
+    played.ended == Ok(Ended::EndOfInput)
+        && !played.read_failed
+        && !played.write_failed
+        && played.text.as_slice() == replies
 }
 
 fn ends_everywhere(
@@ -161,7 +185,9 @@ fn ends_everywhere(
 
 fn ends_on(rt: &impl Abort, alloc: Global, rows: &[Row]) -> Result<(), Fail> {
     let texts = Texts::new(alloc, rows)?;
-    ends_everywhere(rt, alloc, &texts, rows)
+    let has_ended = ends_everywhere(rt, alloc, &texts, rows);
+    drop(texts);
+    has_ended
 }
 
 #[test]

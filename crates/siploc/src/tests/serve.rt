@@ -1,11 +1,13 @@
 // The program over TCP: a client in another thread of the process.
 use super::process::Process;
+use super::program::ends;
+use super::streams::push_times;
 use sipl_lines::Settings;
-use sipl_program::{serve_connections, start};
+use sipl_program::serve_connections;
 use std::alloc::{AllocError, Global};
 use std::io::{Read, Write};
 use std::net::{Net, Shutdown, SocketAddr, TcpListener, TcpStream};
-use std::process::{Abort, ExitCode};
+use std::process::Abort;
 use std::sync::Wait;
 use std::test::Fail;
 use std::thread::Threads;
@@ -30,15 +32,8 @@ target 2 tcp 192.0.2.1 5060
 ok find 2
 ";
 
-// Serves a session at a port, for a client that has TCP and UDP. Returns how many events there were.
-fn serve_at<H>(host: &H, alloc: Global, port: u16) -> io::Result<Option<u64>>
-where
-    H: Net<Listener = TcpListener, Stream = TcpStream> + Threads + Wait + Sync + Abort,
-{
-    serve_sessions(host, alloc, port, 1)
-}
-
-// Serves so many sessions at a port, each in a thread. Returns how many events there were.
+// Serves so many sessions at a port, each in a thread, for a client that has TCP and UDP. Returns how
+// many events there were.
 fn serve_sessions<H>(host: &H, alloc: Global, port: u16, sessions: u64) -> io::Result<Option<u64>>
 where
     H: Net<Listener = TcpListener, Stream = TcpStream> + Threads + Wait + Sync + Abort,
@@ -46,10 +41,9 @@ where
     let text = format!(in alloc;
         "transports = [\"tcp\", \"udp\"]\nlisten = \"127.0.0.1:{port}\"\nsessions = {sessions}"
     )?;
-    let settings = Settings::from_toml(alloc, text.as_str()).expect(
-        host,
-        "the settings are refused",
-    );
+    let settings = Settings::from_toml(alloc, text.as_str());
+    drop(text);
+    let settings = settings.expect(host, "the settings are refused");
     Ok(serve_connections(alloc, host, settings).ok())
 }
 
@@ -59,7 +53,9 @@ where
     H: Net<Listener = TcpListener, Stream = TcpStream>,
 {
     let listener = TcpListener::bind(host, "127.0.0.1:0")?;
-    Ok(listener.local_addr()?.port())
+    let address = listener.local_addr();
+    drop(listener);
+    Ok(address?.port())
 }
 
 // Connects as soon as a server listens at the port, which is tried for ten seconds.
@@ -83,32 +79,38 @@ where
     H: Net<Listener = TcpListener, Stream = TcpStream> + Clock,
 {
     let mut stream = connect(host, port)?;
+    let mut replies = Vec::new(alloc);
+    let asked = exchange(&mut stream, lines, &mut replies);
+    drop(stream);
+    asked?;
+    Ok(replies)
+}
+
+// Sends the lines, and appends what comes back.
+fn exchange(stream: &mut TcpStream, lines: &[u8], replies: &mut Vec<u8>) -> io::Result<()> {
     stream.write_all(lines)?;
     stream.shutdown(Shutdown::Write)?;
-    let mut replies = Vec::new(alloc);
-    stream.read_to_end(&mut replies)?;
-    Ok(replies)
+    stream.read_to_end(replies)?;
+    Ok(())
 }
 
 #[test]
 fn a_session_over_tcp_is_claimed_when_it_has_ended(rt: HostRuntime) -> Result<(), Fail> {
     let port = free_port(&rt)?;
-    let (replies, events) = thread::join(
+    let (is_answered, events) = thread::join(
         &rt,
-        || ask(&rt, rt.alloc(), port, LINES),
-        || serve_at(&rt, rt.alloc(), port),
+        || is_answered(&rt, rt.alloc(), port),
+        || serve_sessions(&rt, rt.alloc(), port, 1).ok(),
     );
-    assert_eq!(rt; replies?.as_slice(), REPLIES);
-    assert_eq!(rt; events?, Some(2));
+    assert!(rt; is_answered);
+    assert_eq!(rt; events, Some(Some(2)));
     Ok(())
 }
 
 // Lines of a client that turns a page after each ninth hold: so many times ten lines.
 fn push_pages(input: &mut Vec<u8>, times: u64) -> Result<(), AllocError> {
     for _ in 0..times {
-        for _ in 0..9 {
-            input.extend_from_slice(b"hold udp 192.0.2.9 5060 1\n")?;
-        }
+        push_times(input, b"hold udp 192.0.2.9 5060 1\n", 9)?;
         input.extend_from_slice(b"page\n")?;
     }
     Ok(())
@@ -126,8 +128,12 @@ where
     H: Net<Listener = TcpListener, Stream = TcpStream> + Clock,
 {
     let input = pages_of_holds(alloc)?;
-    let replies = ask(host, alloc, port, &input)?;
-    Ok(count_accepted(&replies))
+    let replies = ask(host, alloc, port, &input);
+    drop(input);
+    let replies = replies?;
+    let counts = count_accepted(&replies);
+    drop(replies);
+    Ok(counts)
 }
 
 // The lines of 40 pages.
@@ -148,7 +154,14 @@ fn is_answered<H>(host: &H, alloc: Global, port: u16) -> bool
 where
     H: Net<Listener = TcpListener, Stream = TcpStream> + Clock,
 {
-    match ask(host, alloc, port, LINES) {
+    let replies = ask(host, alloc, port, LINES);
+    let is_so = are_replies(&replies);
+    drop(replies);
+    is_so
+}
+
+fn are_replies(replies: &io::Result<Vec<u8>>) -> bool {
+    match replies {
         Ok(replies) => replies.as_slice() == REPLIES,
         Err(_) => false,
     }
@@ -203,17 +216,23 @@ where
 {
     let settings = format!(in alloc; "listen = \"127.0.0.1:{port}\"")?;
     let words: [&[u8]; 3] = [b"siploc", b"serve", settings.as_bytes()];
-    let process = Process::new(alloc, &words, b"");
-    let failed = start(&process, host) == ExitCode::FAILURE;
-    let written = process.output.into_inner();
-    let reported = process.errors.into_inner();
-    Ok(failed && written.is_empty() && reported.as_slice() == b"fault listen\n".as_slice())
+    let is_reported = ends(
+        host,
+        Process::new(alloc, &words, b""),
+        1,
+        b"",
+        b"fault listen\n",
+    );
+    drop(settings);
+    Ok(is_reported)
 }
 
 #[test]
 fn an_address_in_use_is_a_fault(rt: HostRuntime) -> Result<(), Fail> {
     let listener = TcpListener::bind(&rt, "127.0.0.1:0")?;
     let port = listener.local_addr()?.port();
-    assert!(rt; reports_listen(&rt, rt.alloc(), port)?);
+    let is_reported = reports_listen(&rt, rt.alloc(), port);
+    drop(listener);
+    assert!(rt; is_reported?);
     Ok(())
 }

@@ -1,7 +1,7 @@
 // Sessions over streams of the tests' own.
 use super::streams::{
-    Failing, Paper, Pieces, Served, has_replies, push_octets, replies_after_fault, replies_each,
-    served_anew, served_within,
+    Failing, Paper, Pieces, Served, has_ended, has_replies, has_replies_after_fault, push_times,
+    replies_each, served_anew, served_within,
 };
 use sipl_lines::{Ended, MAX_LINE_LEN, MAX_READS, ServeFault, Tapped};
 use std::alloc::{AllocError, Global};
@@ -27,60 +27,61 @@ fn replies_within(octets: u64) -> &'static [u8] {
     }
 }
 
-// A line of so many octets and its end, and a command after it.
-fn long_line(alloc: Global, count: usize, end: &[u8]) -> Result<Vec<u8>, AllocError> {
-    let mut line = Vec::new(alloc);
-    push_octets(&mut line, b'x', count)?;
-    line.extend_from_slice(end)?;
-    line.extend_from_slice(b"find tel:1\n")?;
-    Ok(line)
+// Appends a line of so many octets and its end, and a command after it.
+fn push_long_line(text: &mut Vec<u8>, count: usize, end: &[u8]) -> Result<(), AllocError> {
+    push_times(text, b"x", count)?;
+    text.extend_from_slice(end)?;
+    text.extend_from_slice(b"find tel:1\n")
 }
+
+const CR_ROWS: [(&[u8], &[u8]); 5] = [
+    (b"", b""),
+    (b"\r\n\n", b""),
+    (b"quit\r\n", b"ok quit\n"),
+    (b"quit\r\r\n", b"err K1\n"),
+    (b"quit\rx\n", b"err K1\n"),
+];
 
 #[test]
 fn a_cr_before_a_line_end_is_dropped(rt: HostRuntime) -> Result<(), Fail> {
-    let rows = [
-        (b"".as_slice(), b"".as_slice()),
-        (b"\r\n\n", b""),
-        (b"quit\r\n", b"ok quit\n"),
-        (b"quit\r\r\n", b"err K1\n"),
-        (b"quit\rx\n", b"err K1\n"),
-    ];
-    replies_each(&rt, rt.alloc(), &rows)
+    replies_each(&rt, rt.alloc(), &CR_ROWS)
 }
+
+const LAST_ROWS: [(&[u8], &[u8]); 4] = [
+    (b"find tel:1\r\nquit", b"err U1\nok quit\n"),
+    (b"quit\r", b"err K1\n"),
+    (b"find tel:1\n#", b"err U1\n"),
+    (b" ", b""),
+];
 
 #[test]
 fn the_last_line_may_have_no_end(rt: HostRuntime) -> Result<(), Fail> {
-    let rows = [
-        (
-            b"find tel:1\r\nquit".as_slice(),
-            b"err U1\nok quit\n".as_slice(),
-        ),
-        (b"quit\r", b"err K1\n"),
-        (b"find tel:1\n#", b"err U1\n"),
-        (b" ", b""),
-    ];
-    replies_each(&rt, rt.alloc(), &rows)
+    replies_each(&rt, rt.alloc(), &LAST_ROWS)
+}
+
+// Appends a line of 32,760 words, the last of them this one.
+fn push_words(text: &mut Vec<u8>, last: &[u8]) -> Result<(), AllocError> {
+    text.extend_from_slice(b"find sip:a words ")?;
+    push_times(text, b"0,", 32_759)?;
+    text.extend_from_slice(last)?;
+    text.extend_from_slice(b"\n")
 }
 
 // A line of 32,760 words, which has the greatest length, and the same with another last octet.
 fn lines_of_words(alloc: Global) -> Result<Vec<u8>, AllocError> {
     let mut lines = Vec::new(alloc);
-    for last in [b'0', b'x'] {
-        lines.extend_from_slice(b"find sip:a words ")?;
-        for _ in 1..32_760 {
-            lines.extend_from_slice(b"0,")?;
-        }
-        lines.push(last)?;
-        lines.push(b'\n')?;
-    }
+    push_words(&mut lines, b"0")?;
+    push_words(&mut lines, b"x")?;
     Ok(lines)
 }
 
 // Whether the lines have the greatest length, and these replies.
 fn reads_long_lines(alloc: Global) -> Result<bool, Fail> {
     let lines = lines_of_words(alloc)?;
-    let has_replies = has_replies(alloc, &lines, b"err V1\nerr K1\n")?;
-    Ok(has_replies && lines.len() == 2 * (MAX_LINE_LEN + 1))
+    let has_replies = has_replies(alloc, &lines, b"err V1\nerr K1\n");
+    let length = lines.len();
+    drop(lines);
+    Ok(has_replies? && length == 2 * (MAX_LINE_LEN + 1))
 }
 
 #[test]
@@ -106,8 +107,11 @@ fn every_octet_is_accepted_in_a_line(rt: HostRuntime) -> Result<(), Fail> {
 }
 
 fn has_long_replies(alloc: Global, count: usize, end: &[u8], want: &[u8]) -> Result<bool, Fail> {
-    let input = long_line(alloc, count, end)?;
-    has_replies(alloc, &input, want)
+    let mut input = Vec::new(alloc);
+    push_long_line(&mut input, count, end)?;
+    let has_replies = has_replies(alloc, &input, want);
+    drop(input);
+    has_replies
 }
 
 // That lines of these lengths, with these ends, have these replies.
@@ -122,39 +126,38 @@ fn long_replies_each(
     Ok(())
 }
 
+const LONG_ROWS: [(usize, &[u8], &[u8]); 5] = [
+    (MAX_LINE_LEN, b"\n", b"err K1\nerr U1\n"),
+    (MAX_LINE_LEN + 1, b"\n", b"err K2\nerr U1\n"),
+    (MAX_LINE_LEN, b"\r\n", b"err K1\nerr U1\n"),
+    (MAX_LINE_LEN + 1, b"\r\n", b"err K2\nerr U1\n"),
+    (3 * MAX_LINE_LEN, b"\r\n", b"err K2\nerr U1\n"),
+];
+
 #[test]
 fn long_lines_are_refused_and_skipped(rt: HostRuntime) -> Result<(), Fail> {
-    let rows = [
-        (
-            MAX_LINE_LEN,
-            b"\n".as_slice(),
-            b"err K1\nerr U1\n".as_slice(),
-        ),
-        (MAX_LINE_LEN + 1, b"\n", b"err K2\nerr U1\n"),
-        (MAX_LINE_LEN, b"\r\n", b"err K1\nerr U1\n"),
-        (MAX_LINE_LEN + 1, b"\r\n", b"err K2\nerr U1\n"),
-        (3 * MAX_LINE_LEN, b"\r\n", b"err K2\nerr U1\n"),
-    ];
-    long_replies_each(&rt, rt.alloc(), &rows)
+    long_replies_each(&rt, rt.alloc(), &LONG_ROWS)
 }
 
 // A million times the same text.
 fn a_million(alloc: Global, text: &[u8]) -> Result<Vec<u8>, AllocError> {
     let mut texts = Vec::new(alloc);
-    for _ in 0..1_000_000 {
-        texts.extend_from_slice(text)?;
-    }
+    push_times(&mut texts, text, 1_000_000)?;
     Ok(texts)
 }
 
 fn has_a_million_replies(alloc: Global) -> Result<bool, Fail> {
     let input = a_million(alloc, b"find x\n")?;
-    has_each_reply(alloc, &input)
+    let has_replies = has_each_reply(alloc, &input);
+    drop(input);
+    has_replies
 }
 
 fn has_each_reply(alloc: Global, input: &[u8]) -> Result<bool, Fail> {
     let want = a_million(alloc, b"err U1\n")?;
-    has_replies(alloc, input, &want)
+    let has_replies = has_replies(alloc, input, &want);
+    drop(want);
+    has_replies
 }
 
 #[test]
@@ -168,7 +171,9 @@ fn a_million_lines_have_a_reply_each(rt: HostRuntime) -> Result<(), Fail> {
 fn serves_in_pieces(alloc: Global, most: usize) -> Result<bool, Fail> {
     let writer = Paper::new(alloc, most, Failing::Error, 0);
     let served = served_anew(alloc, Pieces::new(INPUT, most, 0), writer)?;
-    Ok(served.ended == Ok(Ended::EndOfInput) && served.text.as_slice() == REPLIES)
+    let is_so = has_ended(&served, Ok(Ended::EndOfInput), REPLIES);
+    drop(served);
+    Ok(is_so)
 }
 
 #[test]
@@ -192,7 +197,9 @@ fn failed_at_read(served: &Served, fails_at: u64) -> bool {
 
 fn fails_at_read(alloc: Global, fails_at: u64) -> Result<bool, Fail> {
     let served = served_anew(alloc, Pieces::new(INPUT, 1, fails_at), Paper::blank(alloc))?;
-    Ok(failed_at_read(&served, fails_at))
+    let is_so = failed_at_read(&served, fails_at);
+    drop(served);
+    Ok(is_so)
 }
 
 #[test]
@@ -206,8 +213,7 @@ fn a_failing_read_is_a_fault(rt: HostRuntime) -> Result<(), Fail> {
 // Whether a session after one whose read of this number failed replies so to a `find`.
 fn keeps_until(alloc: Global, fails_at: u64, want: &[u8]) -> Result<bool, Fail> {
     let reader = Pieces::new(INPUT, 1, fails_at);
-    let text = replies_after_fault(alloc, reader, b"find sip:a.e:7")?;
-    Ok(text.as_deref() == Some(want))
+    has_replies_after_fault(alloc, reader, b"find sip:a.e:7", want)
 }
 
 #[test]
@@ -232,7 +238,9 @@ fn failed_at_write(served: &Served, fails_at: u64) -> bool {
 fn fails_at_write(alloc: Global, failing: Failing, fails_at: u64) -> Result<bool, Fail> {
     let writer = Paper::new(alloc, 1, failing, fails_at);
     let served = served_anew(alloc, Pieces::new(INPUT, 4, 0), writer)?;
-    Ok(failed_at_write(&served, fails_at))
+    let is_so = failed_at_write(&served, fails_at);
+    drop(served);
+    Ok(is_so)
 }
 
 #[test]
@@ -246,11 +254,10 @@ fn a_failing_write_is_a_fault(rt: HostRuntime) -> Result<(), Fail> {
 
 fn ends_after_11_reads(alloc: Global) -> Result<bool, Fail> {
     let served = served_within(alloc, Pieces::new(INPUT, 1, 0), Paper::blank(alloc), 11)?;
-    Ok(
-        served.ended == Err(ServeFault::TooManyTurns)
-            && served.reads == 11
-            && served.text.as_slice() == b"ok zone 0 0 0 0\n".as_slice(),
-    )
+    let turns = Err(ServeFault::TooManyTurns);
+    let is_so = has_ended(&served, turns, b"ok zone 0 0 0 0\n") && served.reads == 11;
+    drop(served);
+    Ok(is_so)
 }
 
 #[test]
@@ -262,11 +269,9 @@ fn reads_are_bounded(rt: HostRuntime) -> Result<(), Fail> {
 fn quits_after_a_read(alloc: Global) -> Result<bool, Fail> {
     let reader = Pieces::new(b"quit\nfind tel:1\n", 5, 2);
     let served = served_anew(alloc, reader, Paper::blank(alloc))?;
-    Ok(
-        served.ended == Ok(Ended::Quit)
-            && served.reads == 1
-            && served.text.as_slice() == b"ok quit\n".as_slice(),
-    )
+    let is_so = has_ended(&served, Ok(Ended::Quit), b"ok quit\n") && served.reads == 1;
+    drop(served);
+    Ok(is_so)
 }
 
 #[test]
@@ -281,15 +286,16 @@ fn has_code_each(rt: &impl Abort, rows: &[(ServeFault, &str)]) {
     }
 }
 
+const CODES: [(ServeFault, &str); 4] = [
+    (ServeFault::Read, "read"),
+    (ServeFault::Write, "write"),
+    (ServeFault::TooManyTurns, "turns"),
+    (ServeFault::Memory, "memory"),
+];
+
 #[test]
 fn faults_have_codes(rt: HostRuntime) {
-    let rows = [
-        (ServeFault::Read, "read"),
-        (ServeFault::Write, "write"),
-        (ServeFault::TooManyTurns, "turns"),
-        (ServeFault::Memory, "memory"),
-    ];
-    has_code_each(&rt, &rows);
+    has_code_each(&rt, &CODES);
 }
 
 // Whether this read succeeds, and the reader has counted it.
@@ -305,13 +311,19 @@ fn reads_ill(reader: &mut Tapped<Pieces<'_>>, number: u64) -> bool {
     outcome == Err(ErrorKind::BrokenPipe) && reader.failed() && reader.reads() == number
 }
 
+// Reads until the read of the number 20 fails.
+fn read_each(rt: &impl Abort, reader: &mut Tapped<Pieces<'_>>) {
+    for number in 1..20 {
+        assert!(rt; reads_well(reader, number));
+    }
+    assert!(rt; reads_ill(reader, 20));
+}
+
 #[test]
 fn tapped_passes_a_failed_read_through(rt: HostRuntime) -> Result<(), Fail> {
     let mut reader = Tapped::new(Pieces::new(INPUT, 4, 20));
-    for number in 1..20 {
-        assert!(rt; reads_well(&mut reader, number));
-    }
-    assert!(rt; reads_ill(&mut reader, 20));
+    read_each(&rt, &mut reader);
+    drop(reader);
     Ok(())
 }
 
@@ -332,4 +344,5 @@ fn write_each(rt: &impl Abort, writer: &mut Tapped<Paper>) {
 fn tapped_invents_no_failed_write(rt: HostRuntime) {
     let mut writer = Tapped::new(Paper::blank(rt.alloc()));
     write_each(&rt, &mut writer);
+    drop(writer);
 }

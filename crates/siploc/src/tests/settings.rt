@@ -12,14 +12,21 @@ fn read(rt: &impl Abort, alloc: Global, text: &str) -> Settings {
 
 // Whether the fault of a text has this code, and this key where it has one.
 fn has_fault(alloc: Global, text: &str, code: &str, key: &str) -> bool {
-    let Err(fault) = Settings::from_toml(alloc, text) else {
-        return false;
+    let read = Settings::from_toml(alloc, text);
+    let is_so = match &read {
+        Ok(_) => false,
+        Err(fault) => fault.code() == code && key_of(fault) == key,
     };
-    let at = match &fault {
+    drop(read);
+    is_so
+}
+
+// The key at which a fault is, or nothing.
+fn key_of(fault: &SettingsFault) -> &str {
+    match fault {
         SettingsFault::UnknownKey(at) | SettingsFault::BadValue(at) => at.as_str(),
         SettingsFault::NotToml | SettingsFault::Memory => "",
-    };
-    fault.code() == code && at == key
+    }
 }
 
 // That the text has a fault with this code and this key.
@@ -81,6 +88,7 @@ fn has_defaults(rt: &impl Abort, alloc: Global, text: &str) {
     has_held(rt, &settings, Held::Out);
     has_numbers(rt, &settings, numbers);
     listens_at(rt, &settings, [127, 0, 0, 1], 5099);
+    drop(settings);
 }
 
 #[test]
@@ -101,68 +109,72 @@ fn each_key_sets_its_field(rt: HostRuntime) {
     has_held(&rt, &settings, Held::Last);
     has_numbers(&rt, &settings, [3, 7, 5, 6, 16, 0, 2]);
     listens_at(&rt, &settings, [127, 1, 2, 3], 4);
+    drop(settings);
 }
 
 fn accepts_each(rt: &impl Abort, alloc: Global, texts: &[&str]) {
     for text in texts {
-        read(rt, alloc, text);
+        drop(read(rt, alloc, text));
     }
 }
 
+const ACCEPTED: [&str; 4] = [
+    "records = 0\nentries = 0\njournal = 1\nholds = 0\ntries = 1\nworkers = 0\nsessions = 1",
+    "records = 1048576\nentries = 65536\njournal = 1048576\nholds = 4096",
+    "tries = 16\nworkers = 64\nsessions = 1000000",
+    "records = 1_000\nentries = 0x10\njournal = +1\nholds = -0\n\"tries\" = 0b1",
+];
+
+const BEYOND: [(&str, &str); 16] = [
+    ("records = -1", "records"),
+    ("records = 1048577", "records"),
+    ("entries = -1", "entries"),
+    ("entries = 65537", "entries"),
+    ("journal = 0", "journal"),
+    ("journal = 1048577", "journal"),
+    ("holds = -1", "holds"),
+    ("holds = 4097", "holds"),
+    ("tries = 0", "tries"),
+    ("tries = 17", "tries"),
+    ("workers = -1", "workers"),
+    ("workers = 65", "workers"),
+    ("sessions = 0", "sessions"),
+    ("sessions = 1000001", "sessions"),
+    ("sessions = 9223372036854775807", "sessions"),
+    ("sessions = -9223372036854775808", "sessions"),
+];
+
 #[test]
 fn numbers_have_limits(rt: HostRuntime) {
-    let texts = [
-        "records = 0\nentries = 0\njournal = 1\nholds = 0\ntries = 1\nworkers = 0\nsessions = 1",
-        "records = 1048576\nentries = 65536\njournal = 1048576\nholds = 4096",
-        "tries = 16\nworkers = 64\nsessions = 1000000",
-        "records = 1_000\nentries = 0x10\njournal = +1\nholds = -0\n\"tries\" = 0b1",
-    ];
-    accepts_each(&rt, rt.alloc(), &texts);
-    let rows = [
-        ("records = -1", "records"),
-        ("records = 1048577", "records"),
-        ("entries = -1", "entries"),
-        ("entries = 65537", "entries"),
-        ("journal = 0", "journal"),
-        ("journal = 1048577", "journal"),
-        ("holds = -1", "holds"),
-        ("holds = 4097", "holds"),
-        ("tries = 0", "tries"),
-        ("tries = 17", "tries"),
-        ("workers = -1", "workers"),
-        ("workers = 65", "workers"),
-        ("sessions = 0", "sessions"),
-        ("sessions = 1000001", "sessions"),
-        ("sessions = 9223372036854775807", "sessions"),
-        ("sessions = -9223372036854775808", "sessions"),
-    ];
-    refuses_keys(&rt, rt.alloc(), "G3", &rows);
+    accepts_each(&rt, rt.alloc(), &ACCEPTED);
+    refuses_keys(&rt, rt.alloc(), "G3", &BEYOND);
 }
+
+const OTHER_TYPES: [(&str, &str); 19] = [
+    ("tries = 4.0", "tries"),
+    ("tries = \"4\"", "tries"),
+    ("tries = true", "tries"),
+    ("tries = [4]", "tries"),
+    ("tries = {}", "tries"),
+    ("tries.max = 4", "tries"),
+    ("[tries]", "tries"),
+    ("[[tries]]", "tries"),
+    ("tries = 1979-05-27", "tries"),
+    ("families = 4", "families"),
+    ("families = [\"v4\"]", "families"),
+    ("held = 1", "held"),
+    ("held = true", "held"),
+    ("held = [\"last\"]", "held"),
+    ("listen = 5099", "listen"),
+    ("transports = \"udp\"", "transports"),
+    ("transports = {}", "transports"),
+    ("transports = [[\"udp\"]]", "transports"),
+    ("transports = [\"udp\", 1]", "transports"),
+];
 
 #[test]
 fn values_of_other_types_are_bad(rt: HostRuntime) {
-    let rows = [
-        ("tries = 4.0", "tries"),
-        ("tries = \"4\"", "tries"),
-        ("tries = true", "tries"),
-        ("tries = [4]", "tries"),
-        ("tries = {}", "tries"),
-        ("tries.max = 4", "tries"),
-        ("[tries]", "tries"),
-        ("[[tries]]", "tries"),
-        ("tries = 1979-05-27", "tries"),
-        ("families = 4", "families"),
-        ("families = [\"v4\"]", "families"),
-        ("held = 1", "held"),
-        ("held = true", "held"),
-        ("held = [\"last\"]", "held"),
-        ("listen = 5099", "listen"),
-        ("transports = \"udp\"", "transports"),
-        ("transports = {}", "transports"),
-        ("transports = [[\"udp\"]]", "transports"),
-        ("transports = [\"udp\", 1]", "transports"),
-    ];
-    refuses_keys(&rt, rt.alloc(), "G3", &rows);
+    refuses_keys(&rt, rt.alloc(), "G3", &OTHER_TYPES);
 }
 
 // That a text sets these transports and families.
@@ -175,7 +187,18 @@ fn reads_client(
 ) {
     let settings = read(rt, alloc, text);
     has_client(rt, &settings, transports, families);
+    drop(settings);
 }
+
+const OTHER_TRANSPORTS: [&str; 7] = [
+    "transports = []",
+    "transports = [\"udp\", \"udp\"]",
+    "transports = [\"udp\", \"tcp\", \"tls\", \"sctp\", \"tcp\"]",
+    "transports = [\"UDP\"]",
+    "transports = [\"ws\"]",
+    "transports = [\"udp \"]",
+    "transports = [\"\"]",
+];
 
 #[test]
 fn transports_are_listed_once_each(rt: HostRuntime) {
@@ -190,16 +213,7 @@ fn transports_are_listed_once_each(rt: HostRuntime) {
     let one = [Transport::Udp];
     let text = "transports = [\"udp\"]\nfamilies = \"v6v4\"";
     reads_client(&rt, rt.alloc(), text, &one, Families::V6ThenV4);
-    let texts = [
-        "transports = []",
-        "transports = [\"udp\", \"udp\"]",
-        "transports = [\"udp\", \"tcp\", \"tls\", \"sctp\", \"tcp\"]",
-        "transports = [\"UDP\"]",
-        "transports = [\"ws\"]",
-        "transports = [\"udp \"]",
-        "transports = [\"\"]",
-    ];
-    refuses_texts(&rt, rt.alloc(), "G3", "transports", &texts);
+    refuses_texts(&rt, rt.alloc(), "G3", "transports", &OTHER_TRANSPORTS);
 }
 
 fn reads_families(rt: &impl Abort, alloc: Global, rows: &[(&str, Families)]) {
@@ -207,6 +221,14 @@ fn reads_families(rt: &impl Abort, alloc: Global, rows: &[(&str, Families)]) {
         reads_client(rt, alloc, text, &[Transport::Udp, Transport::Tcp], *want);
     }
 }
+
+const OTHER_FAMILIES: [&str; 5] = [
+    "families = \"V4\"",
+    "families = \"v4V6\"",
+    "families = \"v4v4\"",
+    "families = \"v4 v6\"",
+    "families = \"\"",
+];
 
 #[test]
 fn families_are_four_words(rt: HostRuntime) {
@@ -217,41 +239,58 @@ fn families_are_four_words(rt: HostRuntime) {
         ("families = \"v6v4\"", Families::V6ThenV4),
     ];
     reads_families(&rt, rt.alloc(), &rows);
-    let texts = [
-        "families = \"V4\"",
-        "families = \"v4V6\"",
-        "families = \"v4v4\"",
-        "families = \"v4 v6\"",
-        "families = \"\"",
-    ];
-    refuses_texts(&rt, rt.alloc(), "G3", "families", &texts);
+    refuses_texts(&rt, rt.alloc(), "G3", "families", &OTHER_FAMILIES);
 }
 
 fn reads_held(rt: &impl Abort, alloc: Global, rows: &[(&str, Held)]) {
     for (text, want) in rows {
-        has_held(rt, &read(rt, alloc, text), *want);
+        let settings = read(rt, alloc, text);
+        has_held(rt, &settings, *want);
+        drop(settings);
     }
 }
+
+const OTHER_HELD: [&str; 6] = [
+    "held = \"x\"",
+    "held = \"Last\"",
+    "held = \"OUT\"",
+    "held = \"out \"",
+    "held = \"lastout\"",
+    "held = \"\"",
+];
 
 #[test]
 fn held_is_two_words(rt: HostRuntime) {
     let rows = [("held = \"out\"", Held::Out), ("held = 'last'", Held::Last)];
     reads_held(&rt, rt.alloc(), &rows);
-    let texts = [
-        "held = \"x\"",
-        "held = \"Last\"",
-        "held = \"OUT\"",
-        "held = \"out \"",
-        "held = \"lastout\"",
-        "held = \"\"",
-    ];
-    refuses_texts(&rt, rt.alloc(), "G3", "held", &texts);
+    refuses_texts(&rt, rt.alloc(), "G3", "held", &OTHER_HELD);
 }
 
 fn reads_listen(rt: &impl Abort, alloc: Global, text: &str, ip: [u8; 4], port: u16) {
     let settings = read(rt, alloc, text);
     listens_at(rt, &settings, ip, port);
+    drop(settings);
 }
+
+const OTHER_ADDRESSES: [&str; 17] = [
+    "listen = \"126.255.255.255:5099\"",
+    "listen = \"128.0.0.0:5099\"",
+    "listen = \"0.0.0.0:5099\"",
+    "listen = \"127.0.0.1:0\"",
+    "listen = \"127.0.0.1:65536\"",
+    "listen = \"127.0.0.1:+80\"",
+    "listen = \"127.0.0.1:80:80\"",
+    "listen = \"127.0.0.1:\"",
+    "listen = \"127.0.0.1\"",
+    "listen = \"127.0.1:80\"",
+    "listen = \"127.0.0.256:80\"",
+    "listen = \" 127.0.0.1:80\"",
+    "listen = \":80\"",
+    "listen = \"\"",
+    "listen = \"localhost:80\"",
+    "listen = \"[::1]:80\"",
+    "listen = \"::ffff:127.0.0.1:80\"",
+];
 
 #[test]
 fn listen_is_a_loopback_address_and_a_port(rt: HostRuntime) {
@@ -261,60 +300,43 @@ fn listen_is_a_loopback_address_and_a_port(rt: HostRuntime) {
     reads_listen(&rt, alloc, text, [127, 255, 255, 255], 65_535);
     let text = "listen = \"127.000.000.001:00080\"";
     reads_listen(&rt, alloc, text, [127, 0, 0, 1], 80);
-    let texts = [
-        "listen = \"126.255.255.255:5099\"",
-        "listen = \"128.0.0.0:5099\"",
-        "listen = \"0.0.0.0:5099\"",
-        "listen = \"127.0.0.1:0\"",
-        "listen = \"127.0.0.1:65536\"",
-        "listen = \"127.0.0.1:+80\"",
-        "listen = \"127.0.0.1:80:80\"",
-        "listen = \"127.0.0.1:\"",
-        "listen = \"127.0.0.1\"",
-        "listen = \"127.0.1:80\"",
-        "listen = \"127.0.0.256:80\"",
-        "listen = \" 127.0.0.1:80\"",
-        "listen = \":80\"",
-        "listen = \"\"",
-        "listen = \"localhost:80\"",
-        "listen = \"[::1]:80\"",
-        "listen = \"::ffff:127.0.0.1:80\"",
-    ];
-    refuses_texts(&rt, rt.alloc(), "G3", "listen", &texts);
+    refuses_texts(&rt, rt.alloc(), "G3", "listen", &OTHER_ADDRESSES);
 }
+
+const NO_TOML: [&str; 10] = [
+    "[",
+    "]",
+    "tries",
+    "tries = ",
+    "tries = 4 workers = 1",
+    "tries = 4\ntries = 4",
+    "tries = 9223372036854775808",
+    "tries = 04",
+    "transports = [\"udp\"",
+    "x = 1\n[",
+];
 
 #[test]
 fn other_texts_are_no_toml(rt: HostRuntime) {
-    let texts = [
-        "[",
-        "]",
-        "tries",
-        "tries = ",
-        "tries = 4 workers = 1",
-        "tries = 4\ntries = 4",
-        "tries = 9223372036854775808",
-        "tries = 04",
-        "transports = [\"udp\"",
-        "x = 1\n[",
-    ];
-    refuses_texts(&rt, rt.alloc(), "G1", "", &texts);
+    refuses_texts(&rt, rt.alloc(), "G1", "", &NO_TOML);
 }
+
+const UNKNOWN: [(&str, &str); 10] = [
+    ("x = 1", "x"),
+    ("Tries = 4", "Tries"),
+    ("try = 4", "try"),
+    ("tries2 = 4", "tries2"),
+    ("\"tries \" = 4", "tries "),
+    ("\"\" = 4", ""),
+    ("a.tries = 4", "a"),
+    ("\"a.tries\" = 4", "a.tries"),
+    ("[program]\ntries = 4", "program"),
+    ("\"\\u00e9\" = 4", "\u{e9}"),
+];
 
 #[test]
 fn unknown_keys_are_refused(rt: HostRuntime) {
-    let rows = [
-        ("x = 1", "x"),
-        ("Tries = 4", "Tries"),
-        ("try = 4", "try"),
-        ("tries2 = 4", "tries2"),
-        ("\"tries \" = 4", "tries "),
-        ("\"\" = 4", ""),
-        ("a.tries = 4", "a"),
-        ("\"a.tries\" = 4", "a.tries"),
-        ("[program]\ntries = 4", "program"),
-        ("\"\\u00e9\" = 4", "\u{e9}"),
-    ];
-    refuses_keys(&rt, rt.alloc(), "G2", &rows);
+    refuses_keys(&rt, rt.alloc(), "G2", &UNKNOWN);
 }
 
 fn refuses_each(rt: &impl Abort, alloc: Global, rows: &[(&str, &str, &str)]) {
@@ -323,22 +345,23 @@ fn refuses_each(rt: &impl Abort, alloc: Global, rows: &[(&str, &str, &str)]) {
     }
 }
 
+const FIRST_FAULTS: [(&str, &str, &str); 13] = [
+    ("zzz = 1\ntries = 0", "G3", "tries"),
+    ("tries = 0\nzzz = 1", "G3", "tries"),
+    ("tries = 4\nzzz = 1", "G2", "zzz"),
+    ("tries = 0\na = 1", "G2", "a"),
+    ("entries = -1\nTries = 1", "G2", "Tries"),
+    ("triess = 1\ntries = 0", "G3", "tries"),
+    ("tries = 0\ntrie = 1", "G2", "trie"),
+    ("workers = 65\ntries = 17\nholds = 4097", "G3", "holds"),
+    ("holds = 99999\nheld = 1", "G3", "held"),
+    ("held = 1\nfamilies = 4", "G3", "families"),
+    ("\"\" = 1\nentries = -1", "G2", ""),
+    ("\"\\u00e9\" = 1\nzzz = 1", "G2", "zzz"),
+    ("tries = 0\n[table]\nentries = -1", "G2", "table"),
+];
+
 #[test]
 fn the_first_fault_is_that_of_the_first_key_by_octets(rt: HostRuntime) {
-    let rows = [
-        ("zzz = 1\ntries = 0", "G3", "tries"),
-        ("tries = 0\nzzz = 1", "G3", "tries"),
-        ("tries = 4\nzzz = 1", "G2", "zzz"),
-        ("tries = 0\na = 1", "G2", "a"),
-        ("entries = -1\nTries = 1", "G2", "Tries"),
-        ("triess = 1\ntries = 0", "G3", "tries"),
-        ("tries = 0\ntrie = 1", "G2", "trie"),
-        ("workers = 65\ntries = 17\nholds = 4097", "G3", "holds"),
-        ("holds = 99999\nheld = 1", "G3", "held"),
-        ("held = 1\nfamilies = 4", "G3", "families"),
-        ("\"\" = 1\nentries = -1", "G2", ""),
-        ("\"\\u00e9\" = 1\nzzz = 1", "G2", "zzz"),
-        ("tries = 0\n[table]\nentries = -1", "G2", "table"),
-    ];
-    refuses_each(&rt, rt.alloc(), &rows);
+    refuses_each(&rt, rt.alloc(), &FIRST_FAULTS);
 }

@@ -85,31 +85,54 @@ fn count_entry(book: &Book, question: &Question, shares: &mut Shares) {
 
 // The same for each question.
 pub fn count_entries(alloc: Global, book: &Book, shares: &mut Shares) -> Result<(), Fail> {
-    for uri in URIS {
-        count_entry(book, &Uri::parse(alloc, uri.as_bytes())?, shares);
+    count_entries_of(alloc, book, &URIS, shares)
+}
+
+fn count_entries_of(
+    alloc: Global,
+    book: &Book,
+    uris: &[&str],
+    shares: &mut Shares,
+) -> Result<(), Fail> {
+    for uri in uris {
+        let question = Uri::parse(alloc, uri.as_bytes())?;
+        count_entry(book, &question, shares);
+        drop(question);
     }
     Ok(())
 }
 
+// That more of these are there than so many.
+fn are_many(rt: &impl Abort, counter: u64, least: u64, what: &str) {
+    assert!(rt; counter > least, "{what}");
+}
+
 // Answers of all sorts are there: so many at least.
 pub fn are_mixed(rt: &impl Abort, shares: Shares, least: u64) {
-    assert!(rt; shares.found > least, "answers with targets");
-    assert!(rt; shares.none > least, "answers without targets");
-    assert!(rt; shares.absent > least, "names that do not exist");
-    assert!(rt; shares.by_wildcard > least, "answers by wildcards");
-    assert!(rt; shares.stopped > least, "names that exist without the set");
+    are_many(rt, shares.found, least, "answers with targets");
+    are_many(rt, shares.none, least, "answers without targets");
+    are_many(rt, shares.absent, least, "names that do not exist");
+    are_many(rt, shares.by_wildcard, least, "answers by wildcards");
+    are_many(
+        rt,
+        shares.stopped,
+        least,
+        "names that exist without the set",
+    );
 }
 
 // Answers with held targets and without any since all are held are there: so many at least.
 pub fn are_held(rt: &impl Abort, shares: Shares, least: u64) {
-    assert!(rt; shares.held > least, "answers with held targets");
-    assert!(rt;
-        shares.all_held > least,
-        "answers whose endpoints are all held"
+    are_many(rt, shares.held, least, "answers with held targets");
+    are_many(
+        rt,
+        shares.all_held,
+        least,
+        "answers whose endpoints are all held",
     );
 }
 
 // Pages are there: so many at least.
 pub fn are_paged(rt: &impl Abort, shares: Shares, least: u64) {
-    assert!(rt; shares.pages > least, "pages");
+    are_many(rt, shares.pages, least, "pages");
 }

@@ -133,23 +133,33 @@ pub fn client_desk(alloc: Global, transports: &[Transport]) -> Result<Box<Book>,
     Ok(new_book(alloc, abilities, Held::Out)?)
 }
 
-// What a new session at a new book writes for an input.
-pub fn replies(alloc: Global, input: &[u8]) -> Result<Vec<u8>, Fail> {
-    let mut desk = new_desk(alloc)?;
-    replies_at(alloc, &mut desk, input)
-}
-
-// Appends so many times the same octet.
-pub fn push_octets(text: &mut Vec<u8>, octet: u8, count: usize) -> Result<(), AllocError> {
+// Appends so many times the same octets.
+pub fn push_times(text: &mut Vec<u8>, octets: &[u8], count: usize) -> Result<(), AllocError> {
     for _ in 0..count {
-        text.push(octet)?;
+        text.extend_from_slice(octets)?;
     }
     Ok(())
 }
 
 // Whether a new session at a new book writes this for an input.
 pub fn has_replies(alloc: Global, input: &[u8], want: &[u8]) -> Result<bool, Fail> {
-    Ok(replies(alloc, input)?.as_slice() == want)
+    let mut desk = new_desk(alloc)?;
+    let has_replies = has_replies_at(alloc, &mut desk, input, want);
+    drop(desk);
+    has_replies
+}
+
+// Whether a new session at a book writes this for an input.
+pub fn has_replies_at(
+    alloc: Global,
+    desk: &mut Book,
+    input: &[u8],
+    want: &[u8],
+) -> Result<bool, Fail> {
+    let replies = replies_at(alloc, desk, input)?;
+    let is_so = replies.as_slice() == want;
+    drop(replies);
+    Ok(is_so)
 }
 
 // That new sessions at new books write these texts for these inputs.
@@ -164,8 +174,11 @@ pub fn replies_each(rt: &impl Abort, alloc: Global, rows: &[(&[u8], &[u8])]) -> 
 pub fn replies_at(alloc: Global, desk: &mut Book, input: &[u8]) -> Result<Vec<u8>, Fail> {
     let mut reader = Tapped::new(input);
     let mut writer = Tapped::new(Vec::new(alloc));
-    serve(alloc, &mut reader, &mut writer, desk)?;
-    Ok(writer.into_inner())
+    let served = serve(alloc, &mut reader, &mut writer, desk);
+    drop(reader);
+    let text = writer.into_inner();
+    served?;
+    Ok(text)
 }
 
 // What serving a session came to: how it ended, the number of reads, which stream failed, the text that
@@ -191,16 +204,22 @@ pub fn serve_at(
     let mut reader = Tapped::new(reader);
     let mut writer = Tapped::new(writer);
     let ended = serve_within(alloc, &mut reader, &mut writer, desk, limit);
-    let write_failed = writer.failed();
+    let (reads, read_failed, write_failed) = (reader.reads(), reader.failed(), writer.failed());
+    drop(reader);
     let paper = writer.into_inner();
     Served {
         ended,
-        reads: reader.reads(),
-        read_failed: reader.failed(),
+        reads,
+        read_failed,
         write_failed,
         flushed: paper.flushed,
         text: paper.text,
     }
+}
+
+// Whether the session ended so, with these replies.
+pub fn has_ended(served: &Served, ended: Result<Ended, ServeFault>, replies: &[u8]) -> bool {
+    served.ended == ended && served.text.as_slice() == replies
 }
 
 // Serves a new session at a new book.
@@ -216,31 +235,46 @@ pub fn served_within(
     limit: u64,
 ) -> Result<Served, Fail> {
     let mut desk = new_desk(alloc)?;
-    Ok(serve_at(alloc, reader, writer, &mut desk, limit))
+    let served = serve_at(alloc, reader, writer, &mut desk, limit);
+    drop(desk);
+    Ok(served)
 }
 
-// What two sessions at a new book write, one after the other, where a read of the first one failed.
-pub fn replies_after_fault(
+// Whether two sessions at a new book write this, one after the other, where a read of the first one
+// failed.
+pub fn has_replies_after_fault(
     alloc: Global,
     reader: Pieces<'_>,
     input: &[u8],
-) -> Result<Option<Vec<u8>>, Fail> {
+    want: &[u8],
+) -> Result<bool, Fail> {
     let mut desk = new_desk(alloc)?;
-    replies_after_fault_at(alloc, &mut desk, reader, input)
+    let has_replies = has_replies_after_fault_at(alloc, &mut desk, reader, input, want);
+    drop(desk);
+    has_replies
 }
 
 // The same at a book.
-fn replies_after_fault_at(
+fn has_replies_after_fault_at(
     alloc: Global,
     desk: &mut Book,
     reader: Pieces<'_>,
     input: &[u8],
-) -> Result<Option<Vec<u8>>, Fail> {
+    want: &[u8],
+) -> Result<bool, Fail> {
     let first = serve_at(alloc, reader, Paper::blank(alloc), desk, MAX_READS);
-    if first.ended != Err(ServeFault::Read) {
-        return Ok(None);
+    let rest = rest_after_fault(&first, want);
+    drop(first);
+    match rest {
+        Some(rest) => has_replies_at(alloc, desk, input, rest),
+        None => Ok(false),
     }
-    let mut text = first.text;
-    text.extend_from_slice(&replies_at(alloc, desk, input)?)?;
-    Ok(Some(text))
+}
+
+// What follows the replies of a session whose read failed, if the wanted ones begin so.
+fn rest_after_fault<'a>(first: &Served, want: &'a [u8]) -> Option<&'a [u8]> {
+    if first.ended != Err(ServeFault::Read) {
+        return None;
+    }
+    want.strip_prefix(first.text.as_slice())
 }

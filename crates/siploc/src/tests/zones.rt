@@ -1,6 +1,7 @@
 // Zones whose text is in lines of the session.
 use super::streams::{
-    Paper, Pieces, has_replies, push_octets, replies_after_fault, replies_each, served_anew,
+    Paper, Pieces, has_ended, has_replies, has_replies_after_fault, push_times, replies_each,
+    served_anew,
 };
 use sipl_lines::{Ended, MAX_LINE_LEN};
 use std::alloc::{AllocError, Global};
@@ -14,29 +15,30 @@ fn lines_of_a_zone_lose_their_cr(rt: HostRuntime) -> Result<(), Fail> {
     Ok(())
 }
 
+const END_ROWS: [(&[u8], &[u8]); 5] = [
+    (b"zone e. 1", b"ok zone 0 0 0 0\n"),
+    (b"zone e. 3\n;\n;", b"ok zone 0 0 0 0\n"),
+    (b"zone e. 3\n;\nquit", b"err zone 2 Z2\n"),
+    (b"zone e. 1\n\r", b"ok zone 0 0 0 0\n"),
+    (b"zone a. 0\nzone b.a. 2", b"ok zone 0 0 0 0\nerr S1\n"),
+];
+
 #[test]
 fn the_end_of_the_input_ends_a_zone(rt: HostRuntime) -> Result<(), Fail> {
-    let rows = [
-        (b"zone e. 1".as_slice(), b"ok zone 0 0 0 0\n".as_slice()),
-        (b"zone e. 3\n;\n;", b"ok zone 0 0 0 0\n"),
-        (b"zone e. 3\n;\nquit", b"err zone 2 Z2\n"),
-        (b"zone e. 1\n\r", b"ok zone 0 0 0 0\n"),
-        (b"zone a. 0\nzone b.a. 2", b"ok zone 0 0 0 0\nerr S1\n"),
-    ];
-    replies_each(&rt, rt.alloc(), &rows)
+    replies_each(&rt, rt.alloc(), &END_ROWS)
 }
 
-// A text, a line that ends with so many octets, and a text.
-fn with_long_line(
-    alloc: Global,
+// Appends a text, so many times the same octets, and a text.
+fn push_between(
+    text: &mut Vec<u8>,
     head: &str,
-    length: usize,
+    octets: &[u8],
+    count: usize,
     tail: &str,
-) -> Result<Vec<u8>, AllocError> {
-    let mut text = Vec::from_slice(alloc, head.as_bytes())?;
-    push_octets(&mut text, b'x', length)?;
-    text.extend_from_slice(tail.as_bytes())?;
-    Ok(text)
+) -> Result<(), AllocError> {
+    text.extend_from_slice(head.as_bytes())?;
+    push_times(text, octets, count)?;
+    text.extend_from_slice(tail.as_bytes())
 }
 
 // A text, the length of the line after it, the text after that, and the replies.
@@ -44,8 +46,11 @@ type LongZone = (&'static str, usize, &'static str, &'static str);
 
 fn has_long_replies(alloc: Global, row: &LongZone) -> Result<bool, Fail> {
     let (head, length, tail, want) = row;
-    let input = with_long_line(alloc, head, *length, tail)?;
-    has_replies(alloc, &input, want.as_bytes())
+    let mut input = Vec::new(alloc);
+    push_between(&mut input, head, b"x", *length, tail)?;
+    let has_replies = has_replies(alloc, &input, want.as_bytes());
+    drop(input);
+    has_replies
 }
 
 fn long_replies_each(rt: &impl Abort, alloc: Global, rows: &[LongZone]) -> Result<(), Fail> {
@@ -55,44 +60,47 @@ fn long_replies_each(rt: &impl Abort, alloc: Global, rows: &[LongZone]) -> Resul
     Ok(())
 }
 
+const REFUSED: [LongZone; 5] = [
+    (
+        "zone e. 2\n)\n",
+        MAX_LINE_LEN + 1,
+        "\nfind x\n",
+        "err K2\nerr U1\n",
+    ),
+    (
+        "zone a..b 2\n",
+        MAX_LINE_LEN + 1,
+        "\n;\nfind x\n",
+        "err K2\nerr U1\n",
+    ),
+    (
+        "zone a..b 2\n",
+        MAX_LINE_LEN,
+        "\n;\nfind x\n",
+        "err N1\nerr U1\n",
+    ),
+    ("zone e. 2\n;\n;", MAX_LINE_LEN, "", "err K2\n"),
+    ("zone e. 1048577\n#", 1, "\nfind x\n", "err K1\nerr U1\n"),
+];
+
 #[test]
 fn the_first_refusal_of_a_zone_is_reported(rt: HostRuntime) -> Result<(), Fail> {
-    let rows = [
-        (
-            "zone e. 2\n)\n",
-            MAX_LINE_LEN + 1,
-            "\nfind x\n",
-            "err K2\nerr U1\n",
-        ),
-        (
-            "zone a..b 2\n",
-            MAX_LINE_LEN + 1,
-            "\n;\nfind x\n",
-            "err K2\nerr U1\n",
-        ),
-        (
-            "zone a..b 2\n",
-            MAX_LINE_LEN,
-            "\n;\nfind x\n",
-            "err N1\nerr U1\n",
-        ),
-        ("zone e. 2\n;\n;", MAX_LINE_LEN, "", "err K2\n"),
-        ("zone e. 1048577\n#", 1, "\nfind x\n", "err K1\nerr U1\n"),
-    ];
-    long_replies_each(&rt, rt.alloc(), &rows)
+    long_replies_each(&rt, rt.alloc(), &REFUSED)
 }
 
-// A zone of the greatest number of lines, and a command after it.
-fn full_zone(alloc: Global) -> Result<Vec<u8>, AllocError> {
-    let mut text = Vec::from_slice(alloc, b"zone e. 1048576\n")?;
-    push_octets(&mut text, b'\n', 1_048_576)?;
-    text.extend_from_slice(b"find x\n")?;
-    Ok(text)
-}
-
+// Reads a zone of the greatest number of lines, and a command after it.
 fn reads_full_zone(alloc: Global) -> Result<bool, Fail> {
-    let input = full_zone(alloc)?;
-    has_replies(alloc, &input, b"ok zone 0 0 0 0\nerr U1\n")
+    let mut input = Vec::new(alloc);
+    push_between(
+        &mut input,
+        "zone e. 1048576\n",
+        b"\n",
+        1_048_576,
+        "find x\n",
+    )?;
+    let has_replies = has_replies(alloc, &input, b"ok zone 0 0 0 0\nerr U1\n");
+    drop(input);
+    has_replies
 }
 
 #[test]
@@ -106,7 +114,9 @@ fn reads_in_pieces(alloc: Global, most: usize) -> Result<bool, Fail> {
     let input = b"find x\nzone e. 3\n;a\r\n\n; quit\nfind x\nzone e. 2\nquit";
     let want = b"err U1\nok zone 0 0 0 0\nerr U1\nerr zone 1 Z2\n".as_slice();
     let served = served_anew(alloc, Pieces::new(input, most, 0), Paper::blank(alloc))?;
-    Ok(served.ended == Ok(Ended::EndOfInput) && served.text.as_slice() == want)
+    let is_so = has_ended(&served, Ok(Ended::EndOfInput), want);
+    drop(served);
+    Ok(is_so)
 }
 
 #[test]
@@ -119,8 +129,7 @@ fn a_zone_does_not_depend_on_the_sizes_of_reads(rt: HostRuntime) -> Result<(), F
 
 fn loads_no_part(alloc: Global) -> Result<bool, Fail> {
     let reader = Pieces::new(b"zone e. 3\n@ A 192.0.2.1\n", 24, 2);
-    let text = replies_after_fault(alloc, reader, b"find sip:e:7\n")?;
-    Ok(text.as_deref() == Some(b"none NoAddress\n".as_slice()))
+    has_replies_after_fault(alloc, reader, b"find sip:e:7\n", b"none NoAddress\n")
 }
 
 #[test]
