@@ -120,15 +120,26 @@ impl Book {
     pub fn change(&mut self, edit: Edit) -> Result<Done, BookFault>
         ensures { IsChanged edit self.old self.new result }
     {
-        reserve_event(&mut self.journal, self.max_events)?;
-        let changed = edit.apply(&mut self.store)?;
+        if let Err(fault) = reserve_event(&mut self.journal, self.max_events) {
+            drop(edit);
+            return Err(fault);
+        }
+        let changed = match edit.apply(&mut self.store) {
+            Ok(changed) => changed,
+            Err(fault) => {
+                drop(edit);
+                return Err(fault.into());
+            }
+        };
         self.cache.outdate(changed.keys.as_slice());
+        let sets = changed.sets as u64;
+        drop(changed);
         let event = change_event(edit, self.journal.get(self.last_load));
         self.last_load = event.last_load(self.journal.len(), self.last_load);
         let number = record_event(&mut self.journal, self.first, event);
         Ok(Done {
             number,
-            changed: changed.sets as u64,
+            changed: sets,
         })
     }
 
@@ -207,10 +218,35 @@ impl Book {
             return Err(BookFault::JournalFull);
         }
         let answer = self.draw_current(question, draws)?;
+        match self.record_copy(question, draws, &answer) {
+            Ok(number) => Ok(Handed { number, answer }),
+            Err(fault) => {
+                drop(answer);
+                Err(fault)
+            }
+        }
+    }
+
+    // Records a copy of the answer to a question, as `record_answer` does. The only error is an allocation
+    // failure; then nothing changes.
+    fn record_copy(
+        &mut self,
+        question: &Question,
+        draws: &Draws,
+        answer: &Answer,
+    ) -> Result<u64, BookFault>
+        requires answer { answer.now ≡ answer_now self.old question.now draws.now }
+        requires space { is_full self.old ≡ false }
+        ensures number { IfOk result (λ number. number ≡ next_event self.old) }
+        ensures after { OnOk result
+            (self.new ≡ recorded (answer_event self.old question.now draws.now) self.old) }
+        ensures memory { IfErr result (λ fault. fault ≡ BookFault.Memory) }
+        ensures unchanged { OnErr result (self.new ≡ self.old) }
+    {
         let copy = answer.dup(self.alloc)?;
         let words = SharedDraws::of(self.alloc, draws)?;
-        let number = self.record_answer(question.dup(self.alloc)?, words, copy)?;
-        Ok(Handed { number, answer })
+        let question = question.dup(self.alloc)?;
+        self.record_answer(question, words, copy)
     }
 
     // The answer of the current entry of a question, for these random words and the holds as they are,
@@ -273,9 +309,18 @@ impl Book {
             (λ fault. fault ≡ BookFault.Memory → unless_full self.old None ≡ None) }
         ensures unchanged { OnErr result (self.new ≡ self.old) }
     {
-        reserve_event(&mut self.journal, self.max_events)?;
-        let event = Event::Answer(question, draws, answer);
-        Ok(record_event(&mut self.journal, self.first, event))
+        match reserve_event(&mut self.journal, self.max_events) {
+            Ok(()) => {
+                let event = Event::Answer(question, draws, answer);
+                Ok(record_event(&mut self.journal, self.first, event))
+            }
+            Err(fault) => {
+                drop(question);
+                drop(draws);
+                drop(answer);
+                Err(fault)
+            }
+        }
     }
 
     /// The answer to a question for these random words: that of its current entry, or else that of a
@@ -288,7 +333,10 @@ impl Book {
     {
         match self.hand(&question, draws) {
             Err(BookFault::NotCurrent) => self.find_anew(question, draws),
-            handed => handed,
+            handed => {
+                drop(question);
+                handed
+            }
         }
     }
 

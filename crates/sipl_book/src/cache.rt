@@ -301,7 +301,7 @@ impl Cache {
           queue = after_settle self.old.queue lease;
         } }
     {
-        self.entries.renew(finding, lease.id());
+        drop(self.entries.renew(finding, lease.id()));
         self.queue.settle(lease);
     }
 

@@ -1,12 +1,17 @@
 //! Commits of findings: answers are recorded, and entries made current.
-ghost use Rattle.std.specs.Prelude.{◌≡◌, ◌<◌, length, IfOk, IfErr, OnOk, OnErr};
+ghost use Rattle.std.specs.Prelude.{◌≡◌, ◌<◌, length, IfOk, IfErr, OnOk, OnErr, vec_len, vec_capacity};
+ghost use Rattle.std.specs.List.{All};
 ghost use Rattle.sipl_plans.specs.Findings.{IsSound};
 ghost use Rattle.sipl_plans.specs.Plan.{draw};
 ghost use Rattle.sipl_book.specs.Book.{answer_now, next_event};
+ghost use Rattle.sipl_book.specs.Cache.{InOrder};
 ghost use Rattle.sipl_book.specs.Calls.{CommitsAnswer, IsCommitted, after_check, after_commit, commit_refusal, is_renumbered, is_stale};
+ghost use Rattle.sipl_book.specs.Entries.{committed, entry_of};
 ghost use Rattle.sipl_book.specs.Honesty.{AreCurrent, IsHonest};
+ghost use Rattle.sipl_book.specs.Repairs.{after_renewal};
 
 use crate::book::{Book, record_event};
+use crate::cache::Cache;
 use crate::checks::{first_renumbered, first_stale};
 use crate::event::Event;
 use crate::fault::BookFault;
@@ -130,11 +135,14 @@ impl Book {
             copy,
         } = drawn;
         match self.commit_drawn(finding, question, words, copy) {
-            Ok(committed) => Ok(Handed {
-                number: committed.number,
-                answer,
-            }),
-            Err(uncommitted) => Err(uncommitted),
+            Ok(Recorded { number, released }) => {
+                drop(released);
+                Ok(Handed { number, answer })
+            }
+            Err(uncommitted) => {
+                drop(answer);
+                Err(uncommitted)
+            }
         }
     }
 
@@ -160,20 +168,48 @@ impl Book {
         ensures finding { IfErr result (λ uncommitted. uncommitted.finding ≡ finding) }
         ensures unchanged { OnErr result (self.new ≡ self.old) }
     {
-        let fault = BookFault::Memory;
-        let Ok(()) = self.journal.reserve(1) else {
-            return Err(Uncommitted { fault, finding });
-        };
         let id = self.next_event();
-        match self.cache.commit(finding, id) {
+        match commit_reserved(&mut self.journal, &mut self.cache, finding, id) {
             Ok(released) => {
                 let event = Event::Answer(question, draws, answer);
                 let number = record_event(&mut self.journal, self.first, event);
                 Ok(Recorded { number, released })
             }
-            Err(finding) => Err(Uncommitted { fault, finding }),
+            Err(finding) => {
+                drop(question);
+                drop(draws);
+                drop(answer);
+                let fault = BookFault::Memory;
+                Err(Uncommitted { fault, finding })
+            }
         }
     }
+}
+
+// Reserves the place of the next event, which has this number, and makes a finding the current one of its
+// question as `Cache::commit` does. The only error is an allocation failure: the finding is returned, and
+// nothing changes.
+fn commit_reserved(
+    journal: &mut Vec<Event>,
+    cache: &mut Cache,
+    finding: Finding,
+    number: u64,
+) -> Result<Option<Finding>, Finding>
+    requires order { InOrder cache.old.entries }
+    requires last { All (λ e. e.id < number) cache.old.entries }
+    ensures items { journal.new.items ≡ journal.old.items }
+    ensures space { OnOk result (vec_len journal.new < vec_capacity journal.new) }
+    ensures ok { OnOk result (cache.new ≡ record cache.old {
+      entries = committed finding number cache.old.max_entries cache.old.entries;
+      queue = after_renewal cache.old.queue (entry_of cache.old.entries finding.question);
+    }) }
+    ensures err { OnErr result (cache.new ≡ cache.old) }
+    ensures finding { IfErr result (λ returned. returned ≡ finding) }
+{
+    let Ok(()) = journal.reserve(1) else {
+        return Err(finding);
+    };
+    cache.commit(finding, number)
 }
 
 // A copy of a finding's question, the random words, and its answer twice.
@@ -201,10 +237,10 @@ impl Drawn {
             ≡ draw finding.now.layout board.now.holds draws.now held) }
         ensures copy { IfOk result (λ drawn. drawn.copy ≡ drawn.answer) }
     {
-        let question = finding.question().dup(alloc)?;
-        let words = SharedDraws::of(alloc, draws)?;
         let answer = draw(alloc, finding.layout(), draws, board.get(), held)?;
         let copy = answer.dup(alloc)?;
+        let words = SharedDraws::of(alloc, draws)?;
+        let question = finding.question().dup(alloc)?;
         Ok(Drawn {
             question,
             words,

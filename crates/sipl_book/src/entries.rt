@@ -73,7 +73,11 @@ impl Entries {
         };
         match self.table.insert(question, Entry::new(id, finding)) {
             Ok(_) => Ok(()),
-            Err(failed) => Err(failed.value.1.into_finding()),
+            Err(failed) => {
+                let (question, entry) = failed.value;
+                drop(question);
+                Err(entry.into_finding())
+            }
         }
     }
 
@@ -150,7 +154,10 @@ impl Entries {
     {
         match self.table.get_mut(finding.question()) {
             Some(entry) => Some(entry.renew(finding)),
-            None => None,
+            None => {
+                drop(finding);
+                None
+            }
         }
     }
 
@@ -179,7 +186,9 @@ impl Entries {
         ensures after { self.new ≡ without question.now self.old }
     {
         let entry = self.table.shift_remove(question)?;
-        Some(entry.id())
+        let id = entry.id();
+        drop(entry);
+        Some(id)
     }
 }
 

@@ -58,7 +58,9 @@ impl Entry {
     pub(crate) fn into_finding(self) -> Finding
         ensures { result ≡ self.found }
     {
-        self.finding
+        let Entry { finding, free, .. } = self;
+        drop(free);
+        finding
     }
 
     // Replaces the finding, and returns the old one. The entry is current.

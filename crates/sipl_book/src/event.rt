@@ -42,7 +42,9 @@ impl Event {
             Event::Release(endpoint) => Event::Release(*endpoint),
             Event::Advance(to) => Event::Advance(*to),
             Event::Answer(question, draws, answer) => {
-                Event::Answer(question.dup(alloc)?, draws.dup()?, answer.dup(alloc)?)
+                let answer = answer.dup(alloc)?;
+                let draws = draws.dup()?;
+                Event::Answer(question.dup(alloc)?, draws, answer)
             }
         })
     }

@@ -1,13 +1,15 @@
 // Looking questions up: runs over a book's own sets.
-ghost use Rattle.std.specs.Prelude.{◌≡◌, ◌≢◌, ◌<◌, [], drop, take, length, IfOk, IfErr, OnOk, IsFalse};
+ghost use Rattle.std.specs.Prelude.{◌≡◌, ◌≢◌, ◌<◌, [], drop, take, length, None, IfOk, IfErr, OnOk, IsFalse};
 ghost use Rattle.std.specs.List.{sum_by};
+ghost use Rattle.sipl_plans.specs.Runs.{wanted};
 ghost use Rattle.sipl_book.specs.Calls.{CountsLooks, looks_after, with_looks};
 ghost use Rattle.sipl_book.specs.Entries.{has_current_entry};
+ghost use Rattle.sipl_book.specs.Honesty.{AreCurrent};
 ghost use Rattle.sipl_book.specs.Lookups.{AreDependencies, IsAnswered, IsLocated, IsRenewed, IsRepaired, after_reads, sets_read};
 
 use crate::book::Book;
 use crate::fault::BookFault;
-use crate::outcome::Handed;
+use crate::outcome::{Handed, Uncommitted};
 use sipl_evidence::Evidence;
 use sipl_plans::{Finding, Run};
 use sipl_srv::Draws;
@@ -28,7 +30,7 @@ impl Book {
     {
         let finding = self.locate(question)?;
         self.commit_current(finding, draws)
-            .map_err(|uncommitted| uncommitted.fault)
+            .map_err(Uncommitted::into_fault)
     }
 
     /// The record sets that the targets of a question depend on, in the order of reading, with a look
@@ -37,7 +39,9 @@ impl Book {
         ensures { AreDependencies question self.old self.new result }
     {
         let finding = self.locate(question)?;
-        Ok(finding.evidence().dup(self.alloc())?)
+        let evidence = finding.evidence().dup(self.alloc());
+        drop(finding);
+        Ok(evidence?)
     }
 
     /// Looks the queued entries up again, each once, with a look at each set that their routes read.
@@ -87,10 +91,33 @@ impl Book {
     {
         let alloc = self.alloc();
         let mut run = Run::start(alloc, question, self.abilities())?;
+        match self.give_sets(&mut run) {
+            Ok(()) => Ok(run.finish().ok().unwrap()),
+            Err(error) => {
+                drop(run);
+                Err(error)
+            }
+        }
+    }
+
+    // Gives a run that has read nothing each set that it wants, as the zones have it. The only error is an
+    // allocation failure. Only the count of looks changes.
+    fn give_sets(&mut self, run: &mut Run) -> Result<(), AllocError>
+        requires client { run.old.client ≡ self.old.client }
+        requires begun { run.old.items ≡ [] }
+        ensures question { run.new.question ≡ run.old.question }
+        ensures client { run.new.client ≡ run.old.client }
+        ensures current { AreCurrent self.old.store run.new.items }
+        ensures done { OnOk result (wanted run.new ≡ None) }
+        ensures looks { OnOk result (self.new ≡ after_reads (length run.new.items) self.old) }
+        ensures unchanged { self.new ≡ with_looks self.new.store.looks self.old }
+        ensures counted { CountsLooks self.old self.new }
+    {
+        let alloc = self.alloc();
         while let Some(key) = run.wants() {
             let (number, content) = self.read(key)?;
             run.give(alloc, number, content)?;
         }
-        Ok(run.finish().ok().unwrap())
+        Ok(())
     }
 }

@@ -58,6 +58,15 @@ impl Uncommitted {
     {
         self.fault.code()
     }
+
+    // The fault alone.
+    pub(crate) fn into_fault(self) -> BookFault
+        ensures { result ≡ self.fault }
+    {
+        let fault = self.fault;
+        drop(self);
+        fault
+    }
 }
 
 // The finding is not shown.

@@ -110,7 +110,10 @@ impl Page {
     pub fn is_first(&self) -> bool
         ensures { Decides result (Follows None self.now) }
     {
-        self.base == State::empty()
+        let empty = State::empty();
+        let is_first = self.base == empty;
+        drop(empty);
+        is_first
     }
 
     /// Whether the page goes on where the other one ended: its first number is the other's next one, its

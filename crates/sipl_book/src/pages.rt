@@ -31,8 +31,10 @@ impl Book {
             return Err(BookFault::PagesSpent);
         }
         let abilities = self.abilities.dup(self.alloc)?;
-        let result = self.share_state()?;
-        let base = self.share_state()?;
+        let Ok((base, result)) = self.share_states() else {
+            drop(abilities);
+            return Err(BookFault::Memory);
+        };
         let journal = empty_journal(self.alloc, self.journal.len());
         Ok(Page {
             first: mem::replace(&mut self.first, next),
@@ -42,6 +44,22 @@ impl Book {
             abilities,
             held: self.held,
         })
+    }
+
+    // The state as it is, twice. The only error is an allocation failure; then nothing changes.
+    fn share_states(&mut self) -> Result<(State, State), AllocError>
+        ensures first { IfOk result (λ states. states.0 ≡ state_of self.old) }
+        ensures second { IfOk result (λ states. states.1 ≡ state_of self.old) }
+        ensures unchanged { self.new ≡ self.old }
+    {
+        let first = self.share_state()?;
+        match self.share_state() {
+            Ok(second) => Ok((first, second)),
+            Err(error) => {
+                drop(first);
+                Err(error)
+            }
+        }
     }
 
     // The state as it is, which is shared until the next change. The only error is an allocation

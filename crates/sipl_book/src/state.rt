@@ -76,9 +76,21 @@ impl State {
     {
         let parts = match &self.parts {
             Parts::Empty => Parts::Empty,
-            Parts::Own(zones, board) => Parts::Own(zones.dup(alloc)?, board.dup(alloc)?),
+            Parts::Own(zones, board) => {
+                let board = board.dup(alloc)?;
+                let Ok(zones) = zones.dup(alloc) else {
+                    drop(board);
+                    return Err(AllocError);
+                };
+                Parts::Own(zones, board)
+            }
             Parts::Shared(zones, board) => {
-                Parts::Shared(Arc::try_clone(zones)?, board.dup(alloc)?)
+                let zones = Arc::try_clone(zones)?;
+                let Ok(board) = board.dup(alloc) else {
+                    drop(zones);
+                    return Err(AllocError);
+                };
+                Parts::Shared(zones, board)
             }
         };
         Ok(State { parts })

@@ -92,7 +92,7 @@ impl Worker {
         requires { self.old ≡ None }
         ensures { self.new ≡ Some (record { run = run; lease = lease }) }
     {
-        self.task = Task::Reading(run);
+        drop(mem::replace(&mut self.task, Task::Reading(run)));
         match mem::replace(&mut self.lease, lease) {
             None => {}
             Some(_held) => unreachable!(),
@@ -146,7 +146,7 @@ impl Worker {
         requires ready { wanted (run_of finding) ≡ None }
         ensures { self.new ≡ Some (record { run = run_of finding; lease = None }) }
     {
-        self.task = Task::Found(finding);
+        drop(mem::replace(&mut self.task, Task::Found(finding)));
     }
 
     /// Ends the job without a finding, and returns the lease. Does not allocate.
@@ -154,7 +154,7 @@ impl Worker {
         ensures lease { result ≡ lease_of self.old }
         ensures idle { self.new ≡ None }
     {
-        self.task = Task::Idle;
+        drop(mem::replace(&mut self.task, Task::Idle));
         mem::replace(&mut self.lease, None)
     }
 
@@ -162,7 +162,8 @@ impl Worker {
     pub(crate) fn into_lease(self) -> Option<Lease>
         ensures { result ≡ lease_of self }
     {
-        let Worker { task: _, lease } = self;
+        let Worker { task, lease } = self;
+        drop(task);
         lease
     }
 }

@@ -1,7 +1,7 @@
 //! A world: a book and its workers, in which any steps can be made one after the other.
-ghost use Rattle.std.specs.Prelude.{◌≡◌, ◌≤◌, ◌-◌, ◌^◌, [], length, replicate, None, IfOk, OnOk, OnErr};
+ghost use Rattle.std.specs.Prelude.{◌≡◌, ◌≤◌, ◌-◌, ◌^◌, [], length, replicate, None, Some, Ok, Err, IfOk, IfErr, OnOk, OnErr};
 ghost use Rattle.sipl_book.specs.Book.{BookState, new_book, state_of};
-ghost use Rattle.sipl_interleave.specs.Jobs.{Job, refusal_of};
+ghost use Rattle.sipl_interleave.specs.Jobs.{Job, job_at, refusal_of, wanted_by};
 ghost use Rattle.sipl_interleave.specs.Plays.{AnswersAreRight, Plays, asked_by, journal_after};
 ghost use Rattle.sipl_interleave.specs.Steps.{IsMade, IsRead, IsStep, worker_refusal};
 ghost use Rattle.sipl_interleave.specs.World.{IsWorld};
@@ -16,7 +16,7 @@ use sipl_choice::{Abilities, Endpoint};
 use sipl_evidence::{Item, dup_data};
 use sipl_outages::Held;
 use sipl_plans::Run;
-use sipl_records::Sequence;
+use sipl_records::{Data, Key, Sequence};
 use sipl_srv::Draws;
 use sipl_uri::Question;
 use std::alloc::{AllocError, Global};
@@ -59,6 +59,7 @@ impl Drop for World {
             workers,
         } = self;
         workers.give_back(&mut book);
+        drop(book);
     }
 }
 
@@ -122,6 +123,7 @@ impl World {
         ensures { IsStep step self.old self.new result }
     {
         if let Some(fault) = self.refusal(&step) {
+            drop(step);
             return Reply::Refused(fault);
         }
         match step {
@@ -129,14 +131,14 @@ impl World {
             Step::Hold(endpoint, ms) => self.hold(&endpoint, ms),
             Step::Release(endpoint) => self.release(&endpoint),
             Step::Advance(to) => self.advance(to),
-            Step::Hand(question, draws) => self.hand(&question, &draws),
+            Step::Hand(question, draws) => self.hand(question, &draws),
             Step::Start(worker, question) => self.start(worker, question),
             Step::Read(worker) => self.read(worker),
             Step::Commit(worker, draws) => self.commit(worker, &draws),
             Step::Lease(worker) => self.lease(worker),
             Step::Settle(worker) => self.settle(worker),
             Step::Abandon(worker) => self.abandon(worker),
-            Step::Forget(question) => self.forget(&question),
+            Step::Forget(question) => self.forget(question),
             Step::Page => self.page(),
         }
     }
@@ -199,19 +201,23 @@ impl World {
         }
     }
 
-    fn hand(&mut self, question: &Question, draws: &Draws) -> Reply
-        ensures { IsMade (Step.Hand question.now draws.now) self.old self.new result }
+    fn hand(&mut self, question: Question, draws: &Draws) -> Reply
+        ensures { IsMade (Step.Hand question draws.now) self.old self.new result }
     {
-        match self.book.hand(question, draws) {
+        let handed = self.book.hand(&question, draws);
+        drop(question);
+        match handed {
             Ok(handed) => Reply::Answered(handed),
             Err(fault) => Reply::Refused(WorldFault::Book(fault)),
         }
     }
 
-    fn forget(&mut self, question: &Question) -> Reply
-        ensures { IsMade (Step.Forget question.now) self.old self.new result }
+    fn forget(&mut self, question: Question) -> Reply
+        ensures { IsMade (Step.Forget question) self.old self.new result }
     {
-        match self.book.forget(question) {
+        let forgotten = self.book.forget(&question);
+        drop(question);
+        match forgotten {
             Ok(()) => Reply::Forgotten,
             Err(fault) => Reply::Refused(WorldFault::Book(fault)),
         }
@@ -221,7 +227,11 @@ impl World {
         ensures { IsMade Step.Page self.old self.new result }
     {
         match self.book.turn_page() {
-            Ok(page) => Reply::Paged(page.extent()),
+            Ok(page) => {
+                let extent = page.extent();
+                drop(page);
+                Reply::Paged(extent)
+            }
             Err(fault) => Reply::Refused(WorldFault::Book(fault)),
         }
     }
@@ -258,11 +268,35 @@ impl World {
             Some(key) => key.dup(self.alloc)?,
             None => unreachable!(),
         };
-        let (number, content) = self.book.read(&key)?;
-        let copy = dup_data(self.alloc, content.as_slice())?;
-        self.workers
-            .give(worker, self.alloc, number, Sequence::from_vec(copy))?;
-        Ok(Item::new(key, number, content))
+        match self.read_set(worker, &key) {
+            Ok((number, content)) => Ok(Item::new(key, number, content)),
+            Err(fault) => {
+                drop(key);
+                Err(fault)
+            }
+        }
+    }
+
+    // Reads the set of the key that a worker's run wants, and gives the run a copy. The only error is an
+    // allocation failure.
+    fn read_set(&mut self, worker: usize, key: &Key) -> Result<(u64, Sequence<Data>), BookFault>
+        requires allowed { refusal_of worker Act.Read self.old.workers ≡ None }
+        requires wanted { wanted_by (job_at self.old.workers worker) ≡ Some key.now }
+        ensures read { IfOk result (λ read. IsRead worker self.old self.new
+            (Ok (record { key = key.now; number = read.0; content = read.1 }))) }
+        ensures failed { IfErr result (λ fault. IsRead worker self.old self.new (Err fault)) }
+    {
+        let (number, content) = self.book.read(key)?;
+        let Ok(copy) = dup_data(self.alloc, content.as_slice()) else {
+            drop(content);
+            return Err(BookFault::Memory);
+        };
+        let copy = Sequence::from_vec(copy);
+        let Ok(()) = self.workers.give(worker, self.alloc, number, copy) else {
+            drop(content);
+            return Err(BookFault::Memory);
+        };
+        Ok((number, content))
     }
 
     fn commit(&mut self, worker: usize, draws: &Draws) -> Reply
@@ -337,8 +371,17 @@ fn start_run(
         ≡ record { question = question; client = abilities.now; items = [] }) }
     ensures question { IfOk result (λ started. started.1 ≡ question) }
 {
-    let copy = question.dup(alloc)?;
-    Ok((Run::start(alloc, question, abilities)?, copy))
+    let Ok(copy) = question.dup(alloc) else {
+        drop(question);
+        return Err(AllocError);
+    };
+    match Run::start(alloc, question, abilities) {
+        Ok(run) => Ok((run, copy)),
+        Err(error) => {
+            drop(copy);
+            Err(error)
+        }
+    }
 }
 
 /// Makes the steps one after the other, and returns their replies. The only error is an allocation

@@ -22,10 +22,12 @@ use crate::pass::Pass;
 use crate::receipt::Receipt;
 use crate::told::Told;
 use sipl_book::{Book, BookFault, Event, SharedDraws, Uncommitted};
+use sipl_evidence::Evidence;
 use sipl_outages::{Board, Held, SharedBoard};
 use sipl_plans::{Answer, Finding, draw};
 use sipl_uri::Question;
 use std::alloc::{AllocError, Global};
+use std::sync::Arc;
 
 // The answer of the current entry of a question.
 #[tactic(auto, using(crate::proofs::FirstFault::hand_before, crate::proofs::FirstFault::hand_not_current,))]
@@ -49,15 +51,29 @@ pub(crate) fn hand(
         → early_fault pass.now asked.abilities asked.held book.old ≡ None) }
     ensures unchanged { OnErr result (book.new ≡ book.old) }
 {
-    let number = next_answer(book, pass, &asked.abilities, asked.held)?;
-    let holds = book.share_board()?;
+    let number = match next_answer(book, pass, &asked.abilities, asked.held) {
+        Ok(number) => number,
+        Err(fault) => {
+            drop(asked);
+            return Err(fault);
+        }
+    };
+    let Ok(holds) = book.share_board() else {
+        drop(asked);
+        return Err(ServiceFault::Memory);
+    };
     let told = tell_entry(alloc, book, number, asked, holds)?;
-    let receipt = record(alloc, book, &told, words)?;
-    Ok(Answered {
-        told,
-        receipt,
-        released: None,
-    })
+    match record(alloc, book, &told, words) {
+        Ok(receipt) => Ok(Answered {
+            told,
+            receipt,
+            released: None,
+        }),
+        Err(fault) => {
+            drop(told);
+            Err(fault)
+        }
+    }
 }
 
 // Records the answer that is to be told, for these random words. Returns the receipt for it.
@@ -77,10 +93,14 @@ fn record(
     ensures memory { IfErr result (λ fault. fault ≡ ServiceFault.Memory) }
     ensures unchanged { OnErr result (book.new ≡ book.old) }
 {
-    let copies = Copies::of(alloc, told, words)?;
-    let receipt = Copies::of(alloc, told, words)?;
-    let number = book.record_answer(copies.question, copies.words, copies.answer)?;
-    Ok(receipt.into_receipt(number))
+    let (copies, receipt) = Copies::twice(alloc, told, words)?;
+    match book.record_answer(copies.question, copies.words, copies.answer) {
+        Ok(number) => Ok(receipt.into_receipt(number)),
+        Err(fault) => {
+            drop(receipt);
+            Err(fault.into())
+        }
+    }
 }
 
 // Copies of the question, the random words and the answer that are told, for the journal or a receipt. They
@@ -100,11 +120,31 @@ impl Copies {
         ensures words { IfOk result (λ copies. copies.words ≡ told.now.words) }
         ensures answer { IfOk result (λ copies. copies.answer ≡ told.now.answer) }
     {
+        let answer = told.answer().dup(alloc)?;
+        let words = words.dup()?;
         Ok(Copies {
             question: told.question().dup(alloc)?,
-            words: words.dup()?,
-            answer: told.answer().dup(alloc)?,
+            words,
+            answer,
         })
+    }
+
+    // As `of`, for the journal and for a receipt.
+    fn twice(alloc: Global, told: &Told, words: &SharedDraws) -> Result<(Self, Self), AllocError>
+        requires { words.now ≡ told.now.words }
+        ensures question { IfOk result (λ twice. twice.0.question ≡ told.now.question) }
+        ensures words { IfOk result (λ twice. twice.0.words ≡ told.now.words) }
+        ensures answer { IfOk result (λ twice. twice.0.answer ≡ told.now.answer) }
+        ensures same { IfOk result (λ twice. twice.1 ≡ twice.0) }
+    {
+        let first = Copies::of(alloc, told, words)?;
+        match Copies::of(alloc, told, words) {
+            Ok(second) => Ok((first, second)),
+            Err(error) => {
+                drop(first);
+                Err(error)
+            }
+        }
     }
 
     // The receipt with this number.
@@ -141,12 +181,14 @@ fn tell_entry(
         × (has_current_entry book.old.entries asked.question ≡ false)) }
     ensures unchanged { book.new ≡ book.old }
 {
-    let Some(entry) = book.entry(&asked.question) else {
-        return Err(ServiceFault::Book(BookFault::NotCurrent));
+    let entry = match book.entry(&asked.question) {
+        Some(entry) if entry.is_current() => entry,
+        _ => {
+            drop(asked);
+            drop(holds);
+            return Err(ServiceFault::Book(BookFault::NotCurrent));
+        }
     };
-    if !entry.is_current() {
-        return Err(ServiceFault::Book(BookFault::NotCurrent));
-    }
     let wants_answer = entry.wants_answer(holds.get());
     let told = Told::of(alloc, number, asked, entry, holds)?;
     if wants_answer {
@@ -185,16 +227,31 @@ pub(crate) fn commit(
     ensures looked { OnErr result
         ((book.new ≡ book.old) ⊎ (book.new ≡ after_check finding book.old)) }
 {
-    let told = tell_finding(alloc, book, pass, asked, drawn, &finding)?;
-    let copies = Copies::of(alloc, &told, words)?;
-    let receipt = Copies::of(alloc, &told, words)?;
+    let told = match tell_finding(alloc, book, pass, asked, drawn, &finding) {
+        Ok(told) => told,
+        Err(fault) => {
+            drop(finding);
+            return Err(fault);
+        }
+    };
+    let Ok((copies, receipt)) = Copies::twice(alloc, &told, words) else {
+        drop(told);
+        drop(finding);
+        return Err(ServiceFault::Memory);
+    };
     match book.commit_answer(finding, copies.question, copies.words, copies.answer) {
         Ok(committed) => Ok(Answered {
             receipt: receipt.into_receipt(told.number()),
             told,
             released: committed.released,
         }),
-        Err(uncommitted) => Err(fault_of(alloc, uncommitted)),
+        Err(uncommitted) => {
+            drop(told);
+            drop(receipt);
+            let fault = fault_of(alloc, &uncommitted);
+            drop(uncommitted);
+            Err(fault)
+        }
     }
 }
 
@@ -225,11 +282,48 @@ fn tell_finding(
         → early_fault pass.now asked.abilities asked.held book.old ≡ None) }
     ensures unchanged { book.new ≡ book.old }
 {
-    let number = next_answer(book, pass, &asked.abilities, asked.held)?;
-    let evidence = finding.share_evidence()?;
+    let number = match next_answer(book, pass, &asked.abilities, asked.held) {
+        Ok(number) => number,
+        Err(fault) => {
+            drop(asked);
+            drop(drawn);
+            return Err(fault);
+        }
+    };
+    let Ok((evidence, holds)) = share_parts(book, finding) else {
+        drop(asked);
+        drop(drawn);
+        return Err(ServiceFault::Memory);
+    };
+    match drawn_again(alloc, finding, &asked, holds.get(), drawn) {
+        Ok(answer) => Ok(Told::drawn(number, asked, answer, evidence, holds)),
+        Err(_) => {
+            drop(asked);
+            drop(evidence);
+            drop(holds);
+            Err(ServiceFault::Memory)
+        }
+    }
+}
+
+// The evidence of a finding and the holds of the book, which are shared. The only error is an allocation
+// failure. The book is as it was.
+fn share_parts(
+    book: &mut Book,
+    finding: &Finding,
+) -> Result<(Arc<Evidence>, SharedBoard), AllocError>
+    ensures evidence { IfOk result (λ parts. arc_value parts.0 ≡ finding.now.items) }
+    ensures holds { IfOk result (λ parts. parts.1 ≡ book.old.board) }
+    ensures unchanged { book.new ≡ book.old }
+{
     let holds = book.share_board()?;
-    let answer = drawn_again(alloc, finding, &asked, holds.get(), drawn)?;
-    Ok(Told::drawn(number, asked, answer, evidence, holds))
+    match finding.share_evidence() {
+        Ok(evidence) => Ok((evidence, holds)),
+        Err(error) => {
+            drop(holds);
+            Err(error)
+        }
+    }
 }
 
 // The answer of a finding for the holds of a board: where nothing is held, the one that is drawn.
@@ -247,22 +341,22 @@ fn drawn_again(
     if board.is_empty() {
         return Ok(drawn);
     }
+    drop(drawn);
     draw(alloc, finding.layout(), &asked.draws, board, asked.held)
 }
 
 // Why a finding was not committed.
-fn fault_of(alloc: Global, uncommitted: Uncommitted) -> ServiceFault
-    requires within { (place : ℕ) → uncommitted.fault ≡ BookFault.Stale place
-        → place < length uncommitted.finding.items }
-    ensures known { result ≢ ServiceFault.Memory → uncommitted.fault ≢ BookFault.Memory }
+fn fault_of(alloc: Global, uncommitted: &Uncommitted) -> ServiceFault
+    requires within { (place : ℕ) → uncommitted.now.fault ≡ BookFault.Stale place
+        → place < length uncommitted.now.finding.items }
+    ensures known { result ≢ ServiceFault.Memory → uncommitted.now.fault ≢ BookFault.Memory }
     ensures contended { result ≢ ServiceFault.Memory
-        → result ≡ contended uncommitted.finding.items uncommitted.fault }
+        → result ≡ contended uncommitted.now.finding.items uncommitted.now.fault }
 {
-    let Uncommitted { fault, finding } = uncommitted;
-    let BookFault::Stale(place) = fault else {
-        return fault.into();
+    let BookFault::Stale(place) = uncommitted.fault else {
+        return uncommitted.fault.into();
     };
-    match finding.evidence().items().get(place) {
+    match uncommitted.finding.evidence().items().get(place) {
         Some(item) => match item.key().dup(alloc) {
             Ok(key) => ServiceFault::Contended(key),
             Err(error) => error.into(),

@@ -31,9 +31,10 @@ impl Asked {
           draws = draws.now;
         }) }
     {
+        let abilities = abilities.dup(alloc)?;
         Ok(Asked {
             question: question.dup(alloc)?,
-            abilities: abilities.dup(alloc)?,
+            abilities,
             held,
             draws: *draws,
         })

@@ -70,7 +70,13 @@ pub(crate) fn change(
 {
     next_number(book, pass)?;
     let NewEdit { edit, mut receipt } = Box::into_inner(new);
-    let done = book.change(edit)?;
+    let done = match book.change(edit) {
+        Ok(done) => done,
+        Err(fault) => {
+            drop(receipt);
+            return Err(fault.into());
+        }
+    };
     receipt.number = done.number;
     let load = dup_load(alloc, book);
     Ok(Edited {

@@ -14,7 +14,7 @@ use sipl_choice::Abilities;
 use sipl_outages::Held;
 use std::alloc::{AllocError, Global};
 use std::marker::Model;
-use std::slice;
+use std::{mem, slice};
 
 /// What was claimed of a service so far, page by page, and the receipts that wait for their page.
 ///
@@ -56,12 +56,19 @@ impl Last {
     fn of(alloc: Global, page: &Page) -> Result<Self, AllocError>
         ensures { IfOk result (λ last. last ≡ last_of page.now) }
     {
-        Ok(Last {
-            next: page.next(),
-            result: page.result().dup(alloc)?,
-            abilities: page.abilities().dup(alloc)?,
-            held: page.held(),
-        })
+        let abilities = page.abilities().dup(alloc)?;
+        match page.result().dup(alloc) {
+            Ok(result) => Ok(Last {
+                next: page.next(),
+                result,
+                abilities,
+                held: page.held(),
+            }),
+            Err(error) => {
+                drop(abilities);
+                Err(error)
+            }
+        }
     }
 }
 
@@ -85,6 +92,7 @@ impl Ledger {
         ensures returned { IfErr result (λ returned. returned ≡ receipts) }
     {
         if receipts.is_empty() {
+            drop(receipts);
             return Ok(());
         }
         match self.waiting.push(receipts) {
@@ -128,7 +136,7 @@ impl Ledger {
             return Err(ClaimFault::Memory);
         };
         let_go(&mut self.waiting, last.next);
-        self.last = Some(last);
+        drop(mem::replace(&mut self.last, Some(last)));
         Ok(())
     }
 

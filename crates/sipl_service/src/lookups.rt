@@ -8,6 +8,7 @@ ghost use Rattle.sipl_service.specs.Answering.{IsDrawnFor};
 ghost use Rattle.sipl_service.specs.Passes.{GetsReceipt};
 ghost use Rattle.sipl_service.specs.Telling.{AreToldDependencies, IsToldFor, event_of};
 
+use crate::answered::Answered;
 use crate::answers;
 use crate::asked::Asked;
 use crate::fault::ServiceFault;
@@ -74,16 +75,23 @@ impl Service {
             (λ told. IsToldFor question.now self.now.client self.now.held draws.now told) }
     {
         pass.receipts.reserve(1)?;
-        let asked = Asked::of(self.alloc, question, &self.abilities, self.held, draws)?;
         let words = SharedDraws::of(self.alloc, draws)?;
+        let asked = Asked::of(self.alloc, question, &self.abilities, self.held, draws)?;
         let mut shared = self.lock(rt);
         if shared.is_stopped {
+            drop(asked);
             return Err(ServiceFault::Stopped);
         }
         let answered = answers::hand(self.alloc, &mut shared.book, pass, asked, &words)?;
         drop(shared);
-        add_receipt(&mut pass.receipts, &mut pass.front, answered.receipt);
-        Ok(answered.told)
+        let Answered {
+            told,
+            receipt,
+            released,
+        } = answered;
+        drop(released);
+        add_receipt(&mut pass.receipts, &mut pass.front, receipt);
+        Ok(told)
     }
 
     // The answer of a run, which is committed. L1 where a set has changed since it was read.
@@ -116,32 +124,59 @@ impl Service {
         ensures told { IfOk result
             (λ told. IsToldFor finding.question self.now.client self.now.held draws.now told) }
     {
-        pass.receipts.reserve(1)?;
-        let (asked, drawn) = self.drawn(&finding, draws)?;
-        let words = SharedDraws::of(self.alloc, draws)?;
+        let Ok(()) = pass.receipts.reserve(1) else {
+            drop(finding);
+            return Err(ServiceFault::Memory);
+        };
+        let Ok((asked, drawn, words)) = self.drawn(&finding, draws) else {
+            drop(finding);
+            return Err(ServiceFault::Memory);
+        };
         let mut shared = self.lock(rt);
         if shared.is_stopped {
+            drop(asked);
+            drop(drawn);
+            drop(finding);
             return Err(ServiceFault::Stopped);
         }
         let book = &mut shared.book;
         let answered = answers::commit(self.alloc, book, pass, asked, &words, drawn, finding)?;
         drop(shared);
-        add_receipt(&mut pass.receipts, &mut pass.front, answered.receipt);
-        Ok(answered.told)
+        let Answered {
+            told,
+            receipt,
+            released,
+        } = answered;
+        drop(released);
+        add_receipt(&mut pass.receipts, &mut pass.front, receipt);
+        Ok(told)
     }
 
-    // What is asked of a finding, and its answer where nothing is held.
-    fn drawn(&self, finding: &Finding, draws: &Draws) -> Result<(Asked, Answer), AllocError>
+    // What is asked of a finding, its answer where nothing is held, and the random words.
+    fn drawn(
+        &self,
+        finding: &Finding,
+        draws: &Draws,
+    ) -> Result<(Asked, Answer, SharedDraws), AllocError>
         requires { finding.now.client ≡ self.now.client }
         ensures drawn { IfOk result (λ drawn. IsDrawnFor finding.now drawn.0 drawn.1) }
         ensures held { IfOk result (λ drawn. drawn.0.held ≡ self.now.held) }
         ensures words { IfOk result (λ drawn. drawn.0.draws ≡ draws.now) }
+        ensures shared { IfOk result (λ drawn. drawn.2 ≡ draws.now) }
     {
+        let words = SharedDraws::of(self.alloc, draws)?;
         let (alloc, question) = (self.alloc, finding.question());
         let free = Board::with(alloc, 0);
-        let answer = draw(alloc, finding.layout(), draws, &free, self.held)?;
-        let asked = Asked::of(alloc, question, &self.abilities, self.held, draws)?;
-        Ok((asked, answer))
+        let drawn = draw(alloc, finding.layout(), draws, &free, self.held);
+        drop(free);
+        let answer = drawn?;
+        match Asked::of(alloc, question, &self.abilities, self.held, draws) {
+            Ok(asked) => Ok((asked, answer, words)),
+            Err(error) => {
+                drop(answer);
+                Err(error)
+            }
+        }
     }
 
     // The route of a question on the sets as they are read one after another, which may be of
@@ -158,8 +193,13 @@ impl Service {
         ensures sound { IfOk result (λ finding. IsSound finding) }
     {
         let mut run = Run::start(self.alloc, question.dup(self.alloc)?, &self.abilities)?;
-        self.read_all(rt, who, &mut run, gate)?;
-        Ok(run.finish().ok().unwrap())
+        match self.read_all(rt, who, &mut run, gate) {
+            Ok(()) => Ok(run.finish().ok().unwrap()),
+            Err(fault) => {
+                drop(run);
+                Err(fault)
+            }
+        }
     }
 
     // Reads the sets that a new run wants, until it wants none.
@@ -265,6 +305,8 @@ impl Service {
     {
         self.lock(rt).check(&self.abilities, self.held)?;
         let finding = self.locate(rt, Who::Caller, question, &OpenGate)?;
-        Ok(finding.evidence().dup(self.alloc)?)
+        let evidence = finding.evidence().dup(self.alloc);
+        drop(finding);
+        Ok(evidence?)
     }
 }

@@ -94,9 +94,17 @@ impl Marks {
         ensures book { book.new ≡ after_look book.old }
     {
         let (number, content) = book.read(key)?;
-        let item = Item::new(key.dup(self.alloc)?, number, content);
-        let Ok(place) = versions.push(rt, item) else {
+        let Ok(own) = key.dup(self.alloc) else {
+            drop(content);
             return Err(AllocError);
+        };
+        let item = Item::new(own, number, content);
+        let place = match versions.push(rt, item) {
+            Ok(place) => place,
+            Err(item) => {
+                drop(item);
+                return Err(AllocError);
+            }
         };
         let mark = Mark { number, place };
         self.table.insert(key.dup(self.alloc)?, mark)?;

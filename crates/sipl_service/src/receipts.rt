@@ -83,7 +83,7 @@ impl Receipts {
     {
         let count = self.count_due(end);
         for _gone in 0..count {
-            let _ = self.queue.pop_front();
+            drop(self.queue.pop_front());
         }
     }
 }

@@ -30,16 +30,26 @@ impl Service {
     // where it is the first again, those are done.
     fn repair_queued<R: Wait>(&self, rt: &R) -> Result<(), ServiceFault> {
         let mut stale = IndexSet::new(self.alloc);
+        let repaired = self.repair_each(rt, &mut stale);
+        drop(stale);
+        repaired
+    }
+
+    // As `repair_queued`, with the ids of the entries that were stale.
+    fn repair_each<R: Wait>(&self, rt: &R, stale: &mut IndexSet<u64>) -> Result<(), ServiceFault> {
         for _ in 0..self.queued(rt)? {
             let Some((lease, question)) = self.lease(rt)? else {
                 break;
             };
             let id = lease.id();
             if stale.contains(&id) {
+                drop(question);
                 self.give_back(rt, lease);
                 break;
             }
-            if !self.renew(rt, Who::Caller, lease, &question, &OpenGate)? {
+            let renewed = self.renew(rt, Who::Caller, lease, &question, &OpenGate);
+            drop(question);
+            if !renewed? {
                 stale.insert(id)?;
             }
         }
@@ -70,6 +80,7 @@ impl Service {
                 return;
             };
             let renewed = self.renew(rt, Who::Repair(worker), lease, &question, gate);
+            drop(question);
             refused = renewed.err().map(|_| edits);
         }
         unreachable!()
@@ -137,9 +148,16 @@ impl Service {
         let mut shared = self.lock(rt);
         if let Err(fault) = check_client(&shared.book, &self.abilities, self.held) {
             shared.book.give_back(lease);
+            drop(finding);
             return Err(fault);
         }
-        Ok(shared.book.settle_checked(lease, finding).is_ok())
+        match shared.book.settle_checked(lease, finding) {
+            Ok(()) => Ok(true),
+            Err(uncommitted) => {
+                drop(uncommitted);
+                Ok(false)
+            }
+        }
     }
 
     // Gives a lease back: its entry is the next one to be leased.

@@ -164,14 +164,20 @@ impl Service {
             pass.old pass.new result }
         ensures outcome { IfOk result (λ done. IsOutcomeOf edit done) }
     {
+        if pass.receipts.reserve(1).is_err() {
+            drop(edit);
+            return Err(ServiceFault::Memory);
+        }
         let new = new_edit(self.alloc, edit)?;
         let key = edited_key(self.alloc, &new.edit)?;
-        pass.receipts.reserve(1)?;
         let mut shared = self.lock(rt);
         if shared.is_stopped {
+            drop(key);
             return Err(ServiceFault::Stopped);
         }
-        let edited = shared.change(self.alloc, pass, new, key.as_ref())?;
+        let changed = shared.change(self.alloc, pass, new, key.as_ref());
+        drop(key);
+        let edited = changed?;
         let is_queued = shared.book.queued() > 0;
         drop(shared);
         if is_queued {
@@ -277,8 +283,9 @@ impl Service {
         let versions = new_versions(self.alloc)?;
         let mut shared = self.lock(rt);
         shared.check(&self.abilities, self.held)?;
-        let (page, _read) = shared.turn_page(self.alloc, versions)?;
+        let (page, read) = shared.turn_page(self.alloc, versions)?;
         drop(shared);
+        drop(read);
         Ok(page)
     }
 
@@ -304,7 +311,8 @@ impl Service {
             };
             return Err((ServiceFault::OtherBook, service));
         }
-        Ok(shared.book.into_page())
+        drop(self.abilities);
+        Ok(shared.into_page())
     }
 }
 
@@ -314,7 +322,11 @@ fn new_edit(alloc: Global, edit: Edit) -> Result<Box<NewEdit>, AllocError>
     ensures edit { IfOk result (λ new. new.value.edit ≡ edit) }
     ensures event { IfOk result (λ new. new.value.receipt.event ≡ Event.Change edit) }
 {
-    let event = Event::Change(edit.dup(alloc)?);
+    let Ok(copy) = edit.dup(alloc) else {
+        drop(edit);
+        return Err(AllocError);
+    };
+    let event = Event::Change(copy);
     let receipt = Receipt { number: 0, event };
     Ok(Box::new(alloc, NewEdit { edit, receipt })?)
 }

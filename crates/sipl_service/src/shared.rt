@@ -183,6 +183,22 @@ impl Shared {
         };
         Ok((page, read))
     }
+
+    // The journal of the book as a page, as the only thing that is left. Does not allocate.
+    pub fn into_page(self) -> Page
+        ensures page { result ≡ page_of self.book }
+        ensures is_page { IsPage result }
+    {
+        let Shared {
+            book,
+            versions,
+            marks,
+            ..
+        } = self;
+        drop(versions);
+        drop(marks);
+        book.into_page()
+    }
 }
 
 // Versions of which there is none, for a page's callers to share.

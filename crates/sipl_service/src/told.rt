@@ -69,9 +69,21 @@ impl Told {
         ensures evidence { IfOk result (λ told. told.items ≡ entry.now.found.items) }
         ensures board { IfOk result (λ told. told.board ≡ holds) }
     {
-        let evidence = entry.share_evidence()?;
-        let answer = entry.draw(alloc, &asked.draws, holds.get(), asked.held)?;
-        Ok(Told::drawn(number, asked, answer, evidence, holds))
+        let drawn = entry.draw(alloc, &asked.draws, holds.get(), asked.held);
+        let Ok(answer) = drawn else {
+            drop(asked);
+            drop(holds);
+            return Err(AllocError);
+        };
+        match entry.share_evidence() {
+            Ok(evidence) => Ok(Told::drawn(number, asked, answer, evidence, holds)),
+            Err(error) => {
+                drop(asked);
+                drop(holds);
+                drop(answer);
+                Err(error)
+            }
+        }
     }
 
     // An answer to what is asked, which this evidence and these holds decide; with the number of its
@@ -152,7 +164,19 @@ impl Told {
         ensures answer { result ≡ self.answer }
         ensures decided { IsDecided self }
     {
-        self.answer
+        let Told {
+            question,
+            abilities,
+            answer,
+            evidence,
+            holds,
+            ..
+        } = self;
+        drop(question);
+        drop(abilities);
+        drop(evidence);
+        drop(holds);
+        answer
     }
 
     /// The record sets that the answer depends on, in the order of reading.

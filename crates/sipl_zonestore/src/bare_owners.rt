@@ -67,8 +67,23 @@ pub(crate) fn replace_owners(owners: &mut IndexSet<Name>, apex: &Name, mut text:
     owners.append(&mut text).unwrap();
 }
 
+// Replaces the owners that are among these names by others. Does not allocate.
+pub(crate) fn replace_among(
+    owners: &mut IndexSet<Name>,
+    names: &IndexSet<Name>,
+    mut new: IndexSet<Name>,
+)
+    requires { index_set_len new ≤ spare owners.old }
+    ensures { (name : Labels) → contains same_name owners.new name
+        ≡ (not (contains same_name names.now name) && contains same_name owners.old name
+        || contains same_name new name) }
+{
+    remove_owners(owners, names);
+    owners.append(&mut new).unwrap();
+}
+
 // Removes the owners that are among these. Does not allocate.
-pub(crate) fn remove_owners(owners: &mut IndexSet<Name>, names: &IndexSet<Name>)
+fn remove_owners(owners: &mut IndexSet<Name>, names: &IndexSet<Name>)
     ensures left { (name : Labels) → contains same_name owners.new name
         ≡ (not (contains same_name names.now name) && contains same_name owners.old name) }
     ensures space { spare owners.old ≤ spare owners.new }

@@ -47,20 +47,41 @@ fn changed_owners(
         (λ owners. DifferAt apex.now (contains same_name owners) records.now text.now)) }
 {
     let mut owners = IndexSet::new(alloc);
+    if !add_changed_owners(alloc, &mut owners, apex, records, text, most)? {
+        return Ok(None);
+    }
+    Ok(Some(owners))
+}
+
+// Adds the owners whose records within the apex are others in a text, or in another order. Returns whether
+// all are added: it stops where there are more than so many.
+fn add_changed_owners(
+    alloc: Global,
+    owners: &mut IndexSet<Name>,
+    apex: &Name,
+    records: &[Record],
+    text: &[Record],
+    most: usize,
+) -> Result<bool, AllocError>
+    requires none { owners.old.keys ≡ [] }
+    requires within { list_all (λ r. is_within r.owner apex.now) text.now ≡ true }
+    ensures { IfOk result (λ all. all ≡ true
+        → DifferAt apex.now (contains same_name owners.new) records.now text.now) }
+{
     let mut place = 0;
     for record in records {
         if record.owner.is_within(apex) {
-            place = pass_record(alloc, &mut owners, record, text, place)?;
+            place = pass_record(alloc, owners, record, text, place)?;
         }
         if owners.len() > most {
-            return Ok(None);
+            return Ok(false);
         }
     }
     if text.len() - place > most {
-        return Ok(None);
+        return Ok(false);
     }
-    add_owners(alloc, &mut owners, &text[place..])?;
-    Ok(Some(owners))
+    add_owners(alloc, owners, &text[place..])?;
+    Ok(true)
 }
 
 // Goes past a record, and past those of a text from this place on, up to the one that is equal. Where there

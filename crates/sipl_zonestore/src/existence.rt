@@ -1,10 +1,11 @@
 //! The keys of the names that an edit makes exist, or no longer exist.
-ghost use Rattle.std.specs.Prelude.{◌≡◌, ◌&&◌, ◌++◌, [], ◌∷◌, true, length, map, filter, nat_eq, IfOk, OnOk};
+ghost use Rattle.std.specs.Prelude.{◌≡◌, ◌≤◌, ◌<◌, ◌+◌, ◌-◌, ◌^◌, ◌&&◌, ◌++◌, [], ◌∷◌, true, length, map, filter, nat_eq, IfOk, OnOk};
 ghost use Rattle.std.specs.List.{list_all};
 ghost use Rattle.std.specs.Map.{keys_of};
 ghost use Rattle.std.specs.Option.{option_to_list};
 ghost use Rattle.sipl_records.specs.Sets.{is_existence, key_of};
-ghost use Rattle.sipl_names.specs.Labels.{is_within};
+ghost use Rattle.indexmap.specs.IndexMap.{index_map_len, spare};
+ghost use Rattle.sipl_names.specs.Labels.{Labels, is_within};
 ghost use Rattle.sipl_zonestore.specs.Changes.{existence_key, existing_names};
 ghost use Rattle.sipl_zonestore.specs.Loading.{existence_changed};
 ghost use Rattle.sipl_zonestore.specs.NameTable.{HasNames, count_at};
@@ -12,7 +13,7 @@ ghost use Rattle.sipl_zonestore.specs.Store.{records_within};
 
 use crate::changed::Changed;
 use crate::compare::own_key;
-use crate::name_table::{count_of, names_within};
+use crate::name_table::{count_of, names_within, replace_names};
 use indexmap::IndexMap;
 use sipl_names::Name;
 use sipl_records::{Key, Kind, Record, Sequence};
@@ -73,14 +74,47 @@ pub(crate) fn changed_by_load(
     let old = names_within(alloc, apex, records)?;
     let new = names_within(alloc, apex, text)?;
     let sets = keys.len();
-    push_left(alloc, &mut keys, names, &old, &new)?;
-    push_counted(alloc, &mut keys, new.keys().as_slice(), names, 0)?;
+    push_replaced(alloc, &mut keys, names, &old, &new)?;
     let keys = Sequence::from_vec(keys);
     Ok(LoadedNames {
         changed: Changed { keys, sets },
         old,
         new,
     })
+}
+
+// Appends the keys of the names of a load's old records that no other record is within, and then those
+// of the names of its text that no record was within.
+fn push_replaced(
+    alloc: Global,
+    keys: &mut Vec<Key>,
+    names: &IndexMap<Name, usize>,
+    old: &IndexMap<Name, usize>,
+    new: &IndexMap<Name, usize>,
+) -> Result<(), AllocError>
+    ensures { OnOk result (keys.new.items ≡ keys.old.items
+        ++ existence_changed names.now.entries old.now.entries new.now.entries
+        (keys_of old.now.entries) (keys_of new.now.entries)) }
+{
+    push_left(alloc, keys, names, old, new)?;
+    push_counted(alloc, keys, new.keys().as_slice(), names, 0)
+}
+
+// Replaces the old counts of a load by the new ones, and returns what the load changes. Does not
+// allocate.
+pub(crate) fn put_names(names: &mut IndexMap<Name, usize>, loaded: LoadedNames) -> Changed
+    requires space { index_map_len loaded.new ≤ spare names.old }
+    requires fits { (name : Labels)
+        → count_at names.old.entries name + count_at loaded.new.entries name < 2 ^ 64 }
+    ensures counts { (name : Labels) → count_at names.new.entries name
+        ≡ count_at names.old.entries name + count_at loaded.new.entries name
+        - count_at loaded.old.entries name }
+    ensures changed { result ≡ loaded.changed }
+{
+    let LoadedNames { changed, old, new } = loaded;
+    replace_names(names, &old, new);
+    drop(old);
+    changed
 }
 
 // Appends the keys of those of the names that have this count.

@@ -4,7 +4,7 @@ ghost use Rattle.std.specs.Borrow.{sem};
 ghost use Rattle.std.specs.Io.BufRead.{Rests};
 ghost use Rattle.std.specs.List.{count_by, list_all, list_any};
 ghost use Rattle.indexmap.specs.IndexMap.{spare};
-ghost use Rattle.indexmap.specs.IndexSet.{IsUnchanged, contains};
+ghost use Rattle.indexmap.specs.IndexSet.{IsUnchanged, contains, spare as spare_owners};
 ghost use Rattle.sipl_zonestore.specs.Numbers.{number_by, number_refusal};
 ghost use Rattle.sipl_names.specs.Labels.{Labels, is_within, same_name};
 ghost use Rattle.sipl_records.specs.declared.record.Key.{Key};
@@ -19,18 +19,17 @@ ghost use Rattle.sipl_zonestore.specs.Store.{records_outside};
 ghost use Rattle.sipl_zonestore.specs.Edits.{records_without};
 ghost use Rattle.sipl_zonestore.specs.IndexedRecords.{IsReplaced, nothing};
 
+use crate::addition::Addition;
 use crate::ancestors::with_ancestors;
-use crate::bare_owners::{
-    bare_owner, bare_owners, insert_owner, remove_owner, remove_owners, replace_owners,
-};
+use crate::bare_owners::{insert_owner, remove_owner, replace_among, replace_owners};
 use crate::changed::Changed;
 use crate::comparison::{Comparison, has_conflict, has_value};
 use crate::differences::owners_of_patch;
-use crate::existence::{LoadedNames, changed_by, is_existence};
+use crate::existence::{changed_by, is_existence, put_names};
 use crate::fault::StoreFault;
-use crate::loaded_owners::{LoadedOwners, loaded_owners};
+use crate::loaded_owners::loaded_owners;
 use crate::loaded_tables::{LoadedTables, loaded_tables};
-use crate::name_table::{count_in, count_of, count_out, replace_names};
+use crate::name_table::{count_in, count_of, count_out};
 use crate::patches::{Patch, patch_of};
 use crate::record_list::RecordList;
 use crate::set_numbers::{added_count, check_numbers, push_to_set, remove_from_set, removed_count};
@@ -208,8 +207,7 @@ impl IndexedRecords {
         ensures { IsReplaced (records_outside apex.now self.old.records ++ text.now)
             self.old self.new result }
     {
-        let copies = copy_records(self.alloc, text)?;
-        let LoadedTables { sets, count, names } = loaded_tables(
+        let mut tables = loaded_tables(
             self.alloc,
             apex,
             self.records.as_slice(),
@@ -218,10 +216,25 @@ impl IndexedRecords {
             &self.names,
             self.next,
         )?;
-        let LoadedNames { changed, old, new } = names;
-        reserve(&mut self.records, &mut self.names, copies.len(), new.len())?;
-        replace_tables(self.alloc, &mut self.sets, &mut self.bare, apex, text, sets)?;
-        replace_names(&mut self.names, &old, new);
+        reserve(
+            &mut self.records,
+            &mut self.bare,
+            &mut self.names,
+            text.len(),
+            tables.bare.len(),
+            tables.names.new.len(),
+        )?;
+        let copies = copy_records(self.alloc, text)?;
+        self.sets.replace_within(apex, &mut tables.sets)?;
+        let LoadedTables {
+            sets,
+            count,
+            bare,
+            names,
+        } = Box::into_inner(tables);
+        drop(sets);
+        replace_owners(&mut self.bare, apex, bare);
+        let changed = put_names(&mut self.names, names);
         self.records.replace_within(apex, copies);
         self.next += count as u64;
         Ok(changed)
@@ -244,8 +257,7 @@ impl IndexedRecords {
         ensures { IsReplaced (records_outside apex.now self.old.records ++ text.now)
             self.old self.new result }
     {
-        let copies = copy_records(self.alloc, &text[patch.first..patch.last])?;
-        let LoadedOwners { tables, bare } = loaded_owners(
+        let mut tables = loaded_owners(
             self.alloc,
             apex,
             self.records.as_slice(),
@@ -255,11 +267,26 @@ impl IndexedRecords {
             &self.names,
             self.next,
         )?;
-        let LoadedTables { sets, count, names } = tables;
-        let LoadedNames { changed, old, new } = names;
-        reserve(&mut self.records, &mut self.names, copies.len(), new.len())?;
-        replace_owner_tables(&mut self.sets, &mut self.bare, owners, sets, bare)?;
-        replace_names(&mut self.names, &old, new);
+        let part = &text[patch.first..patch.last];
+        reserve(
+            &mut self.records,
+            &mut self.bare,
+            &mut self.names,
+            part.len(),
+            tables.bare.len(),
+            tables.names.new.len(),
+        )?;
+        let copies = copy_records(self.alloc, part)?;
+        self.sets.replace_owners(owners, &mut tables.sets)?;
+        let LoadedTables {
+            sets,
+            count,
+            bare,
+            names,
+        } = Box::into_inner(tables);
+        drop(sets);
+        replace_among(&mut self.bare, owners, bare);
+        let changed = put_names(&mut self.names, names);
         self.records.apply(apex, patch, copies);
         self.next += count as u64;
         Ok(changed)
@@ -276,17 +303,25 @@ impl IndexedRecords {
     {
         let count = added_count(new);
         check_numbers(self.next, count)?;
-        let owners = with_ancestors(self.alloc, &new.owner)?;
-        let changed = changed_by(self.alloc, new, &owners, &self.names, 0)?;
-        let copy = new.dup(self.alloc)?;
-        let owner = bare_owner(self.alloc, new)?;
-        self.records.reserve(1)?;
-        self.bare.reserve(usize::from(owner.is_some()))?;
-        self.names.reserve(owners.len())?;
+        let addition = Addition::new(self.alloc, new, &self.names)?;
+        reserve(
+            &mut self.records,
+            &mut self.bare,
+            &mut self.names,
+            1,
+            usize::from(addition.bare.is_some()),
+            addition.owners.len(),
+        )?;
         push_to_set(self.alloc, &mut self.sets, self.next, new)?;
-        insert_owner(&mut self.bare, owner);
+        let Addition {
+            record,
+            bare,
+            owners,
+            changed,
+        } = Box::into_inner(addition);
+        insert_owner(&mut self.bare, bare);
         count_in(&mut self.names, owners);
-        self.records.push_reserved(copy);
+        self.records.push_reserved(record);
         self.next += count as u64;
         Ok(changed)
     }
@@ -314,76 +349,26 @@ impl IndexedRecords {
     }
 }
 
-// Reserves space for so many more records, and for so many more names.
+// Reserves space for so many more records, owners of which nothing is kept, and names.
 fn reserve(
     records: &mut RecordList,
+    bare: &mut IndexSet<Name>,
     names: &mut IndexMap<Name, usize>,
     record_count: usize,
+    bare_count: usize,
     name_count: usize,
 ) -> Result<(), AllocError>
     ensures records { records.new.records ≡ records.old.records }
+    ensures bare { IsUnchanged bare.old bare.new }
     ensures names { names.new.entries ≡ names.old.entries }
     ensures room { OnOk result (record_count ≤ records.new.room) }
     ensures limit { OnOk result (length records.new.records + record_count < 2 ^ 63) }
+    ensures bare_space { OnOk result (bare_count ≤ spare_owners bare.new) }
     ensures space { OnOk result (name_count ≤ spare names.new) }
 {
     records.reserve(record_count)?;
+    bare.reserve(bare_count)?;
     names.reserve(name_count)?;
-    Ok(())
-}
-
-// Replaces what the tables have of the records within the apex by what a text has, whose sets are
-// these.
-fn replace_tables(
-    alloc: Global,
-    sets: &mut SetTable,
-    bare: &mut IndexSet<Name>,
-    apex: &Name,
-    text: &[Record],
-    text_sets: SetTable,
-) -> Result<(), AllocError>
-    requires { (key : Key) → is_within key.name apex.now ≡ false
-        → content_of text_sets key ≡ no_content }
-    ensures sets { OnOk result ((key : Key) → content_of sets.new key
-        ≡ (if is_within key.name apex.now then content_of text_sets key
-        else content_of sets.old key)) }
-    ensures bare { OnOk result ((name : Labels) → contains same_name bare.new name
-        ≡ (not (is_within name apex.now) && contains same_name bare.old name
-        || list_any (is_bare_at name) text.now)) }
-    ensures sets_left { OnErr result (sets.new ≡ sets.old) }
-    ensures bare_left { OnErr result (IsUnchanged bare.old bare.new) }
-{
-    let owners = bare_owners(alloc, text)?;
-    bare.reserve(owners.len())?;
-    sets.replace_within(apex, text_sets)?;
-    replace_owners(bare, apex, owners);
-    Ok(())
-}
-
-// Replaces what the tables have of the records of these owners by these sets and these owners of records of
-// which nothing is kept.
-fn replace_owner_tables(
-    sets: &mut SetTable,
-    bare: &mut IndexSet<Name>,
-    owners: &IndexSet<Name>,
-    new_sets: SetTable,
-    mut new_bare: IndexSet<Name>,
-) -> Result<(), AllocError>
-    requires { (key : Key) → contains same_name owners.now key.name ≡ false
-        → content_of new_sets key ≡ no_content }
-    ensures sets { OnOk result ((key : Key) → content_of sets.new key
-        ≡ (if contains same_name owners.now key.name then content_of new_sets key
-        else content_of sets.old key)) }
-    ensures bare { OnOk result ((name : Labels) → contains same_name bare.new name
-        ≡ (not (contains same_name owners.now name) && contains same_name bare.old name
-        || contains same_name new_bare name)) }
-    ensures sets_left { OnErr result (sets.new ≡ sets.old) }
-    ensures bare_left { OnErr result (IsUnchanged bare.old bare.new) }
-{
-    bare.reserve(new_bare.len())?;
-    sets.replace_owners(owners, new_sets)?;
-    remove_owners(bare, owners);
-    bare.append(&mut new_bare).unwrap();
     Ok(())
 }
 

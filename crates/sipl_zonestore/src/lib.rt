@@ -1,6 +1,7 @@
 //! The store of zones: which are loaded, and their records.
 #![tactic(auto)]
 
+mod addition;
 mod ancestors;
 mod apexes;
 mod bare_owners;

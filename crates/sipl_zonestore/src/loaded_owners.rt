@@ -15,7 +15,6 @@ ghost use Rattle.sipl_zonestore.specs.Numbers.{number_refusal, numbered_keys};
 ghost use Rattle.sipl_zonestore.specs.SetTable.{HasSets, content_of};
 ghost use Rattle.sipl_zonestore.specs.Store.{records_outside};
 
-use crate::bare_owners::bare_owners;
 use crate::differences::records_of;
 use crate::fault::StoreFault;
 use crate::loaded_tables::{LoadedTables, loaded_tables};
@@ -25,14 +24,6 @@ use indexmap::{IndexMap, IndexSet};
 use sipl_names::Name;
 use sipl_records::Record;
 use std::alloc::Global;
-
-// What the tables get of some owners: their sets and names, and those of them that own records of which
-// nothing is kept.
-#[derive(Drop)]
-pub(crate) struct LoadedOwners {
-    pub(crate) tables: LoadedTables,
-    pub(crate) bare: IndexSet<Name>,
-}
 
 // What a text makes of the tables, where it replaces the records within the apex, and differs from them in
 // the records of these owners alone. Of other owners nothing is looked up.
@@ -45,7 +36,7 @@ pub(crate) fn loaded_owners(
     old: &SetTable,
     names: &IndexMap<Name, usize>,
     next: u64,
-) -> Result<LoadedOwners, StoreFault>
+) -> Result<Box<LoadedTables>, StoreFault>
     requires distinct { has_repeats records.now ≡ false }
     requires text_distinct { has_repeats text.now ≡ false }
     requires within { list_all (λ r. is_within r.owner apex.now) text.now ≡ true }
@@ -54,33 +45,32 @@ pub(crate) fn loaded_owners(
     requires names { HasNames names.now.entries records.now }
     requires last { next ≤ 2 ^ 52 + 1 }
     ensures sets { IfOk result (λ loaded. (key : Key) → contains same_name owners.now key.name ≡ true
-        → content_of loaded.tables.sets key ≡ content_loaded old.now records.now
+        → content_of loaded.value.sets key ≡ content_loaded old.now records.now
         (records_outside apex.now records.now ++ text.now)
         (records_outside apex.now records.now ++ text.now) next key) }
     ensures none { IfOk result (λ loaded. (key : Key) → contains same_name owners.now key.name ≡ false
-        → content_of loaded.tables.sets key ≡ no_content) }
-    ensures count { IfOk result (λ loaded. loaded.tables.count
+        → content_of loaded.value.sets key ≡ no_content) }
+    ensures count { IfOk result (λ loaded. loaded.value.count
         ≡ length (numbered_keys records.now (records_outside apex.now records.now ++ text.now))) }
-    ensures last { IfOk result (λ loaded. next + loaded.tables.count ≤ 2 ^ 52 + 1) }
-    ensures keys { IfOk result (λ loaded. loaded.tables.names.changed.keys
+    ensures last { IfOk result (λ loaded. next + loaded.value.count ≤ 2 ^ 52 + 1) }
+    ensures keys { IfOk result (λ loaded. loaded.value.names.changed.keys
         ≡ changed_keys records.now (records_outside apex.now records.now ++ text.now)) }
-    ensures counted { IfOk result (λ loaded. loaded.tables.names.changed.sets
+    ensures counted { IfOk result (λ loaded. loaded.value.names.changed.sets
         ≡ changed_count records.now (records_outside apex.now records.now ++ text.now)) }
-    ensures old { IfOk result (λ loaded. HasNames loaded.tables.names.old.entries
+    ensures old { IfOk result (λ loaded. HasNames loaded.value.names.old.entries
         (records_of (contains same_name owners.now) records.now)) }
-    ensures new { IfOk result (λ loaded. HasNames loaded.tables.names.new.entries
+    ensures new { IfOk result (λ loaded. HasNames loaded.value.names.new.entries
         (records_of (contains same_name owners.now) text.now)) }
     ensures few { IfOk result
-        (λ loaded. (name : Labels) → count_at loaded.tables.names.new.entries name < 2 ^ 63) }
-    ensures bare { IfOk result (λ loaded. HasBare (contains same_name loaded.bare)
+        (λ loaded. (name : Labels) → count_at loaded.value.names.new.entries name < 2 ^ 63) }
+    ensures bare { IfOk result (λ loaded. HasBare (contains same_name loaded.value.bare)
         (records_of (contains same_name owners.now) text.now)) }
     ensures refused { IfErr result (λ fault. fault ≢ StoreFault.Memory → number_refusal records.now
         (records_outside apex.now records.now ++ text.now) next ≡ Some fault) }
 {
     let gone = records_of(alloc, records, owners)?;
     let come = records_of(alloc, text, owners)?;
-    let bare = bare_owners(alloc, &come)?;
     let gone_sets = sets_of(alloc, &gone, old)?;
     let tables = loaded_tables(alloc, apex, &gone, &come, &gone_sets, names, next)?;
-    Ok(LoadedOwners { tables, bare })
+    Ok(tables)
 }

@@ -1,5 +1,5 @@
 //! The record sets of one owner.
-ghost use Rattle.std.specs.Prelude.{◌≡◌, [], false, OnOk, OnErr};
+ghost use Rattle.std.specs.Prelude.{◌≡◌, [], false, IfOk, OnOk, OnErr};
 ghost use Rattle.std.specs.Borrow.{sem};
 ghost use Rattle.sipl_zonestore.specs.Content.{pushed, renumbered, without};
 ghost use Rattle.sipl_records.specs.Sets.{same_kind};
@@ -32,6 +32,22 @@ impl OwnerSets {
             service: RecordSet::new(),
             pointer: RecordSet::new(),
         }
+    }
+
+    // One datum of this kind, whose set has this number.
+    pub(crate) fn with(
+        alloc: Global,
+        kind: Kind,
+        number: u64,
+        value: Data,
+    ) -> Result<OwnerSets, AllocError>
+        requires { same_kind kind Kind.Exists ≡ false }
+        ensures { IfOk result
+            (λ sets. sets ≡ with_set kind (pushed number value (set_at kind no_sets)) no_sets) }
+    {
+        let mut sets = OwnerSets::new();
+        sets.push(alloc, kind, number, value)?;
+        Ok(sets)
     }
 
     // The number of the set of this kind and its data, 0 and none where it is empty.

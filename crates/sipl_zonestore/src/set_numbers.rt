@@ -38,8 +38,7 @@ pub(crate) fn sets_of(
     for record in records {
         if let Some(kind) = record.value.kind() {
             let number = old.number(&record.owner, kind);
-            let value = record.value.dup(alloc)?;
-            sets.push(alloc, &record.owner, kind, number, value)?;
+            push_to_set(alloc, &mut sets, number, record)?;
         }
     }
     Ok(sets)

@@ -93,9 +93,8 @@ impl SetTable {
         if let Some(sets) = self.owners.get_mut(owner) {
             return sets.push(alloc, kind, number, value);
         }
-        let mut sets = OwnerSets::new();
-        sets.push(alloc, kind, number, value)?;
         let name = owner.dup(alloc)?;
+        let sets = OwnerSets::with(alloc, kind, number, value)?;
         self.owners.insert(name, sets)?;
         Ok(())
     }
@@ -137,17 +136,17 @@ impl SetTable {
         !sets.get(kind).1.is_empty()
     }
 
-    // Replaces the sets whose owners are within the apex by these, whose owners are within it too.
-    // Linear in the number of owners.
+    // Replaces the sets whose owners are within the apex by these, whose owners are within it too, and
+    // which are moved here. Linear in the number of owners.
     pub(crate) fn replace_within(
         &mut self,
         apex: &Name,
-        mut text: SetTable,
+        text: &mut SetTable,
     ) -> Result<(), AllocError>
         requires { (key : Key) → is_within key.name apex.now ≡ false
-            → content_of text key ≡ no_content }
+            → content_of text.old key ≡ no_content }
         ensures replaced { OnOk result ((key : Key) → content_of self.new key
-            ≡ (if is_within key.name apex.now then content_of text key
+            ≡ (if is_within key.name apex.now then content_of text.old key
             else content_of self.old key)) }
         ensures unchanged { OnErr result (self.new ≡ self.old) }
     {
@@ -160,17 +159,18 @@ impl SetTable {
         self.owners.append(&mut text.owners).unwrap();
         Ok(())
     }
-    // Replaces the sets of these owners by others, which are theirs. Constant time for each owner but
-    // for hashing.
+
+    // Replaces the sets of these owners by others, which are theirs, and which are moved here. Constant
+    // time for each owner but for hashing.
     pub(crate) fn replace_owners(
         &mut self,
         names: &IndexSet<Name>,
-        mut text: SetTable,
+        text: &mut SetTable,
     ) -> Result<(), AllocError>
         requires { (key : Key) → contains same_name names.now key.name ≡ false
-            → content_of text key ≡ no_content }
+            → content_of text.old key ≡ no_content }
         ensures replaced { OnOk result ((key : Key) → content_of self.new key
-            ≡ (if contains same_name names.now key.name then content_of text key
+            ≡ (if contains same_name names.now key.name then content_of text.old key
             else content_of self.old key)) }
         ensures unchanged { OnErr result (self.new ≡ self.old) }
     {

@@ -13,6 +13,6 @@ pub returns-clause-answer : goal.returns-clause-answer
 returns-clause-answer c =
     let e = c.in-Some.entry.now in
     let words = c.args.asked.draws in
-    let current : e.is_current ≡ true = sym c.is_current.ensures ∙ c.if-not-is_current.false in
+    let current : e.is_current ≡ true = sym c.is_current.ensures ∙ c.if-is_current.true in
     c.in_ok-told.ensures.answer ∙ (λ i. draw e.found.layout (c.requires.holds i).holds words (sym c.requires.held i))
     ∙ entry-answer c.args.book.now c.args.asked.question words e c.entry.ensures.routes (sym c.in-Some.ensures.entry) c.in-Some.ensures.question current

@@ -14,8 +14,8 @@ use Rattle.sipl_book.specs.declared.event.Event.TheVariants.{Answer}
 use Rattle.sipl_book.proofs.Committing.{consistent_committed}
 use Rattle.sipl_book.proofs.book.Book.commit_drawn.Goals as goal
 
-pub invariant_of-self-in-Ok-commit : goal.invariant_of-self-in-Ok-commit
-invariant_of-self-in-Ok-commit c =
+pub invariant_of-self : goal.invariant_of-self
+invariant_of-self c =
     let inside = c.self.inside in
     let old : BookState = the_view inside in
     let found = c.args.finding in
@@ -31,12 +31,12 @@ invariant_of-self-in-Ok-commit c =
     λ i. Answer (c.requires.question i) words (answer i) in
     let id : c.next_event-id.result ≡ next_event old = search rules in
     let journal : c.record_event-number.new.journal.items ≡ inside.journal.items ++ answer_event old found.question words ∷ [] =
-    c.record_event-number.ensures.items ∙ (λ i. c.reserve.ensures.items i ++ event i ∷ []) in
-    let cache : c.commit.new.self ≡ record inside.cache {
+    c.record_event-number.ensures.items ∙ (λ i. c.commit_reserved.ensures.items i ++ event i ∷ []) in
+    let cache : c.commit_reserved.new.cache ≡ record inside.cache {
       entries = committed found (next_event old) inside.cache.max_entries inside.cache.entries;
       queue = after_renewal inside.cache.queue (entry_of inside.cache.entries found.question);
     } =
-    c.in-Ok-commit.ensures.ok ∙ ap (λ n. record inside.cache {
+    c.in-Ok.ensures.ok ∙ ap (λ n. record inside.cache {
       entries = committed found n inside.cache.max_entries inside.cache.entries;
       queue = after_renewal inside.cache.queue (entry_of inside.cache.entries found.question);
     }) id in

@@ -37,7 +37,7 @@ pub returns-clause-id : goal.returns-clause-id
 returns-clause-id c =
     let q = c.args.question.now in
     let es = c.self.inside.table.entries in
-    ap Some c.id.ensures
+    ap Some c.id-id.ensures
     ∙ ap (option_map (λ (e : EntryState). e.id)) (sym c.in_ok-entry.was ∙ c.shift_remove.ensures.value ∙ get-entry_of q es c.self.invariant ∙ ap (λ xs. entry_of xs q) c.self.view_is)
 
 pub returns-clause-after : goal.returns-clause-after

@@ -6,5 +6,5 @@ use Rattle.sipl_book.proofs.page.Page.is_first.Goals as goal
 
 pub returns : goal.returns
 returns c =
-    Decides-at _ _ (c.eq-2.ensures ∙ (λ i. same_state ((c.self.view_is i).base) (c.empty.ensures i)))
+    Decides-at _ _ (c.eq-is_first.ensures ∙ (λ i. same_state ((c.self.view_is i).base) (c.empty-empty.ensures i)))
     (same_state_decides c.args.self.now.base empty_state)

@@ -5,4 +5,4 @@ use Rattle.sipl_interleave.proofs.world.World.hand.Goals as goal
 pub invariant_of-self : goal.invariant_of-self
 invariant_of-self c =
     let old : WorldState = record { book = c.self.inside.book; workers = c.self.inside.workers } in
-    world-handed c.args.question.now c.args.draws.now old c.hand.new.self c.hand.result c.self.invariant c.hand.ensures
+    world-handed c.args.question c.args.draws.now old c.hand-handed.new.self c.hand-handed.result c.self.invariant c.hand-handed.ensures

@@ -10,17 +10,17 @@ use Rattle.sipl_service.proofs.marks.Marks.push.Goals as goal
 pub returns-clause-others : goal.returns-clause-others
 returns-clause-others g c =
     others c.args.self.now.table c.insert.new.self c.args.key.now
-    (λ other apart. c.in_ok-insert.ensures.updates.2 other (ap (λ (k : Key). eq-value.it k other) c.in_ok-dup-2.ensures ∙ apart))
+    (λ other apart. c.in_ok-insert.ensures.updates.2 other (ap (λ (k : Key). eq-value.it k other) c.in_ok-dup.ensures ∙ apart))
 
 pub returns-clause-kept : goal.returns-clause-kept
 returns-clause-kept g c =
-    kept c.insert.new.self c.args.key.now c.in_ok-dup-2.field-0 _ c.in_ok-dup-2.ensures c.in_ok-insert.ensures.updates.1
+    kept c.insert.new.self c.args.key.now c.in_ok-dup.field-0 _ c.in_ok-dup.ensures c.in_ok-insert.ensures.updates.1
 
 pub returns-clause-marks : goal.returns-clause-marks
 returns-clause-marks g c =
     let filled : set_of c.args.book.now.store.zones.records c.args.key.now ≢ [] =
     λ empty. c.requires.taken (sym c.in_ok-number.ensures.number ∙ c.in_ok-number.ensures.set.number.1 (c.in_ok-number.ensures.value ∙ empty)) in
     with-mark c.args.book.now.store (get same_key c.args.self.now.table) (get same_key c.insert.new.self) c.args.key.now
-    (record { number = c.in_ok-number.number; place = c.in-Ok.place })
+    (record { number = c.in_ok-number.number; place = c.in-Ok-push.place })
     c.requires.marks (record { of_records = c.requires.of_records; number = c.in_ok-number.ensures.number; taken = c.requires.taken; filled = filled })
     (returns-clause-kept g c) (returns-clause-others g c)

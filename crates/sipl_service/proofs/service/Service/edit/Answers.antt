@@ -15,7 +15,7 @@ outcome edit made old new done same change =
 
 pub returns-clause-outcome : goal.returns-clause-outcome
 returns-clause-outcome g c =
-    outcome c.args.edit c.in_ok-new.new.value.edit c.deref_mut.result.now.book c.change.new.self.book c.in_ok-edited.edited.done c.in_ok-new.ensures.edit c.in_ok-edited.ensures.changed
+    outcome c.args.edit c.in_ok-new.new.value.edit c.deref_mut.result.now.book c.change-changed.new.self.book c.in_ok-edited.edited.done c.in_ok-new.ensures.edit c.in_ok-edited.ensures.changed
 
 pub invariant_of-pass-3 : goal.invariant_of-pass-3
 invariant_of-pass-3 g c =

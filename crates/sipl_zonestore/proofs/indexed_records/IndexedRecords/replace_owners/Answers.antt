@@ -1,4 +1,4 @@
-use Rattle.std.proofs.Common.{◌≡◌, ◌≢◌, ◌++◌, ◌+◌, ◌-◌, not, ◌&&◌, ◌||◌, true, Some, refl, ap, sym, subst, ◌∙◌, length, arith}
+use Rattle.std.proofs.Common.{◌≡◌, ◌^◌, ◌≤◌, ◌≢◌, ◌++◌, ◌+◌, ◌-◌, not, ◌&&◌, ◌||◌, true, Some, refl, ap, sym, subst, ◌∙◌, length, arith}
 use Rattle.std.specs.List.{list_any}
 use Rattle.std.proofs.lemmas.Result.{err_from_is_err_and}
 use Rattle.indexmap.specs.IndexSet.{contains}
@@ -34,14 +34,16 @@ loaded_owners-requires-clause-names c = subst (HasNames c.self.inside.names.entr
 pub returns-in_err-tables : goal.returns-in_err-tables
 returns-in_err-tables c =
     let fault = c.in_err-tables.field-0.0 in
-    let p = err_from_is_err_and c.from_residual-in_err-tables.result c.from_residual-in_err-tables.ensures.1 in
+    let p = err_from_is_err_and c.from_residual.result c.from_residual.ensures.1 in
     rw (p.1, p.2, ← c.self.view_is) (refused (records_outside c.args.apex.now c.self.inside.records.records ++ c.args.text.now) _ _ fault (subst (λ rs. fault ≢ Memory → number_refusal rs (records_outside c.args.apex.now rs ++ c.args.text.now) c.self.inside.next ≡ Some fault) c.as_slice.ensures.value c.in_err-tables.ensures.refused) (λ i. record { records = c.as_slice.follows.holds-at-none i; numbers = numbers_of c.self.inside.sets; next = c.self.inside.next }))
 
-pub replace_names-requires-clause-fits : goal.replace_names-requires-clause-fits
-replace_names-requires-clause-fits c = λ name.
+pub put_names-changed-requires-clause-fits : goal.put_names-changed-requires-clause-fits
+put_names-changed-requires-clause-fits c = λ name.
     let old : count_at c.reserve.new.names.entries name ≡ count_within c.self.inside.records.records name = ap (λ (es : NameTable). count_at es name) c.in_ok-reserve.ensures.names ∙ c.self.invariant.has_names name in
+    let names_are : c.into_inner-sets.result.names ≡ c.in_ok-tables.tables.value.names = (λ i. (c.into_inner-sets.ensures i).names) ∙ (λ i. (c.deref_mut.ensures.value i).names) in
+    let new : count_at c.into_inner-sets.result.names.new.entries name ≡ count_at c.in_ok-tables.tables.value.names.new.entries name = (λ i. count_at (names_are i).new.entries name) in
     let records = ap length (c.in_ok-reserve.ensures.records ∙ c.as_slice.follows.holds-at-none) in
-    omega (arith, old, records, c.in_ok-tables.ensures.few name, count-limit c.self.inside.records.records name, c.in_ok-reserve.ensures.limit)
+    omega (arith, old, new, records, c.in_ok-tables.ensures.few name, count-limit c.self.inside.records.records name, c.in_ok-reserve.ensures.limit)
 
 pub invariant_of-self-2 : goal.invariant_of-self-2
 invariant_of-self-2 c =
@@ -50,21 +52,24 @@ invariant_of-self-2 c =
     let old = c.self.inside.records.records in
     let text = c.args.text.now in
     let new = records_outside apex old ++ text in
-    let loaded = c.in_ok-tables.field-0.tables in
+    let loaded = c.in_ok-tables.tables.value in
     let differ : DifferAt apex q old text = rw (← c.self.view_is) at c.requires.differ in
     let patch : IsPatch apex old text c.args.patch = rw (← c.self.view_is) at c.requires.patch in
-    let taken : (key : Key) → q key.name ≡ true → content_of loaded.sets key ≡ content_loaded c.self.inside.sets old new new c.self.inside.next key = subst (λ rs. (key : Key) → q key.name ≡ true → content_of loaded.sets key ≡ content_loaded c.self.inside.sets rs (records_outside apex rs ++ text) (records_outside apex rs ++ text) c.self.inside.next key) c.as_slice.ensures.value c.in_ok-tables.ensures.sets in
-    let is = part-replacement apex q old text c.self.inside.next c.self.inside.sets loaded.sets c.replace_owner_tables.new.sets c.requires.within differ c.self.invariant.has_sets taken c.in_ok-replace_owner_tables.ensures.sets in
+    let taken : (key : Key) → q key.name ≡ true → content_of c.deref_mut.result.now.sets key ≡ content_loaded c.self.inside.sets old new new c.self.inside.next key = subst (λ rs. (key : Key) → q key.name ≡ true → content_of c.deref_mut.result.now.sets key ≡ content_loaded c.self.inside.sets rs (records_outside apex rs ++ text) (records_outside apex rs ++ text) c.self.inside.next key) c.as_slice.ensures.value (λ key own. (λ i. content_of (c.deref_mut.ensures.value i).sets key) ∙ c.in_ok-tables.ensures.sets key own) in
+    let is = part-replacement apex q old text c.self.inside.next c.self.inside.sets c.deref_mut.result.now.sets c.replace_owners.new.self c.requires.within differ c.self.invariant.has_sets taken c.in_ok-replace_owners.ensures.replaced in
     let records_are : c.apply.new.self.records ≡ new = c.apply.ensures ∙ (λ i. patched apex ((c.in_ok-reserve.ensures.records ∙ c.as_slice.follows.holds-at-none) i) c.args.patch (c.in_ok-copies.ensures i)) ∙ patch.replaced in
+    let names_are : c.into_inner-sets.result.names ≡ c.in_ok-tables.tables.value.names = (λ i. (c.into_inner-sets.ensures i).names) ∙ (λ i. (c.deref_mut.ensures.value i).names) in
+    let bare_is : c.into_inner-sets.result.bare ≡ c.in_ok-tables.tables.value.bare = (λ i. (c.into_inner-sets.ensures i).bare) ∙ (λ i. (c.deref_mut.ensures.value i).bare) in
+    let count_is : c.into_inner-sets.result.count ≡ c.in_ok-tables.tables.value.count = (λ i. (c.into_inner-sets.ensures i).count) ∙ (λ i. (c.deref_mut.ensures.value i).count) in
     record {
-      has_sets = λ key. replaced-sets q old new new c.self.inside.next c.self.inside.sets loaded.sets c.replace_owner_tables.new.sets is key ∙ ap (λ rs. data_of rs key) (sym records_are);
+      has_sets = λ key. replaced-sets q old new new c.self.inside.next c.self.inside.sets c.deref_mut.result.now.sets c.replace_owners.new.self is key ∙ ap (λ rs. data_of rs key) (sym records_are);
       has_bare = λ name.
-          part-bare apex q old text (contains same_name c.self.inside.bare) (contains same_name c.replace_owner_tables.new.bare) differ c.self.invariant.has_bare (λ name. c.in_ok-replace_owner_tables.ensures.bare name ∙ ap (λ b. not (q name) && contains same_name c.self.inside.bare name || b) (c.in_ok-tables.ensures.bare name)) name ∙ ap (λ rs. list_any (is_bare_at name) rs) (sym records_are);
+          part-bare apex q old text (contains same_name c.self.inside.bare) (contains same_name c.replace_among.new.owners) differ c.self.invariant.has_bare (λ name. c.replace_among.ensures name ∙ (λ i. not (q name) && list_any (same_name name) (c.in_ok-reserve.ensures.bare i) || contains same_name (bare_is i) name) ∙ ap (λ b. not (q name) && contains same_name c.self.inside.bare name || b) (c.in_ok-tables.ensures.bare name)) name ∙ ap (λ rs. list_any (is_bare_at name) rs) (sym records_are);
       has_names = λ name.
-          part-names apex q old text c.self.inside.names.entries loaded.names.old.entries loaded.names.new.entries c.replace_names.new.names.entries differ c.self.invariant.has_names (subst (λ rs. HasNames loaded.names.old.entries (records_of q rs)) c.as_slice.ensures.value c.in_ok-tables.ensures.old) c.in_ok-tables.ensures.new (λ name. c.replace_names.ensures name ∙ ap (λ (es : NameTable). count_at es name + count_at loaded.names.new.entries name - count_at loaded.names.old.entries name) c.in_ok-reserve.ensures.names) name
+          part-names apex q old text c.self.inside.names.entries loaded.names.old.entries loaded.names.new.entries c.put_names-changed.new.names.entries differ c.self.invariant.has_names (subst (λ rs. HasNames loaded.names.old.entries (records_of q rs)) c.as_slice.ensures.value c.in_ok-tables.ensures.old) c.in_ok-tables.ensures.new (λ name. c.put_names-changed.ensures.counts name ∙ (λ i. count_at (c.in_ok-reserve.ensures.names i) name + count_at (names_are i).new.entries name - count_at (names_are i).old.entries name)) name
           ∙ ap (λ rs. count_within rs name) (sym records_are);
       lent = c.self.invariant.lent;
-      last = c.in_ok-tables.ensures.last;
+      last = subst (λ n. c.self.inside.next + n ≤ 2 ^ 52 + 1) (sym count_is) c.in_ok-tables.ensures.last;
     }
 
 pub returns : goal.returns
@@ -74,35 +79,38 @@ returns c =
     let old = c.self.inside.records.records in
     let text = c.args.text.now in
     let new = records_outside apex old ++ text in
-    let loaded = c.in_ok-tables.field-0.tables in
+    let loaded = c.in_ok-tables.tables.value in
     let differ : DifferAt apex q old text = rw (← c.self.view_is) at c.requires.differ in
     let patch : IsPatch apex old text c.args.patch = rw (← c.self.view_is) at c.requires.patch in
-    let taken : (key : Key) → q key.name ≡ true → content_of loaded.sets key ≡ content_loaded c.self.inside.sets old new new c.self.inside.next key = subst (λ rs. (key : Key) → q key.name ≡ true → content_of loaded.sets key ≡ content_loaded c.self.inside.sets rs (records_outside apex rs ++ text) (records_outside apex rs ++ text) c.self.inside.next key) c.as_slice.ensures.value c.in_ok-tables.ensures.sets in
-    let is = part-replacement apex q old text c.self.inside.next c.self.inside.sets loaded.sets c.replace_owner_tables.new.sets c.requires.within differ c.self.invariant.has_sets taken c.in_ok-replace_owner_tables.ensures.sets in
+    let taken : (key : Key) → q key.name ≡ true → content_of c.deref_mut.result.now.sets key ≡ content_loaded c.self.inside.sets old new new c.self.inside.next key = subst (λ rs. (key : Key) → q key.name ≡ true → content_of c.deref_mut.result.now.sets key ≡ content_loaded c.self.inside.sets rs (records_outside apex rs ++ text) (records_outside apex rs ++ text) c.self.inside.next key) c.as_slice.ensures.value (λ key own. (λ i. content_of (c.deref_mut.ensures.value i).sets key) ∙ c.in_ok-tables.ensures.sets key own) in
+    let is = part-replacement apex q old text c.self.inside.next c.self.inside.sets c.deref_mut.result.now.sets c.replace_owners.new.self c.requires.within differ c.self.invariant.has_sets taken c.in_ok-replace_owners.ensures.replaced in
     let records_are : c.apply.new.self.records ≡ new = c.apply.ensures ∙ (λ i. patched apex ((c.in_ok-reserve.ensures.records ∙ c.as_slice.follows.holds-at-none) i) c.args.patch (c.in_ok-copies.ensures i)) ∙ patch.replaced in
-    rw (← c.self.view_is) (replaced q old new new c.apply.new.self.records c.self.inside.next _ loaded.count c.self.inside.sets loaded.sets c.replace_owner_tables.new.sets loaded.names.changed is records_are (c.in_ok-tables.ensures.keys ∙ (λ i. changed_keys (c.as_slice.ensures.value i) (records_outside apex (c.as_slice.ensures.value i) ++ text))) (c.in_ok-tables.ensures.counted ∙ (λ i. changed_count (c.as_slice.ensures.value i) (records_outside apex (c.as_slice.ensures.value i) ++ text))) (c.in_ok-tables.ensures.count ∙ (λ i. length (numbered_keys (c.as_slice.ensures.value i) (records_outside apex (c.as_slice.ensures.value i) ++ text)))) refl c.in_ok-tables.ensures.last)
+    let names_are : c.into_inner-sets.result.names ≡ c.in_ok-tables.tables.value.names = (λ i. (c.into_inner-sets.ensures i).names) ∙ (λ i. (c.deref_mut.ensures.value i).names) in
+    let changed_is : c.put_names-changed.result ≡ loaded.names.changed = c.put_names-changed.ensures.changed ∙ (λ i. (names_are i).changed) in
+    let count_is : c.into_inner-sets.result.count ≡ loaded.count = (λ i. (c.into_inner-sets.ensures i).count) ∙ (λ i. (c.deref_mut.ensures.value i).count) in
+    rw (← c.self.view_is) (replaced q old new new c.apply.new.self.records c.self.inside.next _ c.into_inner-sets.result.count c.self.inside.sets c.deref_mut.result.now.sets c.replace_owners.new.self c.put_names-changed.result is records_are ((λ i. (changed_is i).keys) ∙ c.in_ok-tables.ensures.keys ∙ (λ i. changed_keys (c.as_slice.ensures.value i) (records_outside apex (c.as_slice.ensures.value i) ++ text))) ((λ i. (changed_is i).sets) ∙ c.in_ok-tables.ensures.counted ∙ (λ i. changed_count (c.as_slice.ensures.value i) (records_outside apex (c.as_slice.ensures.value i) ++ text))) (count_is ∙ c.in_ok-tables.ensures.count ∙ (λ i. length (numbered_keys (c.as_slice.ensures.value i) (records_outside apex (c.as_slice.ensures.value i) ++ text)))) refl (subst (λ n. c.self.inside.next + n ≤ 2 ^ 52 + 1) (sym count_is) c.in_ok-tables.ensures.last))
 
 pub returns-in_err-copies : goal.returns-in_err-copies
 returns-in_err-copies c =
-    let p = err_from_is_err_and c.from_residual.result c.from_residual.ensures.1 in
-    rw (p.1, p.2, ← c.self.view_is) (refused (records_outside c.args.apex.now c.self.inside.records.records ++ c.args.text.now) _ _ Memory (λ some. absurd (some refl)) refl)
+    let p = err_from_is_err_and c.from_residual-in_err-copies.result c.from_residual-in_err-copies.ensures.1 in
+    rw (p.1, p.2, ← c.self.view_is) (refused (records_outside c.args.apex.now c.self.inside.records.records ++ c.args.text.now) _ _ Memory (λ some. absurd (some refl)) (λ i. record { records = (c.in_ok-reserve.ensures.records ∙ c.as_slice.follows.holds-at-none) i; numbers = numbers_of c.self.inside.sets; next = c.self.inside.next }))
 
 pub returns-in_err-reserve : goal.returns-in_err-reserve
 returns-in_err-reserve c =
     let p = err_from_is_err_and c.from_residual-in_err-reserve.result c.from_residual-in_err-reserve.ensures.1 in
     rw (p.1, p.2, ← c.self.view_is) (refused (records_outside c.args.apex.now c.self.inside.records.records ++ c.args.text.now) _ _ Memory (λ some. absurd (some refl)) (λ i. record { records = (c.in_err-reserve.ensures.records ∙ c.as_slice.follows.holds-at-none) i; numbers = numbers_of c.self.inside.sets; next = c.self.inside.next }))
 
-pub returns-in_err-replace_owner_tables : goal.returns-in_err-replace_owner_tables
-returns-in_err-replace_owner_tables c =
-    let p = err_from_is_err_and c.from_residual-in_err-replace_owner_tables.result c.from_residual-in_err-replace_owner_tables.ensures.1 in
-    rw (p.1, p.2, ← c.self.view_is) (refused (records_outside c.args.apex.now c.self.inside.records.records ++ c.args.text.now) _ _ Memory (λ some. absurd (some refl)) (λ i. record { records = (c.in_ok-reserve.ensures.records ∙ c.as_slice.follows.holds-at-none) i; numbers = numbers_of (c.in_err-replace_owner_tables.ensures.sets_left i); next = c.self.inside.next }))
+pub returns-in_err-replace_owners : goal.returns-in_err-replace_owners
+returns-in_err-replace_owners c =
+    let p = err_from_is_err_and c.from_residual-in_err-replace_owners.result c.from_residual-in_err-replace_owners.ensures.1 in
+    rw (p.1, p.2, ← c.self.view_is) (refused (records_outside c.args.apex.now c.self.inside.records.records ++ c.args.text.now) _ _ Memory (λ some. absurd (some refl)) (λ i. record { records = (c.in_ok-reserve.ensures.records ∙ c.as_slice.follows.holds-at-none) i; numbers = numbers_of (c.in_err-replace_owners.ensures.unchanged i); next = c.self.inside.next }))
 
-pub invariant_of-self-in_err-replace_owner_tables : goal.invariant_of-self-in_err-replace_owner_tables
-invariant_of-self-in_err-replace_owner_tables c =
+pub invariant_of-self-in_err-replace_owners : goal.invariant_of-self-in_err-replace_owners
+invariant_of-self-in_err-replace_owners c =
     let records : c.reserve.new.records.records ≡ c.self.inside.records.records = c.in_ok-reserve.ensures.records ∙ c.as_slice.follows.holds-at-none in
     record {
-      has_sets = λ key. ap (λ (sets : OwnerTable). (content_of sets key).values) c.in_err-replace_owner_tables.ensures.sets_left ∙ c.self.invariant.has_sets key ∙ ap (λ rs. data_of rs key) (sym records);
-      has_bare = λ name. ap (list_any (same_name name)) c.in_err-replace_owner_tables.ensures.bare_left ∙ c.self.invariant.has_bare name ∙ ap (list_any (is_bare_at name)) (sym records);
+      has_sets = λ key. ap (λ (sets : OwnerTable). (content_of sets key).values) c.in_err-replace_owners.ensures.unchanged ∙ c.self.invariant.has_sets key ∙ ap (λ rs. data_of rs key) (sym records);
+      has_bare = λ name. ap (list_any (same_name name)) c.in_ok-reserve.ensures.bare ∙ c.self.invariant.has_bare name ∙ ap (list_any (is_bare_at name)) (sym records);
       has_names = λ name. ap (λ (es : NameTable). count_at es name) c.in_ok-reserve.ensures.names ∙ c.self.invariant.has_names name ∙ ap (λ rs. count_within rs name) (sym records);
       lent = c.self.invariant.lent;
       last = c.self.invariant.last;

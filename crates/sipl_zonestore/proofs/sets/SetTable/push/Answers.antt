@@ -39,17 +39,17 @@ returns-in-Some-clause-unchanged c =
 pub invariant_of-self-2 : goal.invariant_of-self-2
 invariant_of-self-2 c =
     let stored : c.get_mut.follows.lender-at-none.entries ≡ c.self.inside.owners.entries = ap (λ m. m.entries) c.get_mut.follows.holds-at-none in
-    let made : c.push-2.new.self ≡ with_set c.args.kind (pushed c.args.number c.args.value (set_at c.args.kind no_sets)) no_sets = c.in_ok-push.ensures.pushed ∙ ap (λ sets. with_set c.args.kind (pushed c.args.number c.args.value (set_at c.args.kind sets)) sets) c.new-sets.ensures in
-    data-updated c.self.inside.owners.entries c.insert.new.self.entries c.args.owner.now (Some c.push-2.new.self)
-    (λ other. c.in_ok-insert.ensures.updates.0 other ∙ (λ i. cond (same_name (c.in_ok-name.ensures.value i) other) (Some c.push-2.new.self) (lookup (same_name other) (stored i)))) c.self.invariant
+    let made : c.in_ok-sets.sets ≡ with_set c.args.kind (pushed c.args.number c.args.value (set_at c.args.kind no_sets)) no_sets = c.in_ok-sets.ensures in
+    data-updated c.self.inside.owners.entries c.insert.new.self.entries c.args.owner.now (Some c.in_ok-sets.sets)
+    (λ other. c.in_ok-insert.ensures.updates.0 other ∙ (λ i. cond (same_name (c.in_ok-name.ensures.value i) other) (Some c.in_ok-sets.sets) (lookup (same_name other) (stored i)))) c.self.invariant
     (ap has_no_data made ∙ data-with_set c.args.kind (pushed c.args.number c.args.value (set_at c.args.kind no_sets)) no_sets c.requires (is_empty-push (set_at c.args.kind no_sets).values c.args.value))
 
 pub returns-clause-pushed : goal.returns-clause-pushed
 returns-clause-pushed c =
     let stored : c.get_mut.follows.lender-at-none.entries ≡ c.self.inside.owners.entries = ap (λ m. m.entries) c.get_mut.follows.holds-at-none in
-    let made : c.push-2.new.self ≡ with_set c.args.kind (pushed c.args.number c.args.value (set_at c.args.kind no_sets)) no_sets = c.in_ok-push.ensures.pushed ∙ ap (λ sets. with_set c.args.kind (pushed c.args.number c.args.value (set_at c.args.kind sets)) sets) c.new-sets.ensures in
+    let made : c.in_ok-sets.sets ≡ with_set c.args.kind (pushed c.args.number c.args.value (set_at c.args.kind no_sets)) no_sets = c.in_ok-sets.ensures in
     let new = c.insert.new.self.entries in
     subst (λ (owners : OwnerTable). (key : Key) → content_of new key ≡ (if same_key (record { name = c.args.owner.now; kind = c.args.kind }) key then pushed c.args.number c.args.value (content_of owners key) else content_of owners key)) c.self.view_is
-    (content-updated (pushed c.args.number c.args.value) c.self.inside.owners.entries new c.args.owner.now c.args.kind (Some c.push-2.new.self)
-    (λ other. c.in_ok-insert.ensures.updates.0 other ∙ (λ i. cond (same_name (c.in_ok-name.ensures.value i) other) (Some c.push-2.new.self) (lookup (same_name other) (stored i))))
+    (content-updated (pushed c.args.number c.args.value) c.self.inside.owners.entries new c.args.owner.now c.args.kind (Some c.in_ok-sets.sets)
+    (λ other. c.in_ok-insert.ensures.updates.0 other ∙ (λ i. cond (same_name (c.in_ok-name.ensures.value i) other) (Some c.in_ok-sets.sets) (lookup (same_name other) (stored i))))
     (subst (λ sets. Becomes (pushed c.args.number c.args.value) c.self.inside.owners.entries c.args.owner.now c.args.kind (Some sets)) (sym made) (becomes-new (pushed c.args.number c.args.value) (pushed c.args.number c.args.value) c.self.inside.owners.entries c.args.owner.now c.args.kind c.requires (carried_pushed c.args.number c.args.value) c.in_default.ensures.value)))

@@ -3,7 +3,7 @@ use Rattle.indexmap.specs.IndexSet.{contains}
 use Rattle.sipl_names.specs.Labels.{same_name}
 use Rattle.sipl_zonestore.specs.Differences.{AreWithin, records_besides}
 use Rattle.sipl_zonestore.specs.Store.{records_within}
-use Rattle.sipl_zonestore.proofs.differences.changed_owners.Given as goal
+use Rattle.sipl_zonestore.proofs.differences.add_changed_owners.Given as goal
 
 abbrev pub invariant-loop-record : goal.invariant-loop-record
 invariant-loop-record l =
