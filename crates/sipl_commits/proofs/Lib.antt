@@ -1,0 +1,11 @@
+pub mod Chains
+pub mod Cutting
+pub mod Digests
+pub mod Lines
+pub mod Others
+pub mod Readings
+pub mod States
+pub mod Tabs
+pub mod Texts
+pub mod Unfinished
+pub mod Written
