@@ -2,16 +2,11 @@
 use Rattle.std.specs.Prelude.{codes}
 use Rattle.sipl_names.specs.Labels.{Octets}
 use Rattle.sipl_service.specs.Faults.{service_code}
-use Rattle.sipl_daemon.specs.declared.fault.ConnectionFault.{ConnectionFault}
-use Rattle.sipl_daemon.specs.declared.fault.ConnectionFault.TheVariants.{Busy}
 use Rattle.sipl_daemon.specs.declared.fault.DeskFault.{DeskFault}
-use Rattle.sipl_daemon.specs.declared.fault.DeskFault.TheVariants.{HostTime, Service}
+use Rattle.sipl_daemon.specs.declared.fault.DeskFault.TheVariants.{AsksOnly, HostTime, Service}
 
 -- why a line of a session is refused
 abbrev pub desk_code : DeskFault → Octets
 desk_code HostTime = codes "D1"
+desk_code AsksOnly = codes "D3"
 desk_code (Service fault) = service_code fault
-
--- why a connection has no session
-abbrev pub connection_code : ConnectionFault → Octets
-connection_code Busy = codes "Busy"

@@ -1,12 +1,11 @@
 //! Control lines: what an operator asks of the daemon, beside its clients.
-use crate::clients::Client;
 use crate::daemon::Daemon;
-use crate::holds::Holds;
-use crate::server::Host;
-use crate::stream::Stream;
-use crate::tally::Tally;
+use crate::host::Host;
+use crate::http::begins_request;
 use sipl_archive::hold_text;
+use sipl_listen::{Client, Stream};
 use sipl_names::Name;
+use sipl_state::{Holds, Tally};
 use std::alloc::{AllocError, Global};
 use std::fmt::Write as _;
 use std::io::{BufRead, BufReader, Read, Write};
@@ -32,8 +31,8 @@ enum Go {
 /// Serves the control lines of a connection, and frees its place. The connection that asked for the stop
 /// stays open until the process ends.
 pub(crate) fn serve_control<H: Host>(host: &H, daemon: &Daemon, client: Client) {
+    let is_to_stop = asks_for_stop(host, daemon, &client);
     let Client { stream, place } = client;
-    let is_to_stop = asks_for_stop(host, daemon, &stream);
     daemon.controls.leave(host, place);
     if is_to_stop {
         daemon.keep_open(host, stream);
@@ -42,28 +41,29 @@ pub(crate) fn serve_control<H: Host>(host: &H, daemon: &Daemon, client: Client) 
 }
 
 // Serves the lines of a connection. Returns whether one of them asks for the stop.
-fn asks_for_stop<H: Host>(host: &H, daemon: &Daemon, stream: &Stream) -> bool {
+fn asks_for_stop<H: Host>(host: &H, daemon: &Daemon, client: &Client) -> bool {
     let patience = Some(Duration::from_secs(PATIENCE));
-    if daemon.stop.is_asked() || stream.set_timeouts(patience, patience).is_err() {
+    if daemon.stop.is_asked() || client.stream.set_timeouts(patience, patience).is_err() {
         return false;
     }
-    matches!(serve_lines(host, daemon, stream), Ok(Go::Stop))
+    matches!(serve_lines(host, daemon, client), Ok(Go::Stop))
 }
 
 // Replies to each line until the connection ends, or a line asks for the stop.
-fn serve_lines<H: Host>(host: &H, daemon: &Daemon, stream: &Stream) -> io::Result<Go> {
+fn serve_lines<H: Host>(host: &H, daemon: &Daemon, client: &Client) -> io::Result<Go> {
+    let stream: &Stream = &client.stream;
     let mut reader = BufReader::new(daemon.alloc, stream.take(MAX_LEN))?;
-    reply_to_all(host, daemon, &mut reader, stream)
+    reply_to_all(host, daemon, &mut reader, client)
 }
 
 fn reply_to_all<H: Host, B: BufRead>(
     host: &H,
     daemon: &Daemon,
     reader: &mut B,
-    stream: &Stream,
+    client: &Client,
 ) -> io::Result<Go> {
-    for _ in 0..MAX_LEN {
-        match reply_to_next(host, daemon, reader, stream)? {
+    for number in 0..MAX_LEN {
+        match reply_to_next(host, daemon, reader, client, number == 0)? {
             Some(Go::On) => {}
             Some(Go::Stop) => return Ok(Go::Stop),
             None => break,
@@ -72,18 +72,23 @@ fn reply_to_all<H: Host, B: BufRead>(
     Ok(Go::On)
 }
 
-// Replies to the next line, if there is one.
+// Replies to the next line, if there is one. Where the first is of a request of HTTP, there is none.
 fn reply_to_next<H: Host, B: BufRead>(
     host: &H,
     daemon: &Daemon,
     reader: &mut B,
-    stream: &Stream,
+    client: &Client,
+    is_first: bool,
 ) -> io::Result<Option<Go>> {
     let mut line = String::new(daemon.alloc);
     if reader.read_line(&mut line)? == 0 {
         return Ok(None);
     }
-    Ok(Some(reply_to(host, daemon, line.as_str().trim(), stream)?))
+    daemon.controls.hear(host, client.place);
+    if is_first && begins_request(line.as_bytes()) {
+        return Ok(None);
+    }
+    Ok(Some(reply_to(host, daemon, line.as_str().trim(), &client.stream)?))
 }
 
 // Replies to a line.
@@ -127,35 +132,46 @@ fn turn_page<H: Host>(host: &H, daemon: &Daemon, reply: &mut String) -> Result<(
 
 fn write_stats<H: Host>(host: &H, daemon: &Daemon, reply: &mut String) -> Result<(), AllocError> {
     let counts = &daemon.counts;
-    write_count(reply, "events", &counts.events)?;
-    write_count(reply, "targets", &counts.targets)?;
-    write_count(reply, "NoAddress", &counts.no_address)?;
-    write_count(reply, "NotAvailable", &counts.not_available)?;
-    write_count(reply, "NoTransport", &counts.no_transport)?;
-    write_count(reply, "AllHeld", &counts.all_held)?;
     let entries = daemon.source.service.entry_counts(host);
-    write_stat(reply, "kept", entries.kept)?;
-    write_stat(reply, "current", entries.current)?;
-    write_stat(reply, "queued", entries.queued)?;
     let (records, held) = totals(host, daemon);
-    write_stat(reply, "records", records)?;
-    write_stat(reply, "held", held)?;
-    write_stat(reply, "clients", daemon.clients.count(host))?;
-    write_stat(reply, "pages", daemon.pages.claimed())?;
-    write_stat(reply, "waiting", daemon.pages.waiting(host) as u64)?;
-    write_stat(reply, "resident", resident(host, daemon.alloc))?;
+    let stats = [
+        ("events", count(&counts.events)),
+        ("targets", count(&counts.targets)),
+        ("NoAddress", count(&counts.no_address)),
+        ("NotAvailable", count(&counts.not_available)),
+        ("NoTransport", count(&counts.no_transport)),
+        ("AllHeld", count(&counts.all_held)),
+        ("kept", entries.kept),
+        ("current", entries.current),
+        ("queued", entries.queued),
+        ("records", records),
+        ("held", held),
+        ("clients", daemon.clients.count(host)),
+        ("pages", daemon.pages.claimed()),
+        ("waiting", daemon.pages.waiting(host) as u64),
+        ("resident", resident(host, daemon.alloc)),
+    ];
+    write_each(reply, &stats)?;
     reply.push_str("ok stats\n")
+}
+
+// Lines of a name and a number.
+fn write_each(reply: &mut String, stats: &[(&str, u64)]) -> Result<(), AllocError> {
+    for (name, number) in stats {
+        writeln!(reply, "{name} {number}")?;
+    }
+    Ok(())
 }
 
 // How many records there are, and how many held endpoints.
 fn totals<H: Host>(host: &H, daemon: &Daemon) -> (u64, u64) {
-    let tally = daemon.tally.lock(host);
+    let tally = daemon.source.tally.lock(host);
     (tally.records(), tally.holds().ends.len() as u64)
 }
 
 // The zones, and how many records each has.
 fn write_zones<H: Host>(host: &H, daemon: &Daemon, reply: &mut String) -> Result<(), AllocError> {
-    let tally = daemon.tally.lock(host);
+    let tally = daemon.source.tally.lock(host);
     write_tally_zones(daemon.alloc, &tally, reply)
 }
 
@@ -181,7 +197,7 @@ fn write_zone(
 // The held endpoints, and for how many milliseconds each is held yet.
 fn write_holds<H: Host>(host: &H, daemon: &Daemon, reply: &mut String) -> Result<(), AllocError> {
     daemon.move_clock(host);
-    let tally = daemon.tally.lock(host);
+    let tally = daemon.source.tally.lock(host);
     write_tally_holds(daemon.alloc, tally.holds(), reply)
 }
 
@@ -193,12 +209,8 @@ fn write_tally_holds(alloc: Global, holds: &Holds, reply: &mut String) -> Result
     writeln!(reply, "ok holds {}", holds.ends.len())
 }
 
-fn write_count(reply: &mut String, name: &str, count: &AtomicU64) -> Result<(), AllocError> {
-    write_stat(reply, name, count.load(Ordering::SeqCst))
-}
-
-fn write_stat(reply: &mut String, name: &str, number: u64) -> Result<(), AllocError> {
-    writeln!(reply, "{name} {number}")
+fn count(count: &AtomicU64) -> u64 {
+    count.load(Ordering::SeqCst)
 }
 
 // How many octets of the process are in memory; 0 where that can't be read.

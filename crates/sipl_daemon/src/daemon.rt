@@ -4,22 +4,16 @@ ghost use Rattle.sipl_lines.specs.Settings.{IsWithinLimits};
 ghost use Rattle.sipl_service.specs.Passes.{GetsReceipt};
 ghost use Rattle.sipl_service.specs.Telling.{IsToldFor, event_of};
 
-use crate::changes::Changes;
-use crate::clients::Clients;
 use crate::counts::Counts;
-use crate::descriptors::max_clients;
-use crate::pages::Pages;
+use crate::journal::pages::Pages;
 use crate::settings::{Clocks, DaemonSettings};
-use crate::source::Source;
-use crate::stop::Stop;
-use crate::stream::Stream;
-use crate::tally::Tally;
-use crate::time::HostTime;
 use sipl_archive::Archive;
 use sipl_book::BookFault;
 use sipl_lines::Settings;
+use sipl_listen::{Clients, Stop, Stream, max_clients};
 use sipl_service::{OpenGate, Pass, Service, ServiceFault, Told};
 use sipl_srv::Draws;
+use sipl_state::{Changes, HostTime, Source};
 use sipl_uri::Question;
 use std::alloc::Global;
 use std::io;
@@ -40,8 +34,6 @@ pub(crate) struct Daemon {
     pub(crate) archive: Option<Archive>,
     // How many octets the lines of a zone may have.
     pub(crate) zone_octets: u64,
-    // The zones and the holds as they are. Its lock is taken before those of the changes and the service.
-    pub(crate) tally: Mutex<Tally>,
     pub(crate) pages: Pages,
     pub(crate) stop: Arc<Stop, Global>,
     pub(crate) clients: Clients,
@@ -50,11 +42,11 @@ pub(crate) struct Daemon {
     // The time of the host, if that is the book's.
     time: Option<HostTime>,
     // The pass of the moves of the clock.
-    mover: Mutex<Pass>,
+    pub(crate) mover: Mutex<Pass>,
     // For how many seconds a client may send nothing.
     pub(crate) idle: Option<u64>,
     // The connections that asked for the stop, which stay open until the process ends.
-    open: Mutex<Vec<Arc<Stream, Global>>>,
+    pub(crate) open: Mutex<Vec<Arc<Stream, Global>>>,
 }
 
 impl Daemon {
@@ -69,7 +61,10 @@ impl Daemon {
             Clocks::Host => Some(HostTime::new(rt, 0)?),
             Clocks::Lines => None,
         };
-        let clients = Clients::new(alloc, max_clients(rt, alloc, settings.clients))?;
+        let clients = Clients::new(
+            alloc,
+            max_clients(rt, alloc, settings.clients, settings.descriptors()),
+        )?;
         let controls = Clients::new(alloc, MAX_CONTROLS)?;
         let service = new_service(alloc, &settings.service)?;
         let daemon = Daemon::over(service, alloc, settings, stop, time, clients, controls);
@@ -89,13 +84,9 @@ impl Daemon {
         let mover = Mutex::new(service.pass());
         Daemon {
             alloc,
-            source: Source {
-                service,
-                changes: None,
-            },
+            source: Source::new(alloc, service),
             archive: None,
             zone_octets: settings.zone_octets,
-            tally: Mutex::new(Tally::new(alloc)),
             pages: Pages::new(alloc, settings.service.journal as u64),
             stop,
             clients,
@@ -121,7 +112,7 @@ impl Daemon {
         };
         let now = time.now(rt);
         let mut mover = self.mover.lock(rt);
-        let mut tally = self.tally.lock(rt);
+        let mut tally = self.source.tally.lock(rt);
         if tally.holds().is_empty() || now <= self.source.service.now(rt) {
             return;
         }
@@ -141,7 +132,7 @@ impl Daemon {
         let now = time.now(rt);
         let mut mover = self.mover.lock(rt);
         if self.source.service.now(rt) < now {
-            let moved = self.advance(rt, &mut mover, now, &AtomicU64::new(0));
+            let moved = self.source.advance(rt, &mut mover, now, &AtomicU64::new(0));
             self.end_move(rt, &mut mover, moved);
         }
     }

@@ -1,8 +1,10 @@
-//! Why a line is refused, or a connection.
+//! Why a line is refused, and why a daemon ends.
 ghost use Rattle.std.specs.Prelude.{◌≡◌};
-ghost use Rattle.sipl_daemon.specs.Faults.{connection_code, desk_code};
+ghost use Rattle.sipl_daemon.specs.Faults.{desk_code};
 
-use sipl_service::ServiceFault;
+use sipl_service::{ClaimFault, ServiceFault};
+use std::alloc::AllocError;
+use std::io;
 use thiserror::Error;
 
 /// Why a line of a session is refused.
@@ -11,6 +13,9 @@ pub enum DeskFault {
     /// D1: a `clock` line, and the time is the host's.
     #[error("the time is the host's")]
     HostTime,
+    /// D3: a line that does more than to ask, at an address of `find`.
+    #[error("the address is for questions only")]
+    AsksOnly,
     /// A fault of the service.
     #[error(transparent)]
     Service(ServiceFault),
@@ -23,26 +28,8 @@ impl DeskFault {
     {
         match self {
             DeskFault::HostTime => "D1",
+            DeskFault::AsksOnly => "D3",
             DeskFault::Service(fault) => fault.code(),
-        }
-    }
-}
-
-/// Why a connection has no session.
-#[derive(Clone, Copy, Debug, PartialEq, Eq, Error)]
-pub enum ConnectionFault {
-    /// As many clients are connected as there may be at a time.
-    #[error("as many clients are connected as there may be")]
-    Busy,
-}
-
-impl ConnectionFault {
-    /// The error's code, which is sent before the connection is closed.
-    pub fn code(self) -> &'static str
-        ensures { result.now ≡ connection_code self }
-    {
-        match self {
-            ConnectionFault::Busy => "Busy",
         }
     }
 }
@@ -50,5 +37,30 @@ impl ConnectionFault {
 impl From<ServiceFault> for DeskFault {
     fn from(fault: ServiceFault) -> DeskFault {
         DeskFault::Service(fault)
+    }
+}
+
+/// Why a daemon ends with a fault.
+#[derive(Drop)]
+pub(crate) enum CloseFault {
+    /// The service is not closed.
+    Close(ServiceFault),
+    /// The events are not what callers were told.
+    Claim(ClaimFault),
+    /// The state, or its changes, are not written.
+    State(io::Error),
+    /// A page is not archived.
+    Archive(io::Error),
+}
+
+impl From<ClaimFault> for CloseFault {
+    fn from(fault: ClaimFault) -> CloseFault {
+        CloseFault::Claim(fault)
+    }
+}
+
+impl From<AllocError> for CloseFault {
+    fn from(_: AllocError) -> CloseFault {
+        CloseFault::Claim(ClaimFault::Memory)
     }
 }

@@ -1,9 +1,8 @@
 //! All the sockets of a daemon.
-use crate::address::Address;
-use crate::listener::Listener;
+use crate::host::Host;
 use crate::report::Fault;
-use crate::server::Host;
-use crate::settings::DaemonSettings;
+use crate::settings::{DaemonSettings, Entrance};
+use sipl_listen::Listener;
 use std::alloc::Global;
 use std::io;
 
@@ -11,6 +10,8 @@ use std::io;
 #[derive(Drop)]
 pub(crate) struct Listeners {
     pub(crate) clients: Vec<Listener>,
+    // Those of clients that may only ask.
+    pub(crate) find: Vec<Listener>,
     pub(crate) control: Option<Listener>,
 }
 
@@ -23,6 +24,7 @@ impl Listeners {
     ) -> Result<Listeners, Fault> {
         let mut listeners = Listeners {
             clients: Vec::new(alloc),
+            find: Vec::new(alloc),
             control: None,
         };
         listeners.bind_all(host, alloc, settings)?;
@@ -35,19 +37,26 @@ impl Listeners {
         alloc: Global,
         settings: &DaemonSettings,
     ) -> Result<(), Fault> {
-        for address in &settings.listen {
+        for entrance in &settings.listen {
             self.clients
-                .push(listen_at(host, alloc, address, settings.mode)?)?;
+                .push(listen_at(host, alloc, entrance, settings.mode)?)?;
         }
-        if let Some(address) = &settings.control {
-            self.control = Some(listen_at(host, alloc, address, settings.mode)?);
+        for entrance in &settings.find {
+            self.find
+                .push(listen_at(host, alloc, entrance, settings.mode)?)?;
+        }
+        if let Some(entrance) = &settings.control {
+            self.control = Some(listen_at(host, alloc, entrance, settings.mode)?);
         }
         Ok(())
     }
 
-    /// Prints the addresses, that of control lines last.
+    /// Prints the addresses: after the others those of clients that may only ask, and that of control lines last.
     pub(crate) fn print<R: Print>(&self, rt: &R) -> io::Result<()> {
         for listener in &self.clients {
+            println!(rt; "ready {}", listener.address())?;
+        }
+        for listener in &self.find {
             println!(rt; "ready {}", listener.address())?;
         }
         if let Some(listener) = &self.control {
@@ -61,6 +70,9 @@ impl Listeners {
         for listener in &self.clients {
             listener.close();
         }
+        for listener in &self.find {
+            listener.close();
+        }
         if let Some(listener) = &self.control {
             listener.close();
         }
@@ -69,6 +81,9 @@ impl Listeners {
     /// Removes the files of Unix sockets.
     pub(crate) fn remove<H: Host>(&self, host: &H) {
         for listener in &self.clients {
+            listener.remove(host);
+        }
+        for listener in &self.find {
             listener.remove(host);
         }
         if let Some(listener) = &self.control {
@@ -80,10 +95,11 @@ impl Listeners {
 fn listen_at<H: Host>(
     host: &H,
     alloc: Global,
-    address: &Address,
+    entrance: &Entrance,
     mode: u32,
 ) -> Result<Listener, Fault> {
-    match Listener::bind(host, alloc, address, mode) {
+    let address = &entrance.address;
+    match Listener::bind(host, alloc, address, entrance.mode.unwrap_or(mode)) {
         Ok(listener) => Ok(listener),
         Err(error) => Err(Fault::Listen(address.dup(alloc)?, error)),
     }

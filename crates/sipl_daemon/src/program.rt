@@ -1,21 +1,24 @@
 //! The program: its arguments, its settings, and the daemon from its start to its end.
 use crate::arguments::{Call, read_arguments};
-use crate::changes::Changes;
 use crate::daemon::Daemon;
+use crate::host::Host;
+use crate::journal::claims::Claims;
 use crate::listeners::Listeners;
-use crate::report::{Fault, report};
-use crate::server::{Host, serve_all};
+use crate::report::{Fault, report, report_torn};
+use crate::server::serve_all;
+use crate::session::desk::SessionDesk;
 use crate::settings::DaemonSettings;
-use crate::state::restore;
-use crate::stop::Stop;
 use crate::tell::tell;
 use crate::watch::InputWatch;
 use sipl_archive::{Archive, replay};
+use sipl_listen::{Stop, take_lock};
+use sipl_state::{Restored, StateFault, real_path, restore};
 use std::alloc::Global;
 use std::io::ErrorKind;
 use std::process::ExitCode;
 use std::rt::Env;
 use std::sync::Arc;
+use std::sync::atomic::AtomicU64;
 
 const USAGE: &str =
     "usage: siplocd [SETTINGS] | tell ADDRESS LINE | replay FOLDER | --help | --version";
@@ -67,7 +70,7 @@ fn status_of<R: Eprint>(rt: &R, outcome: Result<bool, Fault>) -> ExitCode {
 // Does what the arguments ask for. Returns whether a line that was told is not refused.
 fn perform<R, H>(rt: &R, host: &H, input: &InputWatch, call: &Call) -> Result<bool, Fault>
 where
-    R: Print + AllocGlobal,
+    R: Print + Eprint + AllocGlobal,
     H: Host,
 {
     match call {
@@ -100,7 +103,7 @@ fn tell_line<R: Print + AllocGlobal, H: Host>(
 // there were.
 fn serve<R, H>(rt: &R, host: &H, input: &InputWatch, text: &str) -> Result<(), Fault>
 where
-    R: Print + AllocGlobal,
+    R: Print + Eprint + AllocGlobal,
     H: Host,
 {
     let settings = Box::new(rt.alloc(), DaemonSettings::from_toml(rt.alloc(), text)?)?;
@@ -117,28 +120,67 @@ fn serve_with<R, H>(
     settings: &DaemonSettings,
 ) -> Result<u64, Fault>
 where
-    R: Print + AllocGlobal,
+    R: Print + Eprint + AllocGlobal,
     H: Host,
 {
     let stop = Arc::new(rt.alloc(), Stop::new())?;
     let mut daemon = Daemon::new(host, rt.alloc(), settings, Arc::try_clone(&stop)?)?;
-    go_on(host, rt.alloc(), settings, &mut daemon)?;
-    serve_at(rt, host, input, settings, &daemon, stop)?;
-    Ok(Box::into_inner(daemon).close(host)?)
+    let mut claims = Claims::new(rt.alloc());
+    match go_on_and_serve(rt, host, input, settings, &mut daemon, &mut claims, stop) {
+        Ok(()) => close(host, daemon, claims),
+        Err(fault) => {
+            drop(daemon);
+            drop(claims);
+            Err(fault)
+        }
+    }
+}
+
+// Claims all pages of a daemon. Returns how many events there were.
+fn close<H: Host>(host: &H, daemon: Box<Daemon>, claims: Claims) -> Result<u64, Fault> {
+    let mut claims = claims;
+    let events = Box::into_inner(daemon).close(host, &mut claims);
+    drop(claims);
+    Ok(events?)
+}
+
+// Goes on from the state, if there is one, and serves until the daemon is to stop.
+fn go_on_and_serve<R, H>(
+    rt: &R,
+    host: &H,
+    input: &InputWatch,
+    settings: &DaemonSettings,
+    daemon: &mut Daemon,
+    claims: &mut Claims,
+    stop: Arc<Stop, Global>,
+) -> Result<(), Fault>
+where
+    R: Print + Eprint + AllocGlobal,
+    H: Host,
+{
+    go_on(rt, host, settings, daemon)?;
+    serve_at(rt, host, input, settings, daemon, claims, stop)
 }
 
 // Opens the archive and the state of the settings, if they have them, and goes on from the state.
-fn go_on<H: Host>(
+fn go_on<R, H>(
+    rt: &R,
     host: &H,
-    alloc: Global,
     settings: &DaemonSettings,
     daemon: &mut Daemon,
-) -> Result<(), Fault> {
+) -> Result<(), Fault>
+where
+    R: Eprint + AllocGlobal,
+    H: Host,
+{
     if let Some(path) = &settings.archive {
-        daemon.archive = Some(open_archive(host, alloc, settings, path.as_str())?);
+        daemon.archive = Some(open_archive(host, rt.alloc(), settings, path.as_str())?);
     }
     if let Some(path) = &settings.state {
-        let changes = open_state(host, alloc, daemon, path.as_str())?;
+        let Restored { changes, torn } = open_state(host, rt.alloc(), daemon, path.as_str())?;
+        if let Some(octet) = torn {
+            report_torn(rt, path.as_str(), octet);
+        }
         daemon.put_changes(changes);
         daemon.restart_time(host)?;
     }
@@ -165,11 +207,27 @@ fn open_state<H: Host>(
     alloc: Global,
     daemon: &Daemon,
     path: &str,
-) -> Result<Changes, Fault> {
-    match restore(host, daemon, path) {
-        Ok(changes) => Ok(changes),
+) -> Result<Restored, Fault> {
+    match restore_at(host, alloc, daemon, path) {
+        Ok(restored) => Ok(restored),
         Err(fault) => Err(Fault::State(String::from_str(alloc, path)?, fault)),
     }
+}
+
+// Takes the lock of a state, and reads it. A symbolic link has the lock of the file to which it leads.
+fn restore_at<H: Host>(
+    host: &H,
+    alloc: Global,
+    daemon: &Daemon,
+    path: &str,
+) -> Result<Restored, StateFault> {
+    let path = real_path(host, alloc, path)?;
+    let lock = take_lock(host, format!(in alloc; "{path}.lock")?.as_str())?;
+    let place = AtomicU64::new(0);
+    let mut desk = SessionDesk::restoring(host, daemon, &place);
+    let restored = restore(host, alloc, path.as_str(), lock, &mut desk);
+    desk.end();
+    restored
 }
 
 // Serves at the addresses of the settings until the daemon is to stop.
@@ -179,6 +237,7 @@ fn serve_at<R, H>(
     input: &InputWatch,
     settings: &DaemonSettings,
     daemon: &Daemon,
+    claims: &mut Claims,
     stop: Arc<Stop, Global>,
 ) -> Result<(), Fault>
 where
@@ -190,7 +249,13 @@ where
     if settings.ends_with_input {
         input.begin(host, stop);
     }
-    serve_all(host, daemon, &listeners, settings.service.workers as u64);
+    serve_all(
+        host,
+        daemon,
+        claims,
+        &listeners,
+        settings.service.workers as u64,
+    );
     listeners.remove(host);
     Ok(())
 }

@@ -1,9 +1,9 @@
 //! Faults of the program, and what is said of them.
-use crate::address::Address;
-use crate::close::CloseFault;
-use crate::state::StateFault;
+use crate::fault::CloseFault;
 use sipl_archive::ReplayFault;
 use sipl_lines::SettingsFault;
+use sipl_listen::Address;
+use sipl_state::StateFault;
 use std::alloc::{AllocError, AllocFailed};
 use std::io;
 
@@ -95,9 +95,17 @@ fn report_state<R: Eprint>(rt: &R, path: &str, fault: &StateFault) {
     let _ = match fault {
         StateFault::File(error) => eprintln!(rt; "siplocd: state {path}: {error}"),
         StateFault::State(line) => eprintln!(rt; "siplocd: state {path}: line {line}"),
-        StateFault::Changes(line) => eprintln!(rt; "siplocd: state {path}.log: line {line}"),
-        StateFault::NoMark => eprintln!(rt; "siplocd: state {path}.log: not of this state"),
+        StateFault::Digest => eprintln!(rt; "siplocd: state {path}: not as it was written"),
+        StateFault::Line(line) => eprintln!(rt; "siplocd: state {path}.log: line {line}"),
+        StateFault::Octet(place) => eprintln!(rt; "siplocd: state {path}.log: octet {place}"),
+        StateFault::Commit(number) => eprintln!(rt; "siplocd: state {path}.log: commit {number}"),
+        StateFault::OtherLog => eprintln!(rt; "siplocd: state {path}.log: not of this state"),
     };
+}
+
+/// Writes that a log had a write that did not end, at this octet.
+pub(crate) fn report_torn<R: Eprint>(rt: &R, path: &str, octet: usize) {
+    let _ = eprintln!(rt; "siplocd: state {path}.log: a write did not end at octet {octet}");
 }
 
 // Writes why the daemon ends with a fault.

@@ -1,22 +1,34 @@
 //! A client's session.
-use crate::clients::Client;
+mod asking;
+pub(crate) mod desk;
+mod input;
+mod meter;
+mod output;
+
 use crate::daemon::Daemon;
-use crate::desk::SessionDesk;
-use crate::input::Input;
-use crate::output::{Output, set_patience};
-use crate::stream::Stream;
+use crate::session::asking::Asking;
+use crate::session::desk::SessionDesk;
+use crate::session::input::Input;
+use crate::session::output::{Output, set_patience};
 use sipl_lines::{Tapped, serve};
+use sipl_listen::{Client, Stream};
 use std::sync::Wait;
 use std::sync::atomic::AtomicU64;
 use std::time::Clock;
 
-/// Serves a client's session, hands its receipts over, and frees its place. A fault ends only this session.
-pub(crate) fn serve_client<R: Wait + Clock>(rt: &R, daemon: &Daemon, client: Client) {
+/// Serves the session of a client, which may only ask or not, hands its receipts over, and frees its place. A fault
+/// ends only this session.
+pub(crate) fn serve_client<R: Wait + Clock>(
+    rt: &R,
+    daemon: &Daemon,
+    client: Client,
+    asks_only: bool,
+) {
     let Client { stream, place } = client;
     let changed = AtomicU64::new(0);
-    let mut desk = SessionDesk::new(rt, daemon, &changed);
+    let mut desk = SessionDesk::new(rt, daemon, &changed, asks_only);
     if set_patience(daemon, &stream).is_ok() {
-        serve_stream(rt, daemon, &stream, &changed, &mut desk);
+        serve_stream(rt, daemon, &stream, &changed, &mut desk, asks_only);
     }
     drop(stream);
     desk.end();
@@ -30,9 +42,16 @@ fn serve_stream<R: Wait + Clock>(
     stream: &Stream,
     changed: &AtomicU64,
     desk: &mut SessionDesk<'_, R>,
+    asks_only: bool,
 ) {
-    let (alloc, stop) = (daemon.alloc, &daemon.stop);
-    let mut reader = Tapped::new(Input::new(alloc, stream, stop, daemon.zone_octets));
+    let alloc = daemon.alloc;
+    let input = Input::new(alloc, stream, &daemon.stop, daemon.zone_octets);
     let mut writer = Tapped::new(Output::new(rt, daemon, stream, changed));
-    let _ = serve(alloc, &mut reader, &mut writer, desk);
+    if asks_only {
+        if let Ok(asking) = Asking::new(alloc, input) {
+            let _ = serve(alloc, &mut Tapped::new(asking), &mut writer, desk);
+        }
+    } else {
+        let _ = serve(alloc, &mut Tapped::new(input), &mut writer, desk);
+    }
 }

@@ -2,8 +2,8 @@
 ghost use Rattle.std.specs.Prelude.{◌≤◌, IfOk, IfSome};
 ghost use Rattle.sipl_lines.specs.Settings.{IsWithinLimits};
 
-use crate::address::Address;
 use sipl_lines::{Settings, SettingsFault};
+use sipl_listen::Address;
 use std::alloc::{AllocError, Global};
 use toml::{Table, Value};
 
@@ -17,11 +17,12 @@ const MAX_IDLE: u64 = 86_400;
 const MAX_ZONE_OCTETS: u64 = 1 << 40;
 
 // The daemon's own keys, in the order of their octets.
-const OWN_KEYS: [&str; 10] = [
+const OWN_KEYS: [&str; 11] = [
     "archive",
     "clients",
     "clock",
     "control",
+    "find",
     "idle",
     "listen",
     "mode",
@@ -42,12 +43,14 @@ pub struct DaemonSettings {
     /// What the time is: the host's, or what clients set it to. By default the host's.
     pub clock: Clocks,
     /// Where control lines are accepted, by default nowhere.
-    pub control: Option<Address>,
+    pub control: Option<Entrance>,
+    /// Where clients connect that may only ask, by default nowhere.
+    pub find: Vec<Entrance>,
     /// For how many seconds a client may send nothing: 1 to 86,400, by default for ever.
     pub idle: Option<u64>,
     /// Where clients connect, by default at 127.0.0.1:5099.
-    pub listen: Vec<Address>,
-    /// The permissions of the files of Unix sockets: 0 to 0o777, by default 0o600.
+    pub listen: Vec<Entrance>,
+    /// The permissions of the files of Unix sockets that have none of their own: 0 to 0o777, by default 0o600.
     pub mode: u32,
     /// The file of the zones and the holds, by default none.
     pub state: Option<String>,
@@ -56,6 +59,14 @@ pub struct DaemonSettings {
     /// How many octets the lines of a zone may have: 0 to 2^40, by default 256 MB.
     pub zone_octets: u64,
     ghost within_limits: { IsWithinLimits service },
+}
+
+/// Where it listens.
+#[derive(Drop)]
+pub struct Entrance {
+    pub address: Address,
+    /// The permissions of the file of a Unix socket, where it has its own.
+    pub mode: Option<u32>,
 }
 
 /// What moves the time of holds.
@@ -73,9 +84,10 @@ struct Own {
     archive: Option<String>,
     clients: usize,
     clock: Clocks,
-    control: Option<Address>,
+    control: Option<Entrance>,
+    find: Vec<Entrance>,
     idle: Option<u64>,
-    listen: Vec<Address>,
+    listen: Vec<Entrance>,
     mode: u32,
     state: Option<String>,
     ends_with_input: bool,
@@ -83,8 +95,8 @@ struct Own {
 }
 
 impl DaemonSettings {
-    /// Reads the settings from a TOML document. `listen` is a list of addresses, not empty; `control` is
-    /// an address; `clock` is `"host"` or `"lines"`; `stdin` is `"stop"` or `"ignore"`; `state` is the
+    /// Reads the settings from a TOML document. `listen` is a list of addresses, not empty, and `find` one that may
+    /// be; `control` is an address: its text, or a table of it, `at`, and of a Unix socket's `mode`. `clock` is `"host"` or `"lines"`; `stdin` is `"stop"` or `"ignore"`; `state` is the
     /// path of a file, and `archive` that of a folder. `clients`, `idle`, `mode` and `zone_octets` are
     /// integers. All other keys are those of `serve`, but for `sessions`.
     ///
@@ -96,6 +108,25 @@ impl DaemonSettings {
         let service = own.read(alloc, text)?;
         Ok(own.beside(service))
     }
+
+    /// How many descriptors the listeners have.
+    pub(crate) fn descriptors(&self) -> usize {
+        let control = match &self.control {
+            Some(entrance) => entrance.address.descriptors(),
+            None => 0,
+        };
+        control
+            .saturating_add(descriptors_of(&self.listen))
+            .saturating_add(descriptors_of(&self.find))
+    }
+}
+
+fn descriptors_of(entrances: &[Entrance]) -> usize {
+    let mut count = 0usize;
+    for entrance in entrances {
+        count = count.saturating_add(entrance.address.descriptors());
+    }
+    count
 }
 
 // The settings that `serve` has too, but for `sessions`.
@@ -124,13 +155,17 @@ impl Own {
     fn defaults(alloc: Global) -> Result<Own, AllocError> {
         let mut listen = Vec::new(alloc);
         if let Some(address) = Address::from_text(alloc, "127.0.0.1:5099")? {
-            listen.push(address)?;
+            listen.push(Entrance {
+                address,
+                mode: None,
+            })?;
         }
         Ok(Own {
             archive: None,
             clients: 512,
             clock: Clocks::Host,
             control: None,
+            find: Vec::new(alloc),
             idle: None,
             listen,
             mode: 0o600,
@@ -177,10 +212,11 @@ impl Own {
                 number(value, 1, MAX_CLIENTS).map(|n| n as usize),
             ),
             "clock" => put(&mut self.clock, read_clocks(value)),
-            "control" => put_some(&mut self.control, address(alloc, value)?),
+            "control" => put_some(&mut self.control, read_entrance(alloc, value)?),
+            "find" => put(&mut self.find, read_entrances(alloc, value)?),
             "idle" => put_some(&mut self.idle, number(value, 1, MAX_IDLE)),
-            "listen" => put(&mut self.listen, addresses(alloc, value)?),
-            "mode" => put(&mut self.mode, number(value, 0, 0o777).map(|n| n as u32)),
+            "listen" => put(&mut self.listen, read_some_entrances(alloc, value)?),
+            "mode" => put(&mut self.mode, mode(value)),
             "state" => put_some(&mut self.state, path(alloc, value)?),
             "stdin" => put(&mut self.ends_with_input, ends_with_input(value)),
             _ => put(&mut self.zone_octets, number(value, 0, MAX_ZONE_OCTETS)),
@@ -197,6 +233,7 @@ impl Own {
             clients: self.clients,
             clock: self.clock,
             control: self.control,
+            find: self.find,
             idle: self.idle,
             listen: self.listen,
             mode: self.mode,
@@ -265,6 +302,11 @@ fn path(alloc: Global, value: &Value) -> Result<Option<String>, AllocError> {
     }
 }
 
+// The permissions of a file.
+fn mode(value: &Value) -> Option<u32> {
+    number(value, 0, 0o777).map(|n| n as u32)
+}
+
 fn address(alloc: Global, value: &Value) -> Result<Option<Address>, AllocError> {
     match value.as_str() {
         Some(text) => Address::from_text(alloc, text),
@@ -272,21 +314,42 @@ fn address(alloc: Global, value: &Value) -> Result<Option<Address>, AllocError> 
     }
 }
 
-// A list of addresses, which is not empty.
-fn addresses(alloc: Global, value: &Value) -> Result<Option<Vec<Address>>, AllocError> {
+// An address, or a table of it and its mode.
+fn read_entrance(alloc: Global, value: &Value) -> Result<Option<Entrance>, AllocError> {
+    let Some(table) = value.as_table() else {
+        return Ok(address(alloc, value)?.map(|address| Entrance {
+            address,
+            mode: None,
+        }));
+    };
+    let (Some(at), Some(own)) = (table.get("at"), table.get("mode")) else {
+        return Ok(None);
+    };
+    match (address(alloc, at)?, mode(own)) {
+        (Some(Address::Unix(path)), Some(mode)) if table.len() == 2 => Ok(Some(Entrance {
+            address: Address::Unix(path),
+            mode: Some(mode),
+        })),
+        _ => Ok(None),
+    }
+}
+
+// A list of addresses.
+fn read_entrances(alloc: Global, value: &Value) -> Result<Option<Vec<Entrance>>, AllocError> {
     let Some(words) = value.as_array() else {
         return Ok(None);
     };
-    let mut addresses = Vec::new(alloc);
+    let mut entrances = Vec::new(alloc);
     for word in words {
-        match address(alloc, word)? {
-            Some(address) => addresses.push(address)?,
+        match read_entrance(alloc, word)? {
+            Some(entrance) => entrances.push(entrance)?,
             None => return Ok(None),
         }
     }
-    Ok(if addresses.is_empty() {
-        None
-    } else {
-        Some(addresses)
-    })
+    Ok(Some(entrances))
+}
+
+// A list of addresses, which is not empty.
+fn read_some_entrances(alloc: Global, value: &Value) -> Result<Option<Vec<Entrance>>, AllocError> {
+    Ok(read_entrances(alloc, value)?.filter(|entrances| !entrances.is_empty()))
 }

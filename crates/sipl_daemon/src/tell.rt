@@ -1,7 +1,6 @@
 //! A control line, sent to a daemon.
-use crate::address::Address;
-use crate::server::Host;
-use crate::stream::Stream;
+use crate::host::Host;
+use sipl_listen::{Address, Stream};
 use std::alloc::Global;
 use std::io;
 use std::io::{ErrorKind, Read, Write};

@@ -1,7 +1,10 @@
-use crate::stop::Stop;
+use sipl_listen::Stop;
 use std::alloc::Global;
-use std::io::Input;
+use std::io::{ErrorKind, Input, Read};
 use std::sync::{Arc, Condvar, Mutex, Wait};
+
+// How many octets of standard input are read at a time.
+const CHUNK: usize = 1_024;
 
 /// What the thread of a program waits for that reads standard input to its end: for which daemon it is to.
 /// No scope may have that thread, since nothing ends a read of standard input, and the process is not to
@@ -28,9 +31,9 @@ impl InputWatch {
     }
 
     /// Waits until it is to, reads standard input to its end, and asks for the stop.
-    pub fn run<R: Input + Wait>(&self, rt: &R, alloc: Global) {
+    pub fn run<R: Input + Wait>(&self, rt: &R) {
         if let Some(stop) = self.begun_stop(rt) {
-            read_to_end(rt, alloc);
+            read_to_end(rt);
             stop.ask(rt);
         }
     }
@@ -45,10 +48,15 @@ impl InputWatch {
 }
 
 // Reads standard input to its end, or up to a fault.
-fn read_to_end<R: Input>(rt: &R, alloc: Global) {
-    for line in rt.lines(alloc) {
-        if line.is_err() {
-            break;
+fn read_to_end<R: Input>(rt: &R) {
+    let mut reader = rt.reader();
+    let mut chunk = [0; CHUNK];
+    for _ in 0..u64::MAX {
+        match reader.read(&mut chunk) {
+            Ok(0) => break,
+            Ok(_) => {}
+            Err(error) if error.kind() == ErrorKind::Interrupted => {}
+            Err(_) => break,
         }
     }
 }

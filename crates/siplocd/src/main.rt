@@ -17,7 +17,7 @@ type HostTypes = PhantomData<(TcpListener, TcpStream, File, <HostRuntime as File
 fn main(rt: HostRuntime) -> Result<ExitCode, AllocError> {
     let input = Arc::new(rt.alloc(), InputWatch::new())?;
     let watched = Arc::try_clone(&input)?;
-    let _watching = thread::spawn(&rt, move || watched.run(&rt, rt.alloc()));
+    let _watching = thread::spawn(&rt, move || watched.run(&rt));
     let _types: HostTypes = PhantomData;
     Ok(start(&rt, &rt, &input))
 }

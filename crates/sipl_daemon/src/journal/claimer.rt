@@ -1,0 +1,58 @@
+//! The thread that claims pages, and writes states.
+use crate::daemon::Daemon;
+use crate::fault::CloseFault;
+use crate::host::Host;
+use crate::journal::claims::{Claimed, Claims, archive_page};
+use sipl_state::Turned;
+use std::time::Duration;
+
+// How long a claim waits for receipts that are on their way, in milliseconds.
+const PATIENCE: u64 = 20;
+
+/// Claims pages until the daemon is to stop. A fault stops it: then the journal is not what callers were
+/// told, or a page can't be archived, or the state can't be written.
+pub(crate) fn claim_pages<H: Host>(host: &H, daemon: &Daemon, claims: &mut Claims) {
+    for _ in host.forever() {
+        if daemon.stop.is_asked() {
+            break;
+        }
+        claim_once(host, daemon, claims);
+    }
+}
+
+// Tries to claim the next page, and waits where that is not to be claimed yet.
+fn claim_once<H: Host>(host: &H, daemon: &Daemon, claims: &mut Claims) {
+    match claims.claim_next(host, &daemon.pages) {
+        Ok(Claimed::Page) => keep_claimed(host, daemon, claims),
+        Ok(Claimed::NotYet) => daemon.stop.pause(host, Duration::from_millis(PATIENCE)),
+        Ok(Claimed::Nothing) => daemon.pages.wait_for_page(host),
+        Err(fault) => fail(host, daemon, claims, CloseFault::Claim(fault)),
+    }
+}
+
+// Keeps the page that was claimed.
+fn keep_claimed<H: Host>(host: &H, daemon: &Daemon, claims: &mut Claims) {
+    if let Some(turned) = claims.take() {
+        if let Err(fault) = keep(host, daemon, &turned) {
+            fail(host, daemon, claims, fault);
+        }
+    }
+}
+
+// Keeps a fault, and asks for the stop.
+fn fail<H: Host>(host: &H, daemon: &Daemon, claims: &mut Claims, fault: CloseFault) {
+    claims.fail(fault);
+    daemon.stop.ask(host);
+}
+
+// Archives a page that was claimed, and writes the state after it, if these are to be.
+fn keep<H: Host>(host: &H, daemon: &Daemon, turned: &Turned) -> Result<(), CloseFault> {
+    archive_page(host, daemon.archive.as_ref(), &turned.page)?;
+    let (Some(changes), Some(mark)) = (&daemon.source.changes, turned.mark) else {
+        return Ok(());
+    };
+    match changes.write_state(host, mark, turned.page.result()) {
+        Ok(()) => Ok(()),
+        Err(error) => Err(CloseFault::State(error)),
+    }
+}

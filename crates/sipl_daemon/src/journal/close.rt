@@ -1,0 +1,86 @@
+//! The end of a daemon: its service is closed, all pages are claimed, and the state is written.
+use crate::daemon::Daemon;
+use crate::fault::CloseFault;
+use crate::journal::claims::Claims;
+use crate::journal::pages::Pages;
+use sipl_archive::Archive;
+use sipl_book::Page;
+use sipl_state::{Changes, Source};
+use std::fs::File;
+use std::rt::Files;
+use std::sync::Wait;
+
+impl Daemon {
+    // Closes the service, claims the events of all pages, archives them, and writes the state. Returns how
+    // many events there were. The fault is the first one, from the start of the daemon on.
+    pub(crate) fn close<R: Files<File = File> + Wait>(
+        self,
+        rt: &R,
+        claims: &mut Claims,
+    ) -> Result<u64, CloseFault> {
+        let Daemon {
+            source,
+            archive,
+            pages,
+            clients,
+            controls,
+            mover,
+            open,
+            ..
+        } = self;
+        let Source {
+            service,
+            tally,
+            changes,
+            ..
+        } = source;
+        let ended = match service.close() {
+            Ok(last) => {
+                let ended = end(
+                    rt,
+                    claims,
+                    &pages,
+                    archive.as_ref(),
+                    changes.as_ref(),
+                    &last,
+                );
+                drop(last);
+                ended
+            }
+            Err((fault, service)) => {
+                drop(service);
+                Err(CloseFault::Close(fault))
+            }
+        };
+        drop(archive);
+        drop(pages);
+        drop(tally);
+        drop(changes);
+        drop(mover);
+        drop(clients);
+        drop(controls);
+        drop(open);
+        ended
+    }
+}
+
+// Claims the events of all pages, archives them, and writes the state. Returns how many events there were.
+fn end<R: Files<File = File> + Wait>(
+    rt: &R,
+    claims: &mut Claims,
+    pages: &Pages,
+    archive: Option<&Archive>,
+    changes: Option<&Changes>,
+    last: &Page,
+) -> Result<u64, CloseFault> {
+    claims.end(rt, pages, archive, last)?;
+    // The first event has the number 0.
+    let events = last.next();
+    let Some(changes) = changes else {
+        return Ok(events);
+    };
+    match changes.end(rt, last.result()) {
+        Ok(()) => Ok(events),
+        Err(error) => Err(CloseFault::State(error)),
+    }
+}

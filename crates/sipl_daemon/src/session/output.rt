@@ -1,0 +1,102 @@
+//! A client's stream as the writer of its session.
+ghost use Rattle.std.specs.Io.{WritesAtMost};
+
+use crate::daemon::Daemon;
+use sipl_listen::Stream;
+use std::io;
+use std::io::{ErrorKind, Write};
+use std::sync::Wait;
+use std::sync::atomic::{AtomicU64, Ordering};
+use std::time::{Clock, Duration, Instant};
+
+// For how many milliseconds a client may take no reply, and then not all replies to one read.
+const WRITE: u64 = 30_000;
+
+// The most octets of one write. A Unix socket waits for so long for each 36 KB or so.
+const PIECE: usize = 32_768;
+
+/// A client's stream as a writer: a reply is sent once the changes before it are in their file.
+#[derive(Drop)]
+pub(crate) struct Output<'a, R> {
+    rt: &'a R,
+    daemon: &'a Daemon,
+    stream: &'a Stream,
+    place: &'a AtomicU64,
+    // Since when the client is given the replies to one read, of which it has not taken all.
+    since: Option<Instant>,
+}
+
+impl<'a, R: Wait + Clock> Output<'a, R> {
+    /// The writer of a session, whose last change ends at this place in the file of changes.
+    pub(crate) fn new(
+        rt: &'a R,
+        daemon: &'a Daemon,
+        stream: &'a Stream,
+        place: &'a AtomicU64,
+    ) -> Self {
+        Output {
+            rt,
+            daemon,
+            stream,
+            place,
+            since: None,
+        }
+    }
+
+    // Waits until the session's changes are in their file.
+    fn sync(&self) -> io::Result<()> {
+        let Some(changes) = &self.daemon.source.changes else {
+            return Ok(());
+        };
+        let synced = changes.sync(self.rt, self.place.load(Ordering::SeqCst));
+        if synced.is_err() {
+            self.daemon.stop.ask(self.rt);
+        }
+        synced
+    }
+
+    // Writes a piece of the octets. How many octets were taken.
+    fn write_piece(&self, buf: &[u8]) -> io::Result<usize>
+        ensures { WritesAtMost result buf.now }
+    {
+        let mut stream = self.stream;
+        stream.write(&buf[..buf.len().min(PIECE)])
+    }
+
+    // Gives a client up that takes the replies to one read too slowly: its receipts wait for it, and all
+    // pages for them. Where the clock of the machine can't be read it has time.
+    fn give_up_if_late(&self, since: Instant) -> io::Result<()> {
+        match since.elapsed(self.rt) {
+            Ok(passed) if passed >= Duration::from_millis(WRITE) => {
+                Err(io::Error::from(ErrorKind::TimedOut))
+            }
+            _ => Ok(()),
+        }
+    }
+}
+
+/// Sets how long the client of a session that begins may send nothing, or take no reply.
+pub(crate) fn set_patience(daemon: &Daemon, stream: &Stream) -> io::Result<()> {
+    let idle = daemon.idle.map(Duration::from_secs);
+    stream.set_timeouts(idle, Some(Duration::from_millis(WRITE)))
+}
+
+impl<R: Wait + Clock> Write for Output<'_, R> {
+    fn write(&mut self, buf: &[u8]) -> io::Result<usize> {
+        self.sync()?;
+        let since = match self.since {
+            Some(since) => Some(since),
+            None => Instant::now(self.rt).ok(),
+        };
+        let count = self.write_piece(buf)?;
+        self.since = if count < buf.len() { since } else { None };
+        if let Some(since) = self.since {
+            self.give_up_if_late(since)?;
+        }
+        Ok(count)
+    }
+
+    fn flush(&mut self) -> io::Result<()> {
+        Ok(())
+    }
+}

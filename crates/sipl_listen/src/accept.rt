@@ -1,0 +1,72 @@
+//! How clients are accepted.
+use crate::clients::{Client, Clients};
+use crate::fault::ConnectionFault;
+use crate::listener::Listener;
+use crate::stop::Stop;
+use crate::stream::Stream;
+use std::alloc::Global;
+use std::io::Write;
+use std::sync::{Arc, Wait};
+use std::time::{Clock, Duration};
+
+// How long a refused accept is waited out, in milliseconds.
+const REFUSED: u64 = 50;
+
+// How long a place is waited for that is to be freed, in milliseconds.
+const LEAVING: u64 = 1_000;
+
+/// Accepts a client as `next_client` does. Where there is no place, the client is ended that was not heard for
+/// longest, to make one.
+pub fn next_client_making_room<R: Wait + Clock>(
+    rt: &R,
+    alloc: Global,
+    stop: &Stop,
+    listener: &Listener,
+    clients: &Clients,
+) -> Option<Client> {
+    let stream = next_stream(rt, stop, listener)?;
+    clients.make_room(rt, Duration::from_millis(LEAVING));
+    enter(rt, alloc, stream, clients)
+}
+
+/// Accepts a client, and gives it a place. One for whom there is no place is told so. A refused accept is waited
+/// out, at most until the stop.
+pub fn next_client<R: Wait + Clock>(
+    rt: &R,
+    alloc: Global,
+    stop: &Stop,
+    listener: &Listener,
+    clients: &Clients,
+) -> Option<Client> {
+    let stream = next_stream(rt, stop, listener)?;
+    enter(rt, alloc, stream, clients)
+}
+
+// Gives a place to a client. One for whom there is none is told so.
+fn enter<R: Wait>(rt: &R, alloc: Global, stream: Stream, clients: &Clients) -> Option<Client> {
+    let stream = Arc::new(alloc, stream).ok()?;
+    let client = clients.enter(rt, &stream);
+    if client.is_none() {
+        refuse(alloc, &stream);
+    }
+    client
+}
+
+// Accepts a connection; a refused accept is waited out.
+fn next_stream<R: Wait + Clock>(rt: &R, stop: &Stop, listener: &Listener) -> Option<Stream> {
+    match listener.accept() {
+        Ok(stream) => Some(stream),
+        Err(_) => {
+            stop.pause(rt, Duration::from_millis(REFUSED));
+            None
+        }
+    }
+}
+
+// Tells a client that there is no place.
+fn refuse(alloc: Global, stream: &Stream) {
+    if let Ok(text) = format!(in alloc; "err {}\n", ConnectionFault::Busy.code()) {
+        let mut output = stream;
+        let _ = output.write_all(text.as_bytes());
+    }
+}

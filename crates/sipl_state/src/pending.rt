@@ -1,0 +1,127 @@
+//! The changes that are not in their file yet.
+ghost use Rattle.std.specs.Prelude.{◌≡◌, ◌≤◌, ◌+◌, ◌++◌, [], if◌then◌else◌, length, nat_lt};
+ghost use Rattle.std.specs.Prelude.{IfOk, OnOk, vec_len, vec_capacity};
+ghost use Rattle.sipl_archive.specs.Text.{clock_line};
+
+use sipl_archive::{clock_text, mark_text};
+use std::alloc::{AllocError, Global};
+use std::mem;
+
+// A state is written where the file of changes is longer than this, and longer than the state.
+const MIN_LEN: u64 = 1 << 20;
+
+/// Where the changes after a state begin in their file: its number, and the place after it.
+#[derive(Clone, Copy)]
+pub struct Mark {
+    pub(crate) number: u64,
+    pub(crate) begin: u64,
+}
+
+/// The changes that are not in the file yet. All places are counted in octets from the first one that was
+/// ever appended.
+#[derive(Drop)]
+pub(crate) struct Pending {
+    alloc: Global,
+    text: Vec<u8>,
+    // The place after the last octet.
+    end: u64,
+    // The number of the last mark, and the place after it.
+    mark: u64,
+    begin: u64,
+    // How long the last state was.
+    state_len: u64,
+    // The time that the changes lead to, in milliseconds.
+    time: u64,
+}
+
+impl Pending {
+    /// Nothing, after a file of so many octets, of which the last mark is this one, and leads to this time.
+    pub(crate) fn new(alloc: Global, len: u64, mark: u64, time: u64) -> Pending {
+        Pending {
+            alloc,
+            text: Vec::new(alloc),
+            end: len,
+            mark,
+            begin: 0,
+            state_len: 0,
+            time,
+        }
+    }
+
+    /// The text of a change that is made at a time, in milliseconds: the line of that time comes before it where
+    /// the changes lead to an earlier one. The only error is an allocation failure.
+    pub(crate) fn text_at(&self, time: u64, change: &[u8]) -> Result<Vec<u8>, AllocError>
+        ensures { IfOk result (λ text. text.items
+            ≡ (if nat_lt self.now.time time then clock_line time else []) ++ change.now) }
+    {
+        let mut text = if self.time < time {
+            clock_text(self.alloc, time)?
+        } else {
+            Vec::new(self.alloc)
+        };
+        text.extend_from_slice(change)?;
+        Ok(text)
+    }
+
+    /// Reserves the space of a text. The only error is an allocation failure.
+    pub(crate) fn reserve(&mut self, len: usize) -> Result<(), AllocError>
+        ensures space { OnOk result
+            (vec_len self.new.text + len ≤ vec_capacity self.new.text) }
+        ensures text { self.new.text.items ≡ self.old.text.items }
+    {
+        self.text.reserve(len)
+    }
+
+    /// Appends the text of a change, to space that is reserved, and returns the place after it. So a
+    /// change that was made is not lost.
+    pub(crate) fn push(&mut self, text: &[u8]) -> u64
+        requires space { vec_len self.old.text + length text.now ≤ vec_capacity self.old.text }
+        ensures text { self.new.text.items ≡ self.old.text.items ++ text.now }
+        ensures place { result ≡ self.new.end }
+    {
+        self.text.extend_from_slice(text).unwrap();
+        self.end = self.end.saturating_add(text.len() as u64);
+        self.end
+    }
+
+    /// Appends the text of a change that is made at a time, as `push` does.
+    pub(crate) fn push_at(&mut self, time: u64, text: &[u8]) -> u64
+        requires space { vec_len self.old.text + length text.now ≤ vec_capacity self.old.text }
+        ensures text { self.new.text.items ≡ self.old.text.items ++ text.now }
+        ensures place { result ≡ self.new.end }
+        ensures time { self.new.time ≡ time }
+    {
+        let end = self.push(text);
+        self.time = time;
+        end
+    }
+
+    /// How long the state is that was written.
+    pub(crate) fn set_state_len(&mut self, len: u64) {
+        self.state_len = len;
+    }
+
+    /// Whether a state is to be written.
+    pub(crate) fn is_long(&self) -> bool {
+        let len = self.end.saturating_sub(self.begin);
+        len > MIN_LEN && len > self.state_len
+    }
+
+    /// Appends a mark. Returns its number, and the place after it.
+    pub(crate) fn push_mark(&mut self) -> Result<Mark, AllocError> {
+        let mark = self.mark.saturating_add(1);
+        let text = mark_text(self.alloc, mark)?;
+        self.reserve(text.len())?;
+        self.begin = self.push(&text);
+        self.mark = mark;
+        Ok(Mark {
+            number: mark,
+            begin: self.begin,
+        })
+    }
+
+    /// Takes the octets that are not in the file. Returns them, and the place after them.
+    pub(crate) fn take(&mut self) -> (Vec<u8>, u64) {
+        (mem::replace(&mut self.text, Vec::new(self.alloc)), self.end)
+    }
+}

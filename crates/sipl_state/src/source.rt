@@ -1,0 +1,59 @@
+//! A service whose changes are kept.
+ghost use Rattle.std.specs.Prelude.{IfOk};
+ghost use Rattle.sipl_book.specs.Pages.{IsPage};
+
+use crate::changes::Changes;
+use crate::pending::Mark;
+use crate::tally::Tally;
+use sipl_book::Page;
+use sipl_service::{Service, ServiceFault};
+use std::alloc::Global;
+use std::sync::{Mutex, Wait};
+
+/// A service, its zones and holds as they are, and the file of its changes, if there is one. Locks are taken in
+/// this order: the tally, the changes, the service.
+#[derive(Drop)]
+pub struct Source {
+    pub alloc: Global,
+    pub service: Service,
+    pub tally: Mutex<Tally>,
+    pub changes: Option<Changes>,
+}
+
+/// A page that was turned, and the mark of the state after it, if that is to be written.
+#[derive(Drop)]
+pub struct Turned {
+    pub page: Page,
+    pub mark: Option<Mark>,
+}
+
+impl Source {
+    /// A service without zones, holds or events, whose changes are in no file.
+    pub fn new(alloc: Global, service: Service) -> Source {
+        Source {
+            alloc,
+            service,
+            tally: Mutex::new(Tally::new(alloc)),
+            changes: None,
+        }
+    }
+
+    /// Turns the page. Where the file of changes has become long it gets a mark there, and the state after
+    /// the page is to be written.
+    pub fn turn_page<R: Wait>(&self, rt: &R) -> Result<Turned, ServiceFault>
+        ensures { IfOk result (λ turned. IsPage turned.page) }
+    {
+        let Some(changes) = &self.changes else {
+            let page = self.service.turn_page(rt)?;
+            return Ok(Turned { page, mark: None });
+        };
+        let mut pending = changes.lock(rt);
+        let page = self.service.turn_page(rt)?;
+        let mark = if pending.is_long() {
+            pending.push_mark().ok()
+        } else {
+            None
+        };
+        Ok(Turned { page, mark })
+    }
+}
