@@ -1,12 +1,16 @@
-//! The tests of the book and of plays by many workers over it, by public calls alone, and the README's
-//! example. They are apart from those of the other libraries, so that both are proved side by side.
+//! The README's example, and what a book shows to callers of the library alone. What it replies is in
+//! `sessions/workers`, and in `tools/orders`.
 #![tactic(auto)]
 
 #[cfg(test)]
-mod book;
+mod counts;
 #[cfg(test)]
-mod interleave;
+mod page_order;
 #[cfg(test)]
-mod pages;
+mod page_states;
 #[cfg(test)]
 mod readme;
+#[cfg(test)]
+mod values;
+#[cfg(test)]
+mod worlds;

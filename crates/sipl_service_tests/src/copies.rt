@@ -1,4 +1,5 @@
 // Names of which two threads have copies.
+use crate::values::name;
 use sipl_names::Name;
 use std::alloc::Global;
 use std::process::Abort;
@@ -11,13 +12,6 @@ const TEXTS: [&str; 2] = [
     "www.example.com.",
     "a-name-of-many-octets.in.several.labels.below.example.com.",
 ];
-
-fn name(rt: &impl Abort, alloc: Global, text: &str) -> Name {
-    let root = Name::root(alloc);
-    let name = Name::from_text(alloc, text.as_bytes(), &root);
-    drop(root);
-    name.expect(rt, "a name")
-}
 
 // Copies a name a thousand times, and drops the copies.
 fn drop_copies(rt: &impl Abort, alloc: Global, name: &Name) {
@@ -51,7 +45,7 @@ fn outlives_another_thread<R: Threads + Wait + Abort + Sync>(
     alloc: Global,
     text: &str,
 ) -> bool {
-    let name = name(rt, alloc, text);
+    let name = name(rt, alloc, text.as_bytes());
     let copy = name.dup(alloc).expect(rt, "memory");
     let (is_kept, ()) = thread::join(
         rt,

@@ -1,112 +1,93 @@
 // What a question depends on, as the service reads it: each set with its number and its data, before and
 // after an edit.
-use super::values::{ADDRESS_11, BOB, add, load_zone, new_service, question, record};
-use sipl_evidence::{Evidence, Item};
+use crate::calls::{Call, play_alone};
+use crate::values::{ADDRESS_2, ADDRESS_11, BOB, Scene, new_service, question, record, scene_of};
+use sipl_evidence::Item;
 use sipl_records::Data;
-use sipl_service::{Pass, Service, ServiceFault};
-use std::alloc::Global;
 use std::process::Abort;
 use std::sync::Wait;
+use std::test::*;
 
-// A set: its number, and its records in the order of addition.
-type Set = (u64, &'static [&'static [u8]]);
-
-const POINTERS: &[&[u8]] = &[
-    b"example.com. NAPTR 50 50 \"s\" \"SIPS+D2T\" \"\" _sips._tcp.example.com.",
-    b"example.com. NAPTR 90 50 \"s\" \"SIP+D2T\" \"\" _sip._tcp.example.com.",
-    b"example.com. NAPTR 100 50 \"s\" \"SIP+D2U\" \"\" _sip._udp.example.com.",
+// The records that Bob's question depends on, in the order of reading, and of addition within a set; with the
+// number of its set as the zone is loaded, and after an edit. The sets of a zone take the numbers from 1, in the
+// order of its records. A set that grows takes the next number, and the others keep theirs.
+const ROWS: &[((u64, u64), &[u8])] = &[
+    (
+        (1, 1),
+        b"example.com. NAPTR 50 50 \"s\" \"SIPS+D2T\" \"\" _sips._tcp.example.com.",
+    ),
+    (
+        (1, 1),
+        b"example.com. NAPTR 90 50 \"s\" \"SIP+D2T\" \"\" _sip._tcp.example.com.",
+    ),
+    (
+        (1, 1),
+        b"example.com. NAPTR 100 50 \"s\" \"SIP+D2U\" \"\" _sip._udp.example.com.",
+    ),
+    (
+        (2, 2),
+        b"_sip._tcp.example.com. SRV 0 1 5060 server1.example.com.",
+    ),
+    (
+        (2, 2),
+        b"_sip._tcp.example.com. SRV 0 2 5060 server2.example.com.",
+    ),
+    ((3, 5), b"server1.example.com. A 192.0.2.1"),
+    ((0, 5), ADDRESS_11),
+    ((4, 4), ADDRESS_2),
 ];
 
-const SERVICES: &[&[u8]] = &[
-    b"_sip._tcp.example.com. SRV 0 1 5060 server1.example.com.",
-    b"_sip._tcp.example.com. SRV 0 2 5060 server2.example.com.",
-];
-
-const SERVER_1: &[&[u8]] = &[b"server1.example.com. A 192.0.2.1"];
-
-const SERVER_1_LATER: &[&[u8]] = &[
-    b"server1.example.com. A 192.0.2.1",
-    b"server1.example.com. A 192.0.2.11",
-];
-
-const SERVER_2: &[&[u8]] = &[b"server2.example.com. A 192.0.2.2"];
-
-// The sets of a zone that is loaded take the numbers from 1, in the order of its records.
-const LOADED: [Set; 4] = [(1, POINTERS), (2, SERVICES), (3, SERVER_1), (4, SERVER_2)];
-
-// A set that grows takes the next number, and the others keep theirs.
-const EDITED: [Set; 4] = [
-    (1, POINTERS),
-    (2, SERVICES),
-    (5, SERVER_1_LATER),
-    (4, SERVER_2),
-];
-
-fn is_set(rt: &impl Abort, alloc: Global, item: &Item, set: &Set) -> bool {
-    if item.number() != set.0 || item.content().len() != set.1.len() {
-        return false;
-    }
-    for (data, text) in item.content().iter().zip(set.1) {
-        if !is_datum(rt, alloc, item, data, text) {
-            return false;
-        }
-    }
-    true
-}
-
-// Whether a set has a datum of this record, and its owner.
-fn is_datum(rt: &impl Abort, alloc: Global, item: &Item, data: &Data, text: &[u8]) -> bool {
-    let record = record(rt, alloc, text);
-    let is_so = item.key().name == record.owner && *data == record.value;
+// Whether a datum of a set is that of this record, with the set's number.
+fn is_row<R: Abort>(scene: &Scene<R>, item: &Item, data: &Data, number: u64, text: &[u8]) -> bool {
+    let record = record(scene.rt, scene.alloc, text);
+    let is_datum = item.key().name == record.owner && *data == record.value;
     drop(record);
-    is_so
+    is_datum && item.number() == number
 }
 
-fn are_sets(rt: &impl Abort, alloc: Global, items: &[Item], sets: &[Set]) -> bool {
-    for (item, set) in items.iter().zip(sets) {
-        if !is_set(rt, alloc, item, set) {
-            return false;
+fn are_rows<R: Abort>(scene: &Scene<R>, items: &[Item], is_edited: bool) -> bool {
+    let mut rows = ROWS.iter().filter(|row| {
+        let (first, _) = row.0;
+        is_edited || first != 0
+    });
+    for item in items {
+        for data in item.content() {
+            let Some(row) = rows.next() else {
+                return false;
+            };
+            let (first, edited) = row.0;
+            let number = if is_edited { edited } else { first };
+            if !is_row(scene, item, data, number, row.1) {
+                return false;
+            }
         }
     }
-    items.len() == sets.len()
+    rows.next().is_none()
 }
 
-fn has<R: Wait + Abort>(rt: &R, alloc: Global, service: &Service, sets: &[Set]) -> bool {
-    let question = question(rt, alloc, BOB);
-    let found = service.deps(rt, &question);
+// Bob's question depends on four sets, with these records.
+fn has_rows<R: Wait + Abort>(scene: &Scene<R>, is_edited: bool) {
+    let question = question(scene.rt, scene.alloc, BOB);
+    let found = scene.service.deps(scene.rt, &question);
     drop(question);
-    let is_so = are_found(rt, alloc, &found, sets);
-    drop(found);
-    is_so
-}
-
-fn are_found(
-    rt: &impl Abort,
-    alloc: Global,
-    found: &Result<Evidence, ServiceFault>,
-    sets: &[Set],
-) -> bool {
-    match found {
-        Ok(deps) => are_sets(rt, alloc, deps.items(), sets),
+    let is_so = match &found {
+        Ok(deps) => deps.items().len() == 4 && are_rows(scene, deps.items(), is_edited),
         Err(_) => false,
-    }
+    };
+    drop(found);
+    assert!(scene.rt; is_so, "other sets");
 }
 
-fn before_and_after<R: Wait + Abort>(rt: &R, alloc: Global, service: &Service, pass: &mut Pass) {
-    load_zone(rt, alloc, service, pass);
-    assert!(rt; has(rt, alloc, service, &LOADED), "other sets of the zone");
-    add(rt, alloc, service, pass, ADDRESS_11);
-    assert!(rt;
-        has(rt, alloc, service, &EDITED),
-        "other sets after the edit"
-    );
+fn before_and_after<R: Wait + Abort>(scene: &Scene<R>) {
+    play_alone(scene, &[Call::Load]);
+    has_rows(scene, false);
+    play_alone(scene, &[Call::Add(ADDRESS_11, 1)]);
+    has_rows(scene, true);
 }
 
 #[test]
 fn dependencies_are_the_sets_with_their_numbers(rt: HostRuntime) {
     let service = new_service(&rt, rt.alloc(), 4);
-    let mut pass = service.pass();
-    before_and_after(&rt, rt.alloc(), &service, &mut pass);
-    drop(pass);
+    before_and_after(&scene_of(&rt, rt.alloc(), &service));
     drop(service);
 }

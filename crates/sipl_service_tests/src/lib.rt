@@ -1,30 +1,23 @@
-//! The tests of the service, by public calls alone.
+//! The tests of the service, by public calls alone: of what a session under `siploc serve` does not show.
+//! The rest is in `sessions/service`.
 #![tactic(auto)]
 
 #[cfg(test)]
 mod calls;
 #[cfg(test)]
+mod claims;
+#[cfg(test)]
 mod copies;
 #[cfg(test)]
 mod deps;
 #[cfg(test)]
-mod existence;
-#[cfg(test)]
 mod gates;
 #[cfg(test)]
-mod ledgers;
-#[cfg(test)]
-mod pages;
-#[cfg(test)]
-mod policies;
+mod lookups;
 #[cfg(test)]
 mod readme;
 #[cfg(test)]
-mod reloads;
-#[cfg(test)]
 mod replay;
-#[cfg(test)]
-mod stops;
 #[cfg(test)]
 mod threads;
 #[cfg(test)]

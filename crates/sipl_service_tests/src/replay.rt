@@ -1,17 +1,19 @@
-// Callers and repair workers in threads of their own, by a policy on held endpoints that is drawn; one step
-// of a caller in fifty turns the page, and by one seed hands the receipts over, for a ledger that claims
+// Callers and repair workers in threads of their own, by a policy on held endpoints; one step
+// of a caller in fifty turns the page, and in one play hands the receipts over, for a ledger that claims
 // page by page. What each caller is told is drawn anew from its parts, and the events of all pages are
 // replayed: each answer among them is that of the plain program on the records and the holds at its place.
+use crate::calls::{Call, play};
 use crate::told::are_drawn_anew;
 use crate::values::{
-    close, is_by_wildcard, is_claimed, load_zone, new_service_by, question, record, tcp, turn_page,
+    Scene, claims, close, endpoint, keep, question, record, scene_of, service_by, turn_page,
 };
 use rand_core::utils::NextWord;
 use rand_pcg::Pcg32;
 use sipl_book::{Edit, Event, Page};
-use sipl_choice::{Abilities, Endpoint};
+use sipl_choice::{Abilities, Endpoint, Transport};
 use sipl_outages::{Board, Held};
 use sipl_plans::{Answer, plan_of};
+use sipl_records::Address;
 use sipl_service::{ClaimFault, Ledger, OpenGate, Pass, Service};
 use sipl_srv::Draws;
 use sipl_uri::Question;
@@ -23,8 +25,10 @@ use std::test::*;
 use std::thread;
 use std::thread::Threads;
 
-// The seeds of the plays, of which each has a policy.
-const SEEDS: u64 = 2;
+// The seed of a play, its policy, and whether its callers hand their receipts over as pages are turned.
+type Play = (u64, Held, bool);
+
+const PLAYS: &[Play] = &[(0, Held::Out, false), (1, Held::Last, true)];
 
 const CALLERS: u64 = 6;
 
@@ -69,60 +73,51 @@ fn choice(texts: &[&'static [u8]], word: u32) -> &'static [u8] {
 }
 
 // One of two endpoints.
-fn endpoint(word: u32) -> Endpoint {
-    tcp(0xC000_0201 + word % 2)
+fn one_of_two(word: u32) -> Endpoint {
+    endpoint(Transport::Tcp, 0xC000_0201 + word % 2)
 }
 
 // ---- calls, which may be refused
 
-fn edit<R: Wait + Abort>(rt: &R, alloc: Global, service: &Service, pass: &mut Pass, word: u32) {
-    let record = record(rt, alloc, choice(&RECORDS, word / 2));
+fn edit<R: Wait + Abort>(scene: &Scene<R>, pass: &mut Pass, word: u32) {
+    let record = record(scene.rt, scene.alloc, choice(&RECORDS, word / 2));
     let edit = if word % 2 == 0 {
         Edit::Add(record)
     } else {
         Edit::Remove(record)
     };
-    let _ = service.edit(rt, pass, edit);
+    let _ = scene.service.edit(scene.rt, pass, edit);
 }
 
-fn look_up<R: Wait + Abort>(rt: &R, alloc: Global, service: &Service, pass: &mut Pass, word: u32) {
-    let question = question(rt, alloc, choice(&URIS, word));
+fn look_up<R: Wait + Abort>(scene: &Scene<R>, pass: &mut Pass, word: u32) {
+    let question = question(scene.rt, scene.alloc, choice(&URIS, word));
     let draws = Draws::from_seed(u64::from(word));
-    let told = service.lookup(rt, pass, &question, &draws, &OpenGate);
+    let told = scene
+        .service
+        .lookup(scene.rt, pass, &question, &draws, &OpenGate);
     drop(question);
     // One in four, for the sake of time.
     if word % 4 == 0 {
-        are_drawn_anew(rt, alloc, &told);
+        are_drawn_anew(scene.rt, scene.alloc, &told);
     }
     drop(told);
 }
 
-fn call<R: Wait + Abort>(
-    rt: &R,
-    alloc: Global,
-    service: &Service,
-    pass: &mut Pass,
-    kind: u32,
-    word: u32,
-    time: u64,
-) {
+fn call<R: Wait + Abort>(scene: &Scene<R>, pass: &mut Pass, kind: u32, word: u32, time: u64) {
+    let Scene { rt, service, .. } = *scene;
     match kind % 16 {
-        0..3 => edit(rt, alloc, service, pass, word),
+        0..3 => edit(scene, pass, word),
         3 => {
-            let _ = service.hold(rt, pass, &endpoint(word), u64::from(word % 50));
+            let _ = service.hold(rt, pass, &one_of_two(word), u64::from(word % 50));
         }
         4 => {
-            let _ = service.release(rt, pass, &endpoint(word));
+            let _ = service.release(rt, pass, &one_of_two(word));
         }
         5 => {
             let _ = service.advance(rt, pass, time);
         }
-        _ => look_up(rt, alloc, service, pass, word),
+        _ => look_up(scene, pass, word),
     }
-}
-
-fn keep(rt: &impl Abort, pages: &mut Vec<Page>, page: Page) {
-    pages.push(page).expect(rt, "out of memory");
 }
 
 // The pages so far, and a ledger that claims them where all their receipts came.
@@ -162,129 +157,120 @@ impl Claims {
 // Turns the page, with the pages locked, so that they are in their order. Where it is a time to hand
 // over, the ledger takes the receipts of the caller, and claims what it can.
 fn turn<R: Wait + Abort>(
-    rt: &R,
-    service: &Service,
+    scene: &Scene<R>,
     claims: &Mutex<Claims>,
     pass: &mut Pass,
     hands_over: bool,
 ) {
-    let mut claims = claims.lock(rt);
-    let page = turn_page(rt, service);
-    keep(rt, &mut claims.pages, page);
+    let mut claims = claims.lock(scene.rt);
+    let page = turn_page(scene.rt, scene.service);
+    keep(scene.rt, &mut claims.pages, page);
     if hands_over {
-        claims.add(rt, pass);
-        claims.claim(rt);
+        claims.add(scene.rt, pass);
+        claims.claim(scene.rt);
     }
 }
 
+// The calls of a caller, whose number is the stream of its words.
 fn calls<R: Wait + Abort>(
-    rt: &R,
-    alloc: Global,
-    service: &Service,
+    scene: &Scene<R>,
     claims: &Mutex<Claims>,
     pass: &mut Pass,
-    seed: u64,
     caller: u64,
+    play: &Play,
 ) {
-    let mut chance = Pcg32::new(seed, caller);
+    let mut chance = Pcg32::new(play.0, caller);
     for number in 0..CALLS {
         if chance.next_word() % 50 == 0 {
-            turn(rt, service, claims, pass, is_rolling(seed));
+            turn(scene, claims, pass, play.2);
         }
         let kind = chance.next_word();
         let word = chance.next_word();
-        call(rt, alloc, service, pass, kind, word, number / 4);
+        call(scene, pass, kind, word, number / 4);
     }
 }
 
 // The calls of all callers, and then the end of the repair workers.
 fn all_calls<R: Threads + Wait + Abort + Sync>(
-    rt: &R,
-    alloc: Global,
-    service: &Service,
+    it: &Scene<R>,
     claims: &Mutex<Claims>,
     passes: &mut [Pass],
-    seed: u64,
+    play: &Play,
 ) {
-    thread::scope(thread::scope_env(), rt, |scope| {
+    thread::scope(thread::scope_env(), it.rt, |scope| {
         for (caller, pass) in passes.iter_mut().enumerate() {
-            let _ = scope.spawn(move || calls(
-                rt,
-                alloc,
-                service,
-                claims,
-                pass,
-                seed,
-                caller as u64,
-            ));
+            let _ = scope.spawn(move || calls(it, claims, pass, caller as u64, play));
         }
     });
-    service.stop(rt);
+    it.service.stop(it.rt);
 }
 
-fn passes<R: Wait + Abort>(rt: &R, alloc: Global, service: &Service) -> Vec<Pass> {
-    let mut passes = Vec::new(alloc);
+fn passes<R: Wait + Abort>(scene: &Scene<R>) -> Vec<Pass> {
+    let mut passes = Vec::new(scene.alloc);
     for _ in 0..CALLERS {
-        passes.push(service.pass()).expect(rt, "out of memory");
+        passes
+            .push(scene.service.pass())
+            .expect(scene.rt, "out of memory");
     }
     passes
 }
 
-fn load<R: Wait + Abort>(rt: &R, alloc: Global, service: &Service, passes: &mut [Pass]) {
+fn load<R: Wait + Abort>(scene: &Scene<R>, passes: &mut [Pass]) {
     if let Some(pass) = passes.first_mut() {
-        load_zone(rt, alloc, service, pass);
+        play(scene, pass, &[Call::Load]);
     }
 }
 
-// The policy of a seed.
-fn policy(seed: u64) -> Held {
-    let mut chance = Pcg32::new(seed, CALLERS);
-    match chance.next_word() % 2 {
-        0 => Held::Out,
-        _ => Held::Last,
-    }
-}
-
-// Whether the callers of a seed hand their receipts over as pages are turned.
-fn is_rolling(seed: u64) -> bool {
-    seed % 2 == 1
+fn service_of(rt: &impl Abort, alloc: Global, held: Held) -> Service {
+    service_by(rt, alloc, &[Transport::Tcp, Transport::Udp], 16, held)
 }
 
 // All is claimed: by the ledger, to which the last receipts are added, or at once.
 fn all_is_claimed(
     rt: &impl Abort,
     alloc: Global,
-    claims: &mut Claims,
+    all: &mut Claims,
     passes: &mut [Pass],
-    seed: u64,
+    is_rolling: bool,
 ) {
-    if !is_rolling(seed) {
-        is_claimed(rt, alloc, &claims.pages, passes);
+    if !is_rolling {
+        claims(rt, alloc, &all.pages, passes, Ok(()));
         return;
     }
-    assert!(rt; claims.claimed > 0, "no page was claimed before the end");
+    assert!(rt; all.claimed > 0, "no page was claimed before the end");
     for pass in passes {
-        claims.add(rt, pass);
+        all.add(rt, pass);
     }
-    claims.claim(rt);
-    assert_eq!(rt; claims.claimed, claims.pages.len());
-    assert!(rt; claims.ledger.is_settled(), "a receipt waits");
+    all.claim(rt);
+    assert_eq!(rt; all.claimed, all.pages.len());
+    assert!(rt; all.ledger.is_settled(), "a receipt waits");
+}
+
+// Makes the calls, beside two repair workers.
+fn plays<R: Threads + Wait + Abort + Sync>(
+    scene: &Scene<R>,
+    claims: &Mutex<Claims>,
+    passes: &mut [Pass],
+    play: &Play,
+) {
+    load(scene, passes);
+    thread::join(
+        scene.rt,
+        || scene.service.run_workers(scene.rt, 2, &OpenGate),
+        || all_calls(scene, claims, passes, play),
+    );
 }
 
 // Makes the calls, and closes the service. Its pages are claimed with the receipts of the callers.
-fn closed<R: Threads + Wait + Abort + Sync>(rt: &R, alloc: Global, seed: u64) -> Vec<Page> {
-    let service = new_service_by(rt, alloc, 16, policy(seed));
+fn closed<R: Threads + Wait + Abort + Sync>(rt: &R, alloc: Global, play: &Play) -> Vec<Page> {
+    let service = service_of(rt, alloc, play.1);
     let claims = Mutex::new(Claims::new(alloc));
-    let mut passes = passes(rt, alloc, &service);
-    load(rt, alloc, &service, &mut passes);
-    thread::join(
-        rt,
-        || service.run_workers(rt, 2, &OpenGate),
-        || all_calls(rt, alloc, &service, &claims, &mut passes, seed),
-    );
+    let scene = scene_of(rt, alloc, &service);
+    let mut passes = passes(&scene);
+    plays(&scene, &claims, &mut passes, play);
     let mut claims = claims.into_inner();
     keep(rt, &mut claims.pages, close(rt, service));
-    all_is_claimed(rt, alloc, &mut claims, &mut passes, seed);
+    all_is_claimed(rt, alloc, &mut claims, &mut passes, play.2);
     drop(passes);
     pages_of(claims)
 }
@@ -297,34 +283,16 @@ fn pages_of(claims: Claims) -> Vec<Page> {
 
 // ---- the replay
 
-// The client and the policy of a service.
-#[derive(Clone, Copy)]
-struct Asker<'a> {
-    abilities: &'a Abilities,
-    held: Held,
-}
-
-impl Asker<'_> {
-    // The same client with the other policy.
-    fn by_other_policy(self) -> Self {
-        let held = match self.held {
-            Held::Out => Held::Last,
-            Held::Last => Held::Out,
-        };
-        Asker { held, ..self }
-    }
-}
-
 fn plain_answer(
     rt: &impl Abort,
     alloc: Global,
     store: &mut ZoneStore,
     board: &Board,
-    asker: Asker,
+    client: (&Abilities, Held),
     question: &Question,
     draws: &Draws,
 ) -> Answer {
-    let Asker { abilities, held } = asker;
+    let (abilities, held) = client;
     plan_of(
         alloc,
         store.records(),
@@ -337,21 +305,79 @@ fn plain_answer(
     .expect(rt, "out of memory")
 }
 
-// Whether this is the plain program's answer.
-fn is_plain(
-    rt: &impl Abort,
+// The plain program of a service's client and policy, at a place of the journal.
+#[derive(Drop)]
+struct Plain<'a> {
     alloc: Global,
-    store: &mut ZoneStore,
-    board: &Board,
-    asker: Asker,
-    question: &Question,
-    draws: &Draws,
-    answer: &Answer,
-) -> bool {
-    let plain = plain_answer(rt, alloc, store, board, asker, question, draws);
-    let is_so = plain == *answer;
-    drop(plain);
-    is_so
+    abilities: &'a Abilities,
+    held: Held,
+    store: ZoneStore,
+    board: Board,
+    seen: Seen,
+}
+
+impl Plain<'_> {
+    // Whether this is the plain program's answer by a policy.
+    fn gives(
+        &mut self,
+        rt: &impl Abort,
+        held: Held,
+        question: &Question,
+        draws: &Draws,
+        answer: &Answer,
+    ) -> bool {
+        let (board, client) = (&self.board, (self.abilities, held));
+        let store = &mut self.store;
+        let plain = plain_answer(rt, self.alloc, store, board, client, question, draws);
+        let is_so = plain == *answer;
+        drop(plain);
+        is_so
+    }
+
+    // Whether an event is legal, which is made.
+    fn makes(&mut self, rt: &impl Abort, event: &Event) -> bool {
+        match event {
+            Event::Change(edit) => self.edits(edit),
+            Event::Hold(endpoint, ms) => self.board.hold(endpoint, *ms).is_ok(),
+            Event::Release(endpoint) => self.board.release(endpoint).is_ok(),
+            Event::Advance(to) => self.board.advance(*to).is_ok(),
+            Event::Answer(question, draws, answer) => {
+                let draws = &draws.draws();
+                let is_by_other = self.gives(rt, other(self.held), question, draws, answer);
+                self.seen.count_answer(self.held, answer, is_by_other);
+                self.gives(rt, self.held, question, draws, answer)
+            }
+        }
+    }
+
+    // Whether an edit is accepted. Those that change existence alone are counted.
+    fn edits(&mut self, edit: &Edit) -> bool {
+        match changed(&mut self.store, edit) {
+            Ok(changed) => {
+                let is_of_existence = changed.sets == 0 && changed.keys.len() > 0;
+                count(is_of_existence, &mut self.seen.existence);
+                true
+            }
+            Err(_) => false,
+        }
+    }
+
+    // How many events of a page are legal, up to the first that is not.
+    fn legal(&mut self, rt: &impl Abort, events: &[Event]) -> usize {
+        for (place, event) in events.iter().enumerate() {
+            if !self.makes(rt, event) {
+                return place;
+            }
+        }
+        events.len()
+    }
+}
+
+fn other(held: Held) -> Held {
+    match held {
+        Held::Out => Held::Last,
+        Held::Last => Held::Out,
+    }
 }
 
 fn changed(store: &mut ZoneStore, edit: &Edit) -> Result<Changed, StoreFault> {
@@ -360,18 +386,6 @@ fn changed(store: &mut ZoneStore, edit: &Edit) -> Result<Changed, StoreFault> {
         Edit::Unload(apex) => store.unload(apex),
         Edit::Add(record) => store.add(record),
         Edit::Remove(record) => store.remove(record),
-    }
-}
-
-// Whether an edit is accepted. Those that change existence alone are counted.
-fn is_made(store: &mut ZoneStore, edit: &Edit, seen: &mut Seen) -> bool {
-    match changed(store, edit) {
-        Ok(changed) => {
-            let is_of_existence = changed.sets == 0 && changed.keys.len() > 0;
-            count(is_of_existence, &mut seen.existence);
-            true
-        }
-        Err(_) => false,
     }
 }
 
@@ -386,12 +400,24 @@ struct Seen {
 }
 
 impl Seen {
-    fn count_answer(&mut self, held: Held, answer: &Answer, is_plain_by_other: bool) {
+    fn count_answer(&mut self, held: Held, answer: &Answer, is_by_other: bool) {
         count(is_by_wildcard(answer), &mut self.by_wildcard);
         match held {
-            Held::Out => count(!is_plain_by_other, &mut self.by_out),
-            Held::Last => count(!is_plain_by_other, &mut self.by_last),
+            Held::Out => count(!is_by_other, &mut self.by_out),
+            Held::Last => count(!is_by_other, &mut self.by_last),
         }
+    }
+}
+
+// Whether the answer has an address that wildcards alone have.
+fn is_by_wildcard(answer: &Answer) -> bool {
+    match answer {
+        Answer::Targets(targets) => {
+            targets
+                .iter()
+                .any(|target| target.address == Address::V4(0xC000_0209))
+        }
+        Answer::None(_) => false,
     }
 }
 
@@ -399,93 +425,41 @@ fn count(is_seen: bool, counter: &mut u64) {
     *counter = counter.saturating_add(u64::from(is_seen));
 }
 
-// Whether an event is legal, which is made.
-fn is_legal(
-    rt: &impl Abort,
-    alloc: Global,
-    store: &mut ZoneStore,
-    board: &mut Board,
-    asker: Asker,
-    event: &Event,
-    seen: &mut Seen,
-) -> bool {
-    match event {
-        Event::Change(edit) => is_made(store, edit, seen),
-        Event::Hold(endpoint, ms) => board.hold(endpoint, *ms).is_ok(),
-        Event::Release(endpoint) => board.release(endpoint).is_ok(),
-        Event::Advance(to) => board.advance(*to).is_ok(),
-        Event::Answer(question, draws, answer) => {
-            let draws = draws.draws();
-            let other = asker.by_other_policy();
-            let is_plain_by_other = is_plain(
-                rt, alloc, store, board, other, question, &draws, answer,
-            );
-            seen.count_answer(asker.held, answer, is_plain_by_other);
-            is_plain(rt, alloc, store, board, asker, question, &draws, answer)
-        }
-    }
-}
-
-// How many events of a page are legal, up to the first that is not.
-fn legal(
-    rt: &impl Abort,
-    alloc: Global,
-    store: &mut ZoneStore,
-    board: &mut Board,
-    asker: Asker,
-    events: &[Event],
-    seen: &mut Seen,
-) -> usize {
-    for (place, event) in events.iter().enumerate() {
-        if !is_legal(rt, alloc, store, board, asker, event, seen) {
-            return place;
-        }
-    }
-    events.len()
-}
-
-// How many events of all pages are legal, and how many there are.
-fn legal_in(
-    rt: &impl Abort,
-    alloc: Global,
-    asker: Asker,
-    pages: &[Page],
-    seen: &mut Seen,
-) -> (usize, usize) {
-    let mut store = ZoneStore::with(alloc, 1, 1_048_576);
-    let mut board = Board::with(alloc, 4_096);
-    let mut counts = (0_usize, 0_usize);
-    for page in pages {
-        let events = page.events();
-        let count = legal(rt, alloc, &mut store, &mut board, asker, events, seen);
-        counts = (
-            counts.0.saturating_add(count),
-            counts.1.saturating_add(events.len()),
-        );
-    }
-    drop(board);
-    drop(store);
-    counts
-}
-
-fn are_legal(rt: &impl Abort, alloc: Global, asker: Asker, pages: &[Page], seen: &mut Seen) {
+// All events of some hundred pages are legal.
+fn are_legal(rt: &impl Abort, plain: &mut Plain, pages: &[Page]) {
     assert!(rt; pages.len() > 100, "few pages were turned");
-    let (legal, all) = legal_in(rt, alloc, asker, pages, seen);
+    let (mut legal, mut all) = (0_usize, 0_usize);
+    for page in pages {
+        legal = legal.saturating_add(plain.legal(rt, page.events()));
+        all = all.saturating_add(page.events().len());
+    }
     assert!(rt; all > 8_000, "few calls were accepted");
     assert_eq!(rt; legal, all);
 }
 
-// Makes the calls of a seed, and replays their events.
-fn replay<R: Threads + Wait + Abort + Sync>(rt: &R, alloc: Global, seed: u64, seen: &mut Seen) {
-    let pages = closed(rt, alloc, seed);
-    let service = new_service_by(rt, alloc, 1, policy(seed));
-    let asker = Asker {
+// Makes the calls of a play, and replays their events.
+fn replay<R: Threads + Wait + Abort + Sync>(
+    rt: &R,
+    alloc: Global,
+    play: &Play,
+    seen: Seen,
+) -> Seen {
+    let pages = closed(rt, alloc, play);
+    let service = service_of(rt, alloc, play.1);
+    let mut plain = Plain {
+        alloc,
         abilities: service.abilities(),
         held: service.held(),
+        store: ZoneStore::with(alloc, 1, 1_048_576),
+        board: Board::with(alloc, 4_096),
+        seen,
     };
-    are_legal(rt, alloc, asker, pages.as_slice(), seen);
+    are_legal(rt, &mut plain, pages.as_slice());
+    let seen = plain.seen;
+    drop(plain);
     drop(service);
     drop(pages);
+    seen
 }
 
 fn are_seen(rt: &impl Abort, seen: Seen) {
@@ -495,11 +469,15 @@ fn are_seen(rt: &impl Abort, seen: Seen) {
     assert!(rt; seen.by_last > 200, "answers with held endpoints last");
 }
 
+fn replay_all<R: Threads + Wait + Abort + Sync>(rt: &R, alloc: Global, plays: &[Play]) {
+    let mut seen = Seen::default();
+    for play in plays {
+        seen = replay(rt, alloc, play, seen);
+    }
+    are_seen(rt, seen);
+}
+
 #[test]
 fn answers_of_threads_are_those_of_the_plain_program_at_their_places(rt: HostRuntime) {
-    let mut seen = Seen::default();
-    for seed in 0..SEEDS {
-        replay(&rt, rt.alloc(), seed, &mut seen);
-    }
-    are_seen(&rt, seen);
+    replay_all(&rt, rt.alloc(), PLAYS);
 }

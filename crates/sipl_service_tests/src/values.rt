@@ -1,18 +1,18 @@
-// A service over a zone of three NAPTR records, two SRV records and two addresses, and what its tests
-// need to write its calls.
+// A service over a zone of three NAPTR records, two SRV records and two addresses, and the values that its
+// tests need.
 ghost use Rattle.std.specs.Prelude.{◌≤◌};
 
-use sipl_book::{Done, Edit, Limits, Page};
+use sipl_book::{Limits, Page};
 use sipl_choice::{Abilities, Endpoint, Families, Transport};
 use sipl_masterfile::{ZoneText, read_record, read_zone};
 use sipl_names::Name;
 use sipl_outages::Held;
-use sipl_plans::Answer;
 use sipl_records::{Address, Record};
-use sipl_service::{ClaimFault, OpenGate, Pass, Service, ServiceFault, Told, claim};
+use sipl_service::{ClaimFault, Pass, Service, claim};
 use sipl_srv::Draws;
 use sipl_uri::{Question, Uri};
 use std::alloc::Global;
+use std::fmt::Debug;
 use std::process::Abort;
 use std::sync::Wait;
 
@@ -39,24 +39,34 @@ pub(crate) const BOB: &[u8] = b"sip:bob@example.com";
 
 pub(crate) const OVER_TCP: &[u8] = b"sip:example.com;transport=tcp";
 
-// A service for a client of TCP and UDP over IPv4, with so many tries, which leaves held endpoints out.
+/// A service, with the runtime and the allocator.
+#[derive(Drop)]
+pub(crate) struct Scene<'a, R> {
+    pub rt: &'a R,
+    pub alloc: Global,
+    pub service: &'a Service,
+}
+
+pub(crate) fn scene_of<'a, R>(rt: &'a R, alloc: Global, service: &'a Service) -> Scene<'a, R> {
+    Scene { rt, alloc, service }
+}
+
+/// A service for a client of TCP and UDP over IPv4, with so many tries, which leaves held endpoints out.
 pub(crate) fn new_service(rt: &impl Abort, alloc: Global, tries: u64) -> Service
     requires once { 1 ≤ tries }
     requires most { tries ≤ 16 }
 {
-    new_service_by(rt, alloc, tries, Held::Out)
+    service_by(
+        rt,
+        alloc,
+        &[Transport::Tcp, Transport::Udp],
+        tries,
+        Held::Out,
+    )
 }
 
-// The same with this policy on held endpoints.
-pub(crate) fn new_service_by(rt: &impl Abort, alloc: Global, tries: u64, held: Held) -> Service
-    requires once { 1 ≤ tries }
-    requires most { tries ≤ 16 }
-{
-    service_for(rt, alloc, &[Transport::Tcp, Transport::Udp], tries, held)
-}
-
-// A service for a client of these transports over IPv4.
-pub(crate) fn service_for(
+/// A service for a client of these transports over IPv4, with this policy on held endpoints.
+pub(crate) fn service_by(
     rt: &impl Abort,
     alloc: Global,
     transports: &[Transport],
@@ -86,170 +96,30 @@ pub(crate) fn record(rt: &impl Abort, alloc: Global, text: &[u8]) -> Record {
     record.expect(rt, "the record is refused")
 }
 
-fn apex(rt: &impl Abort, alloc: Global) -> Name {
+pub(crate) fn name(rt: &impl Abort, alloc: Global, text: &[u8]) -> Name {
     let root = Name::root(alloc);
-    let apex = Name::from_text(alloc, b"example.com.", &root);
+    let name = Name::from_text(alloc, text, &root);
     drop(root);
-    apex.expect(rt, "the name is refused")
+    name.expect(rt, "the name is refused")
 }
 
-fn zone(rt: &impl Abort, alloc: Global) -> ZoneText {
-    let apex = apex(rt, alloc);
+pub(crate) fn zone(rt: &impl Abort, alloc: Global) -> ZoneText {
+    let apex = name(rt, alloc, b"example.com.");
     let zone = read_zone(alloc, ZONE, &apex);
     drop(apex);
     zone.expect(rt, "the zone is refused")
 }
 
-// A TCP endpoint at port 5060.
-pub(crate) fn tcp(number: u32) -> Endpoint {
+/// An endpoint at port 5060.
+pub(crate) fn endpoint(transport: Transport, number: u32) -> Endpoint {
     Endpoint {
-        transport: Transport::Tcp,
+        transport,
         address: Address::V4(number),
         port: 5060,
     }
 }
 
-// A UDP endpoint at port 5060.
-pub(crate) fn udp(number: u32) -> Endpoint {
-    Endpoint {
-        transport: Transport::Udp,
-        address: Address::V4(number),
-        port: 5060,
-    }
-}
-
-// ---- calls of the service
-
-pub(crate) fn edit<R: Wait + Abort>(
-    rt: &R,
-    service: &Service,
-    pass: &mut Pass,
-    edit: Edit,
-) -> Done {
-    service
-        .edit(rt, pass, edit)
-        .expect(rt, "the edit is refused")
-}
-
-pub(crate) fn load_zone<R: Wait + Abort>(
-    rt: &R,
-    alloc: Global,
-    service: &Service,
-    pass: &mut Pass,
-) {
-    edit(rt, service, pass, Edit::Load(zone(rt, alloc)));
-}
-
-pub(crate) fn add<R: Wait + Abort>(
-    rt: &R,
-    alloc: Global,
-    service: &Service,
-    pass: &mut Pass,
-    text: &[u8],
-) {
-    edit(rt, service, pass, Edit::Add(record(rt, alloc, text)));
-}
-
-pub(crate) fn remove<R: Wait + Abort>(
-    rt: &R,
-    alloc: Global,
-    service: &Service,
-    pass: &mut Pass,
-    text: &[u8],
-) {
-    edit(rt, service, pass, Edit::Remove(record(rt, alloc, text)));
-}
-
-pub(crate) fn find<R: Wait + Abort>(
-    rt: &R,
-    alloc: Global,
-    service: &Service,
-    pass: &mut Pass,
-    uri: &[u8],
-    words: &[u32],
-) -> Result<Told, ServiceFault> {
-    let draws = draws(rt, words);
-    let question = question(rt, alloc, uri);
-    let told = service.lookup(rt, pass, &question, &draws, &OpenGate);
-    drop(question);
-    told
-}
-
-// Holds server1's endpoint for a millisecond.
-pub(crate) fn hold<R: Wait + Abort>(rt: &R, service: &Service, pass: &mut Pass) {
-    hold_for(rt, service, pass, 1);
-}
-
-// Holds server1's endpoint for so many milliseconds.
-pub(crate) fn hold_for<R: Wait + Abort>(rt: &R, service: &Service, pass: &mut Pass, ms: u64) {
-    service
-        .hold(rt, pass, &tcp(SERVER_1), ms)
-        .expect(rt, "the hold is refused");
-}
-
-// Finds the two targets of an entry, and removes an address of theirs.
-pub(crate) fn outdate<R: Wait + Abort>(rt: &R, alloc: Global, service: &Service, pass: &mut Pass) {
-    load_zone(rt, alloc, service, pass);
-    targets(
-        rt,
-        find(rt, alloc, service, pass, BOB, &[2, 0]),
-        &[SERVER_2, SERVER_1],
-    );
-    remove(rt, alloc, service, pass, ADDRESS_2);
-}
-
-// ---- what is expected
-
-// Whether an answer is these targets over TCP at port 5060.
-pub(crate) fn is_tcp(answer: &Answer, numbers: &[u32]) -> bool {
-    match answer {
-        Answer::Targets(targets) => {
-            targets.len() == numbers.len()
-                && targets
-                    .iter()
-                    .zip(numbers)
-                    .all(|(target, number)| *target == tcp(*number))
-        }
-        Answer::None(_) => false,
-    }
-}
-
-// Whether the answer has an address that wildcards alone have.
-pub(crate) fn is_by_wildcard(answer: &Answer) -> bool {
-    match answer {
-        Answer::Targets(targets) => targets
-            .iter()
-            .any(|target| target.address == Address::V4(0xC000_0209)),
-        Answer::None(_) => false,
-    }
-}
-
-// Whether a lookup has given these targets over TCP at port 5060.
-pub(crate) fn gives(told: &Result<Told, ServiceFault>, numbers: &[u32]) -> bool {
-    match told {
-        Ok(told) => is_tcp(told.answer(), numbers),
-        Err(_) => false,
-    }
-}
-
-pub(crate) fn targets(rt: &impl Abort, told: Result<Told, ServiceFault>, numbers: &[u32]) {
-    let is_so = gives(&told, numbers);
-    drop(told);
-    assert!(rt; is_so, "other targets, or a fault");
-}
-
-fn code_of(told: &Result<Told, ServiceFault>) -> Option<&'static str> {
-    match told {
-        Ok(_) => None,
-        Err(fault) => Some(fault.code()),
-    }
-}
-
-pub(crate) fn fails(rt: &impl Abort, told: Result<Told, ServiceFault>, code: &str) {
-    let found = code_of(&told);
-    drop(told);
-    assert!(rt; found == Some(code), "an answer, or another fault");
-}
+// ---- pages and claims
 
 pub(crate) fn turn_page<R: Wait + Abort>(rt: &R, service: &Service) -> Page {
     service.turn_page(rt).expect(rt, "no page")
@@ -259,31 +129,34 @@ pub(crate) fn close(rt: &impl Abort, service: Service) -> Page {
     service.close().ok().expect(rt, "not closed")
 }
 
-// The number of events of a service of one page, which is closed.
-pub(crate) fn events(rt: &impl Abort, service: Service) -> usize {
-    let page = close(rt, service);
-    let count = page.events().len();
-    drop(page);
-    count
+pub(crate) fn keep(rt: &impl Abort, pages: &mut Vec<Page>, page: Page) {
+    pages.push(page).expect(rt, "out of memory");
 }
 
-// The pages are claimed with the passes.
-pub(crate) fn is_claimed(rt: &impl Abort, alloc: Global, pages: &[Page], passes: &[Pass]) {
-    assert!(rt; claim(alloc, pages, passes).is_ok(), "not claimed");
+pub(crate) fn events(pages: &[Page]) -> usize {
+    pages.iter().fold(0_usize, |sum, page| sum.saturating_add(page.events().len()))
 }
 
-// The claim of the pages with the passes is refused so.
-pub(crate) fn is_no_claim(
+/// Closes a service of one page, which has so many events.
+pub(crate) fn closes_with(rt: &impl Abort, service: Service, count: usize) {
+    let pages = [close(rt, service)];
+    let found = events(&pages);
+    drop(pages);
+    is_equal(rt, &found, &count);
+}
+
+/// What the claim of the pages with the passes returns.
+pub(crate) fn claims(
     rt: &impl Abort,
     alloc: Global,
     pages: &[Page],
     passes: &[Pass],
-    fault: ClaimFault,
+    claimed: Result<(), ClaimFault>,
 ) {
-    assert_eq!(rt; claim(alloc, pages, passes).err(), Some(fault));
+    is_equal(rt, &claim(alloc, pages, passes), &claimed);
 }
 
-// How many events a page has.
-pub(crate) fn has_events(rt: &impl Abort, page: &Page, count: usize) {
-    assert_eq!(rt; page.events().len(), count);
+/// Ends the test where something else was found than was expected.
+pub(crate) fn is_equal<T: PartialEq + Debug>(rt: &impl Abort, found: &T, expected: &T) {
+    assert_eq!(rt; *found, *expected);
 }

@@ -3,9 +3,8 @@ ghost use Rattle.std.specs.Prelude.{◌≡◌, ◌≤◌};
 ghost use Rattle.sipl_records.specs.declared.kind.Kind;
 ghost use Rattle.sipl_service.specs.Versions.{IsVersion};
 
-use crate::values::SERVER_1;
+use crate::values::{SERVER_1, is_equal, name};
 use sipl_evidence::Item;
-use sipl_names::Name;
 use sipl_records::{Data, Key, Kind, Sequence};
 use sipl_service::Versions;
 use std::alloc::Global;
@@ -16,11 +15,8 @@ use std::test::*;
 fn key(rt: &impl Abort, alloc: Global, owner: &[u8]) -> Key
     ensures { result.kind ≡ Kind.Address4 }
 {
-    let root = Name::root(alloc);
-    let name = Name::from_text(alloc, owner, &root);
-    drop(root);
     Key {
-        name: name.expect(rt, "a name"),
+        name: name(rt, alloc, owner),
         kind: Kind::Address4,
     }
 }
@@ -55,15 +51,11 @@ fn number_at(
     number
 }
 
-fn is_number(rt: &impl Abort, number: Option<u64>, expected: Option<u64>) {
-    assert_eq!(rt; number, expected);
-}
-
 // The version at the place has this key and the number 3, and there is no other.
 fn is_found_by(rt: &impl Abort, alloc: Global, versions: &Versions, place: usize, key: &Key) {
-    is_number(rt, number_at(rt, alloc, versions, place, key, 3), Some(3));
-    is_number(rt, number_at(rt, alloc, versions, place, key, 4), None);
-    is_number(rt, number_at(rt, alloc, versions, 1, key, 3), None);
+    is_equal(rt, &number_at(rt, alloc, versions, place, key, 3), &Some(3));
+    is_equal(rt, &number_at(rt, alloc, versions, place, key, 4), &None);
+    is_equal(rt, &number_at(rt, alloc, versions, 1, key, 3), &None);
 }
 
 fn are_found<R: Wait + Abort>(rt: &R, alloc: Global, versions: &Versions) {
@@ -73,7 +65,7 @@ fn are_found<R: Wait + Abort>(rt: &R, alloc: Global, versions: &Versions) {
     let server = key(rt, alloc, b"server1.example.com.");
     let other = key(rt, alloc, b"server2.example.com.");
     is_found_by(rt, alloc, versions, place, &server);
-    is_number(rt, number_at(rt, alloc, versions, place, &other, 3), None);
+    is_equal(rt, &number_at(rt, alloc, versions, place, &other, 3), &None);
     drop(other);
     drop(server);
     assert_eq!(rt; versions.len(), 1);

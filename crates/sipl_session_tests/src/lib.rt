@@ -1,0 +1,20 @@
+//! Tests of sessions and scripts by calls of the libraries: streams that fail, pauses, and what no line shows.
+//! What the program replies is in `sessions/`, and in `tools/streams`.
+#![tactic(auto)]
+
+#[cfg(test)]
+mod assertions;
+#[cfg(test)]
+mod books;
+#[cfg(test)]
+mod failures;
+#[cfg(test)]
+mod pauses;
+#[cfg(test)]
+mod rows;
+#[cfg(test)]
+mod settings;
+#[cfg(test)]
+mod streams;
+#[cfg(test)]
+mod tapped;
