@@ -38,6 +38,10 @@ class Fault(Exception):
     """Why a transfer is not taken."""
 
 
+class Unfit(Fault):
+    """Why siploc would refuse a zone that has been transferred."""
+
+
 # ---- names
 
 
@@ -268,8 +272,11 @@ def finish(records: Iterator[Record], soa: Record, apex: str) -> Iterator[Record
 class Zone:
     """The records of a zone, as far as siploc reads them, and how many others each name has."""
 
-    def __init__(self, apex: str, apart: Iterable[str] = (), truncate: bool = False):
-        self.apex, self.apart, self.truncate = apex, [*apart], truncate
+    def __init__(self, apex: str, apart: Iterable[str] = (), truncate: bool = False, skip: bool = False):
+        self.apex, self.apart, self.truncate, self.skip = apex, [*apart], truncate, skip
+        # Names that siploc would refuse, each with the reason, and what is kept of it in their place.
+        self.refused: dict[str, str] = {}
+        self.instead: dict[str, dict[str, str]] = {}
         self.soa: Optional[Record] = None
         self.read: dict[str, list[str]] = {}
         self.others: dict[str, int] = {}
@@ -349,6 +356,8 @@ class Zone:
     def kept(self, owner: str) -> dict[str, str]:
         """What siploc is given of a name: the text of each record by what it is compared by. A name that it reads
         no record of has one of the others, so that it exists; and the apex has its SOA record, which a reader likes."""
+        if owner in self.instead:
+            return self.instead[owner]
         counts: collections.Counter[str] = collections.Counter()
         texts = {}
         for text in self.read.get(owner, ()):
@@ -360,19 +369,29 @@ class Zone:
             texts[""] = f"{owner} {self.samples[owner]}"
         return texts
 
-    def check(self, owners: Optional[Iterable[str]] = None) -> None:
-        """Refuses what siploc refuses: sets that are too large, and aliases beside other data."""
-        for owner in self.read if owners is None else owners:
-            texts = self.read.get(owner, ())
-            if len(texts) < 2:
-                continue
-            counts = collections.Counter(it.partition(" ")[0] for it in texts)
-            if "CNAME" in counts:
-                raise Fault(f"{owner} has an alias beside other data, which siploc refuses (Z14)")
-            for kind, count in counts.items():
-                if count > MAX_SET and not self.truncate:
-                    raise Fault(f"{owner} has {count} records of type {kind}, and a set has at most {MAX_SET} (Z15): "
-                                f"--truncate keeps the first {MAX_SET} of each")
+    def why_refused(self, owner: str) -> Optional[str]:
+        """Why siploc refuses what there is of a name: a set that is too large, or an alias beside other data."""
+        texts = self.read.get(owner, ())
+        if len(texts) < 2:
+            return None
+        counts = collections.Counter(it.partition(" ")[0] for it in texts)
+        if "CNAME" in counts:
+            return f"{owner} has an alias beside other data, which siploc refuses (Z14): --skip-refused leaves the name as it was"
+        return next((f"{owner} has {count} records of type {kind}, and a set has at most {MAX_SET} (Z15): --truncate keeps "
+                     f"the first {MAX_SET} of each, --skip-refused leaves the name as it was"
+                     for kind, count in counts.items() if count > MAX_SET and not self.truncate), None)
+
+    def check(self, owners: Iterable[str], before: Callable[[str], dict[str, str]]) -> None:
+        """Refuses what siploc refuses, or keeps what was kept of such a name before."""
+        for owner in [*owners]:
+            why = self.why_refused(owner)
+            if why and not self.skip:
+                raise Unfit(why)
+            self.refused.pop(owner, None)
+            self.instead.pop(owner, None)
+            if why:
+                self.refused[owner] = why.partition(":")[0]
+                self.instead[owner] = before(owner)
 
     def lines(self) -> list[str]:
         """The lines to load, the SOA record first."""
@@ -384,10 +403,10 @@ class Zone:
 
     def omissions(self) -> list[str]:
         """How many records are left out, and why."""
-        beyond = collections.Counter((owner, text.partition(" ")[0]) for owner, it in self.read.items() if len(it) > MAX_SET
-                                     for text in it)
+        beyond = collections.Counter((owner, text.partition(" ")[0]) for owner, it in self.read.items()
+                                     if len(it) > MAX_SET and owner not in self.refused for text in it)
         marks = sum(1 for it in self.others if "" in self.kept(it))
-        counts = {**self.left_out,
+        counts = {**self.left_out, **{f"as it was: {why}": len(self.read[owner]) for owner, why in self.refused.items()},
                   "of types that are not read, whose names exist by others": sum(self.others.values()) - marks,
                   **{f"of type {kind} of {owner}, beyond the {MAX_SET} of a set": count - MAX_SET
                      for (owner, kind), count in beyond.items()}}
@@ -400,22 +419,23 @@ def name_the_soa(zone: Zone, soa: Record) -> None:
     zone.samples[zone.apex] = f"SOA {soa.data}"
 
 
-def take(zone: Zone, soa: Record, records: Iterable[Record]) -> Zone:
-    """A zone with the records of a whole transfer."""
+def take(zone: Zone, soa: Record, records: Iterable[Record], before: Optional[Zone] = None) -> Zone:
+    """A zone with the records of a whole transfer; `before` is what there was of it."""
     zone.add(soa)
     for record in records:
         zone.add(record)
-    zone.check()
+    zone.check(zone.read, before.kept if before else lambda _: {})
     name_the_soa(zone, soa)
     return zone
 
 
-def fetch(server: Server, apex: str, apart: Iterable[str] = (), truncate: bool = False) -> Zone:
+def fetch(server: Server, apex: str, apart: Iterable[str] = (), truncate: bool = False, skip: bool = False,
+          before: Optional[Zone] = None) -> Zone:
     """A zone by a whole transfer (RFC 5936), or a Fault."""
     def at(address: str) -> Zone:
         records = ask(server, address, apex, ["-t", "AXFR"])
         soa = begin(records, apex)
-        return take(Zone(apex, apart, truncate), soa, finish(records, soa, apex))
+        return take(Zone(apex, apart, truncate, skip), soa, finish(records, soa, apex), before)
     return each_address(server, at)
 
 
@@ -478,8 +498,8 @@ def fetch_changes(server: Server, zone: Zone) -> Changes | Zone:
                 raise Fault("the server sends no differences")
             return Changes(soa, [])
         if second.kind != "SOA" or second.owner != zone.apex or serial_of(second) == serial_of(soa):
-            return take(Zone(zone.apex, zone.apart, zone.truncate), soa,
-                        finish(itertools.chain([second], records), soa, zone.apex))
+            return take(Zone(zone.apex, zone.apart, zone.truncate, zone.skip), soa,
+                        finish(itertools.chain([second], records), soa, zone.apex), zone)
         if serial_of(second) != serial:
             raise Fault(f"the differences begin at serial {serial_of(second)}, and not at {serial}")
         return Changes(soa, read_differences(records, zone.apex, soa, serial))
@@ -490,6 +510,8 @@ def apply(zone: Zone, changes: Changes) -> list[str]:
     """Makes the changes, and returns the names that they are of. After a Fault the zone is as it was."""
     owners = [*dict.fromkeys(it.record.owner for it in changes.steps)]
     before = {owner: zone.parts(owner) for owner in [*owners, zone.apex]}
+    kept = {owner: zone.kept(owner) for owner in owners} if zone.skip else {}
+    refused, instead = {**zone.refused}, {**zone.instead}
     try:
         for is_added, record in changes.steps:
             there = zone.left_out["that were there before"]
@@ -499,47 +521,13 @@ def apply(zone: Zone, changes: Changes) -> list[str]:
                 zone.remove(record)
             if zone.left_out["that were there before"] != there:
                 raise KeyError
-        zone.check(owners)
+        zone.check(owners, kept.__getitem__)
     except (KeyError, Fault) as fault:
         for owner, parts in before.items():
             zone.put_back(owner, parts)
+        zone.refused, zone.instead = refused, instead
         if isinstance(fault, Fault):
             raise
         raise Fault("the differences do not fit the zone that was transferred before") from None
     name_the_soa(zone, changes.soa)
     return owners
-
-
-# ---- the words of commands
-
-
-def add_words(parser: argparse.ArgumentParser) -> None:
-    """The words that say what is transferred, and how."""
-    parser.add_argument("server", metavar="SERVER[@PORT]", help="the name server: an address or a name; port 53 if none is given")
-    parser.add_argument("apex", metavar="APEX", help="the zone's name")
-    parser.add_argument("--tsig", metavar="FILE", help="a file with the key that signs the transfer, as BIND's "
-                        "tsig-keygen prints it; an answer that is not signed by it is refused")
-    parser.add_argument("--apart", metavar="CHILD", action="append", default=[],
-                        help="leave out the names of a child zone, CHILD and below, which is loaded elsewhere")
-    parser.add_argument("--truncate", action="store_true",
-                        help=f"keep the first {MAX_SET} records of a set that has more; without it, they are refused")
-    parser.add_argument("--timeout", metavar="SECONDS", type=int, default=10,
-                        help="for how long the server may be silent (10); a whole transfer may take 60 times as long")
-
-
-def read_words(parser: argparse.ArgumentParser, words: Sequence[str]) -> argparse.Namespace:
-    """The words that were given, with the server and the names read."""
-    given = parser.parse_args(words)
-    if given.timeout < 1:
-        parser.error("--timeout is less than a second")
-    try:
-        given.server = Server.read(given.server, given.tsig, given.timeout)
-        given.apex, *given.apart = map(read_name, [given.apex, *given.apart])
-    except ValueError as fault:
-        parser.error(str(fault))
-    if given.apex.startswith("*."):
-        parser.error(f"the first label of {given.apex} is *, which siploc loads no zone of (S9)")
-    for child in given.apart:
-        if child == given.apex or not is_within(child, given.apex):
-            parser.error(f"{child} is not below {given.apex}")
-    return given
