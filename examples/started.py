@@ -3,7 +3,9 @@
 from __future__ import annotations
 
 import contextlib
+import itertools
 import os
+import random
 import socket
 import subprocess
 import sys
@@ -16,6 +18,9 @@ TOP = Path(__file__).resolve().parent.parent
 os.environ["PATH"] = f"{os.environ.get('PATH', '')}:/usr/sbin"
 sys.path.insert(0, str(TOP / "clients/python"))
 import siploc  # noqa: E402
+
+# In the order of chance, since other processes look for ports too.
+PORTS = itertools.cycle(random.SystemRandom().sample(range(16_384, 32_768), 16_384))
 
 
 class Failed(Exception):
@@ -31,12 +36,15 @@ def program(words: Sequence[str]) -> str:
 
 
 def free_ports(count: int, kind: int = socket.SOCK_STREAM) -> List[int]:
-    """Distinct ports of 127.0.0.1 that nobody has."""
-    with contextlib.ExitStack() as stack:
-        probes = [stack.enter_context(socket.socket(socket.AF_INET, kind)) for _ in range(count)]
-        for probe in probes:
-            probe.bind(("127.0.0.1", 0))
-        return [probe.getsockname()[1] for probe in probes]
+    """Ports of 127.0.0.1 that nobody has, each given once by this process. They are below those that the system gives
+    to sockets without one, so that none is taken before it is used."""
+    ports: List[int] = []
+    while len(ports) < count:
+        port = next(PORTS)
+        with socket.socket(socket.AF_INET, kind) as probe, contextlib.suppress(OSError):
+            probe.bind(("127.0.0.1", port))
+            ports.append(port)
+    return ports
 
 
 def wait_for(what: str, is_so: Callable[[], object], seconds: float = 15.0, pause: float = 0.02) -> None:
@@ -92,7 +100,7 @@ class Locator(Started):
         # outdates is looked up at its next question.
         text = f'listen = "{self.address}"\nsessions = 100000\nworkers = 0\n{settings}'
         super().__init__(folder, name, [path, "serve", text])
-        wait_for(f"{name} at {self.address}", self.listens)
+        wait_for(f"{name} at {self.address}", self.listens, 60)
 
     def listens(self) -> bool:
         self.is_up()
@@ -101,6 +109,21 @@ class Locator(Started):
         except siploc.NotConnected:
             return False
         return True
+
+
+class Daemon(Locator):
+    """The daemon without zones, with a state, whose time is that of `clock` lines. Its program is SIPLOCD, or beside that
+    of the locator, or the one that was built here."""
+
+    def __init__(self, path: str, folder: Path, name: str, port: int, settings: str = "") -> None:
+        beside = Path(path).with_name(Path(path).name.replace("siploc", "siplocd", 1))
+        there = [it for it in (os.environ.get("SIPLOCD"), beside, TOP / "crates/siplocd/out/siplocd") if it and os.access(it, os.X_OK)]
+        if not there:
+            raise Failed("there is no siplocd; SIPLOCD names one")
+        self.address, self.state = f"127.0.0.1:{port}", folder / f"{name}.state"
+        text = f'listen = ["{self.address}"]\nclock = "lines"\nstate = "{self.state}"\nworkers = 0\n{settings}'
+        Started.__init__(self, folder, name, [str(there[0]), text])
+        wait_for(f"{name} at {self.address}", self.listens, 60)
 
 
 class Steps:

@@ -7,8 +7,10 @@ import contextlib
 import itertools
 import pathlib
 import random
+import re
 import resource
 import runpy
+import signal
 import socket
 import time
 import types
@@ -18,11 +20,11 @@ import siploc
 from daemon_tests.support import PATIENCE, SEED, TOP, Checks, Client, Daemon, started, stopped, test, until
 
 # Sessions of `siploc` that a daemon must serve as well: by arguments and lines, without those whose reply depends on the
-# time, on a full journal, or on what one more session would see.
+# time, on a full journal, or on what one more session would see, and without those that end within a zone.
 def older_sessions() -> Iterator[tuple[str, str, list[str]]]:
     sessions = types.SimpleNamespace(**runpy.run_path(str(TOP / "tools/sessions")))
     plain = types.SimpleNamespace(**runpy.run_path(str(TOP / "tools/plain")))
-    for path in sorted([*TOP.glob("sessions/*.txt"), *TOP.glob("examples/*.txt")]):
+    for path in sorted([*TOP.glob("sessions/**/*.txt"), *TOP.glob("examples/*.txt")]):
         lines = path.read_text(errors="surrogateescape").split("\n")
         for start, end in plain.places(lines):
             words, count = sessions.arguments(lines[start:end])
@@ -32,8 +34,19 @@ def older_sessions() -> Iterator[tuple[str, str, list[str]]]:
             if is_plain and words[1] == "run" and "journal" not in settings:
                 text = "".join(f"{it[2:]}\n" for it in rest if it.startswith(">"))
                 replies = [it for it in rest if it and it[0] not in "#>?"]
-                if not any(it.startswith("err B3") for it in replies) and len(words) <= 3:
+                if not any(it.startswith("err B3") for it in replies) and len(words) <= 3 and not ends_within_a_zone(text):
                     yield settings, text, replies
+
+
+def ends_within_a_zone(text: str) -> bool:
+    lines = text.split("\n")[:-1]
+    while lines:
+        found = re.fullmatch(r"[ \t]*zone[ \t]+[^ \t]+[ \t]+(\d+)[ \t\r]*", lines.pop(0))
+        count = int(found[1]) if found else 0
+        if count > len(lines):
+            return True
+        lines = lines[count:]
+    return False
 
 
 @test
@@ -52,6 +65,65 @@ def serves_the_sessions_of_siploc(checks: Checks, folder: pathlib.Path) -> None:
             client.stream.shutdown(socket.SHUT_WR)
             octets = b"".join(iter(lambda: client.stream.recv(1 << 16), b"")).decode(errors="surrogateescape")
             checks.equal(octets.splitlines(), replies, (settings, text[:300]))
+
+
+@test
+def a_client_at_find_may_only_ask(checks: Checks, folder: pathlib.Path) -> None:
+    target = ["target 1 udp 192.0.2.1 5060", "ok find 1"]
+    refused = [
+        "zone example.com. 3\na A 192.0.2.1\nquit\ndrop example.com.", "zone example.com. 0", "zone other.example. 1\na A 192.0.2.1",
+        "zone", "drop example.com.", "add b.example.com. A 192.0.2.2", "del a.example.com. A 192.0.2.1", "del", "repair", "page",
+        "hold udp 192.0.2.1 5060 1000000", " \thold udp 192.0.2.1 5060 1\r", "hold x", "release udp 192.0.2.9 5060", "clock 1000",
+    ]
+    with started(checks, folder, 'clock = "lines"', find=["127.0.0.1:0", f"unix:{folder}/ask"]) as daemon, \
+            Client(daemon.address) as editor:
+        checks.equal(editor.ask("zone example.com. 1\na A 192.0.2.1"), ["ok zone 1 0 0 1"], "zone")
+        checks.equal(editor.ask("hold udp 192.0.2.9 5060 1000000"), ["ok hold"], "hold")
+        before = daemon.tell("zones"), daemon.tell("holds"), daemon.stats()["events"]
+        for address in daemon.addresses[1:-1]:
+            with Client(address) as client:
+                for line in refused:
+                    checks.equal(client.ask(line), ["err D3"], (address, line))
+                # In one piece, too.
+                client.send("".join(f"{line}\nfind sip:a.example.com:5060\n" for line in refused))
+                for line in refused:
+                    checks.equal((client.reply(), client.reply()), (["err D3"], target), (address, line))
+                for line, reply in ("holding", ["err K1"]), ("find", ["err K1"]), ("# hold\n\nfind sip:192.0.2.9:5060", ["none AllHeld"]):
+                    checks.equal(client.ask(line), reply, (address, line))
+                checks.equal((client.ask("deps sip:a.example.com:1") or [""])[-1].split(" ")[:2], ["ok", "deps"], "deps")
+                checks.equal(client.ask("find " + "x" * 65_600), ["err K2"], "a line that is too long")
+                after = daemon.tell("zones"), daemon.tell("holds")
+                checks.equal(after, before[:2], "what there is")
+        with Client(daemon.addresses[1]) as client:
+            # The hold of a call is a part of asking.
+            sent = client.ask("call invite 1 sip:a.example.com:5060")
+            checks.equal(sent, ["send 1 udp 192.0.2.1 5060 z9hG4bK0000000000000001.1", "ok call"], "call")
+            checks.equal((client.ask("broke") or [""])[0], "hold udp 192.0.2.1 5060 30000", "broke")
+            checks.equal(daemon.tell("holds")[-1], "ok holds 2", "holds of an editor and a call")
+            checks.equal(client.ask("quit"), ["ok quit"], "quit")
+            checks.expect(client.is_ended(), "after quit")
+        checks.equal(editor.ask("drop example.com."), ["ok drop 1"], "at another address")
+        stopped(checks, daemon)
+
+
+@test
+def a_web_page_has_no_session(checks: Checks, folder: pathlib.Path) -> None:
+    head = "HTTP/1.1\r\nHost: localhost\r\nContent-Type: text/plain\r\n\r\n"
+    body = "zone evil.example. 1\na A 192.0.2.1\nstop\n"
+    with started(checks, folder, find=["127.0.0.1:0"], control="127.0.0.1:0") as daemon:
+        for address in daemon.addresses:
+            for request in f"POST / {head}{body}", f"GET /{head}{body}", f"PUT / {head}{body}", f"OPTIONS * {head}{body}", f"PRI * {head}{body}":
+                for places in [0, len(request)], [0, 1, 2, 4, 6, len(request)]:
+                    with Client(address) as client, contextlib.suppress(OSError):
+                        for begin, end in itertools.pairwise(places):
+                            client.send(request[begin:end])
+                            time.sleep(0.01 * (len(places) > 2))
+                        checks.equal(client.line(), None, (address, request[:8], places))
+            with Client(address) as client:
+                client.send("\nPOSTING / x\nPOST / HTTP/1.1\n")
+                checks.equal((client.reply(), client.reply()), (["err K1"], ["err K1"]), f"{address}: of other first lines")
+        checks.equal(daemon.tell("zones"), ["ok zones 0"], "zones")
+        stopped(checks, daemon, 0)
 
 
 @test
@@ -97,6 +169,27 @@ def bounds_its_descriptors(checks: Checks, folder: pathlib.Path) -> None:
         until(lambda: daemon.stats()["clients"] == 0)
         with Client(daemon.address) as client:
             checks.equal(client.ask("release udp 192.0.2.1 5060"), ["ok release"], "after the 150 have left")
+        stopped(checks, daemon)
+
+
+@test
+def counts_the_descriptors_of_its_sockets(checks: Checks, folder: pathlib.Path) -> None:
+    listen = [f"unix:{folder}/s{n}" for n in range(8)]
+    with started(checks, folder, f'state = "{folder}/state"', listen=listen, limit=80) as daemon, contextlib.ExitStack() as stack:
+        clients = [stack.enter_context(Client(listen[n % 8])) for n in range(60)]
+        for client in clients:
+            with contextlib.suppress(OSError):
+                client.send("repair\n")
+        replies = [client.reply() for client in clients]
+        served = replies.count(["ok repair"])
+        # (nine sockets have four each at most, and twenty are left for what is no client)
+        checks.equal(served, 80 - 20 - 4 * 9, f"clients of 80 descriptors: {replies}")
+        checks.expect(all(it in (["ok repair"], ["err Busy"], None) for it in replies), replies)
+        one = clients[replies.index(["ok repair"])]
+        checks.equal(one.ask("hold udp 192.0.2.1 5060 1000000"), ["ok hold"], "a change while no place is left")
+        controls = [stack.enter_context(Client(daemon.control)) for _ in range(8)]
+        for client in controls:
+            checks.expect((client.ask("stats") or [""])[-1] == "ok stats", "control lines meanwhile")
         stopped(checks, daemon)
 
 
@@ -260,6 +353,38 @@ def gives_up_a_client_that_takes_its_replies_slowly(checks: Checks, folder: path
             checks.expect(least >= 30, f"ended after {least:.1f} seconds {name}")
             checks.expect(seen < most + PATIENCE, f"ended {seen:.1f} seconds after it was seen to wait {name}")
         checks.expect(until(lambda: daemon.stats()["clients"] == 0), f"clients, {daemon.stats()}")
+        stopped(checks, daemon)
+
+
+@test
+def a_process_that_is_stopped_and_goes_on_ends_no_session(checks: Checks, folder: pathlib.Path) -> None:
+    unix, questions = f"unix:{folder}/s", 3_000
+
+    def interrupt(daemon: Daemon) -> None:
+        """Stops the process, which interrupts each call that waits with a time limit, and lets it go on."""
+        for _ in range(3):
+            daemon.process.send_signal(signal.SIGSTOP)
+            until(lambda: " T " in pathlib.Path(f"/proc/{daemon.process.pid}/stat").read_text())
+            daemon.process.send_signal(signal.SIGCONT)
+            time.sleep(0.05)
+
+    with started(checks, folder, "idle = 60", unix=unix) as daemon, contextlib.ExitStack() as stack:
+        clients = [stack.enter_context(Client(address)) for address in daemon.addresses[:-1]]
+        for client in clients:
+            checks.equal(client.ask("repair"), ["ok repair"], "before")
+        interrupt(daemon)
+        for client, address in zip(clients, daemon.addresses):
+            checks.equal(client.ask("repair"), ["ok repair"], f"{address}: a client that waited")
+        # One whose replies wait for it: 32 targets each, more than a Unix socket takes.
+        text = "".join(f"\na A 192.0.2.{n}" for n in range(32))
+        checks.equal(clients[0].ask(f"zone example.com. 32{text}"), ["ok zone 32 0 0 1"], "zone")
+        slow = stack.enter_context(Client(unix, is_slow=True))
+        slow.send("find sip:a.example.com:1\n" * questions)
+        until(lambda: stands_still(daemon))
+        interrupt(daemon)
+        wanted = [*(f"target {n + 1} udp 192.0.2.{n} 1" for n in range(32)), "ok find 32"]
+        replies = [slow.reply() for _ in range(questions)]
+        checks.expect(replies == [wanted] * questions, f"{sum(it == wanted for it in replies)} of {questions} replies")
         stopped(checks, daemon)
 
 

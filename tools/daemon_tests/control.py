@@ -48,6 +48,22 @@ def control_lines(checks: Checks, folder: pathlib.Path) -> None:
 
 
 @test
+def silent_control_connections_keep_no_one_out(checks: Checks, folder: pathlib.Path) -> None:
+    with started(checks, folder) as daemon, contextlib.ExitStack() as stack:
+        silent = [stack.enter_context(Client(daemon.control)) for _ in range(7)]
+        lively = silent.pop(0)
+        stack.enter_context(Client(daemon.control))
+        for _ in range(12):
+            checks.equal((lively.ask("stats") or [""])[-1], "ok stats", "of one that sends lines")
+            more = stack.enter_context(Client(daemon.control))
+            checks.equal((more.ask("now") or [""])[-1][:6], "ok now", "one more")
+        checks.expect(all(it.is_ended() for it in silent), "those that were silent for longest are ended")
+        for _ in range(8):
+            stack.enter_context(Client(daemon.control))
+        stopped(checks, daemon, 0)
+
+
+@test
 def control_shows_what_there_is(checks: Checks, folder: pathlib.Path) -> None:
     with started(checks, folder, "workers = 0") as daemon, Client(daemon.address) as client:
         client.ask("zone example.com. 3\na A 192.0.2.1\nb A 192.0.2.2\nb A 192.0.2.3")
@@ -70,6 +86,14 @@ def ends_with_its_input(checks: Checks, folder: pathlib.Path) -> None:
         checks.equal(client.ask("find sip:192.0.2.1")[-1:], ["ok find 1"], "find")
         daemon.process.stdin.close()
         checks.equal(daemon.end(), (0, "closed 1"), "the end of its input")
+    with started(checks, folder, 'stdin = "stop"', has_input=True) as daemon, Client(daemon.address) as client:
+        for octets in b"a line\n", b"\xff\xfe\n", b"\xff" * 10_000:
+            daemon.process.stdin.write(octets)
+            daemon.process.stdin.flush()
+            time.sleep(0.2)
+            checks.equal(client.ask("find sip:192.0.2.1")[-1:], ["ok find 1"], f"after {octets[:8]!r}")
+        daemon.process.stdin.close()
+        checks.equal(daemon.end(), (0, "closed 3"), "the end of its input")
     with started(checks, folder, "", has_input=True) as daemon, Client(daemon.address) as client:
         daemon.process.stdin.close()
         time.sleep(0.2)

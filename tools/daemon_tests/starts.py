@@ -104,9 +104,12 @@ def refuses_wrong_settings(checks: Checks, folder: pathlib.Path) -> None:
     with socket.create_server(("127.0.0.1", taken)):
         for settings, cause in [
             ("clients = 0", "clients"), ("clock = 1", "clock"), ('clock = "sun"', "clock"), ("sessions = 1", "sessions"),
-            ("unknown = 1", "unknown"), ("mode = 512", "mode"), ("listen = []", "listen"), ("idle = 0", "idle"),
+            ("unknown = 1", "unknown"), ("mode = 512", "mode"), ("listen = []", "listen"), ("idle = 0", "idle"), ("find = 1", "find"),
             ('listen = ["192.0.2.1:5099"]', "listen"), (f'listen = ["unix:{"x" * 108}"]', "listen"), ("= 1", "G1"),
-            (f'listen = ["127.0.0.1:{taken}"]', f"127.0.0.1:{taken}"),
+            (f'listen = ["127.0.0.1:{taken}"]', f"127.0.0.1:{taken}"), (f'find = ["127.0.0.1:{taken}"]', f"127.0.0.1:{taken}"),
+            ('listen = [{ at = "127.0.0.1:0", mode = 384 }]', "listen"), (f'find = [{{ at = "unix:{folder}/f" }}]', "find"),
+            (f'control = {{ at = "unix:{folder}/c", mode = 512 }}', "control"), ("find = [{ mode = 384 }]", "find"),
+            (f'control = {{ at = "unix:{folder}/c", mode = 384, x = 1 }}', "control"), ('find = ["example.com:1"]', "find"),
             (f'listen = ["unix:{folder}/none/s"]', f"{folder}/none/s"),
             ('state = ""', "state"), (f'state = "{folder}/none/state"', f"{folder}/none/state"), ("zone_octets = -1", "zone_octets"),
         ]:
@@ -142,6 +145,23 @@ def its_sockets_are_its_own(checks: Checks, folder: pathlib.Path) -> None:
     path.write_text("a file")
     status, said = ended_start(folder, f'listen = ["{unix}"]')
     checks.expect(status == 1 and str(path) in said and path.read_text() == "a file", ("no socket", status, said))
+
+
+@test
+def each_socket_may_have_a_mode_of_its_own(checks: Checks, folder: pathlib.Path) -> None:
+    paths = [folder / name for name in ("plain", "own", "ask", "control")]
+    settings = f'''mode = 432
+listen = ["unix:{paths[0]}", {{ at = "unix:{paths[1]}", mode = 384 }}]
+find = [{{ at = "unix:{paths[2]}", mode = 438 }}]
+control = {{ at = "unix:{paths[3]}", mode = 256 }}'''
+    addresses = [f"unix:{path}" for path in paths]
+    with started(checks, folder, settings, listen=addresses[:2], find=addresses[2:3], control=addresses[3], umask=0) as daemon:
+        modes = [oct(stat.S_IMODE(path.stat().st_mode)) for path in paths]
+        checks.equal(modes, ["0o660", "0o600", "0o666", "0o400"], "modes")
+        for address, reply in zip(addresses, (["ok repair"], ["ok repair"], ["err D3"])):
+            with Client(address) as client:
+                checks.equal(client.ask("repair"), reply, address)
+        stopped(checks, daemon, 0)
 
 
 class Watch:

@@ -8,12 +8,13 @@ import errno
 import mmap
 import pathlib
 import random
-import re
+import socket
 import struct
 import subprocess
 import time
 from typing import Any, Callable, Optional
 
+from commits import HEAD_LEN, bodies_of, body_of, log_of, state_of
 from daemon_tests.support import (
     FOR_EVER,
     SEED,
@@ -59,6 +60,32 @@ def stands_again_after_a_stop(checks: Checks, folder: pathlib.Path) -> None:
 
 
 @test
+def a_link_to_a_state_is_that_state(checks: Checks, folder: pathlib.Path) -> None:
+    state, link, other = folder / "state", folder / "link", folder / "other"
+    other.mkdir()
+    (other / "state").symlink_to("../state")
+    with started(checks, folder, f'state = "{state}"') as daemon, Client(daemon.address) as client:
+        checks.equal(client.ask("zone example.com. 1\na A 192.0.2.1"), ["ok zone 1 0 0 1"], "zone")
+        stopped(checks, daemon)
+    link.symlink_to(other / "state")
+    with started(checks, folder, f'state = "{link}"') as daemon, Client(daemon.address) as client:
+        checks.equal(daemon.tell("zones"), ["zone example.com. 1", "ok zones 1"], "by a link")
+        checks.equal(client.ask("add b.example.com. A 192.0.2.2"), ["ok add 1"], "add")
+        for path in state, link, other / "state":
+            status, said = ended_start(folder, f'state = "{path}"')
+            checks.expect(status == 1 and str(path) in said, ("a state that another has", path, status, said))
+        stopped(checks, daemon)
+    checks.expect(link.is_symlink() and not state.is_symlink() and (other / "state").is_symlink(), "links that are links")
+    checks.equal(sorted(it.name for it in other.iterdir()), ["state"], "files beside a link")
+    with started(checks, folder, f'state = "{state}"') as daemon:
+        checks.equal(daemon.tell("zones"), ["zone example.com. 2", "ok zones 1"], "by its own name")
+        stopped(checks, daemon)
+    (folder / "nowhere").symlink_to(folder / "none/state")
+    status, said = ended_start(folder, f'state = "{folder}/nowhere"')
+    checks.expect(status == 1 and f"{folder}/nowhere" in said, ("a link to nothing", status, said))
+
+
+@test
 def carries_out_no_line_that_a_stop_cuts(checks: Checks, folder: pathlib.Path) -> None:
     state = f'state = "{folder}/state"'
     with started(checks, folder, state) as daemon, Client(daemon.address) as client, Client(daemon.address) as other:
@@ -74,39 +101,24 @@ def carries_out_no_line_that_a_stop_cuts(checks: Checks, folder: pathlib.Path) -
 
 
 @test
-def reads_its_log(checks: Checks, folder: pathlib.Path) -> None:
-    state, log = f'state = "{folder}/state"', folder / "state.log"
-    with started(checks, folder, state) as daemon, Client(daemon.address) as client:
-        client.ask("zone example.com. 1\na A 192.0.2.1")
-        client.ask("add b.example.com. A 192.0.2.2")
-        daemon.kill()
-    octets = log.read_bytes()
-    checks.expect(octets.endswith(b"\n"), octets[-100:])
-    for torn in b"add c.example.com. A 192.0", b"a", octets[:-1][octets[:-1].rfind(b"\n") + 1:]:
-        log.write_bytes(octets + torn)
-        with started(checks, folder, state) as daemon, Client(daemon.address) as client:
-            checks.equal(client.ask("find sip:b.example.com:1"), ["target 1 udp 192.0.2.2 1", "ok find 1"], ("torn", torn))
-            checks.equal(client.ask("find sip:c.example.com:1"), ["none NoAddress"], ("torn", torn))
-            daemon.kill()
-        octets = log.read_bytes()
-    for wrong in b"nonsense\n", b"\xff\xfe\n":
-        log.write_bytes(octets + wrong + b"add d.example.com. A 192.0.2.4\n")
-        status, said = ended_start(folder, state)
-        number = octets.count(b"\n") + 1
-        checks.expect(status == 1 and said.startswith("siplocd:") and re.search(rf"\b{number}\b", said), (wrong, number, status, said))
-    # A mark whose state was not written, since the daemon was killed then: the changes after it follow those before it.
-    log.write_bytes(octets + b"clock 5000\nhold tcp 192.0.2.9 5060 1000000\n# page 1\nclock 6000\nadd e.example.com. A 192.0.2.5\n")
-    with started(checks, folder, state) as daemon, Client(daemon.address) as client:
-        checks.equal(client.ask("find sip:e.example.com:1"), ["target 1 udp 192.0.2.5 1", "ok find 1"], "after a mark")
-        checks.equal(client.ask("find sip:192.0.2.9;transport=tcp"), ["none AllHeld"], "a hold before a mark")
-        checks.expect(int(daemon.tell("now")[0].split(" ")[2]) >= 6000, daemon.tell("now"))
+def carries_out_no_line_that_its_client_cuts(checks: Checks, folder: pathlib.Path) -> None:
+    state, unix = f'state = "{folder}/state"', f"unix:{folder}/s"
+    cut = ["zone example.com. 3\na A 192.0.2.1\nb A 192.0.2.2", "zone example.com. 2\na A 192.0.2.1\n", "zone example.com. 1",
+           "add c.kept.example. A 192.0.2.2", "hold udp 192.0.2.1 5060 1000000", "drop kept.example.", "zone kept.example. 0"]
+    with started(checks, folder, state, unix=unix) as daemon, Client(daemon.address) as asking:
+        checks.equal(asking.ask("zone kept.example. 1\na A 192.0.2.1"), ["ok zone 1 0 0 1"], "zone")
+        for address in daemon.addresses[:-1]:
+            for text in cut:
+                with Client(address) as client:
+                    client.send(f"find sip:192.0.2.9:1\n{text}")
+                    client.stream.shutdown(socket.SHUT_WR)
+                    checks.equal(client.reply(), ["target 1 udp 192.0.2.9 1", "ok find 1"], f"before {text!r}")
+                    checks.equal(client.reply(), None, f"a reply to {text!r}")
+        checks.equal(daemon.tell("zones"), ["zone kept.example. 1", "ok zones 1"], "zones")
+        checks.equal(daemon.tell("holds"), ["ok holds 0"], "holds")
         stopped(checks, daemon)
-    with started(checks, folder, state) as daemon, Client(daemon.address) as client:
-        checks.equal(client.ask("find sip:e.example.com:1"), ["target 1 udp 192.0.2.5 1", "ok find 1"], "after a stop")
-        checks.equal(client.ask("find sip:192.0.2.9;transport=tcp"), ["none AllHeld"], "a hold after a stop")
-        checks.expect(int(daemon.tell("now")[0].split(" ")[2]) >= 6000, daemon.tell("now"))
-        status, said = ended_start(folder, state)
-        checks.expect(status == 1 and f"{folder}/state" in said, ("a state that another has", status, said))
+    with started(checks, folder, state) as daemon:
+        checks.equal(daemon.tell("zones"), ["zone kept.example. 1", "ok zones 1"], "zones of the state")
         stopped(checks, daemon)
 
 
@@ -189,14 +201,14 @@ def writes_a_state_at_a_page(checks: Checks, folder: pathlib.Path) -> None:
         while log.stat().st_size < 1 << 20 and steps.make(client):
             pass
         time.sleep(0.2)
-        checks.expect(not state.exists(), "a state before a page is turned")
+        checks.equal(state.read_bytes(), state_of(b"# page 0\n"), "a state before a page is turned")
         for _ in range(8):
             client.send(questions)
             checks.equal([client.reply() for _ in range(50)], [answer] * 50, "questions")
-        checks.expect(until(state.exists), "no state at a page")
-        checks.expect(until(lambda: log.stat().st_size < 100), f"{log.stat().st_size} octets of changes after a state")
-        checks.equal((state.read_bytes()[:9], log.read_bytes()), (b"# page 1\n",) * 2, "a state and no changes")
-        checks.expect(steps.make(client) and log.stat().st_size > 9, "a change after a state")
+        checks.expect(until(lambda: body_of(state.read_bytes()).startswith(b"# page 1\n")), "no state at a page")
+        checks.expect(until(lambda: log.stat().st_size == HEAD_LEN), f"{log.stat().st_size} octets of a log after a state")
+        checks.equal(log.read_bytes(), log_of(state.read_bytes(), []), "no changes")
+        checks.expect(steps.make(client) and log.stat().st_size > HEAD_LEN, "a change after a state")
         daemon.kill()
     chance, asked = random.Random(SEED), 0
     for turn in range(6):
@@ -218,7 +230,7 @@ def writes_a_state_at_a_page(checks: Checks, folder: pathlib.Path) -> None:
                 asked += asking.result()
     with started(checks, folder, settings) as daemon:
         steps.see(daemon)
-        checks.expect(int(state.read_bytes().split()[2]) > 2, f"{state.read_bytes()[:20]!r} after six kills")
+        checks.expect(int(body_of(state.read_bytes()).split()[2]) > 2, f"{state.read_bytes()[:20]!r} after six kills")
         checks.expect(asked > 0, "no question while states were written")
         stopped(checks, daemon)
 
@@ -242,12 +254,27 @@ class Syncs:
         self.put(0, waits)
 
     def fail(self, name: str, error: int) -> None:
-        """Each sync fails from now on, or each write into a file."""
-        self.put({"sync": 1, "write": 2}[name], error)
+        """Each sync fails from now on, or each write into a file, or each opening of a file to append to."""
+        self.put({"sync": 1, "write": 2, "open": 3}[name], error)
 
     def begun(self) -> int:
         """How many syncs have begun."""
-        return struct.unpack_from("q", self.page, 24)[0]
+        return self.number(4)
+
+    def number(self, place: int) -> int:
+        return struct.unpack_from("q", self.page, 8 * place)[0]
+
+    def watch_folder(self, count: int, error: int) -> None:
+        """The so manieth sync of a folder from now on waits, and then fails with an error, if it is one."""
+        for place, number in (6, True), (7, False), (8, error), (5, count):
+            self.put(place, number)
+
+    def has_begun(self) -> bool:
+        """Whether the sync of a folder that is watched has begun."""
+        return self.number(7) != 0
+
+    def go_on(self) -> None:
+        self.put(6, False)
 
 
 @test
@@ -310,6 +337,60 @@ def ends_where_a_change_is_not_written(checks: Checks, folder: pathlib.Path) -> 
                 checks.equal(reply, [f"target 1 udp 192.0.2.{place} 1", "ok find 1"], f"{host} after a failed {name}")
             checks.equal(client.ask("add d.example.com. A 192.0.2.4"), ["ok add 1"], "add")
             stopped(checks, daemon)
+
+
+@test
+def reports_no_change_as_kept_after_a_trim_that_failed(checks: Checks, folder: pathlib.Path) -> None:
+    # (more than a megabyte, so that a state is written at the next page)
+    text = "x" * 255
+    zone = "zone example.com. 1401\na A 192.0.2.1" + "".join(f'\nn{n} NAPTR 1 1 "{text}" "{text}" "{text}" .' for n in range(1_400))
+    for name, error in ("folder", errno.EIO), ("open", errno.EMFILE):
+        inner = folder / name
+        inner.mkdir()
+        syncs, settings = Syncs(inner), f'state = "{inner}/state"'
+        with started(checks, inner, settings, environment=syncs.environment) as daemon, \
+                Client(daemon.address) as client, Client(daemon.address) as other:
+            checks.equal(client.ask(zone), ["ok zone 1401 0 0 1401"], "zone")
+            checks.equal(other.ask("repair"), ["ok repair"], "before")
+            # The folder is synced after the state was moved there, and then after the changes were.
+            syncs.watch_folder(2, error if name == "folder" else 0)
+            daemon.tell("page")
+            checks.expect(until(syncs.has_begun), f"{name}: no trim")
+            client.send("add late.example.com. A 192.0.2.3\n")
+            other.send("hold udp 192.0.2.9 5060 1000000\n")
+            time.sleep(0.3)
+            checks.equal((client.has_reply(), other.has_reply()), (False, False), f"{name}: replies while the trim is made")
+            if name == "open":
+                syncs.fail(name, error)
+            syncs.go_on()
+            checks.equal((client.reply(), other.reply()), (None, None), f"{name}: replies after a trim that failed")
+            status, _ = daemon.end()
+            checks.expect(status == 1 and daemon.said().startswith("siplocd: state: "), (name, status, daemon.said()))
+        with started(checks, inner, settings) as daemon, Client(daemon.address) as client:
+            reply = client.ask("find sip:a.example.com:1")
+            checks.equal(reply, ["target 1 udp 192.0.2.1 1", "ok find 1"], f"{name}: after another start")
+            checks.equal(client.ask("add late.example.com. A 192.0.2.4")[-1:], ["ok add 1"], f"{name}: a change")
+            stopped(checks, daemon)
+
+
+@test
+def starts_where_no_space_is_left(checks: Checks, folder: pathlib.Path) -> None:
+    syncs, log, settings = Syncs(folder), folder / "state.log", f'state = "{folder}/state"'
+    with started(checks, folder, settings) as daemon, Client(daemon.address) as client:
+        checks.equal(client.ask("zone example.com. 1\na A 192.0.2.1"), ["ok zone 1 0 0 1"], "zone")
+        daemon.kill()
+    octets, place = log.read_bytes(), log.stat().st_ino
+    for torn in b"", b"add b.example.com. A 192.0", b"zone example.com. 2\nc A 192.0.2.3\n":
+        log.write_bytes(octets + torn)
+        syncs.fail("write", errno.ENOSPC)
+        with started(checks, folder, settings, environment=syncs.environment) as daemon, Client(daemon.address) as client:
+            checks.equal(client.ask("find sip:a.example.com:1"), ["target 1 udp 192.0.2.1 1", "ok find 1"], torn)
+            checks.equal((log.read_bytes(), log.stat().st_ino), (octets, place), "the changes, where they were")
+            syncs.fail("write", 0)
+            checks.equal(client.ask("add b.example.com. A 192.0.2.2"), ["ok add 1"], "a change where there is space again")
+            daemon.kill()
+        wanted = [*bodies_of(octets), b"add b.example.com. A 192.0.2.2\n"]
+        checks.equal(log.read_bytes(), log_of((folder / "state").read_bytes(), wanted), "a change after those before it")
 
 
 # The addresses of each host of a zone by their last octets, in the order of addition: None where it is not loaded.

@@ -3,6 +3,7 @@
 from __future__ import annotations
 
 import contextlib
+import itertools
 import mmap
 import os
 import pathlib
@@ -28,6 +29,8 @@ PATIENCE = int(os.environ.get("PATIENCE", "20"))
 FOR_EVER = 1 << 40
 ENDS = (b"ok", b"none", b"err")
 TESTS: list[Callable[["Checks", pathlib.Path], None]] = []
+# Of the daemons that this process has started.
+NUMBERS = itertools.count(1)
 
 
 def test(function: Callable[["Checks", pathlib.Path], None]) -> Callable[["Checks", pathlib.Path], None]:
@@ -152,18 +155,20 @@ class Daemon:
     """A daemon that a test has started: `address` is where its clients go."""
 
     def __init__(self, folder: pathlib.Path, settings: str = "", unix: str = "", limit: int = 0, has_input: bool = False,
-                 waits: bool = True, listen: Sequence[str] = (), control: str = "", umask: int = -1,
+                 waits: bool = True, listen: Sequence[str] = (), find: Sequence[str] = (), control: str = "", umask: int = -1,
                  environment: Optional[dict[str, str]] = None) -> None:
         self.folder = folder
-        port = free_ports(1)[0]
+        # A port of the system's choice, where it says which it is before anyone has to know.
+        port = 0 if waits else free_ports(1)[0]
         own = [f"127.0.0.1:{port}"] + ([f"[::1]:{port}", unix] if unix else [])
         # Where it listens, as it prints that; the last is `control`.
-        self.addresses = [*(listen or own), control or f"unix:{folder}/control"]
+        self.addresses = [*(listen or own), *find, control or f"unix:{folder}/control"]
         self.address, self.control = self.addresses[0], self.addresses[-1]
-        self.text = f'control = "{self.control}"\n{settings}\n'
-        if "listen =" not in settings:
-            self.text = f"listen = {self.addresses[:-1]}\n".replace("'", '"') + self.text
-        self.errors = folder / f"errors-{port}"
+        self.text = f"{settings}\n"
+        for key, value in ("control", self.control), ("find", [*find]), ("listen", [*(listen or own)]):
+            if value and f"{key} =" not in settings:
+                self.text = f"{key} = {value!r}\n".replace("'", '"') + self.text
+        self.errors = folder / f"errors-{next(NUMBERS)}"
         with self.errors.open("wb") as errors:
             limited = ["sh", "-c", f'ulimit -n {limit}; exec "$0" "$1"'] if limit else []
             self.process = subprocess.Popen([*limited, PROGRAM, self.text], cwd=folder, stdout=subprocess.PIPE, stderr=errors,
@@ -268,7 +273,7 @@ def stopped(checks: Checks, daemon: Daemon, events: int | None = None) -> None:
     checks.expect(re.fullmatch(r"closed \d+", last) if events is None else last == f"closed {events}",
                   f"{last!r} at the end, of {events} events, {took}")
     # It has two seconds; the rest is for other work of the machine.
-    checks.expect(seconds < 10, f"{took} of 10")
+    checks.expect(seconds < PATIENCE / 2, f"{took} of {PATIENCE / 2}")
 
 
 def closed(checks: Checks, daemon: Daemon) -> int:

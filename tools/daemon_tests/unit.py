@@ -1,0 +1,64 @@
+"""The unit of systemd and its settings, as examples/ has them: who may connect where."""
+
+from __future__ import annotations
+
+import configparser
+import os
+import pathlib
+import socket
+import subprocess
+
+from daemon_tests.support import PROGRAM, TOP, Checks, test, until
+from started import free_ports
+
+# Users and groups that nobody has: of the daemon, of the proxy, of another program; the group that the unit names.
+DAEMON, PROXY, OTHER, NAMED = 64_101, 64_102, 64_103, 64_104
+
+
+def may_connect(path: pathlib.Path, user: int, groups: list[int]) -> bool:
+    """Whether a process of a user, whose own group has the user's number, can connect to a socket."""
+    child = os.fork()
+    if child == 0:
+        try:
+            os.setgroups(groups)
+            os.setgid(user)
+            os.setuid(user)
+            socket.socket(socket.AF_UNIX).connect(str(path))
+        except BaseException:
+            os._exit(1)
+        os._exit(0)
+    return os.waitpid(child, 0)[1] == 0
+
+
+@test
+def the_unit_lets_the_proxy_in(checks: Checks, folder: pathlib.Path) -> None:
+    unit = configparser.ConfigParser(interpolation=None, strict=False)
+    unit.read(TOP / "examples/siplocd.service")
+    # A group that is made at the start can have no members.
+    group = NAMED if unit["Service"].get("Group") else DAEMON
+    checks.expect(group == NAMED, "the unit names no group that a proxy could join")
+    if os.geteuid():
+        return
+    folder.chmod(0o711)
+    run, state = folder / "run", folder / "state"
+    for path, mode in ((run, 0o755), (state, 0o700)):
+        path.mkdir(mode)
+        os.chown(path, DAEMON, group)
+    text = (TOP / "examples/siplocd.toml").read_text().replace("127.0.0.1:5099", f"127.0.0.1:{free_ports(1)[0]}")
+    text = text.replace("/run/siplocd/", f"{run}/").replace("/var/lib/siplocd/", f"{state}/")
+    stop = unit["Service"]["ExecStop"].replace("/run/siplocd/", f"{run}/").replace("/var/lib/siplocd/", f"{state}/")
+    process = subprocess.Popen([PROGRAM, text], user=DAEMON, group=group, extra_groups=[], stdout=subprocess.DEVNULL, cwd="/")
+    try:
+        lines, control = run / "lines.sock", pathlib.Path(stop.split("unix:")[1].split(" ")[0])
+        checks.expect(until(lambda: lines.exists() and control.exists()), f"it does not listen at {lines} and {control}")
+        members = [group] if group == NAMED else []
+        checks.expect(may_connect(lines, PROXY, members), "the proxy can't connect")
+        checks.expect(not may_connect(lines, OTHER, []), "another program can connect")
+        checks.expect(not may_connect(control, PROXY, members), "the proxy can connect to the control address")
+        words = [PROGRAM, *stop.split(" ")[1:]]
+        checks.equal(subprocess.run(words, user=DAEMON, group=group, extra_groups=[], stdout=subprocess.PIPE, text=True,
+                                    timeout=20, check=False).stdout, "ok stop\n", "the unit's stop")
+        checks.equal(process.wait(20), 0, "its status")
+    finally:
+        process.kill()
+        process.wait()
