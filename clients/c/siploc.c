@@ -112,6 +112,7 @@ static const struct {
     {"L1", "a record set changed in each of the tries: ask again"},
     {"Memory", "an allocation failed"},
     {"D1", "the time is the host's: holds end by themselves"},
+    {"D3", "the address is for questions only"},
     {"Busy", "there are as many clients as the settings allow"}};
 
 /* A growable array. */
@@ -1021,11 +1022,11 @@ static void free_session(siploc *s)
     free(s);
 }
 
-siploc_status siploc_connect(const char *address, int timeout, siploc **session)
+/* Connects to one address, which may be localhost by its IPv4 or IPv6 address. */
+static siploc_status connect_to(const char *address, int timeout, siploc **session)
 {
     place place;
     socklen_t size = read_place(address, &place);
-    *session = NULL;
     if (size == 0)
         return SIPLOC_INVALID;
     siploc *s = calloc(1, sizeof *s);
@@ -1047,6 +1048,24 @@ siploc_status siploc_connect(const char *address, int timeout, siploc **session)
     }
     *session = s;
     return SIPLOC_OK;
+}
+
+siploc_status siploc_connect(const char *address, int timeout, siploc **session)
+{
+    static const char name[] = "localhost:";
+    char text[32];
+    size_t length = sizeof name - 1;
+    *session = NULL;
+    if (strncmp(address, name, length) != 0)
+        return connect_to(address, timeout, session);
+    if (strlen(address + length) > 5)
+        return SIPLOC_INVALID;
+    snprintf(text, sizeof text, "127.0.0.1:%s", address + length);
+    siploc_status status = connect_to(text, timeout, session);
+    if (status != SIPLOC_NOT_CONNECTED)
+        return status;
+    snprintf(text, sizeof text, "[::1]:%s", address + length);
+    return connect_to(text, timeout, session);
 }
 
 void siploc_close(siploc *s)

@@ -114,7 +114,8 @@ typedef struct siploc_draws {
 } siploc_draws;
 
 /*
- * A session with the server at an address: `127.0.0.1:5099`, `[::1]:5099` or `unix:/run/siplocd.sock`. The timeout
+ * A session with the server at an address: `127.0.0.1:5099`, `[::1]:5099`, `localhost:5099`, which is one of these,
+ * or `unix:/run/siplocd.sock`. The timeout
  * is that of the connection, and later how many milliseconds a call waits without progress: without a complete
  * reply, and without the server taking further octets.
  */

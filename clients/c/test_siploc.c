@@ -436,8 +436,8 @@ static void keep_refusal(void *context, size_t place, const siploc_reply *reply)
     }
 }
 
-/* Each code once, by a batch: 47 of the 56 of docs/CODES.md; K2, L1, S8, B6, Memory, X1, F1 and the daemon's D1 and
- * Busy are not in the file. */
+/* Each code once, by a batch: 47 of the 57 of docs/CODES.md; K2, L1, S8, B6, Memory, X1, F1 and the daemon's D1, D3
+ * and Busy are not in the file. */
 static void each_refusal(void)
 {
     static char input[1 << 16], want[1 << 16], replies[1 << 16], settings[512];
@@ -498,7 +498,7 @@ static void refusals_by_calls(void)
     siploc_close(s);
 }
 
-enum { FINDS = 100000, HOSTS = 1000 };
+enum { FINDS = 20000, HOSTS = 1000 };
 
 /* Which find of how many is due, and whether all replies were their own. */
 typedef struct counted {
@@ -924,7 +924,7 @@ static void addresses(void)
     char path[128] = "unix:", address[64];
     siploc *session;
     memset(path + 5, 'x', 108);
-    const char *const wrong[] = {"", "127.0.0.1", "localhost:5099", "192.0.2.1:5099", "[2001:db8::1]:5099", "127.0.0.1:0",
+    const char *const wrong[] = {"", "127.0.0.1", "localhost:0", "localhost:999999", "192.0.2.1:5099", "[2001:db8::1]:5099", "127.0.0.1:0",
                                  "127.0.0.1:65536", "127.0.0.1:x", "::1:5099", "unix:", path, "[127.0.0.1]:5099",
                                  "300.0.0.1:1", ":1", "[]:1", "[::1:5099"};
     for (size_t i = 0; i < sizeof wrong / sizeof wrong[0]; i++)
@@ -935,6 +935,19 @@ static void addresses(void)
     CHECK(siploc_connect(address, 1000, &session) == SIPLOC_NOT_CONNECTED);
     CHECK(siploc_connect("unix:/nonexistent/socket", 1000, &session) == SIPLOC_NOT_CONNECTED && errno == ENOENT);
     siploc_close(NULL);
+    for (int turn = 0; turn < 2; turn++) {
+        struct sockaddr_in6 v6 = {.sin6_family = AF_INET6, .sin6_addr = IN6ADDR_LOOPBACK_INIT};
+        struct sockaddr_in v4 = {.sin_family = AF_INET, .sin_addr.s_addr = htonl(INADDR_LOOPBACK)};
+        struct sockaddr *place = turn ? (struct sockaddr *)&v6 : (struct sockaddr *)&v4;
+        socklen_t size = turn ? sizeof v6 : sizeof v4;
+        int listener = socket(place->sa_family, SOCK_STREAM, 0);
+        CHECK(bind(listener, place, size) == 0 && listen(listener, 1) == 0 && getsockname(listener, place, &size) == 0);
+        snprintf(address, sizeof address, "localhost:%d", ntohs(turn ? v6.sin6_port : v4.sin_port));
+        CHECK(siploc_connect(address, 200, &session) == SIPLOC_OK);
+        siploc_close(session);
+        close(listener);
+        CHECK(siploc_connect(address, 200, &session) == SIPLOC_NOT_CONNECTED && errno == ECONNREFUSED);
+    }
 }
 
 int main(int count, char **words)

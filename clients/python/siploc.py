@@ -21,7 +21,7 @@ what its reply says; `batch` sends many. These errors are raised, all of them an
 
 After a `SessionBroken` the connection is closed. To connect again is up to the caller.
 
-It needs Python 3.9 and its standard library, and is this file alone.
+It needs Python 3.9 and its standard library, and is this file alone. `siploc_asyncio` has the same calls for asyncio.
 """
 
 from __future__ import annotations
@@ -40,7 +40,7 @@ from typing import Dict, Iterable, Iterator, List, NamedTuple, Optional, Pattern
 __all__ = [
     "Ack", "Answer", "BadReply", "ConnectionLost", "Deliver", "Dependency", "Error", "Exhausted", "HalfReply", "Hold",
     "InvalidCommand", "Loaded", "MEANINGS", "NotConnected", "Opened", "Page", "Refused", "Reply", "Resend", "Send",
-    "Session", "SessionBroken", "Step", "Target", "TimedOut", "connect", "line", "zone",
+    "Session", "SessionBroken", "SiplocError", "Step", "Target", "TimedOut", "connect", "line", "zone",
 ]
 
 #: What each code of a refusal means.
@@ -100,6 +100,7 @@ MEANINGS: Dict[str, str] = {
     "L1": "a record set changed in each of the tries: ask again",
     "Memory": "an allocation failed",
     "D1": "the time is the host's: holds end by themselves",
+    "D3": "the address is for questions only",
     "Busy": "there are as many clients as the settings allow",
 }
 
@@ -223,6 +224,10 @@ class Opened:
 
 class Error(Exception):
     """What all errors of this module are."""
+
+
+#: The same, where it is imported by its name.
+SiplocError = Error
 
 
 class InvalidCommand(Error, ValueError):
@@ -513,10 +518,18 @@ def _zone_lines(fields: Sequence[bytes]) -> int:
     return int(digits) if len(digits) <= 7 and int(digits) <= _MAX_ZONE_LINES else 0
 
 
+def _octets(text: str) -> bytes:
+    """The octets of a text; those that are not UTF-8 are as `surrogateescape` has them."""
+    try:
+        return text.encode("utf-8", "surrogateescape")
+    except UnicodeEncodeError as fault:
+        raise InvalidCommand(f"a character has no octets: {text[fault.start:fault.start + 1]!r}") from None
+
+
 def _prepared(command: str) -> _Command:
     """A command that breaks no protocol: it is one line, or a `zone` line and as many as it says, and it has a
     reply."""
-    octets = command.encode("utf-8", "surrogateescape")
+    octets = _octets(command)
     form = _FORMS.get(command.partition(" ")[0])
     if form is not None and b"\n" not in octets and b"\r" not in octets and form.is_plain:
         return _Command(command, octets + b"\n", form)
@@ -536,42 +549,51 @@ def _prepared(command: str) -> _Command:
     return _Command(text, octets + b"\n", _FORMS.get(fields[0].decode("latin-1"), _UNKNOWN))
 
 
-def _place(address: str) -> Tuple[int, Union[str, Tuple[str, int]]]:
-    """The family and the place of an address."""
+def _places(address: str) -> List[Tuple[int, Union[str, Tuple[str, int]]]]:
+    """The families and places of an address, in the order in which they are tried."""
     if address.startswith("unix:"):
-        if not 0 < len(address.encode("utf-8", "surrogateescape")) - len("unix:") <= 107:
+        if not 0 < len(_octets(address)) - len("unix:") <= 107 or "\0" in address:
             raise InvalidCommand(f"the path of a Unix socket has 1 to 107 octets: {address[:200]!r}")
-        return socket.AF_UNIX, address[len("unix:"):]
-    match = re.fullmatch(r"(?:\[([0-9A-Fa-f:.]+)\]|([0-9.]+)):([0-9]{1,5})", address)
+        return [(socket.AF_UNIX, address[len("unix:"):])]
+    match = re.fullmatch(r"(?:\[([0-9A-Fa-f:.]+)\]|([0-9.]+)|(localhost)):([0-9]{1,5})", address)
     try:
-        host = ipaddress.ip_address(match[1] or match[2]) if match else None
+        texts = ["127.0.0.1", "::1"] if match and match[3] else [match[1] or match[2]] if match else []
+        hosts = [ipaddress.ip_address(text) for text in texts]
     except ValueError:
-        host = None
-    if not match or host is None or not host.is_loopback or not 1 <= int(match[3]) <= 65_535:
+        hosts = []
+    if not match or not hosts or not hosts[0].is_loopback or not 1 <= int(match[4]) <= 65_535:
         raise InvalidCommand(f"neither a loopback address with a port nor `unix:` and a path: {address[:200]!r}")
-    return (socket.AF_INET if host.version == 4 else socket.AF_INET6), (str(host), int(match[3]))
+    return [(socket.AF_INET if it.version == 4 else socket.AF_INET6, (str(it), int(match[4]))) for it in hosts]
 
 
 def connect(address: str, timeout: float = 30.0) -> Session:
-    """A session with the server at an address: `127.0.0.1:5099`, `[::1]:5099` or `unix:/run/siplocd.sock`.
+    """A session with the server at an address: `127.0.0.1:5099`, `[::1]:5099`, `localhost:5099`, which is one of
+    these, or `unix:/run/siplocd.sock`.
 
     `timeout` is in seconds: of the connection, and later of each wait for a reply (see `Session.timeout`).
     Raises `NotConnected` where nobody listens there, and `InvalidCommand` where the address is none.
     """
-    family, place = _place(address)
-    stream = socket.socket(family, socket.SOCK_STREAM)
-    try:
-        stream.settimeout(timeout)
-        stream.connect(place)
-        if family != socket.AF_UNIX:
-            stream.setsockopt(socket.IPPROTO_TCP, socket.TCP_NODELAY, 1)
-            # A connection that ends before its time is reset, also where this process is killed. Else the
-            # server would see the end of the input, and take half a line as a line, and half a zone as a zone.
-            stream.setsockopt(socket.SOL_SOCKET, socket.SO_LINGER, struct.pack("ii", 1, 0))
-    except OSError as fault:
-        stream.close()
-        raise NotConnected(f"{address}: {fault}") from fault
-    return Session(stream, timeout)
+    fault: Optional[OSError] = None
+    for family, place in _places(address):
+        stream = socket.socket(family, socket.SOCK_STREAM)
+        try:
+            stream.settimeout(timeout)
+            stream.connect(place)
+            _prepare(stream)
+        except OSError as refused:
+            stream.close()
+            fault = fault or refused
+        else:
+            return Session(stream, timeout)
+    raise NotConnected(f"{address}: {fault}") from fault
+
+
+def _prepare(stream: socket.socket) -> None:
+    """A TCP connection that ends before its time is reset, also where this process is killed. Else the server would
+    see the end of the input, and take half a line as a line, and half a zone as a zone."""
+    if stream.family != socket.AF_UNIX:
+        stream.setsockopt(socket.IPPROTO_TCP, socket.TCP_NODELAY, 1)
+        stream.setsockopt(socket.SOL_SOCKET, socket.SO_LINGER, struct.pack("ii", 1, 0))
 
 
 class Session:
@@ -722,8 +744,9 @@ class Session:
 class _Exchange:
     """Commands on their way, and the replies that have come."""
 
-    def __init__(self, stream: socket.socket, poll: select.poll, commands: Sequence[_Command]) -> None:
-        self.stream, self.poll, self.commands = stream, poll, commands
+    def __init__(self, stream: socket.socket, poll: Optional[select.poll], commands: Sequence[_Command]) -> None:
+        self.stream, self.commands = stream, commands
+        self.poll = poll or select.poll()
         self.output = memoryview(b"".join(command.octets for command in commands))
         self.sent = 0
         self.is_cut = False
@@ -796,6 +819,10 @@ class _Exchange:
             octets = self.stream.recv(_CHUNK)
         except BlockingIOError:
             return False
+        return self.feed(octets)
+
+    def feed(self, octets: bytes) -> bool:
+        """Takes what has come, nothing at the end of the connection; whether a reply is complete."""
         if not octets:
             raise self.lost("the server has closed the connection")
         count = len(self.replies)
@@ -821,8 +848,12 @@ class _Exchange:
             raise self.bad(text)
 
     def read_before(self) -> None:
-        """What came before any command was sent: the end of the connection, or a refusal of the session."""
-        octets = self.stream.recv(_CHUNK)
+        """What came before any command was sent."""
+        self.feed_before(self.stream.recv(_CHUNK))
+
+    def feed_before(self, octets: bytes) -> None:
+        """Raises what octets mean that came before any command was sent: the end of the connection, or a refusal of the
+        session."""
         if not octets:
             raise self.lost("the server has closed the connection")
         match = re.fullmatch(f"{_REFUSED.pattern}\n", octets.decode("latin-1"))

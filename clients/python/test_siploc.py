@@ -264,7 +264,7 @@ class Sessions(unittest.TestCase):
         refusals = [reply.refusal for reply in replies if reply.refusal]
         codes = [refusal.code for refusal in refusals]
         self.assertEqual(len(codes), len(set(codes)))
-        self.assertEqual(set(siploc.MEANINGS) - set(codes), {"K2", "L1", "S8", "B6", "Memory", "X1", "F1", "D1", "Busy"})
+        self.assertEqual(set(siploc.MEANINGS) - set(codes), {"K2", "L1", "S8", "B6", "Memory", "X1", "F1", "D1", "D3", "Busy"})
         for refusal in refusals:
             self.assertEqual(refusal.meaning, siploc.MEANINGS[refusal.code])
         self.assertEqual({refusal.code: refusal.line for refusal in refusals if refusal.line},
@@ -301,18 +301,18 @@ class Sessions(unittest.TestCase):
                 Ack(1), Hold(Target("udp", "192.0.2.1", 5060), 10000),
                 Send(2, Target("udp", "192.0.2.2", 5060), "z9hG4bK0000000000000001.2")])
 
-    def test_100_000_finds_in_batches(self):
+    def test_20_000_finds_in_batches(self):
         """Each reply is that of its own question."""
         with Server() as server:
             with server.connect() as session:
                 session.load("example.com.", (f"s{n} A 10.0.{n // 256}.{n % 256}" for n in range(1000)))
-                for start in range(0, 100_000, 10_000):
+                for start in range(0, 20_000, 10_000):
                     places = range(start, start + 10_000)
                     replies = session.batch(f"find sip:s{n % 1000}.example.com:{n % 65_535 + 1}" for n in places)
                     self.assertEqual([reply.lines for reply in replies], [
                         [f"target 1 udp 10.0.{n % 1000 // 256}.{n % 1000 % 256} {n % 65_535 + 1}", "ok find 1"]
                         for n in places])
-            self.assertEqual(server.closed(), ("closed 100001\n", 0))
+            self.assertEqual(server.closed(), ("closed 20001\n", 0))
 
     def test_batch_of_more_than_the_sockets_hold(self):
         """20,000 finds of 32 targets each, sent at once: more than both sockets hold, on either way."""
@@ -351,14 +351,18 @@ class Sessions(unittest.TestCase):
                     siploc.connect(server.address)
 
     def test_other_addresses(self):
-        """A Unix socket and ::1, by a relay: a session, a batch over them, and their end."""
-        with tempfile.TemporaryDirectory() as folder, Server(sessions=2) as server:
-            for address in (f"unix:{folder}/socket", f"[::1]:{free_port()}"):
-                with relay(server.port, address), server.connect(address) as session:
+        """A Unix socket, ::1 and localhost, by a relay: a session, a batch over them, and their end."""
+        with tempfile.TemporaryDirectory() as folder, Server(sessions=4) as server:
+            port = free_port()
+            place = f"unix:{folder}/socket"
+            for listens, address in ((place, place), (f"[::1]:{port}", f"[::1]:{port}"), (f"[::1]:{port}", f"localhost:{port}"),
+                                     (None, f"localhost:{server.port}")):
+                listener = relay(server.port, listens) if listens else contextlib.nullcontext()
+                with listener, server.connect(address) as session:
                     session.load("e.", (f"a A 192.0.2.{n}" for n in range(32)))
                     replies = session.batch(["find sip:a.e:5060"] * 5_000)
                     self.assertEqual({len(reply.answer) for reply in replies}, {32})
-            self.assertEqual(server.closed(), ("closed 10002\n", 0))
+            self.assertEqual(server.closed(), ("closed 20004\n", 0))
 
     def test_client_that_is_killed_in_a_zone(self):
         """Half a zone of a client that was killed is not loaded, and half a line not carried out."""
@@ -581,15 +585,28 @@ class Faults(unittest.TestCase):
 
     def test_addresses(self):
         """What is no address, and one that nobody listens at."""
-        for address in ("", "127.0.0.1", "localhost:5099", "192.0.2.1:5099", "[2001:db8::1]:5099", "127.0.0.1:0",
+        for address in ("", "127.0.0.1", "localhost", "localhost:0", "localhosts:5099", "192.0.2.1:5099", "[2001:db8::1]:5099", "127.0.0.1:0",
                         "127.0.0.1:65536", "127.0.0.1:x", "::1:5099", "unix:", "unix:" + "x" * 108, "[127.0.0.1]:",
                         "300.0.0.1:1"):
             with self.subTest(address), self.assertRaises(siploc.InvalidCommand):
                 siploc.connect(address)
-        for address in (f"127.0.0.1:{free_port()}", f"[::1]:{free_port()}", "unix:/nonexistent/socket"):
+        for address in (f"127.0.0.1:{free_port()}", f"[::1]:{free_port()}", f"localhost:{free_port()}",
+                        "unix:/nonexistent/socket"):
             with self.subTest(address), self.assertRaises(siploc.NotConnected) as caught:
                 siploc.connect(address)
             self.assertIn(address, str(caught.exception))
+
+    def test_characters_without_octets(self):
+        """A lone surrogate that stands for no octet is an error of this module, and nothing is sent."""
+        with Server() as server, server.connect() as session:
+            for call in (lambda: session.find("sip:\ud800"), lambda: session.add("\ud8ff A 192.0.2.1"),
+                         lambda: session.load("e.", "a A 192.0.2.1\n\udfff"), lambda: siploc.connect("unix:/\ud800")):
+                with self.assertRaises(siploc.SiplocError):
+                    call()
+            # One that stands for an octet is sent.
+            with self.assertRaises(siploc.Refused) as caught:
+                session.find("sip:\udcff@192.0.2.1:5060")
+            self.assertEqual(caught.exception.code, "U7")
 
     def test_all_codes_are_known(self):
         """Each code of docs/CODES.md that a session may have has a meaning, and no other."""
@@ -597,7 +614,7 @@ class Faults(unittest.TestCase):
         text = text[:text.index("\n## Workers of a script")]
         codes = set(re.findall(r"^\| `([A-Z][0-9]+|Memory)` \|", text, re.MULTILINE))
         of_scripts_and_libraries = {"B1", "B2", "B4", "B5", "Q1", "X3"}
-        self.assertEqual(set(siploc.MEANINGS), codes - of_scripts_and_libraries | {"L1", "D1", "Busy"})
+        self.assertEqual(set(siploc.MEANINGS), codes - of_scripts_and_libraries | {"L1", "D1", "D3", "Busy"})
 
 
 class Counting(unittest.TextTestResult):

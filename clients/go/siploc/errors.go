@@ -50,6 +50,26 @@ func (e *RefusedError) Error() string {
 	return fmt.Sprintf("siploc: %s: %s: %.200s", e.Code, e.Meaning(), e.Command)
 }
 
+// A NotConnectedError is an ErrNotConnected.
+type NotConnectedError struct {
+	// Address is that at which nobody listens; it is empty where the session has ended before.
+	Address string
+	// Cause is why: of a session that has ended, net.ErrClosed.
+	Cause error
+}
+
+func (e *NotConnectedError) Error() string {
+	if e.Address == "" {
+		return fmt.Sprintf("%v: the session has ended", ErrNotConnected)
+	}
+	return fmt.Sprintf("%v: %s: %v", ErrNotConnected, e.Address, e.Cause)
+}
+
+// Is makes it an ErrNotConnected.
+func (e *NotConnectedError) Is(target error) bool { return target == ErrNotConnected }
+
+func (e *NotConnectedError) Unwrap() error { return e.Cause }
+
 // A BrokenError says that the session has ended. The connection is closed.
 //
 // Of the commands that were sent together, the first len(Replies) have replies; the others before Sent may have
@@ -61,7 +81,7 @@ type BrokenError struct {
 	Replies []Reply
 	// Sent is how many commands were sent, the last one maybe in part.
 	Sent int
-	// Cause is what the connection failed with, or the line that is no reply; it may be nil.
+	// Cause is what the connection failed with, the error of a context that has ended, or the line that is no reply.
 	Cause error
 }
 
@@ -149,5 +169,6 @@ var meanings = map[string]string{
 	"L1":     "a record set changed in each of the tries: ask again",
 	"Memory": "an allocation failed",
 	"D1":     "the time is the host's: holds end by themselves",
+	"D3":     "the address is for questions only",
 	"Busy":   "there are as many clients as the settings allow",
 }

@@ -1,3 +1,3 @@
-module siploc
+module siploc.example/clients/go/siploc
 
 go 1.19

@@ -1,8 +1,8 @@
 // Package siploc is a client of siploc, the SIP next-hop locator (RFC 3263, section 4).
 //
-//	session, err := siploc.Connect("127.0.0.1:5099", time.Second)
+//	session, err := siploc.Connect(ctx, "127.0.0.1:5099", time.Second)
 //	..
-//	answer, err := session.Find("sip:bob@example.com", siploc.Draws{})
+//	answer, err := session.Find(ctx, "sip:bob@example.com", siploc.Draws{})
 //
 // A session is one connection. Each method sends one command and returns what its reply says; Batch sends many.
 // Methods may be called by several goroutines: their commands go one after another.
@@ -12,11 +12,13 @@
 //   - ErrInvalidCommand: the command would break the protocol, and was not sent
 //   - *RefusedError: the reply is `err CODE`
 //   - *BrokenError: the connection was lost, the time ran out, or the reply is none that the protocol has
-//   - ErrNotConnected: nobody listens at the address, or the session has ended before
+//   - *NotConnectedError, an ErrNotConnected: nobody listens at the address, or the session has ended before
+//   - the error of the context, where it ended before the call's turn came
 package siploc
 
 import (
 	"bufio"
+	"context"
 	"errors"
 	"fmt"
 	"io"
@@ -26,6 +28,7 @@ import (
 	"strconv"
 	"strings"
 	"sync"
+	"sync/atomic"
 	"syscall"
 	"time"
 )
@@ -40,63 +43,96 @@ const (
 	chunk     = 1 << 18
 )
 
-// A Session is a connection to a server.
+// DefaultTimeout is how long a call waits without progress where no other time is given.
+const DefaultTimeout = 30 * time.Second
+
+// A Session is a connection to a server. Goroutines may share it: their calls are made one after another.
+//
+// Each call takes a context. Where it ends before the call, the session ends with it, since the reply that was due
+// would be taken for that of the next command; a call that was still waiting for its turn ends alone.
 type Session struct {
-	mu      sync.Mutex
-	timeout time.Duration
-	stream  net.Conn // nil when the session has ended
+	timeout atomic.Int64
+	stream  net.Conn
 	reader  *bufio.Reader
+	turn    chan struct{} // has one element while no call is made
+	ended   atomic.Bool
 }
 
-// Connect opens a session with the server at an address: `127.0.0.1:5099`, `[::1]:5099` or `unix:/run/siplocd.sock`.
+// Connect opens a session with the server at an address: `127.0.0.1:5099`, `[::1]:5099`, `localhost:5099`, which is
+// one of these, or `unix:/run/siplocd.sock`.
 //
 // The timeout is that of the connection, and later how long a call waits without progress: without a complete
-// reply, and without the server taking further octets.
-func Connect(address string, timeout time.Duration) (*Session, error) {
-	network, place := "unix", strings.TrimPrefix(address, "unix:")
-	if place == address {
-		port, err := netip.ParseAddrPort(address)
-		if err != nil || !port.Addr().IsLoopback() || port.Port() == 0 || port.Addr().Is4In6() {
-			return nil, invalid("neither a loopback address with a port nor `unix:` and a path: %.200q", address)
-		}
-		network = "tcp"
-	} else if place == "" || len(place) > 107 {
-		return nil, invalid("the path of a Unix socket has 1 to 107 octets: %.200q", address)
-	}
-	stream, err := net.DialTimeout(network, place, timeout)
+// reply, and without the server taking further octets. Where it is 0, it is DefaultTimeout.
+func Connect(ctx context.Context, address string, timeout time.Duration) (*Session, error) {
+	network, places, err := placesOf(address)
 	if err != nil {
-		return nil, fmt.Errorf("%w: %s: %v", ErrNotConnected, address, err)
+		return nil, err
 	}
-	if connection, isTCP := stream.(*net.TCPConn); isTCP {
-		// A connection that ends before its time is reset, also where this process is killed. Else the server
-		// would see the end of the input, and take half a line as a line, and half a zone as a zone.
-		if err := connection.SetLinger(0); err != nil {
-			stream.Close()
-			return nil, fmt.Errorf("%w: %s: %v", ErrNotConnected, address, err)
+	if timeout == 0 {
+		timeout = DefaultTimeout
+	}
+	dialer := net.Dialer{Timeout: timeout}
+	var first error
+	for _, place := range places {
+		stream, err := dialer.DialContext(ctx, network, place)
+		if connection, isTCP := stream.(*net.TCPConn); err == nil && isTCP {
+			// A connection that ends before its time is reset, also where this process is killed. Else the server
+			// would see the end of the input, and take half a line as a line, and half a zone as a zone.
+			if err = connection.SetLinger(0); err != nil {
+				stream.Close()
+			}
+		}
+		if err == nil {
+			session := &Session{stream: stream, reader: bufio.NewReaderSize(stream, 1<<16), turn: make(chan struct{}, 1)}
+			session.timeout.Store(int64(timeout))
+			session.turn <- struct{}{}
+			return session, nil
+		}
+		if first == nil {
+			first = err
 		}
 	}
-	return &Session{timeout: timeout, stream: stream, reader: bufio.NewReaderSize(stream, 1<<16)}, nil
+	return nil, &NotConnectedError{Address: address, Cause: first}
+}
+
+// placesOf returns the network and the places of an address, in the order in which they are tried.
+func placesOf(address string) (string, []string, error) {
+	if place := strings.TrimPrefix(address, "unix:"); place != address {
+		if place == "" || len(place) > 107 {
+			return "", nil, invalid("the path of a Unix socket has 1 to 107 octets: %.200q", address)
+		}
+		return "unix", []string{place}, nil
+	}
+	places := []string{address}
+	if port := strings.TrimPrefix(address, "localhost:"); port != address {
+		places = []string{"127.0.0.1:" + port, "[::1]:" + port}
+	}
+	port, err := netip.ParseAddrPort(places[0])
+	if err != nil || !port.Addr().IsLoopback() || port.Port() == 0 || port.Addr().Is4In6() {
+		return "", nil, invalid("neither a loopback address with a port nor `unix:` and a path: %.200q", address)
+	}
+	return "tcp", places, nil
 }
 
 // SetTimeout changes how long a call waits without progress.
-func (s *Session) SetTimeout(timeout time.Duration) {
-	s.mu.Lock()
-	defer s.mu.Unlock()
-	s.timeout = timeout
-}
+func (s *Session) SetTimeout(timeout time.Duration) { s.timeout.Store(int64(timeout)) }
 
-// Close ends the session by `quit`, and closes the connection.
-func (s *Session) Close() {
-	s.mu.Lock()
-	defer s.mu.Unlock()
-	if s.stream == nil {
-		return
+// Close ends the session by `quit`, within a second, and closes the connection. A call that is being made ends at once,
+// with an error. It returns nil, as an io.Closer whose connection may have been lost before.
+func (s *Session) Close() error {
+	select {
+	case <-s.turn:
+		defer func() { s.turn <- struct{}{} }()
+		if !s.ended.Load() {
+			if s.timeout.Load() > int64(time.Second) {
+				s.SetTimeout(time.Second)
+			}
+			_, _ = s.exchange(context.Background(), []command{{"quit", "quit", "quit\n"}})
+		}
+	default:
 	}
-	if s.timeout > time.Second {
-		s.timeout = time.Second
-	}
-	_, _ = s.exchange([]command{{"quit", "quit", "quit\n"}})
 	s.end()
+	return nil
 }
 
 // Draws are the random words by which servers of equal priority are ordered. The zero value stands for words of 0.
@@ -118,8 +154,8 @@ func Words(words ...uint32) Draws {
 func Seed(seed uint64) Draws { return Draws{" seed " + strconv.FormatUint(seed, 10)} }
 
 // Find returns the targets of a URI, in the order in which they are tried, or the reason that there are none.
-func (s *Session) Find(uri string, draws Draws) (Answer, error) {
-	reply, err := s.ask("find", draws.text, uri)
+func (s *Session) Find(ctx context.Context, uri string, draws Draws) (Answer, error) {
+	reply, err := s.ask(ctx, "find", draws.text, uri)
 	if err != nil {
 		return Answer{}, err
 	}
@@ -127,8 +163,8 @@ func (s *Session) Find(uri string, draws Draws) (Answer, error) {
 }
 
 // Deps returns the record sets that the targets of a URI depend on, in the order in which they are read.
-func (s *Session) Deps(uri string) ([]Dependency, error) {
-	reply, err := s.ask("deps", "", uri)
+func (s *Session) Deps(ctx context.Context, uri string) ([]Dependency, error) {
+	reply, err := s.ask(ctx, "deps", "", uri)
 	if err != nil {
 		return nil, err
 	}
@@ -136,12 +172,12 @@ func (s *Session) Deps(uri string) ([]Dependency, error) {
 }
 
 // Load loads a zone, a master file, in place of the one that there was.
-func (s *Session) Load(apex, text string) (Loaded, error) {
+func (s *Session) Load(ctx context.Context, apex, text string) (Loaded, error) {
 	line, err := Zone(apex, text)
 	if err != nil {
 		return Loaded{}, err
 	}
-	reply, err := s.one(line)
+	reply, err := s.one(ctx, line)
 	if err != nil {
 		return Loaded{}, err
 	}
@@ -150,20 +186,26 @@ func (s *Session) Load(apex, text string) (Loaded, error) {
 }
 
 // Drop takes out a zone. It returns the number of record sets that changed.
-func (s *Session) Drop(apex string) (uint64, error) { return count(s.ask("drop", "", apex)) }
+func (s *Session) Drop(ctx context.Context, apex string) (uint64, error) {
+	return count(s.ask(ctx, "drop", "", apex))
+}
 
 // Add adds a record, such as `a.example.com. A 192.0.2.1`. It returns the number of record sets that changed.
-func (s *Session) Add(record string) (uint64, error) { return count(s.one("add " + record)) }
+func (s *Session) Add(ctx context.Context, record string) (uint64, error) {
+	return count(s.one(ctx, "add "+record))
+}
 
 // Remove deletes a record. It returns the number of record sets that changed.
-func (s *Session) Remove(record string) (uint64, error) { return count(s.one("del " + record)) }
+func (s *Session) Remove(ctx context.Context, record string) (uint64, error) {
+	return count(s.one(ctx, "del "+record))
+}
 
 // Repair looks up again all kept answers that edits outdated, before anyone asks.
-func (s *Session) Repair() error { return only(s.ask("repair", "")) }
+func (s *Session) Repair(ctx context.Context) error { return only(s.ask(ctx, "repair", "")) }
 
 // Page hands out the journal as a page, which the server keeps, and begins an empty one: no longer B3.
-func (s *Session) Page() (Page, error) {
-	reply, err := s.ask("page", "")
+func (s *Session) Page(ctx context.Context) (Page, error) {
+	reply, err := s.ask(ctx, "page", "")
 	if err != nil {
 		return Page{}, err
 	}
@@ -172,24 +214,24 @@ func (s *Session) Page() (Page, error) {
 }
 
 // Hold leaves an endpoint out of answers for so many milliseconds.
-func (s *Session) Hold(target Target, milliseconds uint64) error {
-	return only(s.ask("hold", "", target.Transport, target.Address, decimal(uint64(target.Port)), decimal(milliseconds)))
+func (s *Session) Hold(ctx context.Context, target Target, milliseconds uint64) error {
+	return only(s.ask(ctx, "hold", "", target.Transport, target.Address, decimal(uint64(target.Port)), decimal(milliseconds)))
 }
 
 // Release ends the hold of an endpoint.
-func (s *Session) Release(target Target) error {
-	return only(s.ask("release", "", target.Transport, target.Address, decimal(uint64(target.Port))))
+func (s *Session) Release(ctx context.Context, target Target) error {
+	return only(s.ask(ctx, "release", "", target.Transport, target.Address, decimal(uint64(target.Port))))
 }
 
 // Clock sets the time in milliseconds, which begins at 0. It returns the steps of the call that has not ended.
-func (s *Session) Clock(milliseconds uint64) ([]Step, error) {
-	return steps(s.ask("clock", "", decimal(milliseconds)))
+func (s *Session) Clock(ctx context.Context, milliseconds uint64) ([]Step, error) {
+	return steps(s.ask(ctx, "clock", "", decimal(milliseconds)))
 }
 
 // Call opens a call to the targets of a URI, one after another. The kind is `invite` or `other`; base is a number
 // that no other request has.
-func (s *Session) Call(kind string, base uint64, uri string, draws Draws) (Opened, error) {
-	reply, err := s.ask("call", draws.text, kind, decimal(base), uri)
+func (s *Session) Call(ctx context.Context, kind string, base uint64, uri string, draws Draws) (Opened, error) {
+	reply, err := s.ask(ctx, "call", draws.text, kind, decimal(base), uri)
 	if err != nil {
 		return Opened{}, err
 	}
@@ -197,23 +239,23 @@ func (s *Session) Call(kind string, base uint64, uri string, draws Draws) (Opene
 }
 
 // Got tells the call that a response with this status code has come to an attempt.
-func (s *Session) Got(attempt uint32, code uint16) ([]Step, error) {
-	return steps(s.ask("got", "", decimal(uint64(attempt)), decimal(uint64(code))))
+func (s *Session) Got(ctx context.Context, attempt uint32, code uint16) ([]Step, error) {
+	return steps(s.ask(ctx, "got", "", decimal(uint64(attempt)), decimal(uint64(code))))
 }
 
 // GotRetry is Got of a response that has the seconds of a Retry-After field.
-func (s *Session) GotRetry(attempt uint32, code uint16, retry uint32) ([]Step, error) {
-	return steps(s.ask("got", " retry "+decimal(uint64(retry)), decimal(uint64(attempt)), decimal(uint64(code))))
+func (s *Session) GotRetry(ctx context.Context, attempt uint32, code uint16, retry uint32) ([]Step, error) {
+	return steps(s.ask(ctx, "got", " retry "+decimal(uint64(retry)), decimal(uint64(attempt)), decimal(uint64(code))))
 }
 
 // Broke tells the call that the transport of its running attempt has failed.
-func (s *Session) Broke() ([]Step, error) { return steps(s.ask("broke", "")) }
+func (s *Session) Broke(ctx context.Context) ([]Step, error) { return steps(s.ask(ctx, "broke", "")) }
 
 // Batch sends many commands at once, and returns their replies in order; a refusal is a reply as any other.
 //
 // A command is a line of the protocol without its end, as Line makes one, or a zone with all of its lines, as Zone
 // makes one. All are checked before the first is sent. Replies are read while commands are sent.
-func (s *Session) Batch(lines []string) ([]Reply, error) {
+func (s *Session) Batch(ctx context.Context, lines []string) ([]Reply, error) {
 	commands := make([]command, 0, len(lines))
 	for _, line := range lines {
 		command, err := prepare(line)
@@ -222,9 +264,16 @@ func (s *Session) Batch(lines []string) ([]Reply, error) {
 		}
 		commands = append(commands, command)
 	}
-	s.mu.Lock()
-	defer s.mu.Unlock()
-	return s.exchange(commands)
+	if err := ctx.Err(); err != nil {
+		return nil, err
+	}
+	select {
+	case <-s.turn:
+	case <-ctx.Done():
+		return nil, ctx.Err()
+	}
+	defer func() { s.turn <- struct{}{} }()
+	return s.exchange(ctx, commands)
 }
 
 // Line returns a command of these fields, for Batch. A field that is empty, or has a blank or a line end, is an
@@ -274,17 +323,17 @@ func count(reply Reply, err error) (uint64, error) {
 }
 
 // ask sends a command of a word, fields that have to be one each, and a rest.
-func (s *Session) ask(word, rest string, fields ...string) (Reply, error) {
+func (s *Session) ask(ctx context.Context, word, rest string, fields ...string) (Reply, error) {
 	line, err := Line(append([]string{word}, fields...)...)
 	if err != nil {
 		return Reply{}, err
 	}
-	return s.one(line + rest)
+	return s.one(ctx, line+rest)
 }
 
 // one sends a command, and returns its reply, or its refusal as the error.
-func (s *Session) one(line string) (Reply, error) {
-	replies, err := s.Batch([]string{line})
+func (s *Session) one(ctx context.Context, line string) (Reply, error) {
+	replies, err := s.Batch(ctx, []string{line})
 	if err != nil {
 		return Reply{}, err
 	}
@@ -330,11 +379,27 @@ func zoneLines(fields []string) int {
 	return int(count)
 }
 
+// end closes the connection, which ends a call that is being made.
 func (s *Session) end() {
-	if s.stream != nil {
-		s.stream.Close()
-		s.stream = nil
+	s.ended.Store(true)
+	s.stream.Close()
+}
+
+// watch ends the session where a context ends before the function that it returns is called.
+func (s *Session) watch(ctx context.Context) func() {
+	if ctx.Done() == nil {
+		return func() {}
 	}
+	stop, stopped := make(chan struct{}), make(chan struct{})
+	go func() {
+		defer close(stopped)
+		select {
+		case <-ctx.Done():
+			s.end()
+		case <-stop:
+		}
+	}()
+	return func() { close(stop); <-stopped }
 }
 
 // An exchange is commands on their way.
@@ -347,9 +412,9 @@ type exchange struct {
 }
 
 // exchange sends commands and reads their replies. The session ends where it returns an error.
-func (s *Session) exchange(commands []command) ([]Reply, error) {
-	if s.stream == nil {
-		return nil, fmt.Errorf("%w: the session has ended", ErrNotConnected)
+func (s *Session) exchange(ctx context.Context, commands []command) ([]Reply, error) {
+	if s.ended.Load() {
+		return nil, &NotConnectedError{Cause: net.ErrClosed}
 	}
 	if len(commands) == 0 {
 		return []Reply{}, nil
@@ -358,7 +423,8 @@ func (s *Session) exchange(commands []command) ([]Reply, error) {
 	for _, command := range commands {
 		output.WriteString(command.octets)
 	}
-	exchange := &exchange{s.stream, s.reader, s.timeout, output.String(), 0}
+	defer s.watch(ctx)()
+	exchange := &exchange{s.stream, s.reader, time.Duration(s.timeout.Load()), output.String(), 0}
 	exchange.progress()
 	if err := exchange.readBefore(); err != nil {
 		s.end()
@@ -381,6 +447,12 @@ func (s *Session) exchange(commands []command) ([]Reply, error) {
 	}
 	s.end() // The writer ends at once when the connection is closed.
 	writer.Wait()
+	if err := ctx.Err(); err != nil {
+		broken.Kind, broken.Cause = ErrConnectionLost, err
+		if err == context.DeadlineExceeded {
+			broken.Kind = ErrTimedOut
+		}
+	}
 	broken.Replies = replies
 	for start := 0; broken.Sent < len(commands) && start < exchange.sent; broken.Sent++ {
 		start += len(commands[broken.Sent].octets)

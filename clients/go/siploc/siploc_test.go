@@ -5,6 +5,7 @@ package siploc
 import (
 	"bufio"
 	"bytes"
+	"context"
 	"errors"
 	"fmt"
 	"io"
@@ -21,6 +22,8 @@ import (
 )
 
 const top = "../../.."
+
+var ctx = context.Background()
 
 func read(t *testing.T, path string) string {
 	t.Helper()
@@ -74,9 +77,9 @@ func start(t *testing.T, sessions int, settings string) *server {
 func connect(t *testing.T, address string, timeout time.Duration) *Session {
 	t.Helper()
 	for tries := 0; ; tries++ {
-		session, err := Connect(address, timeout)
+		session, err := Connect(ctx, address, timeout)
 		if err == nil {
-			t.Cleanup(session.Close)
+			t.Cleanup(func() { _ = session.Close() })
 			return session
 		}
 		if !errors.Is(err, ErrNotConnected) || tries == 400 {
@@ -187,7 +190,7 @@ func TestReadmeSessionInABatch(t *testing.T) {
 	lines := commands(textLines(read(t, "crates/siploc/stdin")))
 	server := start(t, 1, tcpFirst)
 	session := connect(t, server.address, 30*time.Second)
-	replies := must[[]Reply](t)(session.Batch(lines[:len(lines)-1]))
+	replies := must[[]Reply](t)(session.Batch(ctx, lines[:len(lines)-1]))
 	equal(t, append(allLines(replies), "ok quit"), textLines(read(t, "crates/siploc/stdout")))
 	session.Close()
 	server.closes(t, 20)
@@ -197,41 +200,41 @@ func TestReadmeSessionByMethods(t *testing.T) {
 	session := connect(t, start(t, 1, tcpFirst).address, 30*time.Second)
 	find := func(want ...Target) {
 		t.Helper()
-		equal(t, must[Answer](t)(session.Find("sip:bob@example.com", Words(2, 0))).Targets, want)
+		equal(t, must[Answer](t)(session.Find(ctx, "sip:bob@example.com", Words(2, 0))).Targets, want)
 	}
 	number := must[uint64](t)
-	equal(t, must[Loaded](t)(session.Load("example.com.", zone)), Loaded{7, 0, 0, 4})
+	equal(t, must[Loaded](t)(session.Load(ctx, "example.com.", zone)), Loaded{7, 0, 0, 4})
 	find(second, first)
-	equal(t, session.Hold(second, 5000), nil)
+	equal(t, session.Hold(ctx, second, 5000), nil)
 	find(first)
-	equal(t, must[[]Step](t)(session.Clock(5000)), []Step{})
+	equal(t, must[[]Step](t)(session.Clock(ctx, 5000)), []Step{})
 	find(second, first)
-	equal(t, number(session.Add("_sip._tcp.example.com. SRV 1 0 5060 server3.example.com.")), uint64(1))
-	equal(t, number(session.Add("server3.example.com. A 192.0.2.3")), uint64(1))
+	equal(t, number(session.Add(ctx, "_sip._tcp.example.com. SRV 1 0 5060 server3.example.com.")), uint64(1))
+	equal(t, number(session.Add(ctx, "server3.example.com. A 192.0.2.3")), uint64(1))
 	find(second, first, third)
-	numeric := must[Answer](t)(session.Find("sip:server1.example.com:5070", Draws{}))
+	numeric := must[Answer](t)(session.Find(ctx, "sip:server1.example.com:5070", Draws{}))
 	equal(t, numeric, Answer{[]Target{{"udp", "192.0.2.1", 5070}}, ""})
-	equal(t, number(session.Remove("server1.example.com. A 192.0.2.1")), uint64(1))
-	equal(t, session.Repair(), nil)
-	equal(t, must[[]Dependency](t)(session.Deps("sip:server1.example.com:5070")), []Dependency{
+	equal(t, number(session.Remove(ctx, "server1.example.com. A 192.0.2.1")), uint64(1))
+	equal(t, session.Repair(ctx), nil)
+	equal(t, must[[]Dependency](t)(session.Deps(ctx, "sip:server1.example.com:5070")), []Dependency{
 		{"server1.example.com.", "A", 0}, {"server1.example.com.", "CNAME", 0}, {"server1.example.com.", "EXISTS", 0},
 		{"example.com.", "EXISTS", 1}, {"*.example.com.", "A", 0}, {"*.example.com.", "CNAME", 0}})
 	find(second, third)
-	equal(t, number(session.Add("server1.example.com. A 192.0.2.1")), uint64(1))
-	equal(t, must[Answer](t)(session.Find("sip:x.example.com", Draws{})), Answer{[]Target{}, "NoAddress"})
-	_, err := session.Add("SERVER1.example.com. A 192.0.2.1")
+	equal(t, number(session.Add(ctx, "server1.example.com. A 192.0.2.1")), uint64(1))
+	equal(t, must[Answer](t)(session.Find(ctx, "sip:x.example.com", Draws{})), Answer{[]Target{}, "NoAddress"})
+	_, err := session.Add(ctx, "SERVER1.example.com. A 192.0.2.1")
 	var refused *RefusedError
 	if !errors.As(err, &refused) || refused.Code != "S3" || refused.Meaning() != "the record is in the zone already" {
 		t.Fatal(err)
 	}
-	equal(t, must[Opened](t)(session.Call("invite", 1, "sip:bob@example.com", Words(2, 0))), Opened{[]Step{
+	equal(t, must[Opened](t)(session.Call(ctx, "invite", 1, "sip:bob@example.com", Words(2, 0))), Opened{[]Step{
 		{Kind: Send, Attempt: 1, Target: second, Branch: "z9hG4bK0000000000000001.1"}}, ""})
-	equal(t, must[[]Step](t)(session.GotRetry(1, 503, 10)), []Step{{Kind: Ack, Attempt: 1},
+	equal(t, must[[]Step](t)(session.GotRetry(ctx, 1, 503, 10)), []Step{{Kind: Ack, Attempt: 1},
 		{Kind: Hold, Target: second, Milliseconds: 10000},
 		{Kind: Send, Attempt: 2, Target: first, Branch: "z9hG4bK0000000000000001.2"}})
-	equal(t, must[[]Step](t)(session.Got(2, 200)), []Step{{Kind: Deliver, Code: 200}})
+	equal(t, must[[]Step](t)(session.Got(ctx, 2, 200)), []Step{{Kind: Deliver, Code: 200}})
 	find(first, third)
-	equal(t, must[[]Step](t)(session.Clock(15000)), []Step{})
+	equal(t, must[[]Step](t)(session.Clock(ctx, 15000)), []Step{})
 	find(second, first, third)
 }
 
@@ -239,15 +242,15 @@ func TestReadmeSessionByMethods(t *testing.T) {
 func TestPages(t *testing.T) {
 	server := start(t, 1, "journal = 2")
 	session := connect(t, server.address, 30*time.Second)
-	must[Loaded](t)(session.Load("example.com.", ""))
-	must[uint64](t)(session.Add("server1.example.com. A 192.0.2.1"))
-	_, err := session.Find("sip:server1.example.com:5060", Draws{})
+	must[Loaded](t)(session.Load(ctx, "example.com.", ""))
+	must[uint64](t)(session.Add(ctx, "server1.example.com. A 192.0.2.1"))
+	_, err := session.Find(ctx, "sip:server1.example.com:5060", Draws{})
 	var refused *RefusedError
 	equal(t, errors.As(err, &refused) && refused.Code == "B3", true)
-	equal(t, must[Page](t)(session.Page()), Page{0, 2})
-	equal(t, len(must[Answer](t)(session.Find("sip:server1.example.com:5060", Draws{})).Targets), 1)
-	equal(t, must[Page](t)(session.Page()), Page{2, 1})
-	equal(t, must[Page](t)(session.Page()), Page{3, 0})
+	equal(t, must[Page](t)(session.Page(ctx)), Page{0, 2})
+	equal(t, len(must[Answer](t)(session.Find(ctx, "sip:server1.example.com:5060", Draws{})).Targets), 1)
+	equal(t, must[Page](t)(session.Page(ctx)), Page{2, 1})
+	equal(t, must[Page](t)(session.Page(ctx)), Page{3, 0})
 	session.Close()
 	server.closes(t, 3)
 }
@@ -256,26 +259,26 @@ func TestPages(t *testing.T) {
 func TestOtherMethods(t *testing.T) {
 	session := connect(t, start(t, 1, "").address, 30*time.Second)
 	target := Target{"udp", "192.0.2.9", 5060}
-	equal(t, must[Loaded](t)(session.Load("e.", "a A 192.0.2.1\r\na A 192.0.2.2\nb.f. A 192.0.2.1")), Loaded{2, 1, 0, 1})
-	equal(t, must[Loaded](t)(session.Load("example.com.", "")), Loaded{})
-	equal(t, must[uint64](t)(session.Drop("e.")), uint64(1))
-	equal(t, session.Hold(Target{"sctp", "::1", 5060}, 0), nil)
-	equal(t, session.Hold(target, 1), nil)
-	equal(t, must[Answer](t)(session.Find("sip:192.0.2.9", Seed(1))).Reason, "AllHeld")
-	equal(t, must[Opened](t)(session.Call("invite", 7, "sip:192.0.2.9", Draws{})), Opened{[]Step{}, "AllHeld"})
-	equal(t, session.Release(target), nil)
-	opened := must[Opened](t)(session.Call("other", 1<<64-1, "sip:192.0.2.9", Seed(1)))
+	equal(t, must[Loaded](t)(session.Load(ctx, "e.", "a A 192.0.2.1\r\na A 192.0.2.2\nb.f. A 192.0.2.1")), Loaded{2, 1, 0, 1})
+	equal(t, must[Loaded](t)(session.Load(ctx, "example.com.", "")), Loaded{})
+	equal(t, must[uint64](t)(session.Drop(ctx, "e.")), uint64(1))
+	equal(t, session.Hold(ctx, Target{"sctp", "::1", 5060}, 0), nil)
+	equal(t, session.Hold(ctx, target, 1), nil)
+	equal(t, must[Answer](t)(session.Find(ctx, "sip:192.0.2.9", Seed(1))).Reason, "AllHeld")
+	equal(t, must[Opened](t)(session.Call(ctx, "invite", 7, "sip:192.0.2.9", Draws{})), Opened{[]Step{}, "AllHeld"})
+	equal(t, session.Release(ctx, target), nil)
+	opened := must[Opened](t)(session.Call(ctx, "other", 1<<64-1, "sip:192.0.2.9", Seed(1)))
 	equal(t, opened.Steps, []Step{{Kind: Send, Attempt: 1, Target: target, Branch: "z9hG4bKffffffffffffffff.1"}})
-	equal(t, must[[]Step](t)(session.Clock(500)), []Step{{Kind: Resend, Attempt: 1}})
-	equal(t, must[[]Step](t)(session.Broke()), []Step{{Kind: Hold, Target: target, Milliseconds: 30000},
+	equal(t, must[[]Step](t)(session.Clock(ctx, 500)), []Step{{Kind: Resend, Attempt: 1}})
+	equal(t, must[[]Step](t)(session.Broke(ctx)), []Step{{Kind: Hold, Target: target, Milliseconds: 30000},
 		{Kind: Deliver, Code: 500}, {Kind: Exhausted}})
-	must[Loaded](t)(session.Load("example.com.", "_sip._tcp SRV 0 1 5060 a\n_sip._tcp SRV 0 2 5060 b\n"+
+	must[Loaded](t)(session.Load(ctx, "example.com.", "_sip._tcp SRV 0 1 5060 a\n_sip._tcp SRV 0 2 5060 b\n"+
 		"_sip._tcp SRV 0 3 5060 c\n_sip._tcp SRV 0 4 5060 d\n_sip._tcp SRV 1 0 5060 e\n"+
 		"a A 192.0.2.1\nb A 192.0.2.2\nc A 192.0.2.3\nd A 192.0.2.4\ne A 192.0.2.5\n"))
 	for order, draws := range map[string]Draws{"12345": Words(), "24315": Seed(0), "14325": Seed(1<<64 - 1),
 		"42135": Words(3795398737, 17903413, 3545275701, 194195274, 2326030198)} {
 		got := ""
-		for _, target := range must[Answer](t)(session.Find("sip:example.com;transport=tcp", draws)).Targets {
+		for _, target := range must[Answer](t)(session.Find(ctx, "sip:example.com;transport=tcp", draws)).Targets {
 			got += target.Address[len(target.Address)-1:]
 		}
 		equal(t, got, order)
@@ -297,10 +300,10 @@ func TestEachRefusal(t *testing.T) {
 	// The line that names the place is given by start.
 	server := start(t, 1, settings[:strings.Index(settings, "listen")])
 	session := connect(t, server.address, 30*time.Second)
-	replies := must[[]Reply](t)(session.Batch(commands(inputs)))
+	replies := must[[]Reply](t)(session.Batch(ctx, commands(inputs)))
 	equal(t, allLines(replies), want)
 	codes := map[string]bool{"K2": true, "L1": true, "S8": true, "B6": true, "Memory": true, "X1": true, "F1": true,
-		"D1": true, "Busy": true}
+		"D1": true, "D3": true, "Busy": true}
 	for _, reply := range replies {
 		var refused *RefusedError
 		if errors.As(reply.Err(), &refused) {
@@ -330,58 +333,58 @@ func TestRefusalsByMethods(t *testing.T) {
 		}
 		return refused
 	}
-	_, err := session.Load("e.", "; x\na A x")
+	_, err := session.Load(ctx, "e.", "; x\na A x")
 	equal(t, is(err, "Z4").Line, uint64(2))
-	_, err = session.Drop("e.")
+	_, err = session.Drop(ctx, "e.")
 	is(err, "S2")
-	_, err = session.Remove("a")
+	_, err = session.Remove(ctx, "a")
 	is(err, "Z2")
-	_, err = session.Deps("sip:-")
+	_, err = session.Deps(ctx, "sip:-")
 	is(err, "U2")
-	is(session.Hold(first, 1), "O4")
-	is(session.Release(first), "O3")
-	_, err = session.Clock(1<<52 + 1)
+	is(session.Hold(ctx, first, 1), "O4")
+	is(session.Release(ctx, first), "O3")
+	_, err = session.Clock(ctx, 1<<52+1)
 	is(err, "O2")
-	_, err = session.Call("x", 1, "sip:a", Draws{})
+	_, err = session.Call(ctx, "x", 1, "sip:a", Draws{})
 	is(err, "K1")
-	_, err = session.Broke()
+	_, err = session.Broke(ctx)
 	is(err, "K3")
-	_, err = session.Find("sip:"+strings.Repeat("a", 65_528), Draws{})
+	_, err = session.Find(ctx, "sip:"+strings.Repeat("a", 65_528), Draws{})
 	is(err, "K2")
-	_, err = session.Find("sip:a;"+strings.Repeat(";", 65_525), Draws{})
+	_, err = session.Find(ctx, "sip:a;"+strings.Repeat(";", 65_525), Draws{})
 	is(err, "U7")
-	_, err = session.Load("example.com.", "a A 192.0.2.1\na A 192.0.2.2")
+	_, err = session.Load(ctx, "example.com.", "a A 192.0.2.1\na A 192.0.2.2")
 	equal(t, err, nil)
-	_, err = session.Call("invite", 1, "sip:a.example.com:5060", Draws{})
+	_, err = session.Call(ctx, "invite", 1, "sip:a.example.com:5060", Draws{})
 	equal(t, err, nil)
-	_, err = session.GotRetry(1, 503, 10)
+	_, err = session.GotRetry(ctx, 1, 503, 10)
 	equal(t, is(err, "O4").Steps, []Step{{Kind: Ack, Attempt: 1},
 		{Kind: Hold, Target: Target{"udp", "192.0.2.1", 5060}, Milliseconds: 10000},
 		{Kind: Send, Attempt: 2, Target: Target{"udp", "192.0.2.2", 5060}, Branch: "z9hG4bK0000000000000001.2"}})
 }
 
-func Test100000FindsInBatches(t *testing.T) {
+func Test20000FindsInBatches(t *testing.T) {
 	server := start(t, 1, "")
 	session := connect(t, server.address, 30*time.Second)
 	var text strings.Builder
 	for n := 0; n < 1000; n++ {
 		fmt.Fprintf(&text, "s%d A 10.0.%d.%d\n", n, n/256, n%256)
 	}
-	must[Loaded](t)(session.Load("example.com.", text.String()))
-	for begin := 0; begin < 100_000; begin += 10_000 {
+	must[Loaded](t)(session.Load(ctx, "example.com.", text.String()))
+	for begin := 0; begin < 20_000; begin += 10_000 {
 		var lines []string
 		for n := begin; n < begin+10_000; n++ {
 			line := must[string](t)(Line("find", fmt.Sprintf("sip:s%d.example.com:%d", n%1000, n%65_535+1)))
 			lines = append(lines, line)
 		}
-		for place, reply := range must[[]Reply](t)(session.Batch(lines)) {
+		for place, reply := range must[[]Reply](t)(session.Batch(ctx, lines)) {
 			n := begin + place
 			want := fmt.Sprintf("target 1 udp 10.0.%d.%d %d", n%1000/256, n%1000%256, n%65_535+1)
 			equal(t, reply.Lines, []string{want, "ok find 1"})
 		}
 	}
 	session.Close()
-	server.closes(t, 100_001)
+	server.closes(t, 20_001)
 }
 
 // 20,000 finds of 32 targets each, sent at once, on each kind of address: more than both sockets hold.
@@ -405,8 +408,8 @@ func TestBatchOfMoreThanTheSocketsHold(t *testing.T) {
 		line, _ := bufio.NewReader(output).ReadString('\n')
 		equal(t, line, "ready\n")
 		session := connect(t, address, 30*time.Second)
-		must[Loaded](t)(session.Load("e.", text))
-		for _, reply := range must[[]Reply](t)(session.Batch(lines)) {
+		must[Loaded](t)(session.Load(ctx, "e.", text))
+		for _, reply := range must[[]Reply](t)(session.Batch(ctx, lines)) {
 			equal(t, len(reply.Lines), 33)
 		}
 		session.Close()
@@ -420,13 +423,13 @@ func TestServerThatEndsInTheMidst(t *testing.T) {
 	for _, pause := range []time.Duration{5, 50, 150} {
 		server := start(t, 1, "")
 		session := connect(t, server.address, 30*time.Second)
-		must[Loaded](t)(session.Load("e.", "a A 192.0.2.1"))
+		must[Loaded](t)(session.Load(ctx, "e.", "a A 192.0.2.1"))
 		lines := make([]string, 1_000_000)
 		for place := range lines {
 			lines[place] = "find sip:a.e:5070"
 		}
 		time.AfterFunc(pause*time.Millisecond, func() { _ = server.process.Process.Kill() })
-		_, err := session.Batch(lines)
+		_, err := session.Batch(ctx, lines)
 		var broken *BrokenError
 		if !errors.As(err, &broken) || errors.Is(err, ErrTimedOut) {
 			t.Fatal(err)
@@ -435,10 +438,10 @@ func TestServerThatEndsInTheMidst(t *testing.T) {
 		for _, reply := range broken.Replies {
 			equal(t, reply.Lines, []string{"target 1 udp 192.0.2.1 5070", "ok find 1"})
 		}
-		_, err = session.Find("sip:a.e", Draws{})
+		_, err = session.Find(ctx, "sip:a.e", Draws{})
 		equal(t, errors.Is(err, ErrNotConnected), true)
 		_ = server.process.Wait()
-		_, err = Connect(server.address, time.Second)
+		_, err = Connect(ctx, server.address, time.Second)
 		equal(t, errors.Is(err, ErrNotConnected), true)
 	}
 }
@@ -455,14 +458,14 @@ func TestClientThatIsKilledInAZone(t *testing.T) {
 	}
 	server := start(t, 3, "")
 	session := connect(t, server.address, 30*time.Second)
-	must[Loaded](t)(session.Load("e.", "@ A 192.0.2.1"))
+	must[Loaded](t)(session.Load(ctx, "e.", "@ A 192.0.2.1"))
 	for _, text := range []string{"zone e. 1000000\nb A 192.0.2.1\nc A 192.0.2.1\n", "del e. A 192.0.2.1"} {
 		client := exec.Command(os.Args[0], "-test.run=^TestClientThatIsKilledInAZone$")
 		client.Env = append(os.Environ(), address+"="+server.address, half+"="+text)
 		equal(t, fmt.Sprint(client.Run()), "signal: killed")
 	}
 	time.Sleep(200 * time.Millisecond)
-	equal(t, must[Answer](t)(session.Find("sip:e:5060", Draws{})).Targets, []Target{{"udp", "192.0.2.1", 5060}})
+	equal(t, must[Answer](t)(session.Find(ctx, "sip:e:5060", Draws{})).Targets, []Target{{"udp", "192.0.2.1", 5060}})
 	session.Close()
 	// An edit by another than the first session would be an event more.
 	server.closes(t, 2)
@@ -512,7 +515,7 @@ func TestReplies(t *testing.T) {
 				_ = stream.(*net.TCPConn).CloseWrite()
 				_, _ = io.Copy(io.Discard, reader)
 			}), 10*time.Second)
-			replies, err := session.Batch([]string{command})
+			replies, err := session.Batch(ctx, []string{command})
 			var broken *BrokenError
 			seen := "good"
 			switch {
@@ -532,7 +535,7 @@ func TestReplies(t *testing.T) {
 			equal(t, seen, fields[0])
 			if errors.As(err, &broken) {
 				equal(t, broken.MayBeDone() || len(broken.Replies) == 1, true)
-				_, err = session.Batch([]string{command})
+				_, err = session.Batch(ctx, []string{command})
 				equal(t, errors.Is(err, ErrNotConnected), true)
 			}
 		})
@@ -546,7 +549,7 @@ func TestGarbageWithoutEnd(t *testing.T) {
 			_, _ = io.WriteString(stream, octets)
 			_, _ = io.Copy(io.Discard, stream)
 		}), 20*time.Second)
-		_, err := session.Deps("sip:a")
+		_, err := session.Deps(ctx, "sip:a")
 		equal(t, errors.Is(err, ErrBadReply), true)
 	}
 }
@@ -565,28 +568,28 @@ func TestInvalidCommandsAreNotSent(t *testing.T) {
 	for _, line := range []string{"", " ", "\t", "#", "# find sip:a", "quit", " quit\t", "find sip:a\n", "find sip:a\nquit",
 		"find sip:a\r", "add a.e. A 192.0.2.1\rx", "zone e. 1", "zone e. 0\nfind sip:a", "zone e. 2\na A 192.0.2.1",
 		"zone e. 1048577\na", "zone e.\na", "zone e. 1\na\r", "zone " + strings.Repeat("a", 65_536) + " 1\na"} {
-		_, err := session.Batch([]string{"find sip:a", line})
+		_, err := session.Batch(ctx, []string{"find sip:a", line})
 		is(err)
 	}
-	_, err := session.Find("sip:a seed 1", Draws{})
+	_, err := session.Find(ctx, "sip:a seed 1", Draws{})
 	is(err)
-	_, err = session.Find("", Draws{})
+	_, err = session.Find(ctx, "", Draws{})
 	is(err)
-	_, err = session.Deps("sip:a\n")
+	_, err = session.Deps(ctx, "sip:a\n")
 	is(err)
-	_, err = session.Add("a.e. A 192.0.2.1\ndel a.e. A 192.0.2.1")
+	_, err = session.Add(ctx, "a.e. A 192.0.2.1\ndel a.e. A 192.0.2.1")
 	is(err)
-	_, err = session.Remove("a.e. A 192.0.2.1\r")
+	_, err = session.Remove(ctx, "a.e. A 192.0.2.1\r")
 	is(err)
-	_, err = session.Drop("e. f.")
+	_, err = session.Drop(ctx, "e. f.")
 	is(err)
-	_, err = session.Load("e. 0", "")
+	_, err = session.Load(ctx, "e. 0", "")
 	is(err)
-	_, err = session.Load("e.", "a A\r192.0.2.1")
+	_, err = session.Load(ctx, "e.", "a A\r192.0.2.1")
 	is(err)
-	is(session.Hold(Target{"udp", "a b", 1}, 1))
-	is(session.Release(Target{"udp", "", 1}))
-	_, err = session.Call("invite x", 1, "sip:a", Draws{})
+	is(session.Hold(ctx, Target{"udp", "a b", 1}, 1))
+	is(session.Release(ctx, Target{"udp", "", 1}))
+	_, err = session.Call(ctx, "invite x", 1, "sip:a", Draws{})
 	is(err)
 	equal(t, session.stream.(*net.TCPConn).CloseWrite(), nil)
 	equal(t, <-received, "")
@@ -597,18 +600,18 @@ func TestInvalidCommandsAreNotSent(t *testing.T) {
 func TestLostBeforeAndAfter(t *testing.T) {
 	session := connect(t, fake(t, func(net.Conn) {}), 10*time.Second)
 	time.Sleep(200 * time.Millisecond)
-	_, err := session.Add("a.e. A 192.0.2.1")
+	_, err := session.Add(ctx, "a.e. A 192.0.2.1")
 	var broken *BrokenError
 	equal(t, errors.As(err, &broken) && broken.Kind == ErrConnectionLost && !broken.MayBeDone(), true)
 	session = connect(t, fake(t, func(stream net.Conn) { _, _ = stream.Read(make([]byte, 1)) }), 10*time.Second)
-	_, err = session.Add("a.e. A 192.0.2.1")
+	_, err = session.Add(ctx, "a.e. A 192.0.2.1")
 	equal(t, errors.As(err, &broken) && broken.Kind == ErrConnectionLost && broken.MayBeDone(), true)
 	session = connect(t, fake(t, func(stream net.Conn) { _, _ = io.WriteString(stream, "err Busy\n") }), 10*time.Second)
 	time.Sleep(200 * time.Millisecond)
-	_, err = session.Add("a.e. A 192.0.2.1")
+	_, err = session.Add(ctx, "a.e. A 192.0.2.1")
 	var refused *RefusedError
 	equal(t, errors.As(err, &refused) && refused.Code == "Busy", true)
-	_, err = session.Add("a.e. A 192.0.2.1")
+	_, err = session.Add(ctx, "a.e. A 192.0.2.1")
 	equal(t, errors.Is(err, ErrNotConnected), true)
 }
 
@@ -629,7 +632,7 @@ func TestTimeouts(t *testing.T) {
 				done := make(chan bool)
 				session := connect(t, fake(t, func(stream net.Conn) { serve(stream, done) }), 400*time.Millisecond)
 				begin := time.Now()
-				_, err := session.Batch(lines)
+				_, err := session.Batch(ctx, lines)
 				close(done)
 				var broken *BrokenError
 				equal(t, errors.As(err, &broken) && broken.Kind == ErrTimedOut && broken.MayBeDone(), true)
@@ -641,7 +644,7 @@ func TestTimeouts(t *testing.T) {
 	}
 	session := connect(t, start(t, 1, "").address, 200*time.Millisecond)
 	for turn := 0; turn < 2; turn++ {
-		equal(t, session.Repair(), nil)
+		equal(t, session.Repair(ctx), nil)
 		time.Sleep(400 * time.Millisecond)
 	}
 }
@@ -655,7 +658,7 @@ func TestGoroutines(t *testing.T) {
 		go func(port uint16) {
 			defer all.Done()
 			for turn := 0; turn < 200; turn++ {
-				answer, err := session.Find(fmt.Sprintf("sip:192.0.2.9:%d", port), Draws{})
+				answer, err := session.Find(ctx, fmt.Sprintf("sip:192.0.2.9:%d", port), Draws{})
 				if err != nil || len(answer.Targets) != 1 || answer.Targets[0].Port != port {
 					t.Error(answer, err)
 				}
@@ -666,18 +669,92 @@ func TestGoroutines(t *testing.T) {
 }
 
 func TestAddresses(t *testing.T) {
-	for _, address := range []string{"", "127.0.0.1", "localhost:5099", "192.0.2.1:5099", "[2001:db8::1]:5099",
+	for _, address := range []string{"", "127.0.0.1", "localhost", "localhost:0", "192.0.2.1:5099", "[2001:db8::1]:5099",
 		"127.0.0.1:0", "127.0.0.1:65536", "127.0.0.1:x", "::1:5099", "unix:", "unix:" + strings.Repeat("x", 108),
 		"[127.0.0.1]:5099", "300.0.0.1:1"} {
-		_, err := Connect(address, time.Second)
+		_, err := Connect(ctx, address, time.Second)
 		if !errors.Is(err, ErrInvalidCommand) {
 			t.Errorf("%s: %v", address, err)
 		}
 	}
-	for _, address := range []string{freePort(t, "127.0.0.1"), freePort(t, "[::1]"), "unix:/nonexistent/socket"} {
-		_, err := Connect(address, time.Second)
+	_, port, _ := net.SplitHostPort(freePort(t, "127.0.0.1"))
+	for _, address := range []string{freePort(t, "127.0.0.1"), freePort(t, "[::1]"), "localhost:" + port, "unix:/nonexistent/socket"} {
+		_, err := Connect(ctx, address, time.Second)
 		equal(t, errors.Is(err, ErrNotConnected), true)
+		// What it failed with is wrapped, too.
+		var cause *net.OpError
+		equal(t, errors.As(err, &cause), true)
 	}
+	for _, host := range []string{"127.0.0.1", "[::1]"} {
+		listener := must[net.Listener](t)(net.Listen("tcp", host+":0"))
+		_, port, _ := net.SplitHostPort(listener.Addr().String())
+		equal(t, must[*Session](t)(Connect(ctx, "localhost:"+port, time.Second)).ended.Load(), false)
+		listener.Close()
+	}
+}
+
+// silent is a server that takes what comes, and says nothing.
+func silent(t *testing.T) string {
+	return fake(t, func(stream net.Conn) { _, _ = io.Copy(io.Discard, stream) })
+}
+
+// A context that ends before its call ends the session, and the error says both.
+func TestContexts(t *testing.T) {
+	for _, kind := range []error{context.Canceled, context.DeadlineExceeded} {
+		session := connect(t, silent(t), 10*time.Second)
+		within, cancel := context.WithTimeout(ctx, 200*time.Millisecond)
+		if kind == context.Canceled {
+			time.AfterFunc(50*time.Millisecond, cancel)
+		}
+		begin := time.Now()
+		_, err := session.Find(within, "sip:a.e", Draws{})
+		cancel()
+		var broken *BrokenError
+		equal(t, errors.As(err, &broken) && broken.MayBeDone() && errors.Is(err, kind), true)
+		equal(t, errors.Is(err, ErrTimedOut), kind == context.DeadlineExceeded)
+		equal(t, time.Since(begin) < 2*time.Second, true)
+		_, err = session.Find(ctx, "sip:a.e", Draws{})
+		equal(t, errors.Is(err, ErrNotConnected) && errors.Is(err, net.ErrClosed), true)
+	}
+	session := connect(t, start(t, 1, "").address, 10*time.Second)
+	done, cancel := context.WithCancel(ctx)
+	cancel()
+	// One that has ended before: nothing is sent, and the session goes on.
+	_, err := session.Find(done, "sip:a.e", Draws{})
+	equal(t, err, context.Canceled)
+	_, err = Connect(done, session.stream.RemoteAddr().String(), time.Second)
+	equal(t, errors.Is(err, ErrNotConnected), true)
+	within, cancel := context.WithCancel(ctx)
+	equal(t, session.Repair(within), nil)
+	cancel()
+	equal(t, session.Repair(ctx), nil)
+}
+
+// A call that waits for its turn ends with its context alone.
+func TestContextsOfWaitingCalls(t *testing.T) {
+	session := connect(t, silent(t), time.Second)
+	first := make(chan error)
+	go func() { first <- session.Repair(ctx) }()
+	time.Sleep(100 * time.Millisecond)
+	within, cancel := context.WithTimeout(ctx, 100*time.Millisecond)
+	defer cancel()
+	equal(t, session.Repair(within), context.DeadlineExceeded)
+	equal(t, errors.Is(<-first, ErrTimedOut), true)
+}
+
+// Close does not wait for a call, which ends.
+func TestCloseDuringACall(t *testing.T) {
+	var closer io.Closer = connect(t, silent(t), 30*time.Second)
+	first := make(chan error)
+	go func() { first <- closer.(*Session).Repair(ctx) }()
+	time.Sleep(100 * time.Millisecond)
+	begin := time.Now()
+	equal(t, closer.Close(), nil)
+	err := <-first
+	var broken *BrokenError
+	equal(t, errors.As(err, &broken) && broken.Kind == ErrConnectionLost && errors.Is(err, net.ErrClosed), true)
+	equal(t, time.Since(begin) < time.Second, true)
+	equal(t, closer.Close(), nil)
 }
 
 func TestExample(t *testing.T) {

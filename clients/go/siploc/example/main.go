@@ -2,21 +2,24 @@
 package main
 
 import (
+	"context"
 	"fmt"
 	"log"
 	"os"
 	"time"
 
-	"siploc"
+	"siploc.example/clients/go/siploc"
 )
 
 func main() {
-	session, err := siploc.Connect(os.Args[1], time.Second)
+	ctx, cancel := context.WithTimeout(context.Background(), 5*time.Second)
+	defer cancel()
+	session, err := siploc.Connect(ctx, os.Args[1], time.Second)
 	if err != nil {
 		log.Fatal(err)
 	}
 	defer session.Close()
-	answer, err := session.Find("sip:bob@192.0.2.1", siploc.Draws{})
+	answer, err := session.Find(ctx, "sip:bob@192.0.2.1", siploc.Draws{})
 	if err != nil {
 		log.Fatal(err)
 	}

@@ -1,0 +1,192 @@
+"""The client of siploc for asyncio: the calls, values and errors are those of `siploc`.
+
+    import siploc_asyncio
+
+    async with await siploc_asyncio.connect("127.0.0.1:5099") as session:
+        for target in await session.find("sip:bob@example.com"):
+            print(target.transport, target.address, target.port)
+
+Tasks may share a session: their calls are made one after another. A task that is cancelled within its call ends the
+session with it, since the reply that was due would be taken for that of the next command.
+"""
+
+from __future__ import annotations
+
+import asyncio
+import operator
+import socket
+from typing import Iterable, List, Optional, Sequence, Tuple, Union
+
+import siploc
+from siploc import Answer, Dependency, Loaded, NotConnected, Opened, Page, Reply, Step, Target, TimedOut, line, zone
+
+__all__ = ["Session", "connect"]
+
+# What is sent at once: the time begins anew when it has been taken.
+_CHUNK = 1 << 16
+
+
+async def connect(address: str, timeout: float = 30.0) -> Session:
+    """A session with the server at an address, as `siploc.connect` takes one."""
+    fault: Optional[Exception] = None
+    for family, place in siploc._places(address):
+        stream = socket.socket(family, socket.SOCK_STREAM)
+        stream.setblocking(False)
+        try:
+            await asyncio.wait_for(asyncio.get_running_loop().sock_connect(stream, place), timeout)
+            siploc._prepare(stream)
+        except (OSError, asyncio.TimeoutError) as refused:
+            stream.close()
+            fault = fault or refused
+        except BaseException:
+            stream.close()
+            raise
+        else:
+            return Session(stream, timeout)
+    raise NotConnected(f"{address}: {fault or 'timed out'}") from fault
+
+
+class Session:
+    """A connection to a server. `async with` closes it at the end."""
+
+    #: How many seconds a call waits without progress, as of `siploc.Session`.
+    timeout: float
+
+    def __init__(self, stream: socket.socket, timeout: float) -> None:
+        """A session over a connected socket that does not block."""
+        self.timeout = timeout
+        self._stream: Optional[socket.socket] = stream
+        self._turn = asyncio.Lock()
+
+    async def __aenter__(self) -> Session:
+        return self
+
+    async def __aexit__(self, *_: object) -> None:
+        await self.close()
+
+    @property
+    def is_open(self) -> bool:
+        """Whether the session has neither ended nor been closed, as far as is known."""
+        return self._stream is not None
+
+    async def close(self) -> None:
+        """Ends the session by `quit`, and closes the connection; a call that is being made comes to its end before.
+        Nothing is raised."""
+        async with self._turn:
+            if self._stream is not None:
+                self.timeout = min(self.timeout, 1.0)
+                try:
+                    await self._exchange([siploc._Command("quit", b"quit\n", siploc._FORMS["quit"])])
+                except siploc.Error:
+                    pass
+                self._end()
+
+    async def find(self, uri: str, *, words: Optional[Iterable[int]] = None, seed: Optional[int] = None) -> Answer:
+        return (await self._ask(line("find", uri, *siploc._draws(words, seed)))).answer
+
+    async def deps(self, uri: str) -> List[Dependency]:
+        return (await self._ask(line("deps", uri))).dependencies
+
+    async def load(self, apex: str, text: Union[str, Iterable[str]]) -> Loaded:
+        return Loaded(*(await self._ask(zone(apex, text))).counts)
+
+    async def drop(self, apex: str) -> int:
+        return (await self._ask(line("drop", apex))).counts[0]
+
+    async def add(self, record: str) -> int:
+        return (await self._ask(f"add {record}")).counts[0]
+
+    async def remove(self, record: str) -> int:
+        return (await self._ask(f"del {record}")).counts[0]
+
+    async def repair(self) -> None:
+        await self._ask("repair")
+
+    async def page(self) -> Page:
+        return Page(*(await self._ask("page")).counts)
+
+    async def hold(self, target: Union[Target, Tuple[str, str, int]], milliseconds: int) -> None:
+        await self._ask(line("hold", *target, operator.index(milliseconds)))
+
+    async def release(self, target: Union[Target, Tuple[str, str, int]]) -> None:
+        await self._ask(line("release", *target))
+
+    async def clock(self, milliseconds: int) -> List[Step]:
+        return (await self._ask(line("clock", operator.index(milliseconds)))).steps
+
+    async def call(self, kind: str, base: int, uri: str, *, words: Optional[Iterable[int]] = None,
+                   seed: Optional[int] = None) -> Opened:
+        reply = await self._ask(line("call", kind, operator.index(base), uri, *siploc._draws(words, seed)))
+        return Opened(reply.steps, reply.reason)
+
+    async def got(self, attempt: int, code: int, *, retry: Optional[int] = None) -> List[Step]:
+        fields = [] if retry is None else ["retry", operator.index(retry)]
+        return (await self._ask(line("got", operator.index(attempt), operator.index(code), *fields))).steps
+
+    async def broke(self) -> List[Step]:
+        return (await self._ask("broke")).steps
+
+    async def batch(self, commands: Iterable[str]) -> List[Reply]:
+        """Sends many commands at once, and returns their replies in order; a refusal is a reply as any other."""
+        prepared = [siploc._prepared(command) for command in commands]
+        async with self._turn:
+            return await self._exchange(prepared)
+
+    async def _ask(self, command: str) -> Reply:
+        return (await self.batch([command]))[0].check()
+
+    def _end(self) -> None:
+        if self._stream is not None:
+            self._stream.close()
+            self._stream = None
+
+    async def _exchange(self, commands: Sequence[siploc._Command]) -> List[Reply]:
+        """Sends commands and reads their replies. The session ends where this raises."""
+        if self._stream is None:
+            raise NotConnected("the session has ended")
+        exchange = siploc._Exchange(self._stream, None, commands)
+        try:
+            await self._run(self._stream, exchange)
+        except OSError as fault:
+            self._end()
+            raise exchange.lost(str(fault)) from fault
+        except BaseException:
+            self._end()
+            raise
+        return exchange.replies
+
+    async def _run(self, stream: socket.socket, exchange: siploc._Exchange) -> None:
+        loop = asyncio.get_running_loop()
+        if exchange.commands:
+            try:
+                exchange.feed_before(stream.recv(_CHUNK))
+            except BlockingIOError:
+                pass
+        progress = [loop.time()]
+        sender = asyncio.ensure_future(self._send(stream, exchange, progress))
+        try:
+            while len(exchange.replies) < len(exchange.commands):
+                wait = progress[0] + self.timeout - loop.time()
+                try:
+                    octets = await asyncio.wait_for(loop.sock_recv(stream, _CHUNK), max(wait, 0.001))
+                except asyncio.TimeoutError:
+                    if progress[0] + self.timeout <= loop.time():
+                        raise exchange.broken(TimedOut, f"no progress for {self.timeout:g} seconds") from None
+                    continue
+                if exchange.feed(octets):
+                    progress[0] = loop.time()
+        finally:
+            sender.cancel()
+            await asyncio.gather(sender, return_exceptions=True)
+
+    async def _send(self, stream: socket.socket, exchange: siploc._Exchange, progress: List[float]) -> None:
+        """Sends all commands. When the connection fails it ends, and what was replied before is still read."""
+        loop = asyncio.get_running_loop()
+        while exchange.sent < len(exchange.output):
+            chunk = exchange.output[exchange.sent:exchange.sent + _CHUNK]
+            exchange.sent += len(chunk)
+            try:
+                await loop.sock_sendall(stream, chunk)
+            except OSError:
+                return
+            progress[0] = loop.time()

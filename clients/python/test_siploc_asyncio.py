@@ -1,0 +1,186 @@
+#!/usr/bin/env python3
+"""Tests of the client for asyncio, against the program that SIPLOC names and servers that do what none should.
+
+    SIPLOC=crates/siploc/out/siploc clients/python/test_siploc_asyncio.py
+
+The last line is `N passed, M failed`.
+"""
+
+import asyncio
+import contextlib
+import inspect
+import sys
+import time
+import unittest
+
+import siploc
+import siploc_asyncio
+from siploc import Target
+from test_siploc import FIRST, SECOND, ZONE, Server
+
+
+@contextlib.asynccontextmanager
+async def fake(serve):
+    """A server that calls a function with each connection's reader and writer; its address."""
+    async def serves(reader, writer):
+        with contextlib.suppress(ConnectionError, asyncio.CancelledError):
+            await serve(reader, writer)
+
+    server = await asyncio.start_server(serves, "127.0.0.1", 0, limit=1 << 20)
+    try:
+        yield "127.0.0.1:%d" % server.sockets[0].getsockname()[1]
+    finally:
+        server.close()
+
+
+async def connected(server):
+    """A session as soon as the program listens."""
+    for _ in range(400):
+        try:
+            return await siploc_asyncio.connect(server.address)
+        except siploc.NotConnected:
+            await asyncio.sleep(0.025)
+    raise AssertionError("it does not listen")
+
+
+class Asyncio(unittest.IsolatedAsyncioTestCase):
+    async def asyncSetUp(self):
+        # (it logs each task that takes a tenth of a second)
+        asyncio.get_running_loop().set_debug(False)
+
+    async def test_the_same_calls(self):
+        """Each call of the other client, with the same parameters."""
+        public = [name for name, it in vars(siploc.Session).items() if inspect.isfunction(it) and not name.startswith("_")]
+        self.assertGreater(len(public), 12)
+        for name in public:
+            ours = getattr(siploc_asyncio.Session, name)
+            self.assertTrue(inspect.iscoroutinefunction(ours), name)
+            self.assertEqual(inspect.signature(ours).parameters, inspect.signature(getattr(siploc.Session, name)).parameters, name)
+
+    async def test_session(self):
+        with Server(1, 'transports = ["tcp", "udp"]') as server:
+            async with await connected(server) as session:
+                self.assertEqual((await session.load("example.com.", ZONE)).records, 7)
+                answer = await session.find("sip:bob@example.com", words=[2])
+                self.assertEqual(list(answer), [SECOND, FIRST])
+                await session.hold(SECOND, 5_000)
+                self.assertEqual(list(await session.find("sip:bob@example.com", seed=7)), [FIRST])
+                await session.release(SECOND)
+                self.assertEqual(await session.clock(5), [])
+                self.assertEqual(await session.add("server1.example.com. A 192.0.2.3"), 1)
+                self.assertEqual(await session.remove("server1.example.com. A 192.0.2.3"), 1)
+                self.assertIn("example.com.", [it.name for it in await session.deps("sip:bob@example.com")])
+                opened = await session.call("other", 1, "sip:bob@example.com")
+                self.assertEqual(opened.steps[0].attempt, 1)
+                self.assertTrue(await session.broke())
+                self.assertTrue(await session.got(2, 200))
+                await session.repair()
+                self.assertEqual((await session.page()).first, 0)
+                self.assertGreater(await session.drop("example.com."), 0)
+                with self.assertRaises(siploc.Refused) as caught:
+                    await session.drop("example.com.")
+                self.assertEqual(caught.exception.code, "S2")
+                for command in ("quit", "find sip:a\nfind sip:b", "", "find sip:\ud800"):
+                    with self.subTest(command), self.assertRaises(siploc.InvalidCommand):
+                        await session.batch([command])
+            self.assertFalse(session.is_open)
+            with self.assertRaises(siploc.NotConnected):
+                await session.repair()
+
+    async def test_batches_and_tasks(self):
+        """A batch of more than the sockets hold, and many tasks that share the session."""
+        with Server(1) as server:
+            async with await connected(server) as session:
+                await session.load("e.", (f"a A 192.0.2.{n}" for n in range(32)))
+                replies = await session.batch(["find sip:" + "x" * 400 + "@a.e:5060"] * 5_000)
+                self.assertEqual({len(reply.answer) for reply in replies}, {32})
+
+                async def asks(port):
+                    return [(await session.find(f"sip:192.0.2.9:{port}")).targets for _ in range(20)]
+
+                found = await asyncio.gather(*(asks(port) for port in range(1, 50)))
+                self.assertEqual(found, [[[Target("udp", "192.0.2.9", port)]] * 20 for port in range(1, 50)])
+                self.assertEqual(await session.batch([]), [])
+
+    async def test_replies_that_are_none(self):
+        async def says(octets, error, may_be_done=True, timeout=0.5):
+            async def serve(reader, writer):
+                await reader.readline()
+                writer.write(octets)
+                if octets != b"":
+                    writer.close()
+                else:
+                    await asyncio.sleep(2)
+
+            async with fake(serve) as address:
+                session = await siploc_asyncio.connect(address, timeout)
+                start = time.monotonic()
+                with self.subTest(octets), self.assertRaises(error) as caught:
+                    await session.find("sip:a")
+                self.assertIs(type(caught.exception), error)
+                self.assertEqual(caught.exception.may_be_done, may_be_done)
+                self.assertFalse(session.is_open)
+                self.assertLess(time.monotonic() - start, 5)
+
+        await says(b"", siploc.TimedOut)
+        await says(b"target 1 udp 192.0.2.1 5060\n", siploc.HalfReply)
+        await says(b"hello\n", siploc.BadReply)
+        await says(b"ok find 1\n", siploc.BadReply)
+        await says(b"none NoAddress\nnone NoAddress\n", siploc.BadReply, False)
+
+    async def test_lost_and_refused_before(self):
+        async def closes(_, writer):
+            writer.close()
+
+        async def refuses(_, writer):
+            writer.write(b"err Busy\n")
+            await asyncio.sleep(2)
+
+        async with fake(closes) as address:
+            session = await siploc_asyncio.connect(address)
+            await asyncio.sleep(0.2)
+            with self.assertRaises(siploc.ConnectionLost):
+                await session.repair()
+        async with fake(refuses) as address:
+            session = await siploc_asyncio.connect(address)
+            await asyncio.sleep(0.2)
+            with self.assertRaises(siploc.Refused):
+                await session.repair()
+            self.assertFalse(session.is_open)
+        with self.assertRaises(siploc.NotConnected):
+            await siploc_asyncio.connect("unix:/nonexistent/socket")
+        with self.assertRaises(siploc.InvalidCommand):
+            await siploc_asyncio.connect("192.0.2.1:5099")
+
+    async def test_cancelled(self):
+        """A call that is cancelled ends the session; one that waits for its turn ends alone."""
+        async def takes(reader, _):
+            while await reader.read(1_000):
+                pass
+
+        async with fake(takes) as address:
+            session = await siploc_asyncio.connect(address, 30)
+            first = asyncio.ensure_future(session.repair())
+            await asyncio.sleep(0.1)
+            second = asyncio.ensure_future(session.repair())
+            await asyncio.sleep(0.1)
+            second.cancel()
+            with self.assertRaises(asyncio.CancelledError):
+                await second
+            self.assertTrue(session.is_open)
+            first.cancel()
+            with self.assertRaises(asyncio.CancelledError):
+                await first
+            self.assertFalse(session.is_open)
+            await session.close()
+
+
+def main():
+    result = unittest.TextTestRunner(verbosity=0).run(unittest.defaultTestLoader.loadTestsFromTestCase(Asyncio))
+    failed = len(result.failures) + len(result.errors)
+    print(f"{result.testsRun - failed} passed, {failed} failed", flush=True)
+    return 1 if failed else 0
+
+
+if __name__ == "__main__":
+    sys.exit(main())
