@@ -1,7 +1,8 @@
 """Changes of a locator in a Redis stream: what tools/publish appends, and tools/apply takes from it.
 
-An entry of the stream has one field, `change`: a line of a session that changes zones, holds or the time, or a
-`zone` line with its lines. Redis is spoken to directly (RESP 2), over loopback or a Unix socket.
+An entry of the stream has a field `change`: a line of a session that changes zones, holds or the time, or a `zone` line
+with its lines; and maybe `by`, by which its publisher knows that it was appended. Redis is spoken to directly (RESP 2),
+over loopback or a Unix socket.
 """
 
 from __future__ import annotations
@@ -9,7 +10,9 @@ from __future__ import annotations
 import hashlib
 import ipaddress
 import re
+import secrets
 import socket
+import time
 from typing import TYPE_CHECKING, BinaryIO, Dict, Iterable, Iterator, List, NamedTuple, Optional, Sequence, Tuple, Union
 
 if TYPE_CHECKING:
@@ -21,6 +24,17 @@ WINDOW = 256
 MARKS = "applied.invalid."
 
 Place = Tuple[int, int]
+
+#: What `XINFO STREAM` says of a stream, without the entries in it, and some entries after a place, at the same time.
+_WINDOW = b"""if redis.call('EXISTS', KEYS[1]) == 0 then return {} end
+local info, facts = redis.call('XINFO', 'STREAM', KEYS[1]), {}
+for i = 1, #info, 2 do
+    if type(info[i + 1]) == 'string' or type(info[i + 1]) == 'number' then
+        facts[#facts + 1] = info[i]
+        facts[#facts + 1] = info[i + 1]
+    end
+end
+return {facts, redis.call('XRANGE', KEYS[1], ARGV[1], '+', 'COUNT', 1024)}"""
 
 #: The number of fields of each change, its word among them: at least, and at most.
 _FIELDS = {b"zone": (3, 3), b"drop": (2, 2), b"add": (2, 65_536), b"del": (2, 65_536), b"hold": (5, 5),
@@ -129,6 +143,12 @@ class Mark(NamedTuple):
         return f"at{self.turn}.{MARKS} CNAME {id_of(self.place)}.{id_of(self.first)}.{self.stream}.{state}.{MARKS}"
 
 
+def mark_of(name: str, turn: int) -> Optional[Mark]:
+    """The mark that an alias leads to, if it is one."""
+    match = re.fullmatch(rf"([0-9-]+)\.([0-9-]+)\.([0-9a-f]+)\.(good|broken)\.{re.escape(MARKS)}", name)
+    return Mark(match[3], place_of(match[1]), place_of(match[2]), match[4] == "broken", turn) if match else None
+
+
 def stream_id(key: str) -> str:
     """The stream of a key, in a mark."""
     return hashlib.sha256(key.encode()).hexdigest()[:16]
@@ -140,10 +160,10 @@ def marks_of(session: Session) -> List[Mark]:
         marks, exists = [], False
         for turn in range(2):
             for it in session.deps(f"sip:at{turn}.{MARKS}:1"):
-                match = re.fullmatch(rf"([0-9-]+)\.([0-9-]+)\.([0-9a-f]+)\.(good|broken)\.{re.escape(MARKS)}", it.name)
+                mark = mark_of(it.name, turn)
                 exists = exists or it.records > 0 and it.name == MARKS
-                if match:
-                    marks.append(Mark(match[3], place_of(match[1]), place_of(match[2]), match[4] == "broken", turn))
+                if mark:
+                    marks.append(mark)
                     break
         if marks or not exists:
             return sorted(marks, key=lambda mark: (mark.place, mark.is_broken))
@@ -195,37 +215,77 @@ class Refusal(NamedTuple):
 
 
 class Extent(NamedTuple):
-    """Which entries a stream has: the first, the last that there ever was, and the last that was deleted."""
+    """Which entries a stream has: the first, the last that there ever was, the last that was deleted by its id, and how
+    many were taken out in all: Redis 7.0 does not say of one that was trimmed which it was."""
 
     first: Place
     last: Place
     deleted: Place
+    removed: int
+
+    def begins(self) -> Place:
+        """The first entry, or the one that there will be at the earliest."""
+        return self.first if self.first > (0, 0) else (self.last[0], self.last[1] + 1)
+
+    def lacks(self, place: Place) -> bool:
+        """Whether entries after a place may have been taken out."""
+        return self.removed > 0 and place < self.last and self.begins() > place
 
 
 class Stream:
     """A Redis stream. Raises `Fault` where Redis is away or refuses a command."""
 
-    def __init__(self, address: str, key: str) -> None:
-        """The stream of a key, at `127.0.0.1:6379` or `unix:/run/redis.sock`."""
+    def __init__(self, address: str, key: str, seconds: float = 60) -> None:
+        """The stream of a key, at `127.0.0.1:6379` or `unix:/run/redis.sock`, which may be silent for some seconds."""
         self.address, self.key = address, key
         try:
-            self.socket = connected(address)
+            self.socket = connected(address, seconds)
         except OSError as fault:
-            raise Fault(f"Redis at {address}: {fault}") from fault
+            raise Away(f"Redis at {address}: {fault}") from fault
         self.reader: BinaryIO = self.socket.makefile("rb")
 
-    def append(self, changes: Sequence[Change]) -> Place:
-        """Appends changes in order; the place of the last one."""
-        replies = self.ask([[b"XADD", self.key.encode(), b"*", b"change", it.octets] for it in changes])
+    def append(self, changes: Sequence[Change], token: str = "", first: int = 0) -> Place:
+        """Appends changes in order; the place of the last one. They are numbered, where that is wanted, by a publisher's
+        token and the numbers from the first one on."""
+        replies = self.ask([[b"XADD", self.key.encode(), b"*", b"change", it.octets,
+                             *([b"by", f"{token}-{first + number}".encode()] if token else [])]
+                            for number, it in enumerate(changes)])
         return place_of(bytes_of(replies[-1]))
 
-    def after(self, place: Place, wait: Optional[int] = None) -> List[Entry]:
-        """Some entries after a place, in order; where there are none, waits so many milliseconds for one."""
-        block = [] if wait is None else [b"BLOCK", b"%d" % wait]
-        words = [b"XREAD", b"COUNT", b"1024", *block, b"STREAMS", self.key.encode(), id_of(place).encode()]
-        reply = self.ask([words])[0]
+    def numbered(self, token: str, since: Place) -> Optional[Tuple[int, Place]]:
+        """The greatest number with a token after a place, and the place of its entry."""
+        found, place = None, since
+        while values := self.window(place)[1]:
+            for value in values:
+                name, fields = value  # type: ignore[misc]
+                place = place_of(name)
+                text = bytes_of(fields[3]).decode("latin-1") if len(fields) == 4 else ""
+                if text.startswith(f"{token}-"):
+                    found = int(text[len(token) + 1:]), place
+        return found
+
+    def wait(self, place: Place, milliseconds: int) -> None:
+        """Waits until there is an entry after a place, or so long."""
+        self.ask([[b"XREAD", b"COUNT", b"1", b"BLOCK", b"%d" % milliseconds, b"STREAMS", self.key.encode(),
+                   id_of(place).encode()]])
+
+    def window(self, place: Place) -> Tuple[Extent, List[Value]]:
+        """Which entries there are, and at the same time some of them after a place, in order."""
+        reply = self.ask([[b"EVAL", _WINDOW, b"1", self.key.encode(), f"({id_of(place)}".encode()]])[0]
+        if not isinstance(reply, list) or len(reply) not in (0, 2) or not all(isinstance(it, list) for it in reply):
+            raise Fault(f"not a reply of Redis: {reply!r}")
+        if not reply:
+            return Extent((0, 0), (0, 0), (0, 0), 0), []
+        return self.extent_of(reply[0]), reply[1]  # type: ignore[arg-type, return-value]
+
+    def after(self, place: Place) -> List[Entry]:
+        """Some entries after a place, in order."""
+        return self.entries(self.window(place)[1])
+
+    def entries(self, values: Sequence[Value]) -> List[Entry]:
+        """The entries that `window` has found, up to one that is none of ours; that one first is a fault."""
         entries: List[Entry] = []
-        for it in reply[0][1] if reply else []:  # type: ignore[index, union-attr]
+        for it in values:
             try:
                 entries.append(self.entry(it))
             except Garbage:
@@ -240,23 +300,24 @@ class Stream:
         name, fields = value  # type: ignore[misc]
         place = place_of(name)
         try:
-            if not isinstance(fields, list) or len(fields) != 2 or fields[0] != b"change":
-                raise Fault("it does not have the one field `change`")
+            if not isinstance(fields, list) or fields[::2] not in ([b"change"], [b"change", b"by"]):
+                raise Fault("it does not have the field `change`, and at most `by`")
             return Entry(place, change_of(bytes_of(fields[1])))
         except Fault as fault:
             raise Garbage(place, f"entry {id_of(place)} of {self.key}: {fault}") from fault
 
     def extent(self) -> Extent:
         """Which entries there are."""
-        reply = self.ask([[b"EXISTS", self.key.encode()]])[0]
-        if reply == 0:
-            return Extent((0, 0), (0, 0), (0, 0))
-        info = self.ask([[b"XINFO", b"STREAM", self.key.encode()]])[0]
-        facts = dict(zip(info[::2], info[1::2])) if isinstance(info, list) else {}  # type: ignore[arg-type]
+        return self.window((1 << 63, 0))[0]
+
+    def extent_of(self, info: List[Value]) -> Extent:
+        """What `XINFO STREAM` says."""
+        facts = dict(zip(info[::2], info[1::2]))  # type: ignore[arg-type]
         names = (b"recorded-first-entry-id", b"last-generated-id", b"max-deleted-entry-id")
-        if any(name not in facts for name in names):
+        places, counts = [facts.get(name) for name in names], [facts.get(name) for name in (b"entries-added", b"length")]
+        if None in places or not all(isinstance(it, int) for it in counts):
             raise Fault(f"Redis at {self.address} does not tell what was deleted of a stream: it needs Redis 7")
-        return Extent(*(place_of(bytes_of(facts[name])) for name in names))
+        return Extent(*(place_of(bytes_of(it)) for it in places), counts[0] - counts[1])  # type: ignore[operator]
 
     def ask(self, commands: Sequence[Sequence[bytes]]) -> List[Value]:
         """Sends commands at once; their replies."""
@@ -266,10 +327,11 @@ class Stream:
                 for words in commands))
             replies = [self.reply() for _ in commands]
         except OSError as fault:
-            raise Fault(f"Redis at {self.address}: {fault}") from fault
+            raise Away(f"Redis at {self.address}: {fault}") from fault
         for it in replies:
             if isinstance(it, Refusal):
-                raise Fault(f"Redis at {self.address}: {it.text}")
+                # (it reads its files at the start)
+                raise (Away if it.text.startswith("LOADING") else Fault)(f"Redis at {self.address}: {it.text}")
         return replies
 
     def reply(self) -> Value:
@@ -295,6 +357,47 @@ class Stream:
         return octets[:-2]
 
 
+class Publisher:
+    """What appends changes to a stream, each once, also where Redis goes away meanwhile."""
+
+    def __init__(self, address: str, key: str, seconds: float = 60) -> None:
+        """Redis may be away for some seconds, but not at the start."""
+        self.address, self.key, self.seconds = address, key, seconds
+        self.token, self.count = secrets.token_hex(8), 0
+        self.stream = Stream(address, key)
+        self.place = self.stream.extent().last
+
+    def append(self, changes: Sequence[Change]) -> None:
+        """Appends changes; `place` is that of the last one."""
+        first, self.count = self.count, self.count + len(changes)
+        try:
+            self.place = self.stream.append(changes, self.token, first)
+        except Away:
+            self.append_again(changes, first)
+
+    def append_again(self, changes: Sequence[Change], first: int) -> None:
+        """Appends changes of which it is not known how many were appended."""
+        end = time.monotonic() + self.seconds
+        while True:
+            try:
+                self.stream = Stream(self.address, self.key)
+                if self.stream.extent().lacks(self.place):
+                    raise Fault(f"{self.key}: entries after {id_of(self.place)} were trimmed, so it can't be said which "
+                                "changes were appended")
+                last, self.place = self.stream.numbered(self.token, self.place) or (first - 1, self.place)
+                if last + 1 < self.count:
+                    self.place = self.stream.append(changes[max(last + 1 - first, 0):], self.token, max(last + 1, first))
+                return
+            except Away:
+                if time.monotonic() >= end:
+                    raise
+            time.sleep(0.2)
+
+
+class Away(Fault):
+    """Redis is not there, or was not there any more."""
+
+
 class Garbage(Fault):
     """An entry that is no change; its place."""
 
@@ -310,13 +413,14 @@ def bytes_of(value: object) -> bytes:
     return value
 
 
-def connected(address: str) -> socket.socket:
-    """A socket that is connected to an address."""
+def connected(address: str, seconds: float) -> socket.socket:
+    """A socket that is connected to an address, and waits so many seconds at most."""
     if address.startswith("unix:"):
         stream = socket.socket(socket.AF_UNIX, socket.SOCK_STREAM)
+        stream.settimeout(seconds)
         stream.connect(address[len("unix:"):])
         return stream
     host, colon, port = address.rpartition(":")
     if not colon or not port.isdigit():
         raise OSError("not an address such as 127.0.0.1:6379")
-    return socket.create_connection((host.strip("[]"), int(port)), timeout=60)
+    return socket.create_connection((host.strip("[]"), int(port)), timeout=seconds)

@@ -1,38 +1,70 @@
 """What kamailio.cfg asks a locator for: `locate` and `failed`, for python_exec of the module app_python3.
 
 Each process of Kamailio has a session of its own with the locator at SIPLOC_ADDRESS. Where it is away, `locate`
-says so at once, and each process tries a new connection once a second.
+says so at once, and each process tries a new connection once a second. With SIPLOC_STREAM, a Redis stream, and
+SIPLOC_REDIS, what has failed is published there for all locators (docs/CLUSTER.md), and not held beside the stream.
 """
 
 from __future__ import annotations
 
 import os
 import random
+import re
 import sys
 import time
 from typing import Callable, List, Optional, TypeVar
 
 import KSR
 
-sys.path.insert(0, os.path.join(os.path.dirname(os.path.abspath(__file__)), "../../clients/python"))
+sys.path[:0] = [os.path.join(os.path.dirname(os.path.abspath(__file__)), "../..", it) for it in ("clients/python", "tools")]
+import changelog  # noqa: E402
 import siploc  # noqa: E402
 
 ADDRESS = os.environ.get("SIPLOC_ADDRESS", "127.0.0.1:5099")
 # How long a server that said nothing is left out, in milliseconds.
 HOLD = int(os.environ.get("SIPLOC_HOLD", "30000"))
+STREAM, REDIS = os.environ.get("SIPLOC_STREAM"), os.environ.get("SIPLOC_REDIS", "127.0.0.1:6379")
 # How long a request waits for the locator before Kamailio's own resolver takes its place, in seconds.
 PATIENCE = 0.5
 # How many targets of an answer are tried at most.
 MOST = 4
 
-LOCATED, NO_TARGET, AWAY = 1, 2, 3
+LOCATED, NO_TARGET, AWAY, NUMERIC = 1, 2, 3, 4
 FAILED = -1
 TARGETS = "$avp(targets)"
 Reply = TypeVar("Reply")
 
 
 class Away(Exception):
-    """The locator was away within the last second, and is not asked."""
+    """The locator, or Redis, was away within the last second, and is not asked."""
+
+    def __str__(self) -> str:
+        return "away within the last second"
+
+
+class Stream:
+    """The stream of a cluster, as one process of Kamailio sees it."""
+
+    def __init__(self) -> None:
+        self.stream: Optional[changelog.Stream] = None
+        self.next_try = 0.0
+
+    def append(self, line: str) -> None:
+        """Publishes a change, over a new connection where the old one has ended since. One that is published twice
+        for that is as one."""
+        change = changelog.change_of(line.encode())
+        if self.stream is not None:
+            try:
+                self.stream.append([change])
+                return
+            except changelog.Fault:
+                self.stream = None
+        if time.monotonic() < self.next_try:
+            raise Away
+        self.next_try = time.monotonic() + 1
+        stream = changelog.Stream(REDIS, STREAM or "", PATIENCE)
+        stream.append([change])
+        self.stream = stream
 
 
 class Locator:
@@ -41,6 +73,7 @@ class Locator:
     def __init__(self) -> None:
         self.session: Optional[siploc.Session] = None
         self.next_try = 0.0
+        self.stream = Stream()
         self.chance = random.SystemRandom()
 
     def child_init(self, _rank: int) -> int:
@@ -61,9 +94,18 @@ class Locator:
         self.session = siploc.connect(ADDRESS, timeout=PATIENCE)
         return question(self.session)
 
+    def hold(self, target: siploc.Target, milliseconds: int) -> None:
+        """Leaves a target out: here, or in all of the cluster."""
+        if STREAM:
+            self.stream.append(siploc.line("hold", *target, milliseconds))
+        else:
+            self.ask(lambda session: session.hold(target, milliseconds))
+
     def locate(self, _message: object) -> int:
         """Sets $du to the first target of the next hop, and keeps the others for `failed`."""
         uri = KSR.pv.get("$nh(u)")
+        if is_numeric(uri):
+            return NUMERIC
         try:
             answer = self.ask(lambda session: session.find(uri, seed=self.chance.getrandbits(64)))
         except Away:
@@ -79,18 +121,29 @@ class Locator:
 
     def failed(self, _message: object, retry_after: str) -> int:
         """Holds the target that has failed, and sets $du to the next one, where there is one."""
-        first, *others = KSR.pv.get(TARGETS).split(",")
+        targets = KSR.pv.get(TARGETS)
+        if not targets:
+            # The locator was away when they were asked for.
+            return FAILED
+        first, *others = targets.split(",")
         transport, address, port = first.split(" ")
         digits = retry_after.split(";")[0].split("(")[0].strip()
         wait = int(digits) * 1000 if digits.isdigit() and int(digits) else HOLD
         try:
-            self.ask(lambda session: session.hold((transport, address, int(port)), wait))
-        except (Away, siploc.Error) as fault:
-            KSR.warn(f"siploc: {fault or 'away'}: {first} is not held\n")
+            self.hold(siploc.Target(transport, address, int(port)), wait)
+        except (Away, changelog.Fault, siploc.Error) as fault:
+            KSR.warn(f"siploc: {fault}: {first} is not held\n")
         if not others:
             return FAILED
         go_to(others)
         return LOCATED
+
+
+def is_numeric(uri: str) -> bool:
+    """Whether a URI has an address in the place of a name: its `maddr`, or else its host."""
+    host, *parameters = uri.partition(":")[2].rpartition("@")[2].partition("?")[0].split(";")
+    given = [it[len("maddr="):] for it in parameters if it.lower().startswith("maddr=")]
+    return bool(re.match(r"\[|[0-9.]+(:|$)", (given or [host])[0]))
 
 
 def go_to(targets: List[str]) -> None:

@@ -87,9 +87,9 @@ def call(path: str, words: Sequence[str], octets: bytes = b"") -> tuple[int, str
     return status, out.getvalue(), errors.getvalue()
 
 
-def session(text: str) -> list[str]:
+def session(text: str, seconds: float = 120) -> list[str]:
     """The replies of the program to a session."""
-    status, out, _ = run([PROGRAM, "run"], text.encode())
+    status, out, _ = run([PROGRAM, "run"], text.encode(), seconds)
     expect(status == 0, f"the program ended with {status}")
     return out.split("\n")[:-1]
 

@@ -1,0 +1,115 @@
+"""SIP servers of a few lines, and requests to a proxy, for tests."""
+
+from __future__ import annotations
+
+import contextlib
+import itertools
+import re
+import socket
+import ssl
+import threading
+import time
+from typing import List, Optional, Tuple
+
+COPIED = re.compile(rb"(?im)^(?:via|from|to|call-id|cseq|record-route):.*\r\n")
+NUMBERS = itertools.count(1)
+
+
+def reply_to(request: bytes, status: int, more: str = "") -> bytes:
+    """A response without a body; `more` has further header fields, each with its line end."""
+    copied = b"".join(COPIED.findall(request))
+    if status > 100:
+        copied = re.sub(rb"(?im)^(to:[^\r]*?)(;tag=[^\r]*)?\r\n", rb"\1;tag=t\r\n", copied)
+    return b"SIP/2.0 %d Test\r\n%s%sContent-Length: 0\r\n\r\n" % (status, copied, more.encode())
+
+
+class Server:
+    """A server at an address, over `udp`, `tcp` or `tls`. Its status may be changed; with None it is silent. An ACK
+    has no reply."""
+
+    def __init__(self, transport: str = "udp", host: str = "127.0.0.1", port: int = 0, status: Optional[int] = 200,
+                 more: str = "", context: Optional[ssl.SSLContext] = None) -> None:
+        self.transport, self.host, self.status, self.more, self.context = transport, host, status, more, context
+        self.methods: List[str] = []
+        if transport == "udp":
+            self.socket = socket.socket(socket.AF_INET6 if ":" in host else socket.AF_INET, socket.SOCK_DGRAM)
+            self.socket.bind((host, port))
+        else:
+            self.socket = socket.create_server((host, port), family=socket.AF_INET6 if ":" in host else socket.AF_INET)
+        self.port: int = self.socket.getsockname()[1]
+        serve = self.serve_datagrams if transport == "udp" else self.serve_streams
+        self.thread = threading.Thread(target=serve, daemon=True)
+        self.thread.start()
+
+    def reply(self, request: bytes) -> bytes:
+        """What it sends back, if it sends anything."""
+        method = request.split(b" ", 1)[0].decode("latin-1")
+        self.methods.append(method)
+        return b"" if self.status is None or method == "ACK" else reply_to(request, self.status, self.more)
+
+    def serve_datagrams(self) -> None:
+        with contextlib.suppress(OSError):
+            while True:
+                request, sender = self.socket.recvfrom(65_536)
+                if not sender:
+                    return
+                reply = self.reply(request)
+                if reply:
+                    self.socket.sendto(reply, sender)
+
+    def serve_streams(self) -> None:
+        with contextlib.suppress(OSError):
+            while True:
+                stream, _ = self.socket.accept()
+                threading.Thread(target=self.serve_stream, args=(stream,), daemon=True).start()
+
+    def serve_stream(self, stream: socket.socket) -> None:
+        """Requests without bodies, one after another."""
+        with contextlib.suppress(OSError), stream:
+            if self.context:
+                stream = self.context.wrap_socket(stream, server_side=True)
+            octets = b""
+            while True:
+                more = stream.recv(65_536)
+                if not more:
+                    return
+                *requests, octets = (octets + more).split(b"\r\n\r\n")
+                for it in requests:
+                    stream.sendall(self.reply(it.lstrip(b"\r\n") + b"\r\n\r\n"))
+
+    def close(self) -> None:
+        with contextlib.suppress(OSError):
+            self.socket.shutdown(socket.SHUT_RDWR)
+        self.thread.join(5)
+        self.socket.close()
+
+    def __enter__(self) -> Server:
+        return self
+
+    def __exit__(self, *_: object) -> None:
+        self.close()
+
+
+def ask(port: int, uri: str = "sip:bob@example.com", method: str = "INVITE", seconds: float = 8.0) -> Tuple[int, float]:
+    """The status of the final response to a request over UDP to a port of 127.0.0.1, and after how many seconds it
+    came; 0 where none comes. It is sent once, and a final response to an INVITE has its ACK."""
+    number, start = next(NUMBERS), time.monotonic()
+    with socket.socket(socket.AF_INET, socket.SOCK_DGRAM) as client:
+        client.bind(("127.0.0.1", 0))
+        here = f"127.0.0.1:{client.getsockname()[1]}"
+        head = "\r\n".join([
+            f"Via: SIP/2.0/UDP {here};branch=z9hG4bKt{number}", f"From: <sip:alice@example.net>;tag={number}",
+            "To: <sip:bob@example.com>", f"Call-ID: {number}@{here}", f"Contact: <sip:alice@{here}>",
+            "Max-Forwards: 70", "Content-Length: 0", f"CSeq: 1 {{}}\r\n\r\n"])
+        client.sendto(f"{method} {uri} SIP/2.0\r\n{head.format(method)}".encode(), ("127.0.0.1", port))
+        status = 0
+        while status < 200:
+            client.settimeout(max(0.01, start + seconds - time.monotonic()))
+            try:
+                status = int(client.recv(65_536).split(b" ", 2)[1])
+            except socket.timeout:
+                return 0, time.monotonic() - start
+        took = time.monotonic() - start
+        if method == "INVITE":
+            client.sendto(f"ACK {uri} SIP/2.0\r\n{head.format('ACK')}".encode(), ("127.0.0.1", port))
+        return status, took

@@ -1,0 +1,93 @@
+"""Snapshots of a locator that is given a Redis stream: what tools/snapshot publishes, and tools/apply begins with where
+the stream's beginning was taken out.
+
+A snapshot is a text at the key STREAM:snapshot: a comment with the locator's mark, and the changes that lead to its zones,
+holds and time.
+"""
+
+from __future__ import annotations
+
+import time
+from pathlib import Path
+from typing import Dict, Iterable, List, NamedTuple, Optional, Tuple
+
+import changelog
+import commits
+
+
+class Snapshot(NamedTuple):
+    """A mark, and the changes that lead to what a locator was at that mark. A first part of the batch after it may have
+    been done."""
+
+    mark: changelog.Mark
+    changes: List[changelog.Change]
+
+    def octets(self) -> bytes:
+        return b"\n".join([f"# {self.mark.record}".encode(), *(it.octets for it in self.changes), b""])
+
+
+def read(octets: bytes) -> Snapshot:
+    """The snapshot of a text."""
+    first, *lines = octets.split(b"\n")
+    marks, changes = without_marks([changelog.change_of(b"add" + first[1:])] if first.startswith(b"# at") else [])
+    if not marks or changes:
+        raise changelog.Fault("not a snapshot of tools/snapshot")
+    return Snapshot(marks[0], [change for _, change in changelog.changes_in(lines)])
+
+
+def of_state(path: Path) -> Snapshot:
+    """The snapshot of a `siplocd` with this `state`, which may run."""
+    marks, changes = without_marks(change for _, change in changelog.changes_in(state_lines(path)))
+    if not marks:
+        raise changelog.Fault(f"{path}: the locator was given no stream by tools/apply")
+    return Snapshot(marks[-1], changes)
+
+
+def state_lines(path: Path) -> List[bytes]:
+    """The lines of a state, and of the changes after it (docs/FORMATS.md, "The daemon")."""
+    for _ in range(100):
+        state, log = (it.read_bytes() if it.exists() else b"" for it in (path, Path(f"{path}.log")))
+        lines = commits.lines_of(state, log)
+        if lines is not None:
+            return lines.split(b"\n")[:-1]
+        # A state has been written meanwhile.
+        time.sleep(0.05)
+    raise changelog.Fault(f"{path}: not the state of a siplocd")
+
+
+def without_marks(changes: Iterable[changelog.Change]) -> Tuple[List[changelog.Mark], List[changelog.Change]]:
+    """The marks that are left after changes, the last one last, and the changes of all else."""
+    marks: Dict[int, changelog.Mark] = {}
+    others = []
+    for change in changes:
+        first, *lines = change.command.split("\n")
+        word, owner, *_ = first.split(" ")
+        if word in ("zone", "drop") and owner == changelog.MARKS:
+            marks = {it.turn: it for it in map(record_mark, lines) if it}
+        elif word in ("add", "del") and owner.endswith(f".{changelog.MARKS}"):
+            mark = record_mark(first.split(" ", 1)[1])
+            if mark and word == "add":
+                marks[mark.turn] = mark
+            elif mark:
+                marks.pop(mark.turn, None)
+        else:
+            others.append(change)
+    return sorted(marks.values(), key=lambda it: (it.place, it.is_broken)), others
+
+
+def record_mark(record: str) -> Optional[changelog.Mark]:
+    """The mark that a record is, if it is one."""
+    owner, kind, *data = record.split(" ")
+    turn = owner[2:3]
+    is_mark = owner in (f"at{turn}.{changelog.MARKS}",) and turn in ("0", "1") and kind == "CNAME" and len(data) == 1
+    return changelog.mark_of(data[0], int(turn)) if is_mark else None
+
+
+def published(stream: changelog.Stream) -> Optional[Snapshot]:
+    """The snapshot that was published, if there is one."""
+    octets = stream.ask([[b"GET", f"{stream.key}:snapshot".encode()]])[0]
+    return read(octets) if isinstance(octets, bytes) else None
+
+
+def publish(stream: changelog.Stream, snapshot: Snapshot) -> None:
+    stream.ask([[b"SET", f"{stream.key}:snapshot".encode(), snapshot.octets()]])
