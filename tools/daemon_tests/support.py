@@ -249,6 +249,11 @@ class Daemon:
         found = re.search(r"VmRSS:\s+(\d+) kB", status)
         return 1024 * int(found[1]) if found else 0
 
+    def peak(self) -> int:
+        """The most octets of memory that it had."""
+        found = re.search(r"VmHWM:\s+(\d+) kB", pathlib.Path(f"/proc/{self.process.pid}/status").read_text())
+        return 1024 * int(found[1]) if found else 0
+
     def said(self) -> str:
         return self.errors.read_text(errors="replace")
 

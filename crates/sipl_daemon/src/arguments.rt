@@ -8,6 +8,7 @@ pub(crate) enum Call {
     Serve(String),
     Tell(String, String),
     Replay(String),
+    CheckState(String),
     Help,
     Version,
 }
@@ -34,6 +35,7 @@ pub(crate) fn read_arguments<R: Env + AllocGlobal>(rt: &R) -> io::Result<Option<
 fn read_words(first: String, second: String, third: Option<String>) -> Option<Call> {
     match third {
         None if first.as_str() == "replay" => Some(Call::Replay(second)),
+        None if first.as_str() == "check-state" => Some(Call::CheckState(second)),
         Some(line) if first.as_str() == "tell" => Some(Call::Tell(second, line)),
         _ => None,
     }
@@ -44,7 +46,7 @@ fn read_word(word: String) -> Option<Call> {
     match word.as_str() {
         "--help" => Some(Call::Help),
         "--version" => Some(Call::Version),
-        "tell" | "replay" => None,
+        "tell" | "replay" | "check-state" => None,
         text if text.starts_with('-') => None,
         _ => Some(Call::Serve(word)),
     }

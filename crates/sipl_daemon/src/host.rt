@@ -13,6 +13,7 @@ pub trait Host: Net<Listener = TcpListener, Stream = TcpStream>
     + Threads
     + Wait
     + Clock
+    + Eprint
     + Sync {}
 
 impl<H> Host for H
@@ -22,5 +23,6 @@ where
         + Threads
         + Wait
         + Clock
+        + Eprint
         + Sync,
 {}

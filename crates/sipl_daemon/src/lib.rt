@@ -2,6 +2,7 @@
 #![tactic(auto)]
 
 mod arguments;
+mod check;
 mod control;
 mod counts;
 mod daemon;
@@ -21,5 +22,5 @@ mod watch;
 pub use fault::DeskFault;
 pub use host::Host;
 pub use program::start;
-pub use settings::{Clocks, DaemonSettings, Entrance};
+pub use settings::{Clocks, DaemonSettings, Entrance, OnFailure};
 pub use watch::InputWatch;

@@ -1,12 +1,13 @@
 //! The program: its arguments, its settings, and the daemon from its start to its end.
 use crate::arguments::{Call, read_arguments};
+use crate::check::check_files;
 use crate::daemon::Daemon;
 use crate::host::Host;
 use crate::journal::claims::Claims;
 use crate::listeners::Listeners;
 use crate::report::{Fault, report, report_torn};
 use crate::server::serve_all;
-use crate::session::desk::SessionDesk;
+use crate::session::restoring::RestoringDesk;
 use crate::settings::DaemonSettings;
 use crate::tell::tell;
 use crate::watch::InputWatch;
@@ -21,11 +22,12 @@ use std::sync::Arc;
 use std::sync::atomic::AtomicU64;
 
 const USAGE: &str =
-    "usage: siplocd [SETTINGS] | tell ADDRESS LINE | replay FOLDER | --help | --version";
+    "usage: siplocd [SETTINGS] | tell ADDRESS LINE | replay FOLDER | check-state FILE | --help | --version";
 
 const HELP: &str = "siplocd [SETTINGS]           serves sessions until it is told to stop
 siplocd tell ADDRESS LINE    sends a line to the daemon's control address, and prints the reply
 siplocd replay FOLDER        checks the pages of an archive, and prints how many events they have
+siplocd check-state FILE     reads the files of a state as a start does, and prints what they have
 siplocd --help               prints this
 siplocd --version            prints the version
 
@@ -81,6 +83,7 @@ where
             let events = replay(host, rt.alloc(), folder.as_str())?;
             println!(rt; "replayed {events}")?;
         }
+        Call::CheckState(path) => check_files(rt, host, path.as_str())?,
         Call::Serve(text) => serve(rt, host, input, text.as_str())?,
     }
     Ok(true)
@@ -158,7 +161,7 @@ where
     R: Print + Eprint + AllocGlobal,
     H: Host,
 {
-    go_on(rt, host, settings, daemon)?;
+    go_on(rt, host, settings, daemon, claims)?;
     serve_at(rt, host, input, settings, daemon, claims, stop)
 }
 
@@ -168,6 +171,7 @@ fn go_on<R, H>(
     host: &H,
     settings: &DaemonSettings,
     daemon: &mut Daemon,
+    claims: &mut Claims,
 ) -> Result<(), Fault>
 where
     R: Eprint + AllocGlobal,
@@ -177,8 +181,14 @@ where
         daemon.archive = Some(open_archive(host, rt.alloc(), settings, path.as_str())?);
     }
     if let Some(path) = &settings.state {
-        let Restored { changes, torn } = open_state(host, rt.alloc(), daemon, path.as_str())?;
-        if let Some(octet) = torn {
+        let Restored { changes, found } = open_state(
+            host,
+            rt.alloc(),
+            daemon,
+            claims,
+            path.as_str(),
+        )?;
+        if let Some(octet) = found.torn {
             report_torn(rt, path.as_str(), octet);
         }
         daemon.put_changes(changes);
@@ -206,9 +216,10 @@ fn open_state<H: Host>(
     host: &H,
     alloc: Global,
     daemon: &Daemon,
+    claims: &mut Claims,
     path: &str,
 ) -> Result<Restored, Fault> {
-    match restore_at(host, alloc, daemon, path) {
+    match restore_at(host, alloc, daemon, claims, path) {
         Ok(restored) => Ok(restored),
         Err(fault) => Err(Fault::State(String::from_str(alloc, path)?, fault)),
     }
@@ -219,12 +230,13 @@ fn restore_at<H: Host>(
     host: &H,
     alloc: Global,
     daemon: &Daemon,
+    claims: &mut Claims,
     path: &str,
 ) -> Result<Restored, StateFault> {
     let path = real_path(host, alloc, path)?;
     let lock = take_lock(host, format!(in alloc; "{path}.lock")?.as_str())?;
     let place = AtomicU64::new(0);
-    let mut desk = SessionDesk::restoring(host, daemon, &place);
+    let mut desk = RestoringDesk::new(host, daemon, &place, claims);
     let restored = restore(host, alloc, path.as_str(), lock, &mut desk);
     desk.end();
     restored

@@ -108,6 +108,18 @@ pub(crate) fn report_torn<R: Eprint>(rt: &R, path: &str, octet: usize) {
     let _ = eprintln!(rt; "siplocd: state {path}.log: a write did not end at octet {octet}");
 }
 
+/// Writes why changes can't be written, and that they are refused.
+pub(crate) fn report_failure<R: Eprint>(rt: &R, failure: io::Result<()>) {
+    if let Err(error) = failure {
+        let _ = eprintln!(rt; "siplocd: state: {error}: changes are refused");
+    }
+}
+
+/// Writes that changes can be written again.
+pub(crate) fn report_mended<R: Eprint>(rt: &R) {
+    let _ = eprintln!(rt; "siplocd: state: written again, changes are accepted");
+}
+
 // Writes why the daemon ends with a fault.
 fn report_close<R: Eprint>(rt: &R, fault: &CloseFault) {
     let _ = match fault {

@@ -4,8 +4,10 @@ use crate::daemon::Daemon;
 use crate::host::Host;
 use crate::journal::claimer::claim_pages;
 use crate::journal::claims::Claims;
+use crate::journal::mender::mend_changes;
 use crate::listeners::Listeners;
 use crate::session::serve_client;
+use crate::settings::OnFailure;
 use sipl_listen::{Listener, next_client, next_client_making_room};
 use sipl_service::OpenGate;
 use std::thread;
@@ -35,6 +37,11 @@ pub(crate) fn serve_all<H: Host>(
             daemon.stop.ask(host);
         }
         if scope.spawn(move || run_clock(host, daemon)).is_err() {
+            daemon.stop.ask(host);
+        }
+        if daemon.on_failure == OnFailure::Read
+            && scope.spawn(move || mend_changes(host, daemon)).is_err()
+        {
             daemon.stop.ask(host);
         }
         for listener in &listeners.clients {

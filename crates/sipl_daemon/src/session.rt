@@ -4,6 +4,7 @@ pub(crate) mod desk;
 mod input;
 mod meter;
 mod output;
+pub(crate) mod restoring;
 
 use crate::daemon::Daemon;
 use crate::session::asking::Asking;

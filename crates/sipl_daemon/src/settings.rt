@@ -13,11 +13,11 @@ const MAX_CLIENTS: u64 = 65_536;
 // The greatest number of seconds for which a client may send nothing: a day.
 const MAX_IDLE: u64 = 86_400;
 
-// The greatest number of octets that the lines of a zone may have.
-const MAX_ZONE_OCTETS: u64 = 1 << 40;
+// The greatest number of octets that the lines of a zone may have, or the events of a page.
+const MAX_OCTETS: u64 = 1 << 40;
 
 // The daemon's own keys, in the order of their octets.
-const OWN_KEYS: [&str; 11] = [
+const OWN_KEYS: [&str; 13] = [
     "archive",
     "clients",
     "clock",
@@ -26,6 +26,8 @@ const OWN_KEYS: [&str; 11] = [
     "idle",
     "listen",
     "mode",
+    "on_failure",
+    "page_octets",
     "state",
     "stdin",
     "zone_octets",
@@ -52,6 +54,10 @@ pub struct DaemonSettings {
     pub listen: Vec<Entrance>,
     /// The permissions of the files of Unix sockets that have none of their own: 0 to 0o777, by default 0o600.
     pub mode: u32,
+    /// What it does where changes can't be written to the files of `state`, by default end.
+    pub on_failure: OnFailure,
+    /// How many octets of memory the events of a page may take: 1 to 2^40, by default 64 MB.
+    pub page_octets: u64,
     /// The file of the zones and the holds, by default none.
     pub state: Option<String>,
     /// Whether the end of standard input ends the daemon, by default not.
@@ -78,6 +84,15 @@ pub enum Clocks {
     Lines,
 }
 
+/// What a daemon does where changes can't be written to the files of its state.
+#[derive(Clone, Copy, Debug, PartialEq, Eq)]
+pub enum OnFailure {
+    /// It ends.
+    End,
+    /// It goes on to answer, refuses changes (D2), and tries again each second.
+    Read,
+}
+
 // The daemon's own keys.
 #[derive(Drop)]
 struct Own {
@@ -89,6 +104,8 @@ struct Own {
     idle: Option<u64>,
     listen: Vec<Entrance>,
     mode: u32,
+    on_failure: OnFailure,
+    page_octets: u64,
     state: Option<String>,
     ends_with_input: bool,
     zone_octets: u64,
@@ -96,9 +113,9 @@ struct Own {
 
 impl DaemonSettings {
     /// Reads the settings from a TOML document. `listen` is a list of addresses, not empty, and `find` one that may
-    /// be; `control` is an address: its text, or a table of it, `at`, and of a Unix socket's `mode`. `clock` is `"host"` or `"lines"`; `stdin` is `"stop"` or `"ignore"`; `state` is the
-    /// path of a file, and `archive` that of a folder. `clients`, `idle`, `mode` and `zone_octets` are
-    /// integers. All other keys are those of `serve`, but for `sessions`.
+    /// be; `control` is an address: its text, or a table of it, `at`, and of a Unix socket's `mode`. `clock` is `"host"` or `"lines"`; `stdin` is `"stop"` or `"ignore"`; `on_failure` is
+    /// `"end"` or `"read"`; `state` is the path of a file, and `archive` that of a folder. `clients`, `idle`, `mode`,
+    /// `page_octets` and `zone_octets` are integers. All other keys are those of `serve`, but for `sessions`.
     ///
     /// The fault is G1 where the text is not a TOML document. Otherwise it is that of the first of the
     /// daemon's own keys, in the order of their octets, that does not allow its value (G3); or else that
@@ -169,6 +186,8 @@ impl Own {
             idle: None,
             listen,
             mode: 0o600,
+            on_failure: OnFailure::End,
+            page_octets: 1 << 26,
             state: None,
             ends_with_input: false,
             zone_octets: 1 << 28,
@@ -217,9 +236,11 @@ impl Own {
             "idle" => put_some(&mut self.idle, number(value, 1, MAX_IDLE)),
             "listen" => put(&mut self.listen, read_some_entrances(alloc, value)?),
             "mode" => put(&mut self.mode, mode(value)),
+            "on_failure" => put(&mut self.on_failure, on_failure(value)),
+            "page_octets" => put(&mut self.page_octets, number(value, 1, MAX_OCTETS)),
             "state" => put_some(&mut self.state, path(alloc, value)?),
             "stdin" => put(&mut self.ends_with_input, ends_with_input(value)),
-            _ => put(&mut self.zone_octets, number(value, 0, MAX_ZONE_OCTETS)),
+            _ => put(&mut self.zone_octets, number(value, 0, MAX_OCTETS)),
         })
     }
 
@@ -237,6 +258,8 @@ impl Own {
             idle: self.idle,
             listen: self.listen,
             mode: self.mode,
+            on_failure: self.on_failure,
+            page_octets: self.page_octets,
             state: self.state,
             ends_with_input: self.ends_with_input,
             zone_octets: self.zone_octets,
@@ -280,6 +303,14 @@ fn read_clocks(value: &Value) -> Option<Clocks> {
     match value.as_str()? {
         "host" => Some(Clocks::Host),
         "lines" => Some(Clocks::Lines),
+        _ => None,
+    }
+}
+
+fn on_failure(value: &Value) -> Option<OnFailure> {
+    match value.as_str()? {
+        "end" => Some(OnFailure::End),
+        "read" => Some(OnFailure::Read),
         _ => None,
     }
 }

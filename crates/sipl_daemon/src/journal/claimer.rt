@@ -3,6 +3,7 @@ use crate::daemon::Daemon;
 use crate::fault::CloseFault;
 use crate::host::Host;
 use crate::journal::claims::{Claimed, Claims, archive_page};
+use crate::settings::OnFailure;
 use sipl_state::Turned;
 use std::time::Duration;
 
@@ -10,13 +11,27 @@ use std::time::Duration;
 const PATIENCE: u64 = 20;
 
 /// Claims pages until the daemon is to stop. A fault stops it: then the journal is not what callers were
-/// told, or a page can't be archived, or the state can't be written.
+/// told, or a page can't be archived, or the state can't be written, unless it is to go on then.
 pub(crate) fn claim_pages<H: Host>(host: &H, daemon: &Daemon, claims: &mut Claims) {
     for _ in host.forever() {
         if daemon.stop.is_asked() {
             break;
         }
         claim_once(host, daemon, claims);
+    }
+}
+
+/// Claims the pages that were turned, but for those whose receipts are on their way.
+pub(crate) fn claim_turned<H: Host>(host: &H, daemon: &Daemon, claims: &mut Claims) {
+    for _ in host.forever() {
+        match claims.claim_next(host, &daemon.pages) {
+            Ok(Claimed::Page) => keep_claimed(host, daemon, claims),
+            Ok(Claimed::NotYet | Claimed::Nothing) => break,
+            Err(fault) => {
+                fail(host, daemon, claims, CloseFault::Claim(fault));
+                break;
+            }
+        }
     }
 }
 
@@ -52,7 +67,7 @@ fn keep<H: Host>(host: &H, daemon: &Daemon, turned: &Turned) -> Result<(), Close
         return Ok(());
     };
     match changes.write_state(host, mark, turned.page.result()) {
-        Ok(()) => Ok(()),
-        Err(error) => Err(CloseFault::State(error)),
+        Err(error) if daemon.on_failure == OnFailure::End => Err(CloseFault::State(error)),
+        _ => Ok(()),
     }
 }

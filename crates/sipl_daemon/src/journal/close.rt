@@ -3,6 +3,7 @@ use crate::daemon::Daemon;
 use crate::fault::CloseFault;
 use crate::journal::claims::Claims;
 use crate::journal::pages::Pages;
+use crate::settings::OnFailure;
 use sipl_archive::Archive;
 use sipl_book::Page;
 use sipl_state::{Changes, Source};
@@ -25,6 +26,7 @@ impl Daemon {
             clients,
             controls,
             mover,
+            on_failure,
             open,
             ..
         } = self;
@@ -34,6 +36,9 @@ impl Daemon {
             changes,
             ..
         } = source;
+        if let (OnFailure::Read, Some(changes)) = (on_failure, &changes) {
+            let _ = changes.mend(rt);
+        }
         let ended = match service.close() {
             Ok(last) => {
                 let ended = end(

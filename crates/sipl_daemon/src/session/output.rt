@@ -2,6 +2,7 @@
 ghost use Rattle.std.specs.Io.{WritesAtMost};
 
 use crate::daemon::Daemon;
+use crate::settings::OnFailure;
 use sipl_listen::Stream;
 use std::io;
 use std::io::{ErrorKind, Write};
@@ -43,13 +44,13 @@ impl<'a, R: Wait + Clock> Output<'a, R> {
         }
     }
 
-    // Waits until the session's changes are in their file.
+    // Waits until the session's changes are in their file. Where they can't be, the session ends without its reply.
     fn sync(&self) -> io::Result<()> {
         let Some(changes) = &self.daemon.source.changes else {
             return Ok(());
         };
         let synced = changes.sync(self.rt, self.place.load(Ordering::SeqCst));
-        if synced.is_err() {
+        if synced.is_err() && self.daemon.on_failure == OnFailure::End {
             self.daemon.stop.ask(self.rt);
         }
         synced
