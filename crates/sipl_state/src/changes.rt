@@ -1,8 +1,8 @@
 //! The changes since the last state, in a file: each is there before its reply is sent.
 use crate::files::{open_to_append, write_new};
 use crate::pending::{Mark, Pending, long_after};
-use crate::state_files::{Base, StateFiles};
-use crate::written::{Written, point_after};
+use crate::state_files::{Base, StateFiles, point_after};
+use crate::written::Written;
 use sipl_archive::state_text;
 use sipl_book::State;
 use sipl_commits::{Point, log_of, write_state};

@@ -2,8 +2,7 @@
 use crate::changes::{Changes, Extent};
 use crate::files::{read_file, take_place, write_new};
 use crate::first_format::FirstFormat;
-use crate::state_files::{FoundLog, StateFiles};
-use crate::written::point_after;
+use crate::state_files::{FoundLog, StateFiles, point_after};
 use sipl_archive::{Made, made_of, mark_of, replies_to, split_line, whole_len};
 use sipl_commits::{
     Commit, Log, LogFault, Point, StateFault as FileFault, log_of, read_log, read_state,

@@ -30,6 +30,14 @@ pub(crate) struct Base {
     pub(crate) start: u64,
 }
 
+/// The point of a log without commits, after a state of this digest.
+pub(crate) fn point_after(digest: &[u8; 32]) -> Point {
+    Point {
+        number: 0,
+        digest: *digest,
+    }
+}
+
 impl StateFiles {
     /// Those of the state of a path.
     pub(crate) fn new(alloc: Global, path: &str) -> Result<StateFiles, AllocError> {
@@ -130,11 +138,17 @@ impl StateFiles {
     ) -> io::Result<Base> {
         sync_folder(rt, self.state.as_str())?;
         let octets = fs::read(&(rt, alloc), self.state.as_str())?;
-        match read_state(alloc, &octets) {
-            Ok(state) if state.digest == new.first.digest => Ok(new),
-            Ok(state) if state.digest == old.first.digest => Ok(old),
-            Err(StateFault::Memory) => Err(io::Error::from(ErrorKind::OutOfMemory)),
-            _ => Err(io::Error::from(ErrorKind::InvalidData)),
+        let first = match read_state(alloc, &octets) {
+            Ok(state) => point_after(&state.digest),
+            Err(StateFault::Memory) => return Err(io::Error::from(ErrorKind::OutOfMemory)),
+            Err(_) => return Err(io::Error::from(ErrorKind::InvalidData)),
+        };
+        if first == new.first {
+            Ok(new)
+        } else if first == old.first {
+            Ok(old)
+        } else {
+            Err(io::Error::from(ErrorKind::InvalidData))
         }
     }
 }

@@ -26,14 +26,6 @@ pub(crate) struct Written {
     failure: Option<ErrorKind>,
 }
 
-/// The point of a log without commits, after a state of this digest.
-pub(crate) fn point_after(digest: &[u8; 32]) -> Point {
-    Point {
-        number: 0,
-        digest: *digest,
-    }
-}
-
 impl Written {
     /// A log to append to, which begins there and has commits up to this point.
     pub(crate) fn new(alloc: Global, file: File, base: Base, last: Point) -> Written {

@@ -5,6 +5,9 @@ use crate::host::Host;
 use crate::journal::claims::{Claimed, Claims, archive_page};
 use crate::settings::OnFailure;
 use sipl_state::Turned;
+use std::fs::File;
+use std::rt::Files;
+use std::sync::Wait;
 use std::time::Duration;
 
 // How long a claim waits for receipts that are on their way, in milliseconds.
@@ -22,13 +25,17 @@ pub(crate) fn claim_pages<H: Host>(host: &H, daemon: &Daemon, claims: &mut Claim
 }
 
 /// Claims the pages that were turned, but for those whose receipts are on their way.
-pub(crate) fn claim_turned<H: Host>(host: &H, daemon: &Daemon, claims: &mut Claims) {
-    for _ in host.forever() {
-        match claims.claim_next(host, &daemon.pages) {
-            Ok(Claimed::Page) => keep_claimed(host, daemon, claims),
+pub(crate) fn claim_turned<R: Files<File = File> + Wait>(
+    rt: &R,
+    daemon: &Daemon,
+    claims: &mut Claims,
+) {
+    for _ in rt.forever() {
+        match claims.claim_next(rt, &daemon.pages) {
+            Ok(Claimed::Page) => keep_claimed(rt, daemon, claims),
             Ok(Claimed::NotYet | Claimed::Nothing) => break,
             Err(fault) => {
-                fail(host, daemon, claims, CloseFault::Claim(fault));
+                fail(rt, daemon, claims, CloseFault::Claim(fault));
                 break;
             }
         }
@@ -46,27 +53,36 @@ fn claim_once<H: Host>(host: &H, daemon: &Daemon, claims: &mut Claims) {
 }
 
 // Keeps the page that was claimed.
-fn keep_claimed<H: Host>(host: &H, daemon: &Daemon, claims: &mut Claims) {
+fn keep_claimed<R: Files<File = File> + Wait>(rt: &R, daemon: &Daemon, claims: &mut Claims) {
     if let Some(turned) = claims.take() {
-        if let Err(fault) = keep(host, daemon, &turned) {
-            fail(host, daemon, claims, fault);
+        if let Err(fault) = keep(rt, daemon, &turned) {
+            fail(rt, daemon, claims, fault);
         }
     }
 }
 
 // Keeps a fault, and asks for the stop.
-fn fail<H: Host>(host: &H, daemon: &Daemon, claims: &mut Claims, fault: CloseFault) {
+fn fail<R: Files<File = File> + Wait>(
+    rt: &R,
+    daemon: &Daemon,
+    claims: &mut Claims,
+    fault: CloseFault,
+) {
     claims.fail(fault);
-    daemon.stop.ask(host);
+    daemon.stop.ask(rt);
 }
 
 // Archives a page that was claimed, and writes the state after it, if these are to be.
-fn keep<H: Host>(host: &H, daemon: &Daemon, turned: &Turned) -> Result<(), CloseFault> {
-    archive_page(host, daemon.archive.as_ref(), &turned.page)?;
+fn keep<R: Files<File = File> + Wait>(
+    rt: &R,
+    daemon: &Daemon,
+    turned: &Turned,
+) -> Result<(), CloseFault> {
+    archive_page(rt, daemon.archive.as_ref(), &turned.page)?;
     let (Some(changes), Some(mark)) = (&daemon.source.changes, turned.mark) else {
         return Ok(());
     };
-    match changes.write_state(host, mark, turned.page.result()) {
+    match changes.write_state(rt, mark, turned.page.result()) {
         Err(error) if daemon.on_failure == OnFailure::End => Err(CloseFault::State(error)),
         _ => Ok(()),
     }

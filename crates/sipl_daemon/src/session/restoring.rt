@@ -1,7 +1,6 @@
 //! The desk at which the lines of a state are made.
 use crate::daemon::Daemon;
 use crate::fault::DeskFault;
-use crate::host::Host;
 use crate::journal::claimer::claim_turned;
 use crate::journal::claims::Claims;
 use crate::session::desk::SessionDesk;
@@ -12,20 +11,24 @@ use sipl_lines::Desk;
 use sipl_srv::Draws;
 use sipl_uri::Question;
 use std::alloc::Global;
+use std::fs::File;
 use std::marker::Model;
+use std::rt::Files;
+use std::sync::Wait;
 use std::sync::atomic::AtomicU64;
+use std::time::Clock;
 
 /// The desk of a session whose lines are those of a state. At each pause the pages are claimed that were turned, so
 /// that they do not wait in memory until clients are served.
 #[derive(Drop)]
-pub(crate) struct RestoringDesk<'a, H: Host> {
-    host: &'a H,
+pub(crate) struct RestoringDesk<'a, R: Files<File = File> + Wait + Clock> {
+    rt: &'a R,
     daemon: &'a Daemon,
-    desk: SessionDesk<'a, H>,
+    desk: SessionDesk<'a, R>,
     claims: &'a mut Claims,
 }
 
-impl<'a, H: Host> Model for RestoringDesk<'a, H> {
+impl<'a, R: Files<File = File> + Wait + Clock> Model for RestoringDesk<'a, R> {
     ghost use Rattle.sipl_daemon.specs.SessionDesk.{SessionState};
 
     ghost Value = { SessionState };
@@ -33,18 +36,18 @@ impl<'a, H: Host> Model for RestoringDesk<'a, H> {
     ghost view = { λ restoring. restoring.desk };
 }
 
-impl<'a, H: Host> RestoringDesk<'a, H> {
+impl<'a, R: Files<File = File> + Wait + Clock> RestoringDesk<'a, R> {
     /// The desk of a session that has had no line. `place` is where its last change ends.
     pub(crate) fn new(
-        host: &'a H,
+        rt: &'a R,
         daemon: &'a Daemon,
         place: &'a AtomicU64,
         claims: &'a mut Claims,
     ) -> Self {
         RestoringDesk {
-            host,
+            rt,
             daemon,
-            desk: SessionDesk::restoring(host, daemon, place),
+            desk: SessionDesk::restoring(rt, daemon, place),
             claims,
         }
     }
@@ -56,7 +59,7 @@ impl<'a, H: Host> RestoringDesk<'a, H> {
     }
 }
 
-impl<'a, H: Host> Desk for RestoringDesk<'a, H> {
+impl<'a, R: Files<File = File> + Wait + Clock> Desk for RestoringDesk<'a, R> {
     ghost use Rattle.sipl_daemon.specs.SessionDesk.{session_rules};
 
     type Fault = DeskFault;
@@ -106,10 +109,10 @@ impl<'a, H: Host> Desk for RestoringDesk<'a, H> {
 
     fn pause(&mut self) {
         self.desk.pause();
-        claim_turned(self.host, self.daemon, self.claims);
+        claim_turned(self.rt, self.daemon, self.claims);
     }
 
     fn write_fault(fault: DeskFault, out: &mut Vec<u8>) {
-        SessionDesk::<'a, H>::write_fault(fault, out)
+        SessionDesk::<'a, R>::write_fault(fault, out)
     }
 }
