@@ -2,6 +2,7 @@
 #![tactic(auto)]
 
 mod arguments;
+mod config;
 mod control;
 mod counts;
 mod daemon;
@@ -10,8 +11,11 @@ mod host;
 mod http;
 mod journal;
 mod listeners;
+mod observed;
 mod program;
 mod report;
+mod samples;
+mod scrapes;
 mod server;
 mod session;
 mod settings;

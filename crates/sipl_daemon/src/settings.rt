@@ -4,6 +4,7 @@ ghost use Rattle.sipl_lines.specs.Settings.{IsWithinLimits};
 
 use sipl_lines::{Settings, SettingsFault};
 use sipl_listen::Address;
+use sipl_log::Verbosity;
 use std::alloc::{AllocError, Global};
 use toml::{Table, Value};
 
@@ -16,8 +17,11 @@ const MAX_IDLE: u64 = 86_400;
 // The greatest number of octets that the lines of a zone may have.
 const MAX_ZONE_OCTETS: u64 = 1 << 40;
 
+// How many may read the metrics at a time.
+const MAX_SCRAPERS: usize = 8;
+
 // The daemon's own keys, in the order of their octets.
-const OWN_KEYS: [&str; 11] = [
+const OWN_KEYS: [&str; 13] = [
     "archive",
     "clients",
     "clock",
@@ -25,6 +29,8 @@ const OWN_KEYS: [&str; 11] = [
     "find",
     "idle",
     "listen",
+    "log",
+    "metrics",
     "mode",
     "state",
     "stdin",
@@ -50,6 +56,10 @@ pub struct DaemonSettings {
     pub idle: Option<u64>,
     /// Where clients connect, by default at 127.0.0.1:5099.
     pub listen: Vec<Entrance>,
+    /// Which lines of the log are written, by default those of `info` and above.
+    pub log: Verbosity,
+    /// Where metrics are read, by default nowhere.
+    pub metrics: Option<Entrance>,
     /// The permissions of the files of Unix sockets that have none of their own: 0 to 0o777, by default 0o600.
     pub mode: u32,
     /// The file of the zones and the holds, by default none.
@@ -88,6 +98,8 @@ struct Own {
     find: Vec<Entrance>,
     idle: Option<u64>,
     listen: Vec<Entrance>,
+    log: Verbosity,
+    metrics: Option<Entrance>,
     mode: u32,
     state: Option<String>,
     ends_with_input: bool,
@@ -96,7 +108,7 @@ struct Own {
 
 impl DaemonSettings {
     /// Reads the settings from a TOML document. `listen` is a list of addresses, not empty, and `find` one that may
-    /// be; `control` is an address: its text, or a table of it, `at`, and of a Unix socket's `mode`. `clock` is `"host"` or `"lines"`; `stdin` is `"stop"` or `"ignore"`; `state` is the
+    /// be; `control` is an address: its text, or a table of it, `at`, and of a Unix socket's `mode`. `clock` is `"host"` or `"lines"`; `log` is `"off"`, `"error"`, `"warn"`, `"info"` or `"debug"`; `metrics` is an address; `stdin` is `"stop"` or `"ignore"`; `state` is the
     /// path of a file, and `archive` that of a folder. `clients`, `idle`, `mode` and `zone_octets` are
     /// integers. All other keys are those of `serve`, but for `sessions`.
     ///
@@ -109,15 +121,29 @@ impl DaemonSettings {
         Ok(own.beside(service))
     }
 
-    /// How many descriptors the listeners have.
+    /// How many may read the metrics at a time.
+    pub(crate) fn max_scrapers(&self) -> usize {
+        if self.metrics.is_some() {
+            MAX_SCRAPERS
+        } else {
+            0
+        }
+    }
+
+    /// How many descriptors the listeners have, and those who read the metrics.
     pub(crate) fn descriptors(&self) -> usize {
-        let control = match &self.control {
-            Some(entrance) => entrance.address.descriptors(),
-            None => 0,
-        };
-        control
+        descriptors_at(&self.control)
+            .saturating_add(descriptors_at(&self.metrics))
+            .saturating_add(self.max_scrapers())
             .saturating_add(descriptors_of(&self.listen))
             .saturating_add(descriptors_of(&self.find))
+    }
+}
+
+fn descriptors_at(entrance: &Option<Entrance>) -> usize {
+    match entrance {
+        Some(entrance) => entrance.address.descriptors(),
+        None => 0,
     }
 }
 
@@ -168,6 +194,8 @@ impl Own {
             find: Vec::new(alloc),
             idle: None,
             listen,
+            log: Verbosity::Info,
+            metrics: None,
             mode: 0o600,
             state: None,
             ends_with_input: false,
@@ -216,6 +244,8 @@ impl Own {
             "find" => put(&mut self.find, read_entrances(alloc, value)?),
             "idle" => put_some(&mut self.idle, number(value, 1, MAX_IDLE)),
             "listen" => put(&mut self.listen, read_some_entrances(alloc, value)?),
+            "log" => put(&mut self.log, read_verbosity(value)),
+            "metrics" => put_some(&mut self.metrics, read_entrance(alloc, value)?),
             "mode" => put(&mut self.mode, mode(value)),
             "state" => put_some(&mut self.state, path(alloc, value)?),
             "stdin" => put(&mut self.ends_with_input, ends_with_input(value)),
@@ -236,6 +266,8 @@ impl Own {
             find: self.find,
             idle: self.idle,
             listen: self.listen,
+            log: self.log,
+            metrics: self.metrics,
             mode: self.mode,
             state: self.state,
             ends_with_input: self.ends_with_input,
@@ -282,6 +314,10 @@ fn read_clocks(value: &Value) -> Option<Clocks> {
         "lines" => Some(Clocks::Lines),
         _ => None,
     }
+}
+
+fn read_verbosity(value: &Value) -> Option<Verbosity> {
+    Verbosity::from_text(value.as_str()?)
 }
 
 fn ends_with_input(value: &Value) -> Option<bool> {

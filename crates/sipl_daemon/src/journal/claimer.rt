@@ -4,7 +4,7 @@ use crate::fault::CloseFault;
 use crate::host::Host;
 use crate::journal::claims::{Claimed, Claims, archive_page};
 use sipl_state::Turned;
-use std::time::Duration;
+use std::time::{Duration, Instant};
 
 // How long a claim waits for receipts that are on their way, in milliseconds.
 const PATIENCE: u64 = 20;
@@ -22,7 +22,12 @@ pub(crate) fn claim_pages<H: Host>(host: &H, daemon: &Daemon, claims: &mut Claim
 
 // Tries to claim the next page, and waits where that is not to be claimed yet.
 fn claim_once<H: Host>(host: &H, daemon: &Daemon, claims: &mut Claims) {
-    match claims.claim_next(host, &daemon.pages) {
+    let claimed = claims.claim_next(host, &daemon.pages);
+    let waiting = daemon.pages.waiting(host) as u64;
+    daemon
+        .observed
+        .see_pages(host, daemon.pages.claimed(), waiting);
+    match claimed {
         Ok(Claimed::Page) => keep_claimed(host, daemon, claims),
         Ok(Claimed::NotYet) => daemon.stop.pause(host, Duration::from_millis(PATIENCE)),
         Ok(Claimed::Nothing) => daemon.pages.wait_for_page(host),
@@ -51,8 +56,12 @@ fn keep<H: Host>(host: &H, daemon: &Daemon, turned: &Turned) -> Result<(), Close
     let (Some(changes), Some(mark)) = (&daemon.source.changes, turned.mark) else {
         return Ok(());
     };
+    let begun = Instant::now(host).ok();
     match changes.write_state(host, mark, turned.page.result()) {
-        Ok(()) => Ok(()),
+        Ok(()) => {
+            daemon.observed.tell_state(host, begun);
+            Ok(())
+        }
         Err(error) => Err(CloseFault::State(error)),
     }
 }

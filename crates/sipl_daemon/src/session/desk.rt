@@ -141,7 +141,7 @@ impl<'a, R: Wait + Clock> Desk for SessionDesk<'a, R> {
             return Err(fault);
         }
         let (rt, daemon) = (self.rt, self.daemon);
-        match daemon.source.edit(rt, &mut self.pass, edit, self.place) {
+        match daemon.edit(rt, &mut self.pass, edit, self.place) {
             Ok(done) => {
                 daemon.count_event(rt, done.number);
                 Ok(done)
