@@ -28,6 +28,8 @@ SEED = int(os.environ.get("SEED", "1"))
 PATIENCE = int(os.environ.get("PATIENCE", "20"))
 FOR_EVER = 1 << 40
 ENDS = (b"ok", b"none", b"err")
+# How a line of the log begins.
+LOGGED = re.compile(r"(<[0-7]>)?(error|warn|info|debug) event=")
 TESTS: list[Callable[["Checks", pathlib.Path], None]] = []
 # Of the daemons that this process has started.
 NUMBERS = itertools.count(1)
@@ -250,7 +252,13 @@ class Daemon:
         return 1024 * int(found[1]) if found else 0
 
     def said(self) -> str:
-        return self.errors.read_text(errors="replace")
+        """Its messages on standard error, without the log."""
+        lines = self.errors.read_text(errors="replace").splitlines(keepends=True)
+        return "".join(it for it in lines if not LOGGED.match(it))
+
+    def log(self) -> list[str]:
+        """The lines of its log."""
+        return [it for it in self.errors.read_text(errors="replace").splitlines() if LOGGED.match(it)]
 
 
 @contextlib.contextmanager

@@ -101,6 +101,7 @@ fn owned(alloc: Global, words: &ArgMatches<'_>, name: &str) -> Result<String, Al
 fn command<'a>(alloc: Global) -> Result<Command<'a>, AllocError> {
     let text = Arg::new(alloc, "SETTINGS").help("The text of the settings, a TOML document");
     Command::new(alloc, "siplocd")
+        .bin_name("siplocd")?
         .version(VERSION)
         .about(ABOUT)
         .after_help(AFTER)

@@ -24,6 +24,8 @@ use std::sync::Arc;
 use std::sync::atomic::AtomicU64;
 use std::time::Duration;
 
+const USAGE: &str = "Usage: siplocd [OPTIONS] [SETTINGS]\n       siplocd <COMMAND>";
+
 // The status of a call with wrong arguments.
 const WRONG_ARGUMENTS: u8 = 2;
 
@@ -41,11 +43,11 @@ where
     let outcome = match read_arguments(rt) {
         Ok(call) => perform(rt, host, input, log, call),
         Err(Unread::Told(error)) => {
-            let printed = error.print(rt);
             if error.use_stderr() {
+                report_wrong(rt, &error);
                 return ExitCode::from(WRONG_ARGUMENTS);
             }
-            printed.map(|()| true).map_err(Fault::Stream)
+            error.print(rt).map(|()| true).map_err(Fault::Stream)
         }
         Err(Unread::NotText) => {
             let _ = eprintln!(rt; "error: an argument of siplocd is not UTF-8");
@@ -56,6 +58,16 @@ where
     let status = status_of(rt, host, log, outcome);
     log.end(host, Duration::from_millis(LAST_LINES));
     status
+}
+
+// Writes on standard error what is wrong with the arguments, and the usage.
+fn report_wrong<R: Eprint + AllocGlobal>(rt: &R, error: &clap::Error) {
+    let _ = error.print(rt);
+    if let Ok(text) = format!(in rt.alloc(); "{error}") {
+        if !text.as_str().contains("Usage:") {
+            let _ = eprintln!(rt; "{USAGE}");
+        }
+    }
 }
 
 // The status of what was done. A fault is reported.
