@@ -50,7 +50,7 @@ where
             error.print(rt).map(|()| true).map_err(Fault::Stream)
         }
         Err(Unread::NotText) => {
-            let _ = eprintln!(rt; "error: an argument of siplocd is not UTF-8");
+            let _ = eprintln!(rt; "error: an argument is not UTF-8\n\n{USAGE}");
             return ExitCode::from(WRONG_ARGUMENTS);
         }
         Err(Unread::Memory) => Err(Fault::Memory),
@@ -61,7 +61,7 @@ where
 }
 
 // Writes on standard error what is wrong with the arguments, and the usage.
-fn report_wrong<R: Eprint + AllocGlobal>(rt: &R, error: &clap::Error) {
+fn report_wrong<R: Print + Eprint + AllocGlobal>(rt: &R, error: &clap::Error) {
     let _ = error.print(rt);
     if let Ok(text) = format!(in rt.alloc(); "{error}") {
         if !text.as_str().contains("Usage:") {

@@ -6,6 +6,7 @@ use sipl_listen::{Client, Listener, Stream, next_stream};
 use sipl_metrics::{Asked, read_request, write_reply};
 use std::alloc::{AllocError, Global};
 use std::io::{ErrorKind, Read, Write};
+use std::net::Shutdown;
 use std::sync::Arc;
 use std::time::{Clock, Duration, Instant};
 use std::{io, thread};
@@ -73,7 +74,22 @@ fn serve_scraper<H: Host>(host: &H, daemon: &Daemon, client: Client) {
 fn reply_to<H: Host>(host: &H, daemon: &Daemon, stream: &Stream, begun: Instant) -> io::Result<()> {
     let asked = read_head(host, daemon.alloc, stream, begun)?;
     let reply = reply_text(host, daemon, asked)?;
-    write_all(host, stream, begun, reply.as_bytes())
+    write_all(host, stream, begun, reply.as_bytes())?;
+    match asked {
+        Asked::Metrics | Asked::Health => Ok(()),
+        _ => read_rest(host, stream, begun),
+    }
+}
+
+// Reads what is left of a request that was refused. Without that the system may end the connection before the reply was
+// read.
+fn read_rest<H: Host>(host: &H, stream: &Stream, begun: Instant) -> io::Result<()> {
+    stream.shutdown(Shutdown::Write)?;
+    let mut chunk = [0; CHUNK];
+    for _ in 0..MAX_TURNS {
+        read_some(host, stream, begun, &mut chunk)?;
+    }
+    Ok(())
 }
 
 // Reads a request's head, and what it asks for. An end before that of the head is an error.
