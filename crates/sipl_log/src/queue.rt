@@ -119,7 +119,7 @@ impl Queue {
         if self.lost == 0 || self.lines.len().saturating_add(1) >= MAX_LINES {
             return;
         }
-        let line = Line::new(self.alloc, Level::Warn, "dropped").number("lines", self.lost);
+        let line = Line::new(self.alloc, Level::Warn, "lost").number("lines", self.lost);
         if let Some(text) = line.into_text() {
             if self.append(Level::Warn, text.as_str()).is_ok() {
                 self.lost = 0;

@@ -1,5 +1,9 @@
+ghost use Rattle.std.specs.Prelude.{◌≡◌, ◌≤◌, ℕ, List, length, IfNone};
+ghost use Rattle.httparse.specs.Grammar.{HasNoRequest, ReadsRequest, RequestHead};
+ghost use Rattle.sipl_metrics.specs.Requests.{IsAskedBy, asked_of, by_method, is_path};
+
 use httparse::Status;
-use httparse::spans::{EMPTY_HEADER_SPAN, RequestSpans, parse_request};
+use httparse::spans::{EMPTY_HEADER_SPAN, parse_request};
 use std::alloc::AllocError;
 use std::fmt::Write as _;
 
@@ -24,8 +28,13 @@ pub enum Asked {
     Bad,
 }
 
-/// What a request asks for, once its head has come: `None` where more of it is to come. A head that is too long is bad.
-pub fn read_request(octets: &[u8]) -> Option<Asked> {
+/// What a request asks for, once its head has come: `None` where more of it is to come. A head that is too long, or has
+/// more than 64 fields, is bad.
+pub fn read_request(octets: &[u8]) -> Option<Asked>
+    ensures found { (head : RequestHead) (rest : List ℕ) → ReadsRequest octets.now head rest
+        → length head.fields ≤ 64 → IsAskedBy octets.now result }
+    ensures more { IfNone result (HasNoRequest octets.now) }
+{
     let mut fields = [EMPTY_HEADER_SPAN; MAX_FIELDS];
     match parse_request(octets, &mut fields) {
         Ok(Status::Complete(head)) => Some(asked_by(head.method.of(octets), head.path.of(octets))),
@@ -34,21 +43,39 @@ pub fn read_request(octets: &[u8]) -> Option<Asked> {
     }
 }
 
-// What a method and a target ask for. What is after a question mark says nothing.
-fn asked_by(method: &[u8], target: &[u8]) -> Asked {
-    let path = target
-        .split(|octet| *octet == b'?')
-        .next()
-        .unwrap_or(target);
-    let found = match path {
-        b"/metrics" => Asked::Metrics,
-        b"/healthz" => Asked::Health,
-        _ => return Asked::Missing,
-    };
+// What a method and a target ask for.
+fn asked_by(method: &[u8], target: &[u8]) -> Asked
+    ensures { result ≡ asked_of method.now target.now }
+{
+    if has_path(b"/metrics", target) {
+        of_method(method, Asked::Metrics)
+    } else if has_path(b"/healthz", target) {
+        of_method(method, Asked::Health)
+    } else {
+        Asked::Missing
+    }
+}
+
+fn of_method(method: &[u8], asked: Asked) -> Asked
+    ensures { result ≡ by_method method.now asked }
+{
     if method == b"GET".as_slice() {
-        found
+        asked
     } else {
         Asked::WrongMethod
+    }
+}
+
+// Whether a target is a path, with or without a query after it.
+fn has_path(path: &[u8], target: &[u8]) -> bool
+    ensures { result ≡ is_path path.now target.now }
+{
+    match target.strip_prefix(path) {
+        Some(rest) => match rest.first() {
+            Some(octet) => *octet == b'?',
+            None => true,
+        },
+        None => false,
     }
 }
 
