@@ -54,6 +54,13 @@ def says_what_is_wrong_in_a_file(checks: Checks, folder: pathlib.Path) -> None:
             status, printed, said = run(*words, folder=folder)
             checks.expect(status == 1 and not printed and said.startswith(f"{path}:{place}") and said.count("\n") == 1
                           and word in said and len(said) > len(f"{path}:{place}") + 1, (text, words, status, printed, said))
+    # Each key that the documents have is one of those that are named.
+    path.write_text("unknown = 1\n")
+    named = set(re.findall(r"[a-z_]+", run("check", "--config", str(path), folder=folder)[2].partition("there are ")[2]))
+    texts = re.split(r"^## ", (TOP / "docs/FORMATS.md").read_text(), flags=re.M)
+    told = {key for text in texts if text.startswith(("Settings", "The daemon")) for key in re.findall(r"^\| `([a-z_]+)` \|", text, re.M)}
+    told -= {"stats", "zones", "holds", "now", "page", "stop", "sessions"}
+    checks.expect(len(told) > 15 and told <= named, f"keys that are not named: {told - named}")
     path.write_bytes(b"state = \"\xff\"\n")
     for words in (["check", "--config", str(path)], ["check", "--config", f"{folder}/none"], ["--config", str(folder)]):
         status, printed, said = run(*words, folder=folder)

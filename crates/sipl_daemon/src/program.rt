@@ -47,7 +47,10 @@ where
                 report_wrong(rt, &error);
                 return ExitCode::from(WRONG_ARGUMENTS);
             }
-            error.print(rt).map(|()| true).map_err(Fault::Stream)
+            match error.print(rt) {
+                Ok(()) => Ok(true),
+                Err(error) => Err(Fault::Stream(error)),
+            }
         }
         Err(Unread::NotText) => {
             let _ = eprintln!(rt; "error: an argument is not UTF-8\n\n{USAGE}");

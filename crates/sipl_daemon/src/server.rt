@@ -132,10 +132,7 @@ fn accept_clients<H: Host>(host: &H, daemon: &Daemon, listener: &Listener, asks_
 fn accept_client<H: Host>(host: &H, daemon: &Daemon, listener: &Listener) -> Option<Client> {
     let (alloc, clients) = (daemon.alloc, &daemon.clients);
     match next_client(host, alloc, &daemon.stop, listener, clients) {
-        Accepted::Client(client) => {
-            daemon.observed.count_accepted();
-            Some(client)
-        }
+        Accepted::Client(client) => Some(client),
         Accepted::Refused(ConnectionFault::Busy) => {
             daemon
                 .observed

@@ -26,6 +26,7 @@ pub(crate) fn serve_client<R: Wait + Clock>(
     asks_only: bool,
 ) {
     let Client { stream, place } = client;
+    daemon.observed.count_accepted();
     let course = Course::new();
     let mut desk = SessionDesk::new(rt, daemon, &course.place, asks_only);
     if set_patience(daemon, &stream).is_ok() {

@@ -121,8 +121,11 @@ fn with_name(alloc: Global, line: Line, story: &Story) -> Line {
 
 /// The line with the milliseconds since a time, where the clock can be read.
 pub(super) fn with_time<R: Clock>(rt: &R, line: Line, begun: Option<Instant>) -> Line {
-    match begun.and_then(|begun| begun.elapsed(rt).ok()) {
-        Some(passed) => line.millis("ms", u64::try_from(passed.as_micros()).unwrap_or(u64::MAX)),
-        None => line,
+    let Some(begun) = begun else {
+        return line;
+    };
+    match begun.elapsed(rt) {
+        Ok(passed) => line.millis("ms", u64::try_from(passed.as_micros()).unwrap_or(u64::MAX)),
+        Err(_) => line,
     }
 }
