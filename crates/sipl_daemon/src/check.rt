@@ -2,10 +2,11 @@
 use crate::daemon::Daemon;
 use crate::host::Host;
 use crate::journal::claims::Claims;
-use crate::report::{Fault, report_torn};
+use crate::report::Fault;
 use crate::session::restoring::RestoringDesk;
 use crate::settings::DaemonSettings;
 use sipl_listen::Stop;
+use sipl_log::Log;
 use sipl_state::{FoundFiles, StateFault, check_state, real_path};
 use std::alloc::Global;
 use std::io;
@@ -14,15 +15,20 @@ use std::sync::Arc;
 use std::sync::atomic::AtomicU64;
 
 /// Reads the files of a state as a start does, and prints what they have. Writes no file.
-pub(crate) fn check_files<R, H>(rt: &R, host: &H, path: &str) -> Result<(), Fault>
+pub(crate) fn check_files<R, H>(
+    rt: &R,
+    host: &H,
+    log: &Arc<Log, Global>,
+    path: &str,
+) -> Result<(), Fault>
 where
-    R: Print + Eprint + AllocGlobal,
+    R: Print + AllocGlobal,
     H: Host,
 {
     let alloc = rt.alloc();
     let settings = Box::new(alloc, DaemonSettings::from_toml(alloc, "")?)?;
     let stop = Arc::new(alloc, Stop::new())?;
-    let daemon = Daemon::new(host, alloc, &settings, stop)?;
+    let daemon = Daemon::new(host, alloc, &settings, stop, Arc::try_clone(log)?)?;
     let mut claims = Claims::new(alloc);
     let checked = check_with(rt, host, &daemon, &mut claims, path);
     drop(claims);
@@ -39,7 +45,7 @@ fn check_with<R, H>(
     path: &str,
 ) -> Result<(), Fault>
 where
-    R: Print + Eprint + AllocGlobal,
+    R: Print + AllocGlobal,
     H: Host,
 {
     let found = match check_at(host, rt.alloc(), daemon, claims, path) {
@@ -47,7 +53,7 @@ where
         Err(fault) => return Err(Fault::State(String::from_str(rt.alloc(), path)?, fault)),
     };
     if let Some(octet) = found.torn {
-        report_torn(rt, path, octet);
+        daemon.observed.tell_torn(host, path, octet)?;
     }
     print_found(rt, host, daemon, &found)
 }

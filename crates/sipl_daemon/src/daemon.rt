@@ -6,11 +6,13 @@ ghost use Rattle.sipl_service.specs.Telling.{IsToldFor, event_of};
 
 use crate::counts::Counts;
 use crate::journal::pages::{Pages, board_octets};
+use crate::observed::Observed;
 use crate::settings::{Clocks, DaemonSettings, OnFailure};
 use sipl_archive::Archive;
 use sipl_book::BookFault;
 use sipl_lines::Settings;
 use sipl_listen::{Clients, Stop, Stream, max_clients};
+use sipl_log::Log;
 use sipl_service::{OpenGate, Pass, Service, ServiceFault, Told};
 use sipl_srv::Draws;
 use sipl_state::{Changes, HostTime, Source};
@@ -39,6 +41,10 @@ pub(crate) struct Daemon {
     pub(crate) clients: Clients,
     pub(crate) controls: Clients,
     pub(crate) counts: Counts,
+    pub(crate) observed: Observed,
+    // Those who read the metrics, and whether no more may.
+    pub(crate) scrapers: Clients,
+    pub(crate) scrapes_end: Stop,
     // The time of the host, if that is the book's.
     time: Option<HostTime>,
     // The pass of the moves of the clock.
@@ -51,6 +57,14 @@ pub(crate) struct Daemon {
     pub(crate) open: Mutex<Vec<Arc<Stream, Global>>>,
 }
 
+// The places of all who connect.
+#[derive(Drop)]
+struct Places {
+    clients: Clients,
+    controls: Clients,
+    scrapers: Clients,
+}
+
 impl Daemon {
     // A daemon with these settings, over a service without zones, holds or events.
     pub(crate) fn new<R: Clock + Files>(
@@ -58,6 +72,7 @@ impl Daemon {
         alloc: Global,
         settings: &DaemonSettings,
         stop: Arc<Stop, Global>,
+        log: Arc<Log, Global>,
     ) -> io::Result<Box<Daemon>> {
         let time = match settings.clock {
             Clocks::Host => Some(HostTime::new(rt, 0)?),
@@ -68,8 +83,15 @@ impl Daemon {
             max_clients(rt, alloc, settings.clients, settings.descriptors()),
         )?;
         let controls = Clients::new(alloc, MAX_CONTROLS)?;
+        let observed = Observed::new(alloc, settings, log)?;
+        let scrapers = Clients::new(alloc, settings.max_scrapers())?;
         let service = new_service(alloc, &settings.service)?;
-        let daemon = Daemon::over(service, alloc, settings, stop, time, clients, controls);
+        let places = Places {
+            clients,
+            controls,
+            scrapers,
+        };
+        let daemon = Daemon::over(service, alloc, settings, stop, time, places, observed);
         Ok(Box::new(alloc, daemon)?)
     }
 
@@ -80,8 +102,8 @@ impl Daemon {
         settings: &DaemonSettings,
         stop: Arc<Stop, Global>,
         time: Option<HostTime>,
-        clients: Clients,
-        controls: Clients,
+        places: Places,
+        observed: Observed,
     ) -> Daemon {
         let mover = Mutex::new(service.pass());
         Daemon {
@@ -91,9 +113,12 @@ impl Daemon {
             zone_octets: settings.zone_octets,
             pages: Pages::new(alloc, settings.service.journal as u64, settings.page_octets),
             stop,
-            clients,
-            controls,
+            clients: places.clients,
+            controls: places.controls,
             counts: Counts::new(),
+            observed,
+            scrapers: places.scrapers,
+            scrapes_end: Stop::new(),
             time,
             mover,
             on_failure: settings.on_failure,

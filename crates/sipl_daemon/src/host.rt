@@ -13,7 +13,6 @@ pub trait Host: Net<Listener = TcpListener, Stream = TcpStream>
     + Threads
     + Wait
     + Clock
-    + Eprint
     + Sync {}
 
 impl<H> Host for H
@@ -23,6 +22,5 @@ where
         + Threads
         + Wait
         + Clock
-        + Eprint
         + Sync,
 {}

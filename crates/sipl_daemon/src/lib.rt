@@ -3,6 +3,7 @@
 
 mod arguments;
 mod check;
+mod config;
 mod control;
 mod counts;
 mod daemon;
@@ -11,8 +12,11 @@ mod host;
 mod http;
 mod journal;
 mod listeners;
+mod observed;
 mod program;
 mod report;
+mod samples;
+mod scrapes;
 mod server;
 mod session;
 mod settings;

@@ -8,7 +8,7 @@ use sipl_state::Turned;
 use std::fs::File;
 use std::rt::Files;
 use std::sync::Wait;
-use std::time::Duration;
+use std::time::{Clock, Duration, Instant};
 
 // How long a claim waits for receipts that are on their way, in milliseconds.
 const PATIENCE: u64 = 20;
@@ -25,7 +25,7 @@ pub(crate) fn claim_pages<H: Host>(host: &H, daemon: &Daemon, claims: &mut Claim
 }
 
 /// Claims the pages that were turned, but for those whose receipts are on their way.
-pub(crate) fn claim_turned<R: Files<File = File> + Wait>(
+pub(crate) fn claim_turned<R: Files<File = File> + Wait + Clock>(
     rt: &R,
     daemon: &Daemon,
     claims: &mut Claims,
@@ -44,7 +44,12 @@ pub(crate) fn claim_turned<R: Files<File = File> + Wait>(
 
 // Tries to claim the next page, and waits where that is not to be claimed yet.
 fn claim_once<H: Host>(host: &H, daemon: &Daemon, claims: &mut Claims) {
-    match claims.claim_next(host, &daemon.pages) {
+    let claimed = claims.claim_next(host, &daemon.pages);
+    let waiting = daemon.pages.waiting(host) as u64;
+    daemon
+        .observed
+        .see_pages(host, daemon.pages.claimed(), waiting);
+    match claimed {
         Ok(Claimed::Page) => keep_claimed(host, daemon, claims),
         Ok(Claimed::NotYet) => daemon.stop.pause(host, Duration::from_millis(PATIENCE)),
         Ok(Claimed::Nothing) => daemon.pages.wait_for_page(host),
@@ -53,7 +58,11 @@ fn claim_once<H: Host>(host: &H, daemon: &Daemon, claims: &mut Claims) {
 }
 
 // Keeps the page that was claimed.
-fn keep_claimed<R: Files<File = File> + Wait>(rt: &R, daemon: &Daemon, claims: &mut Claims) {
+fn keep_claimed<R: Files<File = File> + Wait + Clock>(
+    rt: &R,
+    daemon: &Daemon,
+    claims: &mut Claims,
+) {
     if let Some(turned) = claims.take() {
         if let Err(fault) = keep(rt, daemon, &turned) {
             fail(rt, daemon, claims, fault);
@@ -62,7 +71,7 @@ fn keep_claimed<R: Files<File = File> + Wait>(rt: &R, daemon: &Daemon, claims: &
 }
 
 // Keeps a fault, and asks for the stop.
-fn fail<R: Files<File = File> + Wait>(
+fn fail<R: Files<File = File> + Wait + Clock>(
     rt: &R,
     daemon: &Daemon,
     claims: &mut Claims,
@@ -73,7 +82,7 @@ fn fail<R: Files<File = File> + Wait>(
 }
 
 // Archives a page that was claimed, and writes the state after it, if these are to be.
-fn keep<R: Files<File = File> + Wait>(
+fn keep<R: Files<File = File> + Wait + Clock>(
     rt: &R,
     daemon: &Daemon,
     turned: &Turned,
@@ -82,8 +91,13 @@ fn keep<R: Files<File = File> + Wait>(
     let (Some(changes), Some(mark)) = (&daemon.source.changes, turned.mark) else {
         return Ok(());
     };
+    let begun = Instant::now(rt).ok();
     match changes.write_state(rt, mark, turned.page.result()) {
+        Ok(()) => {
+            daemon.observed.tell_state(rt, begun);
+            Ok(())
+        }
         Err(error) if daemon.on_failure == OnFailure::End => Err(CloseFault::State(error)),
-        _ => Ok(()),
+        Err(_) => Ok(()),
     }
 }

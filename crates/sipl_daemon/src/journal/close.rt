@@ -3,6 +3,7 @@ use crate::daemon::Daemon;
 use crate::fault::CloseFault;
 use crate::journal::claims::Claims;
 use crate::journal::pages::Pages;
+use crate::observed::Observed;
 use crate::settings::OnFailure;
 use sipl_archive::Archive;
 use sipl_book::Page;
@@ -10,11 +11,12 @@ use sipl_state::{Changes, Source};
 use std::fs::File;
 use std::rt::Files;
 use std::sync::Wait;
+use std::time::{Clock, Instant};
 
 impl Daemon {
     // Closes the service, claims the events of all pages, archives them, and writes the state. Returns how
     // many events there were. The fault is the first one, from the start of the daemon on.
-    pub(crate) fn close<R: Files<File = File> + Wait>(
+    pub(crate) fn close<R: Files<File = File> + Wait + Clock>(
         self,
         rt: &R,
         claims: &mut Claims,
@@ -28,6 +30,8 @@ impl Daemon {
             mover,
             on_failure,
             open,
+            observed,
+            scrapers,
             ..
         } = self;
         let Source {
@@ -48,6 +52,7 @@ impl Daemon {
                     archive.as_ref(),
                     changes.as_ref(),
                     &last,
+                    &observed,
                 );
                 drop(last);
                 ended
@@ -65,18 +70,21 @@ impl Daemon {
         drop(clients);
         drop(controls);
         drop(open);
+        drop(observed);
+        drop(scrapers);
         ended
     }
 }
 
 // Claims the events of all pages, archives them, and writes the state. Returns how many events there were.
-fn end<R: Files<File = File> + Wait>(
+fn end<R: Files<File = File> + Wait + Clock>(
     rt: &R,
     claims: &mut Claims,
     pages: &Pages,
     archive: Option<&Archive>,
     changes: Option<&Changes>,
     last: &Page,
+    observed: &Observed,
 ) -> Result<u64, CloseFault> {
     claims.end(rt, pages, archive, last)?;
     // The first event has the number 0.
@@ -84,8 +92,12 @@ fn end<R: Files<File = File> + Wait>(
     let Some(changes) = changes else {
         return Ok(events);
     };
+    let begun = Instant::now(rt).ok();
     match changes.end(rt, last.result()) {
-        Ok(()) => Ok(events),
+        Ok(()) => {
+            observed.tell_state(rt, begun);
+            Ok(events)
+        }
         Err(error) => Err(CloseFault::State(error)),
     }
 }

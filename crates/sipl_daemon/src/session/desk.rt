@@ -164,7 +164,7 @@ impl<'a, R: Wait + Clock> Desk for SessionDesk<'a, R> {
         }
         let (rt, daemon) = (self.rt, self.daemon);
         let octets = edit_octets(&edit);
-        match daemon.source.edit(rt, &mut self.pass, edit, self.place) {
+        match daemon.edit(rt, &mut self.pass, edit, self.place) {
             Ok(done) => {
                 daemon.count_event(rt, done.number, octets, self.changed());
                 Ok(done)
