@@ -57,7 +57,6 @@ impl<'a, R: Wait + Clock> Output<'a, R> {
             if self.daemon.on_failure == OnFailure::End {
                 self.daemon.stop.ask(self.rt);
             }
-            self.daemon.stop.ask(self.rt);
         }
         synced
     }
