@@ -1,4 +1,4 @@
-"""What tools/definitions reads in the crates: definitions with their comments, contracts, and the order of the crates."""
+"""What tools/definitions reads in the crates: definitions with their comments, contracts, laws, and the crates' order."""
 
 from __future__ import annotations
 
@@ -40,7 +40,7 @@ def contract(path: pathlib.Path, function: str) -> list[str]:
     if owner:
         is_owner = re.compile(rf"(?:impl|(?:pub )?trait)\b.*\b{owner}\b")
         start = next((i for i, line in enumerate(lines) if is_owner.match(line)), len(lines))
-    is_head = re.compile(rf"\s*(?:pub(?:\(crate\))? )?(?:const )?fn {name}\b")
+    is_head = re.compile(rf"\s*(?:pub(?:\(\w+\))? )?(?:const )?fn {name}\b")
     for first in range(start, len(lines)):
         if is_head.match(lines[first]):
             for last in range(first, len(lines)):

@@ -11,8 +11,8 @@ A table is between the lines `<!-- table NAME WORD.. -->` and `<!-- end -->`:
     harms             the wrong bodies of docs/tables/harms.txt
     tools, benches    the programs of tools/ and bench/, each by the first sentence at its head
 
-A file of docs/tables has comments after `#`, begins a table by `== NAME`, maybe with the heads of its columns, and has a
-row in each other line. docs/tables/targets.txt has for each document how many words it may have: those of its tables
+A file of docs/tables has comments after `#`, begins a table by `== NAME`, maybe with the heads of its columns, and has
+a row in each other line. docs/tables/targets.txt has for each document how many words it may have: those of its tables
 are not counted. A document with a tenth more, or with a sentence of more than 35 words, is refused.
 """
 
@@ -69,7 +69,8 @@ def keys_of(name: str) -> set[str]:
         own = re.search(r"const OWN_KEYS: .*?\[\n(.*?)\];", text_of("sipl_daemon/src/settings.rt"), re.S)
         return set(re.findall(r'"(\w+)"', own[1] if own else ""))
     body = re.search(r"^pub struct Settings \{(.*?)^\}", text_of("sipl_lines/src/settings.rt"), re.S | re.M)
-    return set(re.findall(r"^    pub (\w+):", body[1] if body else "", re.M)) - {"abilities"} | {"transports", "families"}
+    fields = set(re.findall(r"^    pub (\w+):", body[1] if body else "", re.M))
+    return fields - {"abilities"} | {"transports", "families"}
 
 
 def settings(name: str) -> list[str]:
@@ -137,7 +138,8 @@ def harms() -> list[str]:
     for edit in (it for row in rows for it in row[1].split()):
         if not (CRATES / f"{edit}.edit").is_file():
             raise SystemExit(f"harms.txt: there is no {edit}.edit")
-    return markdown(["Harm", "Refused"], [[harm, "; ".join(f"`{it}.edit`" for it in edits.split())] for harm, edits in rows])
+    cells = [[harm, "; ".join(f"`{it}.edit`" for it in edits.split())] for harm, edits in rows]
+    return markdown(["Harm", "Refused"], cells)
 
 
 def first_sentence(path: pathlib.Path) -> str:
