@@ -21,7 +21,7 @@ body { margin: 0 auto; padding: 1rem; max-width: 62rem; font: 1rem/1.5 system-ui
 a { color: var(--link); text-decoration-thickness: 1px; text-underline-offset: 2px; }
 h1 { font-size: 1.6rem; margin: .5rem 0; } h2 { font-size: 1.25rem; margin: 2rem 0 .5rem; }
 h3 { font-size: 1rem; margin: 0; font-family: ui-monospace, monospace; }
-section { border-top: 1px solid var(--line); padding: .8rem 0; } section:target { background: var(--mark); }
+section { border-top: 1px solid var(--line); padding: .8rem 0; } section:target, pre:target { background: var(--mark); }
 pre { margin: .4rem 0; padding: .6rem; overflow-x: auto; border: 1px solid var(--line); border-radius: .3rem;
       font: .85rem/1.45 ui-monospace, monospace; overflow-wrap: normal; }
 p { margin: .3rem 0; } .pale { color: var(--pale); font-size: .9rem; } ol li { margin: .5rem 0; }
@@ -115,8 +115,9 @@ class Page:
         return f"<details><summary class=pale>{what}</summary><ul>{''.join(rows)}</ul></details>" if rows else ""
 
     def headline(self) -> str:
-        rows = [f'<li>{html.escape(sentence)} <a href="#{anchor(file, function)}">{html.escape(function)}</a></li>'
-                for sentence, (file, function, *_) in self.sentences]
+        rows = [f'<li>{html.escape(sentence)} <a href="#{anchor(file, function, *names[:1])}">'
+                f"{html.escape(', '.join(filter(None, [function, ' and '.join(names)])))}</a></li>"
+                for sentence, (file, function, *names) in self.sentences]
         return f"<h2>What is proved</h2><ol>{''.join(rows)}</ol>"
 
     def contracts(self) -> str:
@@ -126,7 +127,8 @@ class Page:
             path = CRATES / file
             names = [name for _, it in self.sentences if it[:2] == [file, function] for name in it[2:]]
             found = self.clauses(file, function, names)
-            texts = "".join(f"<pre>{linked(text, words_of(path, text, cites))}</pre>" for _, text, cites in found)
+            texts = "".join(f'<pre id="{anchor(file, function, name or "clause")}">'
+                            f"{linked(text, words_of(path, text, cites))}</pre>" for name, text, cites in found)
             out.append(f'<section id="{anchor(file, function)}"><h3>{html.escape(function)}</h3>'
                        f"<p class=pale>crates/{html.escape(file)}</p>{texts}"
                        f"{self.edits(self.of_function[path, function])}</section>")
