@@ -89,8 +89,9 @@ WORDS = {
 
 
 def performance() -> list[str]:
-    heads, *rows = rows_of("performance")["rows"]
-    return markdown(heads, [row + [""] * (len(heads) - len(row)) for row in rows])
+    tables = rows_of("performance")
+    heads, *rows = tables["rows"]
+    return [*tables["run"][0], "", *markdown(heads, [row + [""] * (len(heads) - len(row)) for row in rows])]
 
 
 def lines(name: str) -> list[str]:
