@@ -99,7 +99,8 @@ def lines(name: str) -> list[str]:
     if name in WORDS:
         path, word = WORDS[name]
         known = set(re.findall(word, text_of(path), re.M))
-        refuse(f"lines.txt, {name}", known, {row[0].strip("`").removeprefix("siploc ").split(" ")[0] for row in rows})
+        written = {row[0].strip("`").removeprefix("siploc ").split(" ")[0] for row in rows}
+        refuse(f"lines.txt, {name}", known, {it for it in written if not it.startswith("-")})
     return markdown(heads, [row + [""] * (len(heads) - len(row)) for row in rows])
 
 
