@@ -210,6 +210,16 @@ def broken_links(path: pathlib.Path, text: str) -> Iterator[str]:
             yield f"{path.relative_to(TOP)} has a link that leads nowhere: {link}"
 
 
+def lost_paths() -> Iterator[str]:
+    """The documents that the tools, the examples, the sessions and the crates name, and that are not there."""
+    folders = ("tools", "bench", "clients", "examples", "sessions", ".ci", "crates")
+    for path in (it for folder in folders for it in sorted((TOP / folder).rglob("*"))):
+        if path.is_file() and "out" not in path.relative_to(TOP).parts and path.suffix in ("", ".py", ".txt", ".sh", ".rt"):
+            for name in re.findall(r"\bdocs/[\w/-]+\.md\b", path.read_text(errors="replace")):
+                if not (TOP / name).exists():
+                    yield f"{path.relative_to(TOP)} names {name}, which is not there"
+
+
 def units(text: str) -> Iterator[str]:
     """The paragraphs, items of lists and cells of tables of a document, without its examples."""
     text = re.sub(r"^```.*?^```$", "", text, flags=re.S | re.M)
