@@ -51,7 +51,9 @@ def markdown(heads: list[str], rows: list[list[str]]) -> list[str]:
 
 
 def text_of(path: str) -> str:
-    return (CRATES / path).read_text()
+    """The text of a file, or of all files of a folder."""
+    files = sorted((CRATES / path).glob("*.rt")) if (CRATES / path).is_dir() else [CRATES / path]
+    return "\n".join(it.read_text() for it in files)
 
 
 def refuse(what: str, known: set[str], written: set[str]) -> None:
@@ -79,12 +81,12 @@ def settings(name: str) -> list[str]:
     return markdown(heads, rows)
 
 
-# By the name of a table the file that has its words, and what they are in it.
+# By the name of a table the file, or the folder, that has its words, and what they are in it.
 WORDS = {
     "session": ("sipl_lines/specs/Requests.antt", r'codes "(\w+)"\) then \w+_request'),
     "script": ("sipl_lines/specs/ScriptLines.antt", r'codes "(\w+)"\) then \w+_request'),
     "control": ("sipl_daemon/src/control.rt", r'^ +"(\w+)" =>'),
-    "program": ("siploc/src/program.rt", r'^ +"(\w+)" => '),
+    "program": ("siploc/src", r'^ +(?:Some\(\()?"(\w+)"(?:, \w+\)\))? => '),
 }
 
 
