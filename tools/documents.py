@@ -86,7 +86,7 @@ WORDS = {
     "session": ("sipl_lines/specs/Requests.antt", r'codes "(\w+)"\) then \w+_request'),
     "script": ("sipl_lines/specs/ScriptLines.antt", r'codes "(\w+)"\) then \w+_request'),
     "control": ("sipl_daemon/src/control.rt", r'^ +"(\w+)" =>'),
-    "program": ("siploc/src", r'(?:^ +|Command::new\(alloc, |with_settings\(\s+alloc,\s+)"(?!siploc")(\w+)"(?= =>|\)|,)'),
+    "program": ("siploc/src", r'(?:^ +|Command::new\(alloc, |with_settings\(\s*alloc,\s*)"(?!siploc")(\w+)"(?= =>|\)|,)'),
 }
 
 
