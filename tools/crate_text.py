@@ -65,6 +65,19 @@ def crate_names() -> list[str]:
     return [line.split(":")[0].split()[0] for line in lines if ":" in line and line[0] != "#"]
 
 
+def uses() -> dict[str, list[str]]:
+    """By each crate those of the repository that it uses, without those that these use in turn."""
+    names = crate_names()
+    lines = (TOP / "crates.txt").read_text().split("\n")
+    used = {line.split(":")[0].split()[0]: set(line.split(":")[1].split()) & set(names)
+            for line in lines if ":" in line and line[0] != "#"}
+    below: dict[str, set[str]] = {}
+    for name in names:
+        below[name] = used[name].union(*(below[it] for it in used[name]))
+    return {name: [it for it in names if it in used[name] and not any(it in below[other] for other in used[name])]
+            for name in names}
+
+
 def head_of(crate: str) -> str:
     """What a crate is, by the first paragraph at the head of its root."""
     root = next(it for it in (CRATES / crate / "src/lib.rt", CRATES / crate / "src/main.rt") if it.exists())

@@ -5,7 +5,7 @@ A table is between the lines `<!-- table NAME WORD.. -->` and `<!-- end -->`:
 
     settings NAME     the settings of docs/tables/settings.txt, whose keys are those of the crates
     lines NAME        a table of docs/tables/lines.txt, whose words are those of the crates
-    crates            what each crate is, by the head of its root
+    crates            what each crate is, by the head of its root, and on which it stands, by crates.txt
     proved            the clauses of docs/tables/proved.txt, which the crates have, and all laws with their comments
     performance       the figures of docs/tables/performance.txt, which bench/run measures
     harms             the wrong bodies of docs/tables/harms.txt
@@ -22,7 +22,7 @@ import pathlib
 import re
 from typing import Callable, Iterator, Optional
 
-from crate_text import CRATES, TOP, WORD, crate_names, head_of, laws
+from crate_text import CRATES, TOP, WORD, crate_names, head_of, laws, uses
 
 TABLES = TOP / "docs/tables"
 LONGEST = 35
@@ -107,8 +107,10 @@ def lines(name: str) -> list[str]:
 
 
 def crates() -> list[str]:
-    """What each crate is."""
-    return markdown(["Crate", "What it has"], [[f"`{it}`", head_of(it)] for it in crate_names()])
+    """What each crate is, and on which it stands."""
+    below = uses()
+    rows = [[f"`{it}`", head_of(it), ", ".join(f"`{one}`" for one in below[it])] for it in crate_names()]
+    return markdown(["Crate", "What it has", "It stands on"], rows)
 
 
 def check_proved(crate: str, row: list[str], words: set[str]) -> None:
