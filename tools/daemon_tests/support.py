@@ -28,6 +28,8 @@ SEED = int(os.environ.get("SEED", "1"))
 PATIENCE = int(os.environ.get("PATIENCE", "20"))
 FOR_EVER = 1 << 40
 ENDS = (b"ok", b"none", b"err")
+# How a line of the log begins.
+LOGGED = re.compile(r"(<[0-7]>)?(error|warn|info|debug) event=")
 TESTS: list[Callable[["Checks", pathlib.Path], None]] = []
 # Of the daemons that this process has started.
 NUMBERS = itertools.count(1)
@@ -156,7 +158,7 @@ class Daemon:
 
     def __init__(self, folder: pathlib.Path, settings: str = "", unix: str = "", limit: int = 0, has_input: bool = False,
                  waits: bool = True, listen: Sequence[str] = (), find: Sequence[str] = (), control: str = "", umask: int = -1,
-                 environment: Optional[dict[str, str]] = None) -> None:
+                 environment: Optional[dict[str, str]] = None, file: Optional[pathlib.Path] = None) -> None:
         self.folder = folder
         # A port of the system's choice, where it says which it is before anyone has to know.
         port = 0 if waits else free_ports(1)[0]
@@ -168,10 +170,14 @@ class Daemon:
         for key, value in ("control", self.control), ("find", [*find]), ("listen", [*(listen or own)]):
             if value and f"{key} =" not in settings:
                 self.text = f"{key} = {value!r}\n".replace("'", '"') + self.text
+        words = [self.text]
+        if file:
+            file.write_text(self.text)
+            words = ["--config", str(file)]
         self.errors = folder / f"errors-{next(NUMBERS)}"
         with self.errors.open("wb") as errors:
-            limited = ["sh", "-c", f'ulimit -n {limit}; exec "$0" "$1"'] if limit else []
-            self.process = subprocess.Popen([*limited, PROGRAM, self.text], cwd=folder, stdout=subprocess.PIPE, stderr=errors,
+            limited = ["sh", "-c", f'ulimit -n {limit}; exec "$0" "$@"'] if limit else []
+            self.process = subprocess.Popen([*limited, PROGRAM, *words], cwd=folder, stdout=subprocess.PIPE, stderr=errors,
                                             stdin=subprocess.PIPE if has_input else subprocess.DEVNULL, umask=umask,
                                             env={**os.environ, **(environment or {})})
         self.lines: list[str] = []
@@ -249,8 +255,19 @@ class Daemon:
         found = re.search(r"VmRSS:\s+(\d+) kB", status)
         return 1024 * int(found[1]) if found else 0
 
+    def peak(self) -> int:
+        """The most octets of memory that it had."""
+        found = re.search(r"VmHWM:\s+(\d+) kB", pathlib.Path(f"/proc/{self.process.pid}/status").read_text())
+        return 1024 * int(found[1]) if found else 0
+
     def said(self) -> str:
-        return self.errors.read_text(errors="replace")
+        """Its messages on standard error, without the log."""
+        lines = self.errors.read_text(errors="replace").splitlines(keepends=True)
+        return "".join(it for it in lines if not LOGGED.match(it))
+
+    def log(self) -> list[str]:
+        """The lines of its log."""
+        return [it for it in self.errors.read_text(errors="replace").splitlines() if LOGGED.match(it)]
 
 
 @contextlib.contextmanager

@@ -16,7 +16,7 @@ use Rattle.sipl_service.specs.declared.fault.ServiceFault.{ServiceFault}
 use Rattle.sipl_lines.specs.Desk.{DeskRules}
 use Rattle.sipl_lines.specs.ServiceDesk.{CallerState, IsTold, KeepsOthers, handed_of, service_text}
 use Rattle.sipl_daemon.specs.declared.fault.DeskFault.{DeskFault}
-use Rattle.sipl_daemon.specs.declared.fault.DeskFault.TheVariants.{AsksOnly, HostTime, Service}
+use Rattle.sipl_daemon.specs.declared.fault.DeskFault.TheVariants.{AsksOnly, HostTime, NotKept, Service}
 
 -- what is seen of a session: its caller, and whether it may only ask
 pub record SessionState : Type 0 where
@@ -36,6 +36,10 @@ pub record KeepsSession (old new : SessionState) : Type 0 where
 abbrev pub IsRefused : {A : Type 0} → SessionState → SessionState → Result A DeskFault → Type 0
 IsRefused old new outcome = (old.asks_only ≡ true) × (outcome ≡ Err AsksOnly) × (new ≡ old)
 
+-- a change that can't be written to the files of the state is refused, and nothing changes
+abbrev pub IsNotKept : {A : Type 0} → SessionState → SessionState → Result A DeskFault → Type 0
+IsNotKept old new outcome = (outcome ≡ Err NotKept) × (new ≡ old)
+
 -- The service makes the edit, and the pass gets the receipt of it; or it refuses.
 pub record MakesEdit (edit : Edit) (old new : SessionState) (outcome : Result Done DeskFault) : Type 0 where
   pub done : Result Done ServiceFault
@@ -51,15 +55,19 @@ pub record MakesEvent (event : BoardEvent) (old new : SessionState)
   pub others : KeepsSession old new
   pub outcome_is : outcome ≡ of_service number
 
+-- the service makes the event, or it can't be kept
+abbrev pub MakesOrKeeps : BoardEvent → SessionState → SessionState → Result ℕ DeskFault → Type 0
+MakesOrKeeps event old new outcome = MakesEvent event old new outcome ⊎ IsNotKept old new outcome
+
 -- The holds of a session that may only ask are those of its calls, and it moves nothing else. A move of the clock,
 -- where the time is the host's, is refused and changes nothing.
 abbrev pub MovesBoard : BoardEvent → SessionState → Result ℕ DeskFault → SessionState → Type 0
 MovesBoard (Advance to) old outcome new =
     IsRefused old new outcome ⊎ ((old.asks_only ≡ false) ×
-    (MakesEvent (Advance to) old new outcome ⊎ ((outcome ≡ Err HostTime) × (new ≡ old))))
-MovesBoard (Hold endpoint ms) old outcome new = MakesEvent (Hold endpoint ms) old new outcome
+    (MakesOrKeeps (Advance to) old new outcome ⊎ ((outcome ≡ Err HostTime) × (new ≡ old))))
+MovesBoard (Hold endpoint ms) old outcome new = MakesOrKeeps (Hold endpoint ms) old new outcome
 MovesBoard (Release endpoint) old outcome new =
-    IsRefused old new outcome ⊎ ((old.asks_only ≡ false) × MakesEvent (Release endpoint) old new outcome)
+    IsRefused old new outcome ⊎ ((old.asks_only ≡ false) × MakesOrKeeps (Release endpoint) old new outcome)
 
 -- which events a page has that was turned
 abbrev pub IsExtent : Extent → Type 0
@@ -76,6 +84,7 @@ HandsOver old new = IsHandedOver old.caller.pass new.caller.pass × KeepsSession
 -- what a refusal says of a fault
 abbrev pub desk_text : DeskFault → Octets
 desk_text HostTime = codes "D1"
+desk_text NotKept = codes "D2"
 desk_text AsksOnly = codes "D3"
 desk_text (Service fault) = service_text fault
 
@@ -87,7 +96,8 @@ session_rules =
           × IsTold question words old.caller new.caller told × (new.asks_only ≡ old.asks_only)
           × (outcome ≡ result_map_both handed_of Service told);
       Changes = λ edit old outcome new.
-          IsRefused old new outcome ⊎ ((old.asks_only ≡ false) × MakesEdit edit old new outcome);
+          IsRefused old new outcome ⊎ ((old.asks_only ≡ false) ×
+          (MakesEdit edit old new outcome ⊎ IsNotKept old new outcome));
       Moves = λ event old outcome new. MovesBoard event old outcome new;
       Depends = λ question old outcome new.
           IfOk outcome (AreToldDependencies question old.caller.client) × (new ≡ old);

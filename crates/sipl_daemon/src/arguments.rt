@@ -1,51 +1,163 @@
 //! The arguments of the program.
+use clap::error::ErrorKind;
+use clap::{Arg, ArgMatches, Command, Error};
+use sipl_config::VERSION;
+use std::alloc::{AllocError, Global};
 use std::rt::Env;
 use std::{env, io};
+
+const ABOUT: &str =
+    "A locator of SIP servers (RFC 3263): serves sessions until it is told to stop.";
+
+const AFTER: &str = "Settings and their defaults: siplocd.toml(5). Without any, the defaults.";
 
 /// What the arguments ask for.
 #[derive(Drop)]
 pub(crate) enum Call {
-    Serve(String),
+    Serve(Given),
+    // Checks the settings of a file.
+    Check(String),
     Tell(String, String),
     Replay(String),
-    Help,
-    Version,
+    CheckState(String),
 }
 
-/// What the arguments ask for, if they are right. An error says that one of them is not UTF-8, or that an
-/// allocation failed.
-pub(crate) fn read_arguments<R: Env + AllocGlobal>(rt: &R) -> io::Result<Option<Call>> {
-    let mut words = env::args(rt)?;
-    let _program = words.next();
-    let Some(first) = words.next() else {
-        return Ok(Some(Call::Serve(String::new(rt.alloc()))));
-    };
-    let Some(second) = words.next() else {
-        return Ok(read_word(first));
-    };
-    let third = words.next();
-    if words.next().is_some() {
-        return Ok(None);
-    }
-    Ok(read_words(first, second, third))
+/// Where the settings are.
+#[derive(Drop)]
+pub(crate) enum Given {
+    Text(String),
+    File(String),
 }
 
-// What two or three arguments ask for.
-fn read_words(first: String, second: String, third: Option<String>) -> Option<Call> {
-    match third {
-        None if first.as_str() == "replay" => Some(Call::Replay(second)),
-        Some(line) if first.as_str() == "tell" => Some(Call::Tell(second, line)),
-        _ => None,
+/// Why the arguments ask for nothing that is done.
+#[derive(Drop)]
+pub(crate) enum Unread {
+    /// One is not UTF-8.
+    NotText,
+    /// They are wrong, or ask for the usage or the version: what is to be printed.
+    Told(Error),
+    /// An allocation failed.
+    Memory,
+}
+
+impl From<io::Error> for Unread {
+    fn from(error: io::Error) -> Unread {
+        match error.kind() {
+            io::ErrorKind::OutOfMemory => Unread::Memory,
+            _ => Unread::NotText,
+        }
     }
 }
 
-// What one argument asks for: an option, or the text of the settings.
-fn read_word(word: String) -> Option<Call> {
-    match word.as_str() {
-        "--help" => Some(Call::Help),
-        "--version" => Some(Call::Version),
-        "tell" | "replay" => None,
-        text if text.starts_with('-') => None,
-        _ => Some(Call::Serve(word)),
+impl From<AllocError> for Unread {
+    fn from(_: AllocError) -> Unread {
+        Unread::Memory
     }
+}
+
+impl From<Error> for Unread {
+    fn from(error: Error) -> Unread {
+        match error.kind() {
+            ErrorKind::OutOfMemory => Unread::Memory,
+            _ => Unread::Told(error),
+        }
+    }
+}
+
+/// What the arguments ask for.
+pub(crate) fn read_arguments<R: Env + AllocGlobal>(rt: &R) -> Result<Call, Unread> {
+    let alloc = rt.alloc();
+    let mut words = Vec::new(alloc);
+    for word in env::args(rt)? {
+        if words.push(word).is_err() {
+            return Err(Unread::Memory);
+        }
+    }
+    let matches = command(alloc)?.try_get_matches_from(words.as_slice())?;
+    Ok(call_of(alloc, &matches)?)
+}
+
+// What the words of a call that is right ask for.
+fn call_of(alloc: Global, matches: &ArgMatches<'_>) -> Result<Call, AllocError> {
+    match matches.subcommand() {
+        Some(("check", words)) => Ok(Call::Check(owned(alloc, words, "FILE")?)),
+        Some(("tell", words)) => Ok(Call::Tell(
+            owned(alloc, words, "ADDRESS")?,
+            owned(alloc, words, "LINE")?,
+        )),
+        Some(("check-state", words)) => Ok(Call::CheckState(owned(alloc, words, "FILE")?)),
+        Some((_, words)) => Ok(Call::Replay(owned(alloc, words, "FOLDER")?)),
+        None if matches.contains_id("FILE") => {
+            Ok(Call::Serve(Given::File(owned(alloc, matches, "FILE")?)))
+        }
+        None => Ok(Call::Serve(Given::Text(owned(alloc, matches, "SETTINGS")?))),
+    }
+}
+
+// The value of an argument; empty where it is not given.
+fn owned(alloc: Global, words: &ArgMatches<'_>, name: &str) -> Result<String, AllocError> {
+    String::from_str(alloc, words.get_str(name).unwrap_or(""))
+}
+
+// The arguments of the program, and its commands.
+fn command<'a>(alloc: Global) -> Result<Command<'a>, AllocError> {
+    let text = Arg::new(alloc, "SETTINGS").help("The text of the settings, a TOML document");
+    Command::new(alloc, "siplocd")
+        .bin_name("siplocd")?
+        .version(VERSION)
+        .about(ABOUT)
+        .after_help(AFTER)
+        .args_conflicts_with_subcommands(true)
+        .disable_help_subcommand(true)
+        .arg(config(alloc).conflicts_with("SETTINGS")?)?
+        .arg(text)?
+        .subcommand(check(alloc)?)?
+        .subcommand(tell(alloc)?)?
+        .subcommand(replay(alloc)?)?
+        .subcommand(check_state(alloc)?)
+}
+
+fn config<'a>(alloc: Global) -> Arg<'a> {
+    Arg::new(alloc, "FILE")
+        .long("config")
+        .value_name("FILE")
+        .help("Reads the settings from this file")
+}
+
+fn check<'a>(alloc: Global) -> Result<Command<'a>, AllocError> {
+    Command::new(alloc, "check")
+        .about("Checks the settings of a file: prints `ok`, or what is wrong at which line")
+        .arg(config(alloc).required(true))
+}
+
+fn tell<'a>(alloc: Global) -> Result<Command<'a>, AllocError> {
+    let address = Arg::new(alloc, "ADDRESS")
+        .required(true)
+        .help("The daemon's `control`");
+    let line = Arg::new(alloc, "LINE")
+        .required(true)
+        .allow_hyphen_values(true)
+        .help("Such as `stats`, `zones`, `holds`, `now`, `page` or `stop`");
+    Command::new(alloc, "tell")
+        .about("Sends a line to the daemon's control address, and prints the reply")
+        .arg(address)?
+        .arg(line)
+}
+
+fn replay<'a>(alloc: Global) -> Result<Command<'a>, AllocError> {
+    let folder = Arg::new(alloc, "FOLDER")
+        .required(true)
+        .help("The daemon's `archive`");
+    Command::new(alloc, "replay")
+        .about("Checks the pages of an archive, and prints how many events they have")
+        .arg(folder)
+}
+
+fn check_state<'a>(alloc: Global) -> Result<Command<'a>, AllocError> {
+    let file = Arg::new(alloc, "FILE")
+        .required(true)
+        .help("The daemon's `state`");
+    Command::new(alloc, "check-state")
+        .about("Reads the files of a state as a start does, and prints what they have")
+        .arg(file)
 }

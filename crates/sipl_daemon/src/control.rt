@@ -163,8 +163,8 @@ fn write_each(reply: &mut String, stats: &[(&str, u64)]) -> Result<(), AllocErro
     Ok(())
 }
 
-// How many records there are, and how many held endpoints.
-fn totals<H: Host>(host: &H, daemon: &Daemon) -> (u64, u64) {
+/// How many records there are, and how many held endpoints.
+pub(crate) fn totals<H: Host>(host: &H, daemon: &Daemon) -> (u64, u64) {
     let tally = daemon.source.tally.lock(host);
     (tally.records(), tally.holds().ends.len() as u64)
 }
@@ -213,8 +213,8 @@ fn count(count: &AtomicU64) -> u64 {
     count.load(Ordering::SeqCst)
 }
 
-// How many octets of the process are in memory; 0 where that can't be read.
-fn resident<H: Files>(host: &H, alloc: Global) -> u64 {
+/// How many octets of the process are in memory; 0 where that can't be read.
+pub(crate) fn resident<H: Files>(host: &H, alloc: Global) -> u64 {
     match fs::read_to_string(&(host, alloc), "/proc/self/statm") {
         Ok(text) => resident_in(text.as_str()).unwrap_or(0),
         Err(_) => 0,

@@ -5,12 +5,14 @@ ghost use Rattle.sipl_service.specs.Passes.{GetsReceipt};
 ghost use Rattle.sipl_service.specs.Telling.{IsToldFor, event_of};
 
 use crate::counts::Counts;
-use crate::journal::pages::Pages;
-use crate::settings::{Clocks, DaemonSettings};
+use crate::journal::pages::{Pages, board_octets};
+use crate::observed::Observed;
+use crate::settings::{Clocks, DaemonSettings, OnFailure};
 use sipl_archive::Archive;
 use sipl_book::BookFault;
 use sipl_lines::Settings;
 use sipl_listen::{Clients, Stop, Stream, max_clients};
+use sipl_log::Log;
 use sipl_service::{OpenGate, Pass, Service, ServiceFault, Told};
 use sipl_srv::Draws;
 use sipl_state::{Changes, HostTime, Source};
@@ -39,14 +41,28 @@ pub(crate) struct Daemon {
     pub(crate) clients: Clients,
     pub(crate) controls: Clients,
     pub(crate) counts: Counts,
+    pub(crate) observed: Observed,
+    // Those who read the metrics, and whether no more may.
+    pub(crate) scrapers: Clients,
+    pub(crate) scrapes_end: Stop,
     // The time of the host, if that is the book's.
     time: Option<HostTime>,
     // The pass of the moves of the clock.
     pub(crate) mover: Mutex<Pass>,
+    // What it does where changes can't be written.
+    pub(crate) on_failure: OnFailure,
     // For how many seconds a client may send nothing.
     pub(crate) idle: Option<u64>,
     // The connections that asked for the stop, which stay open until the process ends.
     pub(crate) open: Mutex<Vec<Arc<Stream, Global>>>,
+}
+
+// The places of all who connect.
+#[derive(Drop)]
+struct Places {
+    clients: Clients,
+    controls: Clients,
+    scrapers: Clients,
 }
 
 impl Daemon {
@@ -56,6 +72,7 @@ impl Daemon {
         alloc: Global,
         settings: &DaemonSettings,
         stop: Arc<Stop, Global>,
+        log: Arc<Log, Global>,
     ) -> io::Result<Box<Daemon>> {
         let time = match settings.clock {
             Clocks::Host => Some(HostTime::new(rt, 0)?),
@@ -66,8 +83,15 @@ impl Daemon {
             max_clients(rt, alloc, settings.clients, settings.descriptors()),
         )?;
         let controls = Clients::new(alloc, MAX_CONTROLS)?;
+        let observed = Observed::new(alloc, settings, log)?;
+        let scrapers = Clients::new(alloc, settings.max_scrapers())?;
         let service = new_service(alloc, &settings.service)?;
-        let daemon = Daemon::over(service, alloc, settings, stop, time, clients, controls);
+        let places = Places {
+            clients,
+            controls,
+            scrapers,
+        };
+        let daemon = Daemon::over(service, alloc, settings, stop, time, places, observed);
         Ok(Box::new(alloc, daemon)?)
     }
 
@@ -78,8 +102,8 @@ impl Daemon {
         settings: &DaemonSettings,
         stop: Arc<Stop, Global>,
         time: Option<HostTime>,
-        clients: Clients,
-        controls: Clients,
+        places: Places,
+        observed: Observed,
     ) -> Daemon {
         let mover = Mutex::new(service.pass());
         Daemon {
@@ -87,13 +111,17 @@ impl Daemon {
             source: Source::new(alloc, service),
             archive: None,
             zone_octets: settings.zone_octets,
-            pages: Pages::new(alloc, settings.service.journal as u64),
+            pages: Pages::new(alloc, settings.service.journal as u64, settings.page_octets),
             stop,
-            clients,
-            controls,
+            clients: places.clients,
+            controls: places.controls,
             counts: Counts::new(),
+            observed,
+            scrapers: places.scrapers,
+            scrapes_end: Stop::new(),
             time,
             mover,
+            on_failure: settings.on_failure,
             idle: settings.idle,
             open: Mutex::new(Vec::new(alloc)),
         }
@@ -124,7 +152,8 @@ impl Daemon {
         self.end_move(rt, &mut mover, moved);
     }
 
-    // Moves the book's time to that of the host, if it is the host's.
+    // Moves the book's time to that of the host, if it is the host's. The move is among the changes, unless these can't
+    // be written.
     pub(crate) fn set_clock<R: Wait + Clock>(&self, rt: &R) {
         let Some(time) = &self.time else {
             return;
@@ -132,7 +161,11 @@ impl Daemon {
         let now = time.now(rt);
         let mut mover = self.mover.lock(rt);
         if self.source.service.now(rt) < now {
-            let moved = self.source.advance(rt, &mut mover, now, &AtomicU64::new(0));
+            let moved = if self.source.has_failed() {
+                self.source.move_time(rt, &mut mover, now)
+            } else {
+                self.source.advance(rt, &mut mover, now, &AtomicU64::new(0))
+            };
             self.end_move(rt, &mut mover, moved);
         }
     }
@@ -140,7 +173,7 @@ impl Daemon {
     // Counts a move that was made, and hands its receipt over.
     fn end_move<R: Wait>(&self, rt: &R, mover: &mut Pass, moved: Result<u64, ServiceFault>) {
         if let Ok(number) = moved {
-            self.count_event(rt, number);
+            self.count_event(rt, number, board_octets(), 0);
         }
         let _ = self.pages.hand_over(rt, mover);
     }
@@ -196,10 +229,12 @@ impl Daemon {
             .lookup(rt, pass, question, draws, &OpenGate)
     }
 
-    // Counts an event, and turns the page if it is nearly full.
-    pub(crate) fn count_event<R: Wait>(&self, rt: &R, number: u64) {
+    // Counts an event that takes so many octets, of a session whose last change ends at this place, and turns the page
+    // if that is due.
+    pub(crate) fn count_event<R: Wait>(&self, rt: &R, number: u64, octets: u64, place: u64) {
         self.counts.count_event(number);
-        self.pages.turn_if_due(rt, &self.source, number);
+        self.pages
+            .count_event(rt, &self.source, number, octets, place);
     }
 }
 

@@ -13,6 +13,9 @@ pub enum DeskFault {
     /// D1: a `clock` line, and the time is the host's.
     #[error("the time is the host's")]
     HostTime,
+    /// D2: a change, and it can't be written to the files of the state.
+    #[error("changes can't be kept at present")]
+    NotKept,
     /// D3: a line that does more than to ask, at an address of `find`.
     #[error("the address is for questions only")]
     AsksOnly,
@@ -28,6 +31,7 @@ impl DeskFault {
     {
         match self {
             DeskFault::HostTime => "D1",
+            DeskFault::NotKept => "D2",
             DeskFault::AsksOnly => "D3",
             DeskFault::Service(fault) => fault.code(),
         }

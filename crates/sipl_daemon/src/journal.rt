@@ -2,4 +2,5 @@
 pub(crate) mod claimer;
 pub(crate) mod claims;
 mod close;
+pub(crate) mod mender;
 pub(crate) mod pages;

@@ -2,6 +2,8 @@
 #![tactic(auto)]
 
 mod arguments;
+mod check;
+mod config;
 mod control;
 mod counts;
 mod daemon;
@@ -10,8 +12,11 @@ mod host;
 mod http;
 mod journal;
 mod listeners;
+mod observed;
 mod program;
 mod report;
+mod samples;
+mod scrapes;
 mod server;
 mod session;
 mod settings;
@@ -21,5 +26,5 @@ mod watch;
 pub use fault::DeskFault;
 pub use host::Host;
 pub use program::start;
-pub use settings::{Clocks, DaemonSettings, Entrance};
+pub use settings::{Clocks, DaemonSettings, Entrance, OnFailure};
 pub use watch::InputWatch;

@@ -1,5 +1,6 @@
 //! All the sockets of a daemon.
 use crate::host::Host;
+use crate::observed::Observed;
 use crate::report::Fault;
 use crate::settings::{DaemonSettings, Entrance};
 use sipl_listen::Listener;
@@ -13,6 +14,8 @@ pub(crate) struct Listeners {
     // Those of clients that may only ask.
     pub(crate) find: Vec<Listener>,
     pub(crate) control: Option<Listener>,
+    // That of who reads the metrics.
+    pub(crate) metrics: Option<Listener>,
 }
 
 impl Listeners {
@@ -26,6 +29,7 @@ impl Listeners {
             clients: Vec::new(alloc),
             find: Vec::new(alloc),
             control: None,
+            metrics: None,
         };
         listeners.bind_all(host, alloc, settings)?;
         Ok(listeners)
@@ -48,6 +52,9 @@ impl Listeners {
         if let Some(entrance) = &settings.control {
             self.control = Some(listen_at(host, alloc, entrance, settings.mode)?);
         }
+        if let Some(entrance) = &settings.metrics {
+            self.metrics = Some(listen_at(host, alloc, entrance, settings.mode)?);
+        }
         Ok(())
     }
 
@@ -65,7 +72,23 @@ impl Listeners {
         Ok(())
     }
 
-    /// Ends all accepts.
+    /// Tells the addresses in the log, and that of who reads the metrics, too.
+    pub(crate) fn tell<H: Host>(&self, host: &H, observed: &Observed) {
+        for listener in &self.clients {
+            observed.tell_ready(host, "clients", listener.address());
+        }
+        for listener in &self.find {
+            observed.tell_ready(host, "find", listener.address());
+        }
+        if let Some(listener) = &self.control {
+            observed.tell_ready(host, "control", listener.address());
+        }
+        if let Some(listener) = &self.metrics {
+            observed.tell_ready(host, "metrics", listener.address());
+        }
+    }
+
+    /// Ends all accepts but those of who reads the metrics.
     pub(crate) fn close(&self) {
         for listener in &self.clients {
             listener.close();
@@ -87,6 +110,9 @@ impl Listeners {
             listener.remove(host);
         }
         if let Some(listener) = &self.control {
+            listener.remove(host);
+        }
+        if let Some(listener) = &self.metrics {
             listener.remove(host);
         }
     }

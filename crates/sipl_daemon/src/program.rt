@@ -1,87 +1,132 @@
 //! The program: its arguments, its settings, and the daemon from its start to its end.
-use crate::arguments::{Call, read_arguments};
+use crate::arguments::{Call, Given, Unread, read_arguments};
+use crate::check::check_files;
+use crate::config::read_given;
 use crate::daemon::Daemon;
 use crate::host::Host;
 use crate::journal::claims::Claims;
 use crate::listeners::Listeners;
-use crate::report::{Fault, report, report_torn};
+use crate::observed::tell_start;
+use crate::report::{Fault, write_fault};
 use crate::server::serve_all;
-use crate::session::desk::SessionDesk;
+use crate::session::restoring::RestoringDesk;
 use crate::settings::DaemonSettings;
 use crate::tell::tell;
 use crate::watch::InputWatch;
 use sipl_archive::{Archive, replay};
 use sipl_listen::{Stop, take_lock};
+use sipl_log::{Level, Log};
 use sipl_state::{Restored, StateFault, real_path, restore};
 use std::alloc::Global;
-use std::io::ErrorKind;
+use std::env;
 use std::process::ExitCode;
 use std::rt::Env;
 use std::sync::Arc;
 use std::sync::atomic::AtomicU64;
+use std::time::Duration;
 
-const USAGE: &str =
-    "usage: siplocd [SETTINGS] | tell ADDRESS LINE | replay FOLDER | --help | --version";
-
-const HELP: &str = "siplocd [SETTINGS]           serves sessions until it is told to stop
-siplocd tell ADDRESS LINE    sends a line to the daemon's control address, and prints the reply
-siplocd replay FOLDER        checks the pages of an archive, and prints how many events they have
-siplocd --help               prints this
-siplocd --version            prints the version
-
-SETTINGS is the text of the settings, a TOML document.
-";
-
-const VERSION: &str = "siplocd 0.6";
+const USAGE: &str = "Usage: siplocd [OPTIONS] [SETTINGS]\n       siplocd <COMMAND>";
 
 // The status of a call with wrong arguments.
 const WRONG_ARGUMENTS: u8 = 2;
 
+// How long the end waits for the log to be written, in milliseconds.
+const LAST_LINES: u64 = 1_000;
+
 /// Does what the arguments of a process ask for. The status is 0, 1 after a fault, or where a line that
-/// was told is refused, or 2 where the arguments are wrong; for a fault and for 2 one line on standard
-/// error gives the reason.
-pub fn start<R, H>(rt: &R, host: &H, input: &InputWatch) -> ExitCode
+/// was told is refused, or 2 where the arguments are wrong; for a fault and for 2 standard error has the
+/// reason. The thread that writes the log is the caller's.
+pub fn start<R, H>(rt: &R, host: &H, input: &InputWatch, log: &Arc<Log, Global>) -> ExitCode
 where
     R: Env + Print + Eprint + AllocGlobal,
-    H: Host,
+    H: Host + Eprint,
 {
-    match read_arguments(rt) {
-        Ok(Some(call)) => status_of(rt, perform(rt, host, input, &call)),
-        Err(error) if error.kind() == ErrorKind::OutOfMemory => status_of(rt, Err(Fault::Memory)),
-        _ => {
+    let outcome = match read_arguments(rt) {
+        Ok(call) => perform(rt, host, input, log, call),
+        Err(Unread::Told(error)) => {
+            if error.use_stderr() {
+                report_wrong(rt, &error);
+                return ExitCode::from(WRONG_ARGUMENTS);
+            }
+            match error.print(rt) {
+                Ok(()) => Ok(true),
+                Err(error) => Err(Fault::Stream(error)),
+            }
+        }
+        Err(Unread::NotText) => {
+            let _ = eprintln!(rt; "error: an argument is not UTF-8\n\n{USAGE}");
+            return ExitCode::from(WRONG_ARGUMENTS);
+        }
+        Err(Unread::Memory) => Err(Fault::Memory),
+    };
+    let status = status_of(rt, host, log, outcome);
+    log.end(host, Duration::from_millis(LAST_LINES));
+    status
+}
+
+// Writes on standard error what is wrong with the arguments, and the usage.
+fn report_wrong<R: Print + Eprint + AllocGlobal>(rt: &R, error: &clap::Error) {
+    let _ = error.print(rt);
+    if let Ok(text) = format!(in rt.alloc(); "{error}") {
+        if !text.as_str().contains("Usage:") {
             let _ = eprintln!(rt; "{USAGE}");
-            ExitCode::from(WRONG_ARGUMENTS)
         }
     }
 }
 
 // The status of what was done. A fault is reported.
-fn status_of<R: Eprint>(rt: &R, outcome: Result<bool, Fault>) -> ExitCode {
+fn status_of<R, H>(rt: &R, host: &H, log: &Log, outcome: Result<bool, Fault>) -> ExitCode
+where
+    R: Eprint + AllocGlobal,
+    H: Host,
+{
     match outcome {
         Ok(true) => ExitCode::SUCCESS,
         Ok(false) => ExitCode::FAILURE,
         Err(fault) => {
-            report(rt, &fault);
+            report(rt, host, log, &fault);
             ExitCode::FAILURE
         }
     }
 }
 
-// Does what the arguments ask for. Returns whether a line that was told is not refused.
-fn perform<R, H>(rt: &R, host: &H, input: &InputWatch, call: &Call) -> Result<bool, Fault>
+// Writes a fault on standard error, after the lines of the log that are there.
+fn report<R, H>(rt: &R, host: &H, log: &Log, fault: &Fault)
 where
-    R: Print + Eprint + AllocGlobal,
+    R: Eprint + AllocGlobal,
+    H: Host,
+{
+    let mut text = String::new(rt.alloc());
+    let is_written = write_fault(&mut text, fault).is_ok();
+    if !is_written || !log.push_message(host, Level::Error, text.as_str()) {
+        let _ = eprintln!(rt; "siplocd: out of memory");
+    }
+}
+
+// Does what the arguments ask for. Returns whether a line that was told is not refused.
+fn perform<R, H>(
+    rt: &R,
+    host: &H,
+    input: &InputWatch,
+    log: &Arc<Log, Global>,
+    call: Call,
+) -> Result<bool, Fault>
+where
+    R: Env + Print + AllocGlobal,
     H: Host,
 {
     match call {
-        Call::Help => print!(rt; "{HELP}")?,
-        Call::Version => println!(rt; "{VERSION}")?,
+        Call::Check(path) => {
+            let _settings = read_given(host, rt.alloc(), Given::File(path))?;
+            println!(rt; "ok")?;
+        }
         Call::Tell(address, line) => return tell_line(rt, host, address.as_str(), line.as_str()),
         Call::Replay(folder) => {
             let events = replay(host, rt.alloc(), folder.as_str())?;
             println!(rt; "replayed {events}")?;
         }
-        Call::Serve(text) => serve(rt, host, input, text.as_str())?,
+        Call::CheckState(path) => check_files(rt, host, log, path.as_str())?,
+        Call::Serve(given) => serve(rt, host, input, log, given)?,
     }
     Ok(true)
 }
@@ -99,15 +144,27 @@ fn tell_line<R: Print + AllocGlobal, H: Host>(
     }
 }
 
-// Serves with the settings of a text until the daemon is to stop, claims all pages, and prints how many events
+// Serves with the settings that are given until the daemon is to stop, claims all pages, and prints how many events
 // there were.
-fn serve<R, H>(rt: &R, host: &H, input: &InputWatch, text: &str) -> Result<(), Fault>
+fn serve<R, H>(
+    rt: &R,
+    host: &H,
+    input: &InputWatch,
+    log: &Arc<Log, Global>,
+    given: Given,
+) -> Result<(), Fault>
 where
-    R: Print + Eprint + AllocGlobal,
+    R: Env + Print + AllocGlobal,
     H: Host,
 {
-    let settings = Box::new(rt.alloc(), DaemonSettings::from_toml(rt.alloc(), text)?)?;
-    let events = serve_with(rt, host, input, &settings)?;
+    let (text, settings) = read_given(host, rt.alloc(), given)?;
+    // systemd has its journal read standard error.
+    let is_journal = env::var(rt, "JOURNAL_STREAM").is_ok();
+    log.begin(host, settings.log, is_journal);
+    tell_start(host, rt.alloc(), log, text.as_str())?;
+    drop(text);
+    let events = serve_with(rt, host, input, &settings, log)?;
+    log.push(host, log.line(Level::Info, "end").number("events", events));
     println!(rt; "closed {events}")?;
     Ok(())
 }
@@ -118,13 +175,15 @@ fn serve_with<R, H>(
     host: &H,
     input: &InputWatch,
     settings: &DaemonSettings,
+    log: &Arc<Log, Global>,
 ) -> Result<u64, Fault>
 where
-    R: Print + Eprint + AllocGlobal,
+    R: Print + AllocGlobal,
     H: Host,
 {
     let stop = Arc::new(rt.alloc(), Stop::new())?;
-    let mut daemon = Daemon::new(host, rt.alloc(), settings, Arc::try_clone(&stop)?)?;
+    let log = Arc::try_clone(log)?;
+    let mut daemon = Daemon::new(host, rt.alloc(), settings, Arc::try_clone(&stop)?, log)?;
     let mut claims = Claims::new(rt.alloc());
     match go_on_and_serve(rt, host, input, settings, &mut daemon, &mut claims, stop) {
         Ok(()) => close(host, daemon, claims),
@@ -155,10 +214,10 @@ fn go_on_and_serve<R, H>(
     stop: Arc<Stop, Global>,
 ) -> Result<(), Fault>
 where
-    R: Print + Eprint + AllocGlobal,
+    R: Print + AllocGlobal,
     H: Host,
 {
-    go_on(rt, host, settings, daemon)?;
+    go_on(rt, host, settings, daemon, claims)?;
     serve_at(rt, host, input, settings, daemon, claims, stop)
 }
 
@@ -168,18 +227,25 @@ fn go_on<R, H>(
     host: &H,
     settings: &DaemonSettings,
     daemon: &mut Daemon,
+    claims: &mut Claims,
 ) -> Result<(), Fault>
 where
-    R: Eprint + AllocGlobal,
+    R: AllocGlobal,
     H: Host,
 {
     if let Some(path) = &settings.archive {
         daemon.archive = Some(open_archive(host, rt.alloc(), settings, path.as_str())?);
     }
     if let Some(path) = &settings.state {
-        let Restored { changes, torn } = open_state(host, rt.alloc(), daemon, path.as_str())?;
-        if let Some(octet) = torn {
-            report_torn(rt, path.as_str(), octet);
+        let Restored { changes, found } = open_state(
+            host,
+            rt.alloc(),
+            daemon,
+            claims,
+            path.as_str(),
+        )?;
+        if let Some(octet) = found.torn {
+            daemon.observed.tell_torn(host, path.as_str(), octet)?;
         }
         daemon.put_changes(changes);
         daemon.restart_time(host)?;
@@ -206,9 +272,10 @@ fn open_state<H: Host>(
     host: &H,
     alloc: Global,
     daemon: &Daemon,
+    claims: &mut Claims,
     path: &str,
 ) -> Result<Restored, Fault> {
-    match restore_at(host, alloc, daemon, path) {
+    match restore_at(host, alloc, daemon, claims, path) {
         Ok(restored) => Ok(restored),
         Err(fault) => Err(Fault::State(String::from_str(alloc, path)?, fault)),
     }
@@ -219,12 +286,13 @@ fn restore_at<H: Host>(
     host: &H,
     alloc: Global,
     daemon: &Daemon,
+    claims: &mut Claims,
     path: &str,
 ) -> Result<Restored, StateFault> {
     let path = real_path(host, alloc, path)?;
     let lock = take_lock(host, format!(in alloc; "{path}.lock")?.as_str())?;
     let place = AtomicU64::new(0);
-    let mut desk = SessionDesk::restoring(host, daemon, &place);
+    let mut desk = RestoringDesk::new(host, daemon, &place, claims);
     let restored = restore(host, alloc, path.as_str(), lock, &mut desk);
     desk.end();
     restored
@@ -245,6 +313,8 @@ where
     H: Host,
 {
     let listeners = Listeners::bind(host, rt.alloc(), settings)?;
+    daemon.observed.open();
+    listeners.tell(host, &daemon.observed);
     listeners.print(rt)?;
     if settings.ends_with_input {
         input.begin(host, stop);

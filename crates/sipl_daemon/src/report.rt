@@ -5,13 +5,18 @@ use sipl_lines::SettingsFault;
 use sipl_listen::Address;
 use sipl_state::StateFault;
 use std::alloc::{AllocError, AllocFailed};
+use std::fmt::Write as _;
 use std::io;
 
 /// Why the daemon does not begin, or ends with a fault.
 #[derive(Drop)]
 pub(crate) enum Fault {
-    /// The settings are refused.
+    /// The settings of a text are refused.
     Settings(SettingsFault),
+    /// The file of the settings can't be read.
+    File(String, io::Error),
+    /// The settings of a file are refused: where, and why.
+    InFile(String),
     /// It cannot listen there.
     Listen(Address, io::Error),
     /// Nobody is there to be told, or the connection failed.
@@ -69,67 +74,76 @@ impl From<ReplayFault> for Fault {
     }
 }
 
-/// Writes a fault on standard error.
-pub(crate) fn report<R: Eprint>(rt: &R, fault: &Fault) {
-    let _ = match fault {
+/// Appends what is said of a fault on standard error.
+pub(crate) fn write_fault(out: &mut String, fault: &Fault) -> Result<(), AllocError> {
+    match fault {
         Fault::Settings(SettingsFault::UnknownKey(key)) => {
-            eprintln!(rt; "siplocd: settings G2 {key}")
+            write!(out, "siplocd: settings G2 {key}")
         }
         Fault::Settings(SettingsFault::BadValue(key)) => {
-            eprintln!(rt; "siplocd: settings G3 {key}")
+            write!(out, "siplocd: settings G3 {key}")
         }
-        Fault::Settings(fault) => eprintln!(rt; "siplocd: settings {}", fault.code()),
-        Fault::Listen(address, error) => eprintln!(rt; "siplocd: listen {address}: {error}"),
-        Fault::Tell(address, error) => eprintln!(rt; "siplocd: tell {address}: {error}"),
-        Fault::Stream(error) => eprintln!(rt; "siplocd: {error}"),
-        Fault::State(path, fault) => return report_state(rt, path.as_str(), fault),
-        Fault::Archive(path, error) => eprintln!(rt; "siplocd: archive {path}: {error}"),
-        Fault::Replay(fault) => return report_replay(rt, fault),
-        Fault::Close(fault) => return report_close(rt, fault),
-        Fault::Memory => eprintln!(rt; "siplocd: out of memory"),
-    };
+        Fault::File(path, error) => write!(out, "siplocd: settings {path}: {error}"),
+        Fault::InFile(text) => out.push_str(text.as_str()),
+        Fault::Settings(fault) => write!(out, "siplocd: settings {}", fault.code()),
+        Fault::Listen(address, error) => write!(out, "siplocd: listen {address}: {error}"),
+        Fault::Tell(address, error) => write!(out, "siplocd: tell {address}: {error}"),
+        Fault::Stream(error) => write!(out, "siplocd: {error}"),
+        Fault::State(path, fault) => write_state_fault(out, path.as_str(), fault),
+        Fault::Archive(path, error) => write!(out, "siplocd: archive {path}: {error}"),
+        Fault::Replay(fault) => write_replay_fault(out, fault),
+        Fault::Close(fault) => write_close_fault(out, fault),
+        Fault::Memory => write!(out, "siplocd: out of memory"),
+    }
 }
 
-// Writes why a state can't be read.
-fn report_state<R: Eprint>(rt: &R, path: &str, fault: &StateFault) {
-    let _ = match fault {
-        StateFault::File(error) => eprintln!(rt; "siplocd: state {path}: {error}"),
-        StateFault::State(line) => eprintln!(rt; "siplocd: state {path}: line {line}"),
-        StateFault::Digest => eprintln!(rt; "siplocd: state {path}: not as it was written"),
-        StateFault::Line(line) => eprintln!(rt; "siplocd: state {path}.log: line {line}"),
-        StateFault::Octet(place) => eprintln!(rt; "siplocd: state {path}.log: octet {place}"),
-        StateFault::Commit(number) => eprintln!(rt; "siplocd: state {path}.log: commit {number}"),
-        StateFault::OtherLog => eprintln!(rt; "siplocd: state {path}.log: not of this state"),
-    };
+// Appends why a state can't be read.
+fn write_state_fault(out: &mut String, path: &str, fault: &StateFault) -> Result<(), AllocError> {
+    match fault {
+        StateFault::File(error) => write!(out, "siplocd: state {path}: {error}"),
+        StateFault::State(line) => write!(out, "siplocd: state {path}: line {line}"),
+        StateFault::Digest => write!(out, "siplocd: state {path}: not as it was written"),
+        StateFault::Line(line) => write!(out, "siplocd: state {path}.log: line {line}"),
+        StateFault::Octet(place) => write!(out, "siplocd: state {path}.log: octet {place}"),
+        StateFault::Commit(number) => write!(out, "siplocd: state {path}.log: commit {number}"),
+        StateFault::OtherLog => write!(out, "siplocd: state {path}.log: not of this state"),
+    }
 }
 
-/// Writes that a log had a write that did not end, at this octet.
-pub(crate) fn report_torn<R: Eprint>(rt: &R, path: &str, octet: usize) {
-    let _ = eprintln!(rt; "siplocd: state {path}.log: a write did not end at octet {octet}");
+/// Appends that a log had a write that did not end, at this octet.
+pub(crate) fn write_torn(out: &mut String, path: &str, octet: usize) -> Result<(), AllocError> {
+    write!(
+        out,
+        "siplocd: state {path}.log: a write did not end at octet {octet}"
+    )
 }
 
-// Writes why the daemon ends with a fault.
-fn report_close<R: Eprint>(rt: &R, fault: &CloseFault) {
-    let _ = match fault {
-        CloseFault::Close(fault) => eprintln!(rt; "siplocd: close {}", fault.code()),
-        CloseFault::Claim(fault) => eprintln!(rt; "siplocd: claim {}", fault.code()),
-        CloseFault::State(error) => eprintln!(rt; "siplocd: state: {error}"),
-        CloseFault::Archive(error) => eprintln!(rt; "siplocd: archive: {error}"),
-    };
+/// Appends that changes can't be written, and are refused.
+pub(crate) fn write_refusing(out: &mut String, error: &io::Error) -> Result<(), AllocError> {
+    write!(out, "siplocd: state: {error}: changes are refused")
 }
 
-// Writes why an archive is not replayed.
-fn report_replay<R: Eprint>(rt: &R, fault: &ReplayFault) {
-    let _ = match fault {
-        ReplayFault::File(path, error) => eprintln!(rt; "siplocd: replay {path}: {error}"),
-        ReplayFault::Gap(path) => eprintln!(rt;
+// Appends why the daemon ends with a fault.
+fn write_close_fault(out: &mut String, fault: &CloseFault) -> Result<(), AllocError> {
+    match fault {
+        CloseFault::Close(fault) => write!(out, "siplocd: close {}", fault.code()),
+        CloseFault::Claim(fault) => write!(out, "siplocd: claim {}", fault.code()),
+        CloseFault::State(error) => write!(out, "siplocd: state: {error}"),
+        CloseFault::Archive(error) => write!(out, "siplocd: archive: {error}"),
+    }
+}
+
+// Appends why an archive is not replayed.
+fn write_replay_fault(out: &mut String, fault: &ReplayFault) -> Result<(), AllocError> {
+    match fault {
+        ReplayFault::File(path, error) => write!(out, "siplocd: replay {path}: {error}"),
+        ReplayFault::Gap(path) => write!(
+            out,
             "siplocd: replay {path}: a page before it is missing"
         ),
-        ReplayFault::NotPage(path) => eprintln!(rt; "siplocd: replay {path}: not a whole page"),
-        ReplayFault::Event(path, number) => eprintln!(rt; "siplocd: replay {path}: event {number}"),
-        ReplayFault::Changed(path) => eprintln!(rt;
-            "siplocd: replay {path}: not as it was written"
-        ),
-        ReplayFault::Memory => eprintln!(rt; "siplocd: out of memory"),
-    };
+        ReplayFault::NotPage(path) => write!(out, "siplocd: replay {path}: not a whole page"),
+        ReplayFault::Event(path, number) => write!(out, "siplocd: replay {path}: event {number}"),
+        ReplayFault::Changed(path) => write!(out, "siplocd: replay {path}: not as it was written"),
+        ReplayFault::Memory => write!(out, "siplocd: out of memory"),
+    }
 }

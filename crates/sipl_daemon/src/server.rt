@@ -4,9 +4,16 @@ use crate::daemon::Daemon;
 use crate::host::Host;
 use crate::journal::claimer::claim_pages;
 use crate::journal::claims::Claims;
+use crate::journal::mender::mend_changes;
 use crate::listeners::Listeners;
+use crate::observed::Cause;
+use crate::scrapes::{accept_scrapers, end_scrapes};
 use crate::session::serve_client;
-use sipl_listen::{Listener, next_client, next_client_making_room};
+use crate::settings::OnFailure;
+use sipl_listen::{
+    Accepted, Client, ConnectionFault, Listener, next_client, next_client_making_room,
+};
+use sipl_log::Level;
 use sipl_service::OpenGate;
 use std::thread;
 use std::time::Duration;
@@ -37,6 +44,11 @@ pub(crate) fn serve_all<H: Host>(
         if scope.spawn(move || run_clock(host, daemon)).is_err() {
             daemon.stop.ask(host);
         }
+        if daemon.on_failure == OnFailure::Read
+            && scope.spawn(move || mend_changes(host, daemon)).is_err()
+        {
+            daemon.stop.ask(host);
+        }
         for listener in &listeners.clients {
             if scope
                 .spawn(move || accept_clients(host, daemon, listener, false))
@@ -61,7 +73,16 @@ pub(crate) fn serve_all<H: Host>(
                 daemon.stop.ask(host);
             }
         }
+        if let Some(listener) = &listeners.metrics {
+            if scope
+                .spawn(move || accept_scrapers(host, daemon, listener))
+                .is_err()
+            {
+                daemon.stop.ask(host);
+            }
+        }
         daemon.stop.wait(host);
+        daemon.observed.tell(host, Level::Info, "stopping");
         end_all(host, daemon, listeners);
     });
     daemon.end_moves(host);
@@ -72,6 +93,9 @@ fn end_all<H: Host>(host: &H, daemon: &Daemon, listeners: &Listeners) {
     listeners.close();
     daemon.clients.end(host, Duration::from_millis(GRACE));
     daemon.controls.end(host, Duration::from_millis(0));
+    if let Some(listener) = &listeners.metrics {
+        end_scrapes(host, daemon, listener);
+    }
     daemon.source.service.stop(host);
 }
 
@@ -94,13 +118,7 @@ fn accept_clients<H: Host>(host: &H, daemon: &Daemon, listener: &Listener, asks_
             if daemon.stop.is_asked() {
                 break;
             }
-            let Some(client) = next_client(
-                host,
-                daemon.alloc,
-                &daemon.stop,
-                listener,
-                &daemon.clients,
-            ) else {
+            let Some(client) = accept_client(host, daemon, listener) else {
                 continue;
             };
             let place = client.place;
@@ -109,9 +127,27 @@ fn accept_clients<H: Host>(host: &H, daemon: &Daemon, listener: &Listener, asks_
                 .is_err()
             {
                 daemon.clients.leave(host, place);
+                daemon
+                    .observed
+                    .refuse(host, Cause::Threads, listener.address());
             }
         }
     })
+}
+
+// Accepts a client, if there is a place for it. One that is refused is told of.
+fn accept_client<H: Host>(host: &H, daemon: &Daemon, listener: &Listener) -> Option<Client> {
+    let (alloc, clients) = (daemon.alloc, &daemon.clients);
+    match next_client(host, alloc, &daemon.stop, listener, clients) {
+        Accepted::Client(client) => Some(client),
+        Accepted::Refused(ConnectionFault::Busy) => {
+            daemon
+                .observed
+                .refuse(host, Cause::Busy, listener.address());
+            None
+        }
+        Accepted::Nothing => None,
+    }
 }
 
 // Accepts control connections until the daemon is to stop, and serves each in a thread. Returns when they
@@ -122,7 +158,7 @@ fn accept_control<H: Host>(host: &H, daemon: &Daemon, listener: &Listener) {
             if daemon.stop.is_asked() {
                 break;
             }
-            let Some(client) = next_client_making_room(
+            let Accepted::Client(client) = next_client_making_room(
                 host,
                 daemon.alloc,
                 &daemon.stop,

@@ -1,19 +1,21 @@
 //! A client's session.
 mod asking;
+mod course;
 pub(crate) mod desk;
 mod input;
 mod meter;
 mod output;
+pub(crate) mod restoring;
 
 use crate::daemon::Daemon;
 use crate::session::asking::Asking;
+use crate::session::course::Course;
 use crate::session::desk::SessionDesk;
 use crate::session::input::Input;
 use crate::session::output::{Output, set_patience};
 use sipl_lines::{Tapped, serve};
 use sipl_listen::{Client, Stream};
 use std::sync::Wait;
-use std::sync::atomic::AtomicU64;
 use std::time::Clock;
 
 /// Serves the session of a client, which may only ask or not, hands its receipts over, and frees its place. A fault
@@ -25,13 +27,16 @@ pub(crate) fn serve_client<R: Wait + Clock>(
     asks_only: bool,
 ) {
     let Client { stream, place } = client;
-    let changed = AtomicU64::new(0);
-    let mut desk = SessionDesk::new(rt, daemon, &changed, asks_only);
+    daemon.observed.count_accepted();
+    let course = Course::new();
+    let mut desk = SessionDesk::new(rt, daemon, &course.place, asks_only);
     if set_patience(daemon, &stream).is_ok() {
-        serve_stream(rt, daemon, &stream, &changed, &mut desk, asks_only);
+        serve_stream(rt, daemon, &stream, &course, &mut desk, asks_only);
     }
     drop(stream);
     desk.end();
+    course.end_batch(daemon);
+    daemon.observed.close(rt, course.cause());
     daemon.clients.leave(rt, place);
 }
 
@@ -40,13 +45,13 @@ fn serve_stream<R: Wait + Clock>(
     rt: &R,
     daemon: &Daemon,
     stream: &Stream,
-    changed: &AtomicU64,
+    course: &Course,
     desk: &mut SessionDesk<'_, R>,
     asks_only: bool,
 ) {
     let alloc = daemon.alloc;
-    let input = Input::new(alloc, stream, &daemon.stop, daemon.zone_octets);
-    let mut writer = Tapped::new(Output::new(rt, daemon, stream, changed));
+    let input = Input::new(rt, daemon, stream, course);
+    let mut writer = Tapped::new(Output::new(rt, daemon, stream, course));
     if asks_only {
         if let Ok(asking) = Asking::new(alloc, input) {
             let _ = serve(alloc, &mut Tapped::new(asking), &mut writer, desk);

@@ -4,6 +4,7 @@ ghost use Rattle.sipl_lines.specs.Settings.{IsWithinLimits};
 
 use sipl_lines::{Settings, SettingsFault};
 use sipl_listen::Address;
+use sipl_log::Verbosity;
 use std::alloc::{AllocError, Global};
 use toml::{Table, Value};
 
@@ -13,11 +14,14 @@ const MAX_CLIENTS: u64 = 65_536;
 // The greatest number of seconds for which a client may send nothing: a day.
 const MAX_IDLE: u64 = 86_400;
 
-// The greatest number of octets that the lines of a zone may have.
-const MAX_ZONE_OCTETS: u64 = 1 << 40;
+// The greatest number of octets that the lines of a zone may have, or the events of a page.
+const MAX_OCTETS: u64 = 1 << 40;
+
+// How many may read the metrics at a time.
+const MAX_SCRAPERS: usize = 8;
 
 // The daemon's own keys, in the order of their octets.
-const OWN_KEYS: [&str; 11] = [
+const OWN_KEYS: [&str; 15] = [
     "archive",
     "clients",
     "clock",
@@ -25,7 +29,11 @@ const OWN_KEYS: [&str; 11] = [
     "find",
     "idle",
     "listen",
+    "log",
+    "metrics",
     "mode",
+    "on_failure",
+    "page_octets",
     "state",
     "stdin",
     "zone_octets",
@@ -50,8 +58,16 @@ pub struct DaemonSettings {
     pub idle: Option<u64>,
     /// Where clients connect, by default at 127.0.0.1:5099.
     pub listen: Vec<Entrance>,
+    /// Which lines of the log are written, by default those of `info` and above.
+    pub log: Verbosity,
+    /// Where metrics are read, by default nowhere.
+    pub metrics: Option<Entrance>,
     /// The permissions of the files of Unix sockets that have none of their own: 0 to 0o777, by default 0o600.
     pub mode: u32,
+    /// What it does where changes can't be written to the files of `state`, by default end.
+    pub on_failure: OnFailure,
+    /// How many octets of memory the events of a page may take: 1 to 2^40, by default 64 MB.
+    pub page_octets: u64,
     /// The file of the zones and the holds, by default none.
     pub state: Option<String>,
     /// Whether the end of standard input ends the daemon, by default not.
@@ -78,6 +94,15 @@ pub enum Clocks {
     Lines,
 }
 
+/// What a daemon does where changes can't be written to the files of its state.
+#[derive(Clone, Copy, Debug, PartialEq, Eq)]
+pub enum OnFailure {
+    /// It ends.
+    End,
+    /// It goes on to answer, refuses changes (D2), and tries again each second.
+    Read,
+}
+
 // The daemon's own keys.
 #[derive(Drop)]
 struct Own {
@@ -88,7 +113,11 @@ struct Own {
     find: Vec<Entrance>,
     idle: Option<u64>,
     listen: Vec<Entrance>,
+    log: Verbosity,
+    metrics: Option<Entrance>,
     mode: u32,
+    on_failure: OnFailure,
+    page_octets: u64,
     state: Option<String>,
     ends_with_input: bool,
     zone_octets: u64,
@@ -96,9 +125,11 @@ struct Own {
 
 impl DaemonSettings {
     /// Reads the settings from a TOML document. `listen` is a list of addresses, not empty, and `find` one that may
-    /// be; `control` is an address: its text, or a table of it, `at`, and of a Unix socket's `mode`. `clock` is `"host"` or `"lines"`; `stdin` is `"stop"` or `"ignore"`; `state` is the
-    /// path of a file, and `archive` that of a folder. `clients`, `idle`, `mode` and `zone_octets` are
-    /// integers. All other keys are those of `serve`, but for `sessions`.
+    /// be; `control` is an address: its text, or a table of it, `at`, and of a Unix socket's `mode`, and so is `metrics`.
+    /// `clock` is `"host"` or `"lines"`; `log` is `"off"`, `"error"`, `"warn"`, `"info"` or `"debug"`; `on_failure` is
+    /// `"end"` or `"read"`; `stdin` is `"stop"` or `"ignore"`; `state` is the path of a file, and `archive` that of a
+    /// folder. `clients`, `idle`, `mode`, `page_octets` and `zone_octets` are integers. All other keys are those of
+    /// `serve`, but for `sessions`.
     ///
     /// The fault is G1 where the text is not a TOML document. Otherwise it is that of the first of the
     /// daemon's own keys, in the order of their octets, that does not allow its value (G3); or else that
@@ -109,15 +140,29 @@ impl DaemonSettings {
         Ok(own.beside(service))
     }
 
-    /// How many descriptors the listeners have.
+    /// How many may read the metrics at a time.
+    pub(crate) fn max_scrapers(&self) -> usize {
+        if self.metrics.is_some() {
+            MAX_SCRAPERS
+        } else {
+            0
+        }
+    }
+
+    /// How many descriptors the listeners have, and those who read the metrics.
     pub(crate) fn descriptors(&self) -> usize {
-        let control = match &self.control {
-            Some(entrance) => entrance.address.descriptors(),
-            None => 0,
-        };
-        control
+        descriptors_at(&self.control)
+            .saturating_add(descriptors_at(&self.metrics))
+            .saturating_add(self.max_scrapers())
             .saturating_add(descriptors_of(&self.listen))
             .saturating_add(descriptors_of(&self.find))
+    }
+}
+
+fn descriptors_at(entrance: &Option<Entrance>) -> usize {
+    match entrance {
+        Some(entrance) => entrance.address.descriptors(),
+        None => 0,
     }
 }
 
@@ -168,7 +213,11 @@ impl Own {
             find: Vec::new(alloc),
             idle: None,
             listen,
+            log: Verbosity::Info,
+            metrics: None,
             mode: 0o600,
+            on_failure: OnFailure::End,
+            page_octets: 1 << 26,
             state: None,
             ends_with_input: false,
             zone_octets: 1 << 28,
@@ -216,10 +265,14 @@ impl Own {
             "find" => put(&mut self.find, read_entrances(alloc, value)?),
             "idle" => put_some(&mut self.idle, number(value, 1, MAX_IDLE)),
             "listen" => put(&mut self.listen, read_some_entrances(alloc, value)?),
+            "log" => put(&mut self.log, read_verbosity(value)),
+            "metrics" => put_some(&mut self.metrics, read_entrance(alloc, value)?),
             "mode" => put(&mut self.mode, mode(value)),
+            "on_failure" => put(&mut self.on_failure, on_failure(value)),
+            "page_octets" => put(&mut self.page_octets, number(value, 1, MAX_OCTETS)),
             "state" => put_some(&mut self.state, path(alloc, value)?),
             "stdin" => put(&mut self.ends_with_input, ends_with_input(value)),
-            _ => put(&mut self.zone_octets, number(value, 0, MAX_ZONE_OCTETS)),
+            _ => put(&mut self.zone_octets, number(value, 0, MAX_OCTETS)),
         })
     }
 
@@ -236,7 +289,11 @@ impl Own {
             find: self.find,
             idle: self.idle,
             listen: self.listen,
+            log: self.log,
+            metrics: self.metrics,
             mode: self.mode,
+            on_failure: self.on_failure,
+            page_octets: self.page_octets,
             state: self.state,
             ends_with_input: self.ends_with_input,
             zone_octets: self.zone_octets,
@@ -282,6 +339,18 @@ fn read_clocks(value: &Value) -> Option<Clocks> {
         "lines" => Some(Clocks::Lines),
         _ => None,
     }
+}
+
+fn on_failure(value: &Value) -> Option<OnFailure> {
+    match value.as_str()? {
+        "end" => Some(OnFailure::End),
+        "read" => Some(OnFailure::Read),
+        _ => None,
+    }
+}
+
+fn read_verbosity(value: &Value) -> Option<Verbosity> {
+    Verbosity::from_text(value.as_str()?)
 }
 
 fn ends_with_input(value: &Value) -> Option<bool> {

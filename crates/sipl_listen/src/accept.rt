@@ -9,6 +9,17 @@ use std::io::Write;
 use std::sync::{Arc, Wait};
 use std::time::{Clock, Duration};
 
+/// What became of an accept.
+#[derive(Drop)]
+pub enum Accepted {
+    /// A client, which has a place.
+    Client(Client),
+    /// There was no place for the client, who was told so.
+    Refused(ConnectionFault),
+    /// The accept failed, or an allocation.
+    Nothing,
+}
+
 // How long a refused accept is waited out, in milliseconds.
 const REFUSED: u64 = 50;
 
@@ -23,8 +34,10 @@ pub fn next_client_making_room<R: Wait + Clock>(
     stop: &Stop,
     listener: &Listener,
     clients: &Clients,
-) -> Option<Client> {
-    let stream = next_stream(rt, stop, listener)?;
+) -> Accepted {
+    let Some(stream) = next_stream(rt, stop, listener) else {
+        return Accepted::Nothing;
+    };
     clients.make_room(rt, Duration::from_millis(LEAVING));
     enter(rt, alloc, stream, clients)
 }
@@ -37,23 +50,29 @@ pub fn next_client<R: Wait + Clock>(
     stop: &Stop,
     listener: &Listener,
     clients: &Clients,
-) -> Option<Client> {
-    let stream = next_stream(rt, stop, listener)?;
-    enter(rt, alloc, stream, clients)
+) -> Accepted {
+    match next_stream(rt, stop, listener) {
+        Some(stream) => enter(rt, alloc, stream, clients),
+        None => Accepted::Nothing,
+    }
 }
 
 // Gives a place to a client. One for whom there is none is told so.
-fn enter<R: Wait>(rt: &R, alloc: Global, stream: Stream, clients: &Clients) -> Option<Client> {
-    let stream = Arc::new(alloc, stream).ok()?;
-    let client = clients.enter(rt, &stream);
-    if client.is_none() {
-        refuse(alloc, &stream);
+fn enter<R: Wait>(rt: &R, alloc: Global, stream: Stream, clients: &Clients) -> Accepted {
+    let Ok(stream) = Arc::new(alloc, stream) else {
+        return Accepted::Nothing;
+    };
+    match clients.enter(rt, &stream) {
+        Some(client) => Accepted::Client(client),
+        None => {
+            refuse(alloc, &stream);
+            Accepted::Refused(ConnectionFault::Busy)
+        }
     }
-    client
 }
 
-// Accepts a connection; a refused accept is waited out.
-fn next_stream<R: Wait + Clock>(rt: &R, stop: &Stop, listener: &Listener) -> Option<Stream> {
+/// Accepts a connection. A refused accept is waited out, at most until the stop.
+pub fn next_stream<R: Wait + Clock>(rt: &R, stop: &Stop, listener: &Listener) -> Option<Stream> {
     match listener.accept() {
         Ok(stream) => Some(stream),
         Err(_) => {

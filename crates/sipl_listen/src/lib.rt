@@ -12,7 +12,7 @@ mod lock;
 mod stop;
 mod stream;
 
-pub use accept::{next_client, next_client_making_room};
+pub use accept::{Accepted, next_client, next_client_making_room, next_stream};
 pub use address::Address;
 pub use clients::{Client, Clients};
 pub use descriptors::max_clients;

@@ -1,14 +1,15 @@
 //! The changes since the last state, in a file: each is there before its reply is sent.
-use crate::files::{open_to_append, take_place, write_new};
-use crate::pending::{Mark, Pending};
-use crate::written::{Ends, Written};
+use crate::files::{open_to_append, write_new};
+use crate::pending::{Mark, Pending, long_after};
+use crate::state_files::{Base, StateFiles, point_after};
+use crate::written::Written;
 use sipl_archive::state_text;
 use sipl_book::State;
-use sipl_commits::{log_of, write_state};
+use sipl_commits::{Point, log_of, write_state};
 use std::alloc::{AllocError, Global};
 use std::fs::File;
 use std::rt::Files;
-use std::sync::atomic::{AtomicU64, Ordering};
+use std::sync::atomic::{AtomicBool, AtomicU64, Ordering};
 use std::sync::{Mutex, MutexGuard, Wait};
 use std::{fs, io};
 
@@ -18,53 +19,85 @@ use std::{fs, io};
 pub struct Changes {
     alloc: Global,
     files: StateFiles,
+    // It has the lock of the state for as long as it is open.
+    lock: File,
     pending: Mutex<Pending>,
     written: Mutex<Written>,
     // The place up to which the changes are in the file, and synced.
     synced: AtomicU64,
+    // The place after which the log is so long that a state is to be written.
+    long_at: AtomicU64,
+    // Whether something failed that was done to the files.
+    has_failed: AtomicBool,
 }
 
-/// Where a state is, and the changes since then.
-#[derive(Drop)]
-pub(crate) struct StateFiles {
-    pub(crate) state: String,
-    pub(crate) log: String,
-    // It has the lock of the state for as long as it is open.
-    pub(crate) lock: File,
-}
-
-/// How many octets the changes of a log have, their last mark, and the ends of the log.
+/// How many octets a state has, and the changes of its log; their last mark, and the points before the first commit of
+/// the log and after the last one.
 #[derive(Clone, Copy)]
 pub(crate) struct Extent {
+    pub(crate) state_len: u64,
     pub(crate) len: u64,
     pub(crate) mark: u64,
-    pub(crate) ends: Ends,
+    pub(crate) first: Point,
+    pub(crate) last: Point,
 }
 
 impl Changes {
-    /// The files of a state. The log has changes of so many octets between these ends, of which the last mark is
-    /// this one, and leads to this time.
+    /// The files of a state, of which this file has the lock. The log has these changes, which lead to this time.
     pub(crate) fn open<R: Files<File = File>>(
         rt: &R,
         alloc: Global,
         files: StateFiles,
+        lock: File,
         extent: Extent,
         time: u64,
     ) -> io::Result<Changes> {
         let file = open_to_append(rt, files.log.as_str())?;
-        let Extent { len, mark, ends } = extent;
+        let Extent {
+            state_len,
+            len,
+            mark,
+            first,
+            last,
+        } = extent;
+        let base = Base { first, start: 0 };
         Ok(Changes {
             alloc,
             files,
-            pending: Mutex::new(Pending::new(alloc, len, mark, time)),
-            written: Mutex::new(Written::new(alloc, file, ends)),
+            lock,
+            pending: Mutex::new(Pending::new(alloc, state_len, len, mark, time)),
+            written: Mutex::new(Written::new(alloc, file, base, last)),
             synced: AtomicU64::new(len),
+            long_at: AtomicU64::new(long_after(0, state_len)),
+            has_failed: AtomicBool::new(false),
         })
+    }
+
+    /// Whether something failed that was done to the files, so that no change can be kept until they are mended.
+    pub fn has_failed(&self) -> bool {
+        self.has_failed.load(Ordering::SeqCst)
     }
 
     /// The changes that are not in the file yet. Whoever has them makes the next change.
     pub(crate) fn lock<R: Wait>(&self, rt: &R) -> MutexGuard<'_, Pending> {
         self.pending.lock(rt)
+    }
+
+    /// Fails as what failed did, that was done to the files, if anything has.
+    pub fn check<R: Wait>(&self, rt: &R) -> io::Result<()> {
+        self.written.lock(rt).check()
+    }
+
+    /// Whether the log is so long, with the changes up to a place, that a state is to be written.
+    pub fn is_long_at(&self, place: u64) -> bool {
+        place > self.long_at.load(Ordering::SeqCst)
+    }
+
+    /// Appends a mark to the changes that are not in the file yet. Returns its number, and the place after it.
+    pub(crate) fn push_mark(&self, pending: &mut Pending) -> Result<Mark, AllocError> {
+        let mark = pending.push_mark()?;
+        self.long_at.store(pending.long_at(), Ordering::SeqCst);
+        Ok(mark)
     }
 
     /// Returns once all octets up to a place are in the file, and survive the end of the machine: at once
@@ -96,25 +129,81 @@ impl Changes {
         self.sync(rt, mark.begin)?;
         match self.write_new_state(rt, mark, state) {
             Ok(digest) => self.begin_log(rt, mark, &digest),
-            Err(error) => self.written.lock(rt).keep_failure(Err(error)),
+            Err(error) => {
+                let mut written = self.written.lock(rt);
+                self.keep_failure(&mut written, Err(error))
+            }
         }
+    }
+
+    /// Writes the log anew, with all changes, where something failed that was done to the files. Then changes can be
+    /// kept again.
+    pub fn mend<R: Files<File = File> + Wait>(&self, rt: &R) -> io::Result<()> {
+        let mut written = self.written.lock(rt);
+        if written.check().is_ok() {
+            return Ok(());
+        }
+        let end = self.take_unwritten(rt, &mut written)?;
+        self.write_log_anew(rt, &mut written)?;
+        self.synced.store(end, Ordering::SeqCst);
+        self.has_failed.store(false, Ordering::SeqCst);
+        Ok(())
     }
 
     /// Writes the last state, after which there are no changes.
     pub fn end<R: Files<File = File> + Wait>(&self, rt: &R, state: &State) -> io::Result<()> {
-        let mark = self.push_mark(rt)?;
+        let mark = self.push_last_mark(rt)?;
         self.write_state(rt, mark, state)
     }
 
-    fn push_mark<R: Wait>(&self, rt: &R) -> Result<Mark, AllocError> {
-        self.lock(rt).push_mark()
+    fn push_last_mark<R: Wait>(&self, rt: &R) -> Result<Mark, AllocError> {
+        let mut pending = self.pending.lock(rt);
+        self.push_mark(&mut pending)
     }
 
     // Appends the changes that are not in the file yet.
     fn write<R: Wait>(&self, rt: &R, written: &mut Written) -> io::Result<()> {
+        written.check()?;
         let (text, end) = self.pending.lock(rt).take();
-        written.write(&text)?;
+        let appended = written.write(text);
+        self.keep_failure(written, appended)?;
         self.synced.store(end, Ordering::SeqCst);
+        Ok(())
+    }
+
+    // Keeps why something failed that was done to the files, if it did.
+    fn keep_failure(&self, written: &mut Written, outcome: io::Result<()>) -> io::Result<()> {
+        if outcome.is_err() {
+            self.has_failed.store(true, Ordering::SeqCst);
+        }
+        written.keep_failure(outcome)
+    }
+
+    // Puts the changes that are not in the file to those that could not be written. Returns the place after them.
+    fn take_unwritten<R: Wait>(&self, rt: &R, written: &mut Written) -> Result<u64, AllocError> {
+        let mut pending = self.pending.lock(rt);
+        written.reserve_unwritten(pending.len())?;
+        let (text, end) = pending.take();
+        written.keep_unwritten(&text);
+        Ok(end)
+    }
+
+    // Writes the log anew, with all changes after the state that is in its place, and goes on with it.
+    fn write_log_anew<R: Files<File = File>>(
+        &self,
+        rt: &R,
+        written: &mut Written,
+    ) -> io::Result<()> {
+        let base = match written.bases() {
+            (base, None) => base,
+            (base, Some(next)) => self.files.base(rt, self.alloc, base, next)?,
+        };
+        let octets = self.files.log_after(rt, self.alloc, &base.first)?;
+        let synced = self.synced.load(Ordering::SeqCst);
+        let changes = written.all_changes(&octets, &base, synced)?;
+        let (log, last) = log_of(self.alloc, &base.first, &changes)?;
+        let file = self.files.write_log(rt, self.alloc, &log)?;
+        written.go_on(file, base, last);
         Ok(())
     }
 
@@ -129,8 +218,15 @@ impl Changes {
         let mut text = Vec::new(self.alloc);
         let digest = write_state(self.alloc, &mut text, &body)?;
         write_new(rt, self.alloc, self.files.state.as_str(), &text)?;
-        self.lock(rt).set_state_len(text.len() as u64);
+        self.set_state_len(rt, text.len() as u64);
         Ok(digest)
+    }
+
+    // The state that was written has so many octets.
+    fn set_state_len<R: Wait>(&self, rt: &R, len: u64) {
+        let mut pending = self.pending.lock(rt);
+        pending.set_state_len(len);
+        self.long_at.store(pending.long_at(), Ordering::SeqCst);
     }
 
     // Begins the log anew after a state of this digest, which takes its place. Where that fails the file in hand may be
@@ -143,7 +239,7 @@ impl Changes {
     ) -> io::Result<()> {
         let mut written = self.written.lock(rt);
         let begun = self.begin_written(rt, &mut written, mark, digest);
-        written.keep_failure(begun)
+        self.keep_failure(&mut written, begun)
     }
 
     fn begin_written<R: Files<File = File> + Wait>(
@@ -155,13 +251,16 @@ impl Changes {
     ) -> io::Result<()> {
         self.write(rt, written)?;
         let changes = self.changes_from(rt, written, mark.begin)?;
-        let mut ends = Ends::after_state(digest);
-        let (log, last) = log_of(self.alloc, &ends.first, &changes)?;
-        ends.last = last;
+        let first = point_after(digest);
+        let (log, last) = log_of(self.alloc, &first, &changes)?;
+        let base = Base {
+            first,
+            start: mark.begin,
+        };
+        written.set_next(base);
         self.files.begin(rt, self.alloc, &log)?;
-        written.file = open_to_append(rt, self.files.log.as_str())?;
-        written.start = mark.begin;
-        written.ends = ends;
+        let file = open_to_append(rt, self.files.log.as_str())?;
+        written.go_on(file, base, last);
         Ok(())
     }
 
@@ -178,20 +277,5 @@ impl Changes {
         } else {
             Ok(Vec::new(self.alloc))
         }
-    }
-}
-
-impl StateFiles {
-    /// Begins a log with these octets: the new one is there before its state takes its place, and takes its own after
-    /// that. What a kill leaves between the two is finished at the next start.
-    pub(crate) fn begin<R: Files<File = File>>(
-        &self,
-        rt: &R,
-        alloc: Global,
-        log: &[u8],
-    ) -> io::Result<()> {
-        write_new(rt, alloc, self.log.as_str(), log)?;
-        take_place(rt, alloc, self.state.as_str())?;
-        take_place(rt, alloc, self.log.as_str())
     }
 }

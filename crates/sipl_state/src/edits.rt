@@ -87,6 +87,17 @@ impl Source {
         Ok(number)
     }
 
+    /// Sets the time, and not in the file of changes: the next hold or release there has it.
+    pub fn move_time<R: Wait>(&self, rt: &R, pass: &mut Pass, to: u64) -> Result<u64, ServiceFault>
+        ensures receipt { GetsReceipt (λ number. number) (λ number. Advance to)
+            pass.old pass.new result }
+    {
+        let mut tally = self.tally.lock(rt);
+        let number = self.service.advance(rt, pass, to)?;
+        tally.advance(to);
+        Ok(number)
+    }
+
     // Makes an edit and appends it to the file of changes, where there is one.
     fn append_edit<R: Wait>(
         &self,

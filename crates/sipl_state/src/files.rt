@@ -52,8 +52,8 @@ pub(crate) fn write_file<R: Files<File = File>>(rt: &R, path: &str, text: &[u8])
     file.sync_all()
 }
 
-// Syncs the folder of a path.
-fn sync_folder<R: Files<File = File>>(rt: &R, path: &str) -> io::Result<()> {
+/// Syncs the folder of a path.
+pub(crate) fn sync_folder<R: Files<File = File>>(rt: &R, path: &str) -> io::Result<()> {
     let folder = match path.rfind('/') {
         Some(0) => "/",
         Some(end) => &path[..end],

@@ -35,15 +35,16 @@ pub(crate) struct Pending {
 }
 
 impl Pending {
-    /// Nothing, after a file of so many octets, of which the last mark is this one, and leads to this time.
-    pub(crate) fn new(alloc: Global, len: u64, mark: u64, time: u64) -> Pending {
+    /// Nothing, after a state and changes of so many octets, of which the last mark is this one, and which lead to this
+    /// time.
+    pub(crate) fn new(alloc: Global, state_len: u64, len: u64, mark: u64, time: u64) -> Pending {
         Pending {
             alloc,
             text: Vec::new(alloc),
             end: len,
             mark,
             begin: 0,
-            state_len: 0,
+            state_len,
             time,
         }
     }
@@ -61,6 +62,13 @@ impl Pending {
         };
         text.extend_from_slice(change)?;
         Ok(text)
+    }
+
+    /// How many octets are not in the file yet.
+    pub(crate) fn len(&self) -> usize
+        ensures { result ≡ vec_len self.now.text }
+    {
+        self.text.len()
     }
 
     /// Reserves the space of a text. The only error is an allocation failure.
@@ -103,8 +111,12 @@ impl Pending {
 
     /// Whether a state is to be written.
     pub(crate) fn is_long(&self) -> bool {
-        let len = self.end.saturating_sub(self.begin);
-        len > MIN_LEN && len > self.state_len
+        self.end > self.long_at()
+    }
+
+    /// The place after which a state is to be written.
+    pub(crate) fn long_at(&self) -> u64 {
+        long_after(self.begin, self.state_len)
     }
 
     /// Appends a mark. Returns its number, and the place after it.
@@ -121,7 +133,15 @@ impl Pending {
     }
 
     /// Takes the octets that are not in the file. Returns them, and the place after them.
-    pub(crate) fn take(&mut self) -> (Vec<u8>, u64) {
+    pub(crate) fn take(&mut self) -> (Vec<u8>, u64)
+        ensures { result.0.items ≡ self.old.text.items }
+    {
         (mem::replace(&mut self.text, Vec::new(self.alloc)), self.end)
     }
+}
+
+/// The place after which a state is to be written, where the changes after the last mark begin at this place, and the
+/// last state has so many octets.
+pub(crate) fn long_after(begin: u64, state_len: u64) -> u64 {
+    begin.saturating_add(state_len.max(MIN_LEN))
 }

@@ -1,12 +1,12 @@
 //! The zones and the holds of a daemon, read again from their files: a state, and the log of the changes since then.
-use crate::changes::{Changes, Extent, StateFiles};
-use crate::files::{new_path, read_file, take_place, truncate, write_file, write_new};
+use crate::changes::{Changes, Extent};
+use crate::files::{read_file, take_place, write_new};
 use crate::first_format::FirstFormat;
-use crate::written::Ends;
+use crate::state_files::{FoundLog, StateFiles, point_after};
 use sipl_archive::{Made, made_of, mark_of, replies_to, split_line, whole_len};
 use sipl_commits::{
     Commit, Log, LogFault, Point, StateFault as FileFault, log_of, read_log, read_state,
-    write_head, write_state,
+    write_state,
 };
 use sipl_lines::Desk;
 use std::alloc::{AllocError, Global};
@@ -57,16 +57,53 @@ impl From<LogFault> for StateFault {
     }
 }
 
-/// The changes that a daemon goes on from, and the octet of their log at which there was a write that did not end, if
-/// there was one.
+/// The changes that a daemon goes on from, and what was found of their files.
 #[derive(Drop)]
 pub struct Restored {
     pub changes: Changes,
+    pub found: FoundFiles,
+}
+
+/// What was found of the files of a state.
+#[derive(Clone, Copy, Debug)]
+pub struct FoundFiles {
+    /// Whether there are any.
+    pub are_there: bool,
+    /// Whether they are of the first format.
+    pub are_first: bool,
+    /// How many commits the log has.
+    pub commits: u64,
+    /// The octet of the log at which there was a write that did not end, if there was one.
     pub torn: Option<usize>,
 }
 
+// What was read of the files of a state, and made.
+#[derive(Drop)]
+enum Read {
+    // The lines of a state of the first format and its log, or of an empty state, and the last mark.
+    First {
+        body: Vec<u8>,
+        mark: u64,
+    },
+    // A log, which may have to take its place yet, and has so many octets before its tail.
+    Second {
+        extent: Extent,
+        is_new: bool,
+        whole: usize,
+        tail: Vec<u8>,
+    },
+}
+
+// How many octets a state has, its mark, and the point before the first commit of its log.
+#[derive(Clone, Copy)]
+struct FoundState {
+    len: u64,
+    mark: u64,
+    first: Point,
+}
+
 /// Reads the state of a path, whose lock is this file, and the changes after it, makes them at a desk, and opens
-/// the log.
+/// the log. All is made before anything is written.
 pub fn restore<R: Files<File = File>, D: Desk>(
     rt: &R,
     alloc: Global,
@@ -74,66 +111,111 @@ pub fn restore<R: Files<File = File>, D: Desk>(
     lock: File,
     desk: &mut D,
 ) -> Result<Restored, StateFault> {
-    let files = StateFiles {
-        state: String::from_str(alloc, path)?,
-        log: format!(in alloc; "{path}.log")?,
-        lock,
+    let files = StateFiles::new(alloc, path)?;
+    let (read, found) = read_files(rt, alloc, &files, desk)?;
+    let extent = match read {
+        Read::First { body, mark } => begin(rt, alloc, &files, &body, mark)?,
+        Read::Second {
+            extent,
+            is_new,
+            whole,
+            tail,
+        } => {
+            go_on(rt, alloc, &files, is_new, whole, &tail)?;
+            extent
+        }
     };
-    let (extent, torn) = restore_all(rt, alloc, &files, desk)?;
     let time = desk.now();
-    let changes = Changes::open(rt, alloc, files, extent, time)?;
-    Ok(Restored { changes, torn })
+    let changes = Changes::open(rt, alloc, files, lock, extent, time)?;
+    Ok(Restored { changes, found })
 }
 
-fn restore_all<R: Files<File = File>, D: Desk>(
+/// Reads the state of a path and the changes after it, and makes them at a desk, as `restore` does. Writes nothing.
+pub fn check_state<R: Files<File = File>, D: Desk>(
+    rt: &R,
+    alloc: Global,
+    path: &str,
+    desk: &mut D,
+) -> Result<FoundFiles, StateFault> {
+    let files = StateFiles::new(alloc, path)?;
+    let (_, found) = read_files(rt, alloc, &files, desk)?;
+    Ok(found)
+}
+
+// Reads the files of a state, and makes what they have.
+fn read_files<R: Files<File = File>, D: Desk>(
     rt: &R,
     alloc: Global,
     files: &StateFiles,
     desk: &mut D,
-) -> Result<(Extent, Option<usize>), StateFault> {
+) -> Result<(Read, FoundFiles), StateFault> {
     let Some(octets) = read_file(rt, alloc, files.state.as_str())? else {
-        return begin(rt, alloc, files, &[], desk);
+        return read_first(rt, alloc, files, &[], desk);
     };
     match read_state(alloc, &octets) {
         Ok(state) => {
             let mark = make_state(alloc, state.body, desk)?;
-            restore_log(
-                rt,
-                alloc,
-                files,
-                &Ends::after_state(&state.digest),
+            let base = FoundState {
+                len: octets.len() as u64,
                 mark,
-                desk,
-            )
+                first: point_after(&state.digest),
+            };
+            drop(octets);
+            read_second(rt, alloc, files, &base, desk)
         }
-        Err(FileFault::FirstFormat) => begin(rt, alloc, files, &octets, desk),
+        Err(FileFault::FirstFormat) => read_first(rt, alloc, files, &octets, desk),
         Err(FileFault::Format) => Err(StateFault::State(1)),
         Err(FileFault::Digest) => Err(StateFault::Digest),
         Err(FileFault::Memory) => Err(StateFault::from(AllocError)),
     }
 }
 
-// Makes what is in files of the first format, or in none, and writes it into files of the second.
-fn begin<R: Files<File = File>, D: Desk>(
+// Reads files of the first format, or none, and makes what they have.
+fn read_first<R: Files<File = File>, D: Desk>(
     rt: &R,
     alloc: Global,
     files: &StateFiles,
     state: &[u8],
     desk: &mut D,
-) -> Result<(Extent, Option<usize>), StateFault> {
+) -> Result<(Read, FoundFiles), StateFault> {
     let log = read_file(rt, alloc, files.log.as_str())?;
+    let are_there = log.is_some() || !state.is_empty();
     let first = FirstFormat::read(alloc, state, log.as_deref())?;
     let mark = match make_body(alloc, &first.body, desk)? {
         Ok(mark) => mark,
         Err(line) => return Err(first.fault_at(line)),
     };
+    let found = FoundFiles {
+        are_there,
+        are_first: are_there,
+        commits: 0,
+        torn: None,
+    };
+    let body = first.body;
+    Ok((Read::First { body, mark }, found))
+}
+
+// Writes the lines of a state into files of the second format.
+fn begin<R: Files<File = File>>(
+    rt: &R,
+    alloc: Global,
+    files: &StateFiles,
+    body: &[u8],
+    mark: u64,
+) -> Result<Extent, StateFault> {
     let mut text = Vec::new(alloc);
-    let digest = write_state(alloc, &mut text, &first.body)?;
+    let digest = write_state(alloc, &mut text, body)?;
     write_new(rt, alloc, files.state.as_str(), &text)?;
-    let ends = Ends::after_state(&digest);
-    let (octets, _) = log_of(alloc, &ends.first, &[])?;
+    let first = point_after(&digest);
+    let (octets, last) = log_of(alloc, &first, &[])?;
     files.begin(rt, alloc, &octets)?;
-    Ok((Extent { len: 0, mark, ends }, None))
+    Ok(Extent {
+        state_len: text.len() as u64,
+        len: 0,
+        mark,
+        first,
+        last,
+    })
 }
 
 // Makes the zones and the holds of a state. Returns its mark.
@@ -162,72 +244,66 @@ fn make_body<D: Desk>(
     Ok(Ok(made.mark.unwrap_or(mark)))
 }
 
-// Makes the changes of a log, and leaves it without what a write left that did not end. Returns where that was.
-fn restore_log<R: Files<File = File>, D: Desk>(
+// Reads the log of a state, and makes its changes.
+fn read_second<R: Files<File = File>, D: Desk>(
     rt: &R,
     alloc: Global,
     files: &StateFiles,
-    ends: &Ends,
-    mark: u64,
+    state: &FoundState,
     desk: &mut D,
-) -> Result<(Extent, Option<usize>), StateFault> {
-    let octets = read_log_file(rt, alloc, files.log.as_str(), &ends.first)?;
-    let log = match read_log(alloc, &octets, &ends.first) {
+) -> Result<(Read, FoundFiles), StateFault> {
+    let Some(FoundLog { octets, is_new }) = files.find_log(rt, alloc, &state.first)? else {
+        return Err(StateFault::OtherLog);
+    };
+    let log = match read_log(alloc, &octets, &state.first) {
         Ok(log) => log,
         Err(fault) => return Err(StateFault::from(fault)),
     };
-    let mut extent = make_changes(alloc, &log, ends, mark, desk)?;
-    extent.ends.last = log.last;
     let whole = octets.len().saturating_sub(log.tail.len());
-    if log.tail.is_empty() {
-        return Ok((extent, None));
-    }
-    drop_tail(rt, alloc, files.log.as_str(), whole, log.tail)?;
-    Ok((extent, Some(whole)))
+    let found = FoundFiles {
+        are_there: true,
+        are_first: false,
+        commits: log.commits.len() as u64,
+        torn: if log.tail.is_empty() {
+            None
+        } else {
+            Some(whole)
+        },
+    };
+    let extent = make_changes(alloc, &log, state, desk)?;
+    let tail = Vec::from_slice(alloc, log.tail)?;
+    let read = Read::Second {
+        extent,
+        is_new,
+        whole,
+        tail,
+    };
+    Ok((read, found))
 }
 
-// Leaves of a log the octets before its tail, which has a file of its own then, where there is space for one.
-fn drop_tail<R: Files<File = File>>(
+// Goes on with a log, which takes its place where it has not, and is left without its tail.
+fn go_on<R: Files<File = File>>(
     rt: &R,
     alloc: Global,
-    path: &str,
+    files: &StateFiles,
+    is_new: bool,
     whole: usize,
     tail: &[u8],
 ) -> io::Result<()> {
-    let _ = write_file(rt, format!(in alloc; "{path}.torn")?.as_str(), tail);
-    truncate(rt, path, whole as u64)
+    if is_new {
+        take_place(rt, alloc, files.log.as_str())?;
+    }
+    if tail.is_empty() {
+        return Ok(());
+    }
+    files.drop_tail(rt, alloc, whole, tail)
 }
 
-// The octets of the log after a point. Where a kill came before it took its place, it does that now.
-fn read_log_file<R: Files<File = File>>(
-    rt: &R,
-    alloc: Global,
-    path: &str,
-    point: &Point,
-) -> Result<Vec<u8>, StateFault> {
-    let mut head = Vec::new(alloc);
-    write_head(alloc, &mut head, point)?;
-    let found = read_file(rt, alloc, path)?;
-    if let Some(octets) = &found
-        && octets.starts_with(&head)
-    {
-        return found.ok_or(StateFault::OtherLog);
-    }
-    if let Some(octets) = read_file(rt, alloc, new_path(alloc, path)?.as_str())?
-        && octets.starts_with(&head)
-    {
-        take_place(rt, alloc, path)?;
-        return Ok(octets);
-    }
-    found.ok_or(StateFault::OtherLog)
-}
-
-// Makes the changes of a log after a mark.
+// Makes the changes of the log of a state.
 fn make_changes<D: Desk>(
     alloc: Global,
     log: &Log<'_>,
-    ends: &Ends,
-    mark: u64,
+    state: &FoundState,
     desk: &mut D,
 ) -> Result<Extent, StateFault> {
     let changes = log.changes(alloc)?;
@@ -236,9 +312,11 @@ fn make_changes<D: Desk>(
         return Err(StateFault::Commit(commit_at(&log.commits, made.octets)));
     }
     Ok(Extent {
+        state_len: state.len,
         len: changes.len() as u64,
-        mark: made.mark.unwrap_or(mark),
-        ends: *ends,
+        mark: made.mark.unwrap_or(state.mark),
+        first: state.first,
+        last: log.last,
     })
 }
 

@@ -38,6 +38,22 @@ impl Source {
         }
     }
 
+    /// Whether changes could not be written to their file, and can't be kept until it is mended.
+    pub fn has_failed(&self) -> bool {
+        match &self.changes {
+            Some(changes) => changes.has_failed(),
+            None => false,
+        }
+    }
+
+    /// Whether the file of changes is so long, with those up to a place, that a state is to be written.
+    pub fn is_log_long(&self, place: u64) -> bool {
+        match &self.changes {
+            Some(changes) => changes.is_long_at(place),
+            None => false,
+        }
+    }
+
     /// Turns the page. Where the file of changes has become long it gets a mark there, and the state after
     /// the page is to be written.
     pub fn turn_page<R: Wait>(&self, rt: &R) -> Result<Turned, ServiceFault>
@@ -49,8 +65,8 @@ impl Source {
         };
         let mut pending = changes.lock(rt);
         let page = self.service.turn_page(rt)?;
-        let mark = if pending.is_long() {
-            pending.push_mark().ok()
+        let mark = if pending.is_long() && !changes.has_failed() {
+            changes.push_mark(&mut pending).ok()
         } else {
             None
         };

@@ -1,6 +1,9 @@
 //! The log of the changes since a state, to which those that were made are appended, in commits.
+ghost use Rattle.std.specs.Prelude.{◌≡◌, ◌≤◌, ◌+◌, ◌++◌, length, OnOk, vec_len, vec_capacity};
+
+use crate::state_files::Base;
 use sipl_commits::{Point, read_log, write_commit};
-use std::alloc::Global;
+use std::alloc::{AllocError, Global};
 use std::fs::File;
 use std::io;
 use std::io::{ErrorKind, Write};
@@ -9,59 +12,40 @@ use std::io::{ErrorKind, Write};
 #[derive(Drop)]
 pub(crate) struct Written {
     alloc: Global,
-    pub(crate) file: File,
-    // The place of its first change.
-    pub(crate) start: u64,
-    // The points before its first commit, and after the last one.
-    pub(crate) ends: Ends,
+    file: File,
+    // The place of its first change, and the point before its first commit.
+    base: Base,
+    // The point after its last commit.
+    last: Point,
+    // The base of the log that was to take its place, with a state.
+    next: Option<Base>,
+    // The changes that could not be written, after those of the last commit.
+    unwritten: Vec<u8>,
     // Why a write failed, or what was done to the files: since then nothing is known of them, and nothing more is
-    // written, so that no later change is reported as kept.
+    // written to them, so that no later change is reported as kept.
     failure: Option<ErrorKind>,
 }
 
-/// The points before the first commit of a log, and after the last one.
-#[derive(Clone, Copy)]
-pub(crate) struct Ends {
-    pub(crate) first: Point,
-    pub(crate) last: Point,
-}
-
-impl Ends {
-    /// Those of a log without commits, after a state of this digest.
-    pub(crate) fn after_state(digest: &[u8; 32]) -> Ends {
-        let point = Point {
-            number: 0,
-            digest: *digest,
-        };
-        Ends {
-            first: point,
-            last: point,
-        }
-    }
-}
-
 impl Written {
-    /// A log to append to, whose first change is the first that was ever appended.
-    pub(crate) fn new(alloc: Global, file: File, ends: Ends) -> Written {
+    /// A log to append to, which begins there and has commits up to this point.
+    pub(crate) fn new(alloc: Global, file: File, base: Base, last: Point) -> Written {
         Written {
             alloc,
             file,
-            start: 0,
-            ends,
+            base,
+            last,
+            next: None,
+            unwritten: Vec::new(alloc),
             failure: None,
         }
     }
 
-    /// Appends changes in a commit, and syncs the file.
-    pub(crate) fn write(&mut self, changes: &[u8]) -> io::Result<()> {
-        if let Some(kind) = self.failure {
-            return Err(io::Error::from(kind));
+    /// Fails as what failed before did, if anything has.
+    pub(crate) fn check(&self) -> io::Result<()> {
+        match self.failure {
+            Some(kind) => Err(io::Error::from(kind)),
+            None => Ok(()),
         }
-        if changes.is_empty() {
-            return Ok(());
-        }
-        let appended = self.append(changes);
-        self.keep_failure(appended)
     }
 
     /// Keeps why something failed that was done to the files, if it did: from then on every write fails.
@@ -72,23 +56,96 @@ impl Written {
         outcome
     }
 
+    /// Appends changes in a commit, and syncs the file. Where that fails the changes are kept until the log is written
+    /// anew.
+    pub(crate) fn write(&mut self, changes: Vec<u8>) -> io::Result<()> {
+        if changes.is_empty() {
+            return Ok(());
+        }
+        let appended = self.append(&changes);
+        if appended.is_err() {
+            self.unwritten = changes;
+        }
+        self.keep_failure(appended)
+    }
+
     fn append(&mut self, changes: &[u8]) -> io::Result<()> {
         let mut commit = Vec::new(self.alloc);
-        let next = write_commit(self.alloc, &mut commit, &self.ends.last, changes)?;
+        let next = write_commit(self.alloc, &mut commit, &self.last, changes)?;
         self.file.write_all(&commit)?;
         self.file.sync_data()?;
-        self.ends.last = next;
+        self.last = next;
         Ok(())
+    }
+
+    /// Reserves the space of changes that could not be written.
+    pub(crate) fn reserve_unwritten(&mut self, len: usize) -> Result<(), AllocError>
+        ensures { OnOk result
+            (vec_len self.new.unwritten + len ≤ vec_capacity self.new.unwritten) }
+    {
+        self.unwritten.reserve(len)
+    }
+
+    /// Keeps changes that could not be written, in space that is reserved.
+    pub(crate) fn keep_unwritten(&mut self, changes: &[u8])
+        requires space { vec_len self.old.unwritten + length changes.now
+            ≤ vec_capacity self.old.unwritten }
+        ensures { self.new.unwritten.items ≡ self.old.unwritten.items ++ changes.now }
+    {
+        self.unwritten.extend_from_slice(changes).unwrap();
+    }
+
+    /// All changes of a log with these octets after its base: those that were written, which reach to a place, and
+    /// those that could not be.
+    pub(crate) fn all_changes(
+        &self,
+        octets: &[u8],
+        base: &Base,
+        synced: u64,
+    ) -> io::Result<Vec<u8>> {
+        let mut changes = self.changes_of(octets, &base.first)?;
+        let len = usize::try_from(synced.saturating_sub(base.start)).unwrap_or(usize::MAX);
+        if changes.len() < len {
+            return Err(io::Error::from(ErrorKind::InvalidData));
+        }
+        changes.truncate(len);
+        changes.extend_from_slice(&self.unwritten)?;
+        Ok(changes)
     }
 
     /// The changes of the log with these octets that begin at a place.
     pub(crate) fn changes_from(&self, octets: &[u8], place: u64) -> io::Result<Vec<u8>> {
-        let Ok(log) = read_log(self.alloc, octets, &self.ends.first) else {
-            return Err(io::Error::from(ErrorKind::InvalidData));
-        };
-        let changes = log.changes(self.alloc)?;
-        let skipped = usize::try_from(place.saturating_sub(self.start)).unwrap_or(usize::MAX);
+        let changes = self.changes_of(octets, &self.base.first)?;
+        let skipped = usize::try_from(place.saturating_sub(self.base.start)).unwrap_or(usize::MAX);
         let rest = changes.as_slice().get(skipped..).unwrap_or(&[]);
         Ok(Vec::from_slice(self.alloc, rest)?)
+    }
+
+    // All changes of a log with these octets.
+    fn changes_of(&self, octets: &[u8], first: &Point) -> io::Result<Vec<u8>> {
+        match read_log(self.alloc, octets, first) {
+            Ok(log) => Ok(log.changes(self.alloc)?),
+            Err(_) => Err(io::Error::from(ErrorKind::InvalidData)),
+        }
+    }
+
+    /// The base of the log, and that of the one that was to take its place, if there is one.
+    pub(crate) fn bases(&self) -> (Base, Option<Base>) {
+        (self.base, self.next)
+    }
+
+    /// Another log is to take its place, with a state.
+    pub(crate) fn set_next(&mut self, next: Base) {
+        self.next = Some(next);
+    }
+
+    /// Goes on with a log that was written anew, and has all changes.
+    pub(crate) fn go_on(&mut self, file: File, base: Base, last: Point) {
+        self.file = file;
+        self.base = base;
+        self.last = last;
+        self.next = None;
+        self.unwritten.clear();
+        self.failure = None;
     }
 }

@@ -1,6 +1,7 @@
 //! A locator of SIP servers (RFC 3263): sessions on standard input and output, or over TCP.
 #![tactic(auto)]
 
+mod arguments;
 mod program;
 mod serve;
 

@@ -1,42 +1,39 @@
-//! The program: its arguments, and what it does on its standard streams.
+//! The program: its settings, and what it does on its standard streams.
+ghost use Rattle.std.specs.Prelude.{IfOk};
 ghost use Rattle.sipl_lines.specs.Settings.{IsWithinLimits};
 
+use crate::arguments::{Call, Given, Unread, read_arguments};
 use crate::serve::{ServerFault, serve_connections};
 use sipl_book::Book;
+use sipl_config::{key_fault, service_keys, service_value, text_fault};
 use sipl_lines::{
     Ended, ServeFault, Settings, SettingsFault, Tapped, check_zone, play_script, serve_book,
 };
-use sipl_names::{Name, NameFault};
-use std::alloc::Global;
-use std::io::{ErrorKind, Input, Read, Write};
+use sipl_names::Name;
+use std::alloc::{AllocError, Global};
+use std::io::{Input, Read, Write};
 use std::net::{Net, TcpListener, TcpStream};
 use std::process::ExitCode;
-use std::rt::Env;
+use std::rt::{Env, Files};
 use std::sync::Wait;
 use std::thread::Threads;
-use std::{env, io};
+use std::{fs, io};
 
 // The status of a call with wrong arguments.
 const WRONG_ARGUMENTS: u8 = 2;
 
-// What the arguments ask for.
-#[derive(Drop)]
-enum Call {
-    // `run [SETTINGS]`: serves a session.
-    Run(Option<String>),
-    // `check APEX`: checks a zone's text.
-    Check(Name),
-    // `world [SETTINGS]`: plays a script.
-    World(Option<String>),
-    // `serve [SETTINGS]`: serves sessions over TCP.
-    Serve(Option<String>),
-}
+const USAGE: &str =
+    "usage: siploc run [SETTINGS] | check APEX | world [SETTINGS] | serve [SETTINGS]";
 
 // Why a call failed.
 #[derive(Drop)]
 enum Fault {
-    // The settings can't be read.
+    // The settings of a text are refused.
     Settings(SettingsFault),
+    // The file of the settings can't be read.
+    File(String, io::Error),
+    // The settings of a file are refused: where, and why.
+    InFile(String),
     // A stream failed, or an allocation.
     Serve(ServeFault),
     // It cannot listen, or a connection was not accepted.
@@ -73,21 +70,18 @@ impl From<ServerFault> for Fault {
 
 /// Does what the arguments of a process ask for, with the threads and the network of a host. The status
 /// is 0, 1 after a fault or for a text that is not a zone, or 2 where the arguments are wrong; for a fault
-/// and for 2 one line on standard error gives the reason.
+/// and for 2 standard error has the reason.
 pub fn start<R, H>(rt: &R, host: &H) -> ExitCode
 where
-    R: Env + Input + Print + Eprint + AllocGlobal,
+    R: Env + Files + Input + Print + Eprint + AllocGlobal,
     H: Net<Listener = TcpListener, Stream = TcpStream> + Threads + Wait + Sync,
 {
     let outcome = match read_arguments(rt) {
-        Ok(Some(call)) => perform(rt, host, &call),
-        Err(error) if error.kind() == ErrorKind::OutOfMemory => {
-            Err(Fault::Serve(ServeFault::Memory))
-        }
-        _ => {
-            let _ = eprintln!(rt;
-                "usage: siploc run [SETTINGS] | check APEX | world [SETTINGS] | serve [SETTINGS]"
-            );
+        Ok(call) => perform(rt, host, call),
+        Err(Unread::Memory) => Err(Fault::Serve(ServeFault::Memory)),
+        Err(Unread::Told(error)) if !error.use_stderr() => print_told(rt, &error),
+        Err(unread) => {
+            report_wrong(rt, &unread);
             return ExitCode::from(WRONG_ARGUMENTS);
         }
     };
@@ -101,10 +95,28 @@ where
     }
 }
 
+// Prints the usage or the version, which the arguments ask for.
+fn print_told<R: Print + Eprint>(rt: &R, error: &clap::Error) -> Result<bool, Fault> {
+    match error.print(rt) {
+        Ok(()) => Ok(true),
+        Err(_) => Err(Fault::Serve(ServeFault::Write)),
+    }
+}
+
+// Writes on standard error what is wrong with the arguments, where there is more to say than the usage, and that.
+fn report_wrong<R: Print + Eprint>(rt: &R, unread: &Unread) {
+    if let Unread::Told(error) = unread {
+        let _ = error.print(rt);
+    }
+    let _ = eprintln!(rt; "{USAGE}");
+}
+
 // Writes a fault on standard error: its code, and the key where it is of one of the settings.
 fn report<R: Eprint>(rt: &R, fault: &Fault) {
     let _ = match fault {
         Fault::Serve(fault) => eprintln!(rt; "fault {}", fault.code()),
+        Fault::File(path, error) => eprintln!(rt; "fault settings {path}: {error}"),
+        Fault::InFile(told) => eprintln!(rt; "{told}"),
         Fault::Listen => eprintln!(rt; "fault listen"),
         Fault::Close(code) => eprintln!(rt; "fault close {code}"),
         Fault::Settings(fault) => match fault {
@@ -116,78 +128,97 @@ fn report<R: Eprint>(rt: &R, fault: &Fault) {
     };
 }
 
-// What the arguments ask for, if they are right. An error says that one of them is not UTF-8, or
-// that an allocation failed.
-fn read_arguments<R: Env + AllocGlobal>(rt: &R) -> io::Result<Option<Call>> {
-    let mut words = env::args(rt)?;
-    let _program = words.next();
-    let call = match words.next() {
-        Some(command) => read_call(rt.alloc(), command.as_str(), words.next())?,
-        None => None,
-    };
-    Ok(call.filter(|_| words.next().is_none()))
-}
-
-// What a command asks for with this word after it, if they are right. An error says that an
-// allocation failed.
-fn read_call(alloc: Global, command: &str, word: Option<String>) -> io::Result<Option<Call>> {
-    match command {
-        "run" => Ok(Some(Call::Run(word))),
-        "world" => Ok(Some(Call::World(word))),
-        "serve" => Ok(Some(Call::Serve(word))),
-        "check" => match word {
-            Some(apex) => read_apex(alloc, apex.as_bytes()),
-            None => Ok(None),
-        },
-        _ => Ok(None),
-    }
-}
-
-// The zone of this name, which is relative to the root, if it is one. An error says that an
-// allocation failed.
-fn read_apex(alloc: Global, text: &[u8]) -> io::Result<Option<Call>> {
-    match Name::from_text(alloc, text, &Name::root(alloc)) {
-        Ok(apex) => Ok(Some(Call::Check(apex))),
-        Err(NameFault::Invalid(_)) => Ok(None),
-        Err(NameFault::Memory) => Err(io::Error::from(ErrorKind::OutOfMemory)),
-    }
-}
-
 // Does what the arguments ask for. Returns whether a zone that was checked is one.
-fn perform<R, H>(rt: &R, host: &H, call: &Call) -> Result<bool, Fault>
+fn perform<R, H>(rt: &R, host: &H, call: Call) -> Result<bool, Fault>
 where
-    R: Input + Print + AllocGlobal,
+    R: Files + Input + Print + AllocGlobal,
     H: Net<Listener = TcpListener, Stream = TcpStream> + Threads + Wait + Sync,
 {
     match call {
-        Call::Run(text) => run(rt, text.as_deref().unwrap_or("")),
-        Call::World(text) => play(rt, text.as_deref().unwrap_or("")),
-        Call::Serve(text) => serve(rt, host, text.as_deref().unwrap_or("")),
-        Call::Check(apex) => Ok(check_streams(rt, apex)?),
+        Call::Run(given) => run(rt, given),
+        Call::World(given) => play(rt, given),
+        Call::Serve(given) => serve(rt, host, given),
+        Call::Check(apex) => Ok(check_streams(rt, &apex)?),
     }
 }
 
-// Serves a session with settings of this text.
-fn run<R: Input + Print + AllocGlobal>(rt: &R, text: &str) -> Result<bool, Fault> {
-    let settings = Settings::from_toml(rt.alloc(), text)?;
+// The settings that are given, as a text or as a file. What is wrong in a file is told with its line.
+fn read_given<R: Files + AllocGlobal>(rt: &R, given: Given) -> Result<Settings, Fault>
+    ensures { IfOk result (λ settings. IsWithinLimits settings) }
+{
+    match given {
+        Given::Text(text) => Ok(Settings::from_toml(rt.alloc(), text.as_str())?),
+        Given::File(path) => read_file(rt, path),
+    }
+}
+
+// The settings of a file.
+fn read_file<R: Files + AllocGlobal>(rt: &R, path: String) -> Result<Settings, Fault>
+    ensures { IfOk result (λ settings. IsWithinLimits settings) }
+{
+    let alloc = rt.alloc();
+    let text = match fs::read_to_string(rt, path.as_str()) {
+        Ok(text) => text,
+        Err(error) => return Err(Fault::File(path, error)),
+    };
+    match Settings::from_toml(alloc, text.as_str()) {
+        Ok(settings) => Ok(settings),
+        Err(SettingsFault::Memory) => Err(Fault::Serve(ServeFault::Memory)),
+        Err(fault) => match told(alloc, path.as_str(), text.as_str(), &fault) {
+            Ok(told) => Err(Fault::InFile(told)),
+            Err(_) => Err(Fault::Serve(ServeFault::Memory)),
+        },
+    }
+}
+
+// What is said of a fault in the text of a file: where it is, and what is allowed there.
+fn told(
+    alloc: Global,
+    path: &str,
+    text: &str,
+    fault: &SettingsFault,
+) -> Result<String, AllocError> {
+    match fault {
+        SettingsFault::UnknownKey(key) => {
+            let allowed = format!(in alloc; "no such key; there are {}", service_keys())?;
+            key_fault(
+                alloc,
+                path,
+                text,
+                key.as_str(),
+                fault.code(),
+                allowed.as_str(),
+            )
+        }
+        SettingsFault::BadValue(key) => {
+            let allowed = service_value(key.as_str()).unwrap_or("");
+            key_fault(alloc, path, text, key.as_str(), fault.code(), allowed)
+        }
+        _ => text_fault(alloc, path, text),
+    }
+}
+
+// Serves a session with the settings that are given.
+fn run<R: Files + Input + Print + AllocGlobal>(rt: &R, given: Given) -> Result<bool, Fault> {
+    let settings = read_given(rt, given)?;
     serve_new_book(rt, settings)?;
     Ok(true)
 }
 
-// Plays a script with settings of this text.
-fn play<R: Input + Print + AllocGlobal>(rt: &R, text: &str) -> Result<bool, Fault> {
-    let settings = Settings::from_toml(rt.alloc(), text)?;
+// Plays a script with the settings that are given.
+fn play<R: Files + Input + Print + AllocGlobal>(rt: &R, given: Given) -> Result<bool, Fault> {
+    let settings = read_given(rt, given)?;
     play_streams(rt, settings)?;
     Ok(true)
 }
 
-// Serves sessions over TCP with settings of this text, and prints how many events there were.
-fn serve<R, H>(rt: &R, host: &H, text: &str) -> Result<bool, Fault>
+// Serves sessions over TCP with the settings that are given, and prints how many events there were.
+fn serve<R, H>(rt: &R, host: &H, given: Given) -> Result<bool, Fault>
 where
-    R: Print + AllocGlobal,
+    R: Files + Print + AllocGlobal,
     H: Net<Listener = TcpListener, Stream = TcpStream> + Threads + Wait + Sync,
 {
-    let settings = Settings::from_toml(rt.alloc(), text)?;
+    let settings = read_given(rt, given)?;
     let events = serve_connections(rt.alloc(), host, settings)?;
     match println!(rt; "closed {events}") {
         Ok(()) => Ok(true),

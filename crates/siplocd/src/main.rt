@@ -2,6 +2,7 @@
 #![tactic(auto)]
 
 use sipl_daemon::{InputWatch, start};
+use sipl_log::Log;
 use std::alloc::AllocError;
 use std::fs::File;
 use std::marker::PhantomData;
@@ -18,6 +19,9 @@ fn main(rt: HostRuntime) -> Result<ExitCode, AllocError> {
     let input = Arc::new(rt.alloc(), InputWatch::new())?;
     let watched = Arc::try_clone(&input)?;
     let _watching = thread::spawn(&rt, move || watched.run(&rt));
+    let log = Arc::new(rt.alloc(), Log::new(rt.alloc()))?;
+    let written = Arc::try_clone(&log)?;
+    let _writing = thread::spawn(&rt, move || written.run(&rt));
     let _types: HostTypes = PhantomData;
-    Ok(start(&rt, &rt, &input))
+    Ok(start(&rt, &rt, &input, &log))
 }

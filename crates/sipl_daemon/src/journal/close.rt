@@ -3,17 +3,20 @@ use crate::daemon::Daemon;
 use crate::fault::CloseFault;
 use crate::journal::claims::Claims;
 use crate::journal::pages::Pages;
+use crate::observed::Observed;
+use crate::settings::OnFailure;
 use sipl_archive::Archive;
 use sipl_book::Page;
 use sipl_state::{Changes, Source};
 use std::fs::File;
 use std::rt::Files;
 use std::sync::Wait;
+use std::time::{Clock, Instant};
 
 impl Daemon {
     // Closes the service, claims the events of all pages, archives them, and writes the state. Returns how
     // many events there were. The fault is the first one, from the start of the daemon on.
-    pub(crate) fn close<R: Files<File = File> + Wait>(
+    pub(crate) fn close<R: Files<File = File> + Wait + Clock>(
         self,
         rt: &R,
         claims: &mut Claims,
@@ -25,7 +28,10 @@ impl Daemon {
             clients,
             controls,
             mover,
+            on_failure,
             open,
+            observed,
+            scrapers,
             ..
         } = self;
         let Source {
@@ -34,6 +40,9 @@ impl Daemon {
             changes,
             ..
         } = source;
+        if let (OnFailure::Read, Some(changes)) = (on_failure, &changes) {
+            let _ = changes.mend(rt);
+        }
         let ended = match service.close() {
             Ok(last) => {
                 let ended = end(
@@ -43,6 +52,7 @@ impl Daemon {
                     archive.as_ref(),
                     changes.as_ref(),
                     &last,
+                    &observed,
                 );
                 drop(last);
                 ended
@@ -60,18 +70,21 @@ impl Daemon {
         drop(clients);
         drop(controls);
         drop(open);
+        drop(observed);
+        drop(scrapers);
         ended
     }
 }
 
 // Claims the events of all pages, archives them, and writes the state. Returns how many events there were.
-fn end<R: Files<File = File> + Wait>(
+fn end<R: Files<File = File> + Wait + Clock>(
     rt: &R,
     claims: &mut Claims,
     pages: &Pages,
     archive: Option<&Archive>,
     changes: Option<&Changes>,
     last: &Page,
+    observed: &Observed,
 ) -> Result<u64, CloseFault> {
     claims.end(rt, pages, archive, last)?;
     // The first event has the number 0.
@@ -79,8 +92,12 @@ fn end<R: Files<File = File> + Wait>(
     let Some(changes) = changes else {
         return Ok(events);
     };
+    let begun = Instant::now(rt).ok();
     match changes.end(rt, last.result()) {
-        Ok(()) => Ok(events),
+        Ok(()) => {
+            observed.tell_state(rt, begun);
+            Ok(events)
+        }
         Err(error) => Err(CloseFault::State(error)),
     }
 }

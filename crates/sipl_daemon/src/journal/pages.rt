@@ -3,7 +3,8 @@
 ghost use Rattle.std.specs.Prelude.{IfOk};
 ghost use Rattle.sipl_daemon.specs.SessionDesk.{IsExtent, IsHandedOver};
 
-use sipl_book::Extent;
+use sipl_book::{Edit, Extent};
+use sipl_plans::Answer;
 use sipl_service::{Pass, Receipts, ServiceFault};
 use sipl_state::{Source, Turned};
 use std::alloc::Global;
@@ -12,6 +13,14 @@ use std::mem;
 use std::sync::atomic::{AtomicU64, Ordering};
 use std::sync::{Condvar, CondvarTimeouts, Mutex, Wait};
 use std::time::{Clock, Duration};
+
+// An estimate of the octets of memory that an event takes with its receipt until it is claimed, and with each target of
+// its answer, or each record of its zone.
+const EVENT_OCTETS: u64 = 280;
+
+const TARGET_OCTETS: u64 = 64;
+
+const RECORD_OCTETS: u64 = 100;
 
 // How often the thread that claims looks whether the daemon is to stop, in milliseconds.
 const LOOK: u64 = 100;
@@ -22,8 +31,12 @@ pub(crate) struct Pages {
     alloc: Global,
     // The greatest number of events of a page.
     journal: u64,
+    // How many octets its events may take.
+    max_octets: u64,
     // The number of the event at which the page is turned.
     due: AtomicU64,
+    // How many octets the events since the last page take, by their estimate.
+    octets: AtomicU64,
     // The pages that were turned and not claimed, in their order.
     turned: Mutex<VecDeque<Turned>>,
     // Wakes the thread that claims.
@@ -34,12 +47,14 @@ pub(crate) struct Pages {
 }
 
 impl Pages {
-    /// No page, of a service whose pages have so many events at most.
-    pub(crate) fn new(alloc: Global, journal: u64) -> Pages {
+    /// No page, of a service whose pages have so many events at most, which take so many octets.
+    pub(crate) fn new(alloc: Global, journal: u64, max_octets: u64) -> Pages {
         Pages {
             alloc,
             journal,
+            max_octets,
             due: AtomicU64::new(due_after(0, journal)),
+            octets: AtomicU64::new(0),
             turned: Mutex::new(VecDeque::new(alloc)),
             woken: Condvar::new(),
             handed: Mutex::new(VecDeque::new(alloc)),
@@ -57,16 +72,32 @@ impl Pages {
         self.turned.lock(rt).len()
     }
 
-    /// Turns the page, if the event of this number is in its last eighth.
-    pub(crate) fn turn_if_due<R: Wait>(&self, rt: &R, source: &Source, number: u64) {
-        if number < self.due.load(Ordering::SeqCst) {
+    /// Counts an event, which takes so many octets. Turns the page, if the event is in its last eighth, or its events
+    /// take too many octets, or the changes up to a place make the log of the state too long.
+    pub(crate) fn count_event<R: Wait>(
+        &self,
+        rt: &R,
+        source: &Source,
+        number: u64,
+        octets: u64,
+        place: u64,
+    ) {
+        let before = self.octets.fetch_add(octets, Ordering::SeqCst);
+        if !self.is_due(source, number, before.saturating_add(octets), place) {
             return;
         }
         let mut turned = self.turned.lock(rt);
         // Another thread may have turned it.
-        if number >= self.due.load(Ordering::SeqCst) {
+        if self.is_due(source, number, self.octets.load(Ordering::SeqCst), place) {
             let _ = self.push_page(rt, source, &mut turned);
         }
+    }
+
+    // Whether the page is to be turned.
+    fn is_due(&self, source: &Source, number: u64, octets: u64, place: u64) -> bool {
+        number >= self.due.load(Ordering::SeqCst)
+            || octets > self.max_octets
+            || source.is_log_long(place)
     }
 
     /// Turns the page.
@@ -91,6 +122,7 @@ impl Pages {
         let extent = next.page.extent();
         let due = due_after(next.page.next(), self.journal);
         self.due.store(due, Ordering::SeqCst);
+        self.octets.store(0, Ordering::SeqCst);
         let _ = turned.push_back(next);
         self.woken.notify_all();
         Ok(extent)
@@ -136,6 +168,29 @@ impl Pages {
     pub(crate) fn count_claimed(&self) {
         self.claimed.fetch_add(1, Ordering::SeqCst);
     }
+}
+
+/// An estimate of how many octets the event of a lookup takes.
+pub(crate) fn answer_octets(answer: &Answer) -> u64 {
+    let targets = match answer {
+        Answer::Targets(targets) => targets.len() as u64,
+        Answer::None(_) => 0,
+    };
+    EVENT_OCTETS.saturating_add(targets.saturating_mul(TARGET_OCTETS))
+}
+
+/// An estimate of how many octets the event of an edit takes.
+pub(crate) fn edit_octets(edit: &Edit) -> u64 {
+    let records = match edit {
+        Edit::Load(zone) => zone.records().len() as u64,
+        _ => 0,
+    };
+    EVENT_OCTETS.saturating_add(records.saturating_mul(RECORD_OCTETS))
+}
+
+/// How many octets the event of a hold, or of a move of the clock, takes.
+pub(crate) fn board_octets() -> u64 {
+    EVENT_OCTETS
 }
 
 // The number of the event at which a page that begins so is turned: an eighth of it is left then.

@@ -9,6 +9,7 @@ use sipl_records::next_field;
 use std::alloc::{AllocError, Global};
 use std::io;
 use std::io::{ErrorKind, Read};
+use std::time::Clock;
 
 // How many octets are kept of a line. A longer one is no command.
 const MAX_KEPT: usize = MAX_LINE_LEN + 2;
@@ -25,8 +26,8 @@ const REFUSED: &[u8] = b"repair\n";
 /// What a client sends that may only ask. In place of each line that is refused, and the lines that it takes, the
 /// session has one that its desk refuses: so it keeps no zone, and makes no hold but those of its calls.
 #[derive(Drop)]
-pub(crate) struct Asking<'a> {
-    input: Input<'a>,
+pub(crate) struct Asking<'a, R> {
+    input: Input<'a, R>,
     chunk: Vec<u8>,
     filter: Filter,
 }
@@ -43,9 +44,9 @@ struct Filter {
     begin: usize,
 }
 
-impl<'a> Asking<'a> {
+impl<'a, R: Clock> Asking<'a, R> {
     /// At the start of a session with this input.
-    pub(crate) fn new(alloc: Global, input: Input<'a>) -> Result<Self, AllocError> {
+    pub(crate) fn new(alloc: Global, input: Input<'a, R>) -> Result<Self, AllocError> {
         let chunk = vec![in alloc; 0; CHUNK]?;
         Ok(Asking {
             input,
@@ -138,7 +139,7 @@ fn is_refused(line: &[u8]) -> bool {
     }
 }
 
-impl Read for Asking<'_> {
+impl<R: Clock> Read for Asking<'_, R> {
     fn read(&mut self, buf: &mut [u8]) -> io::Result<usize> {
         for _ in 0..MAX_READS {
             if !self.filter.is_empty() {

@@ -1,9 +1,10 @@
 //! The desk of a daemon's session.
 ghost use Rattle.std.specs.Prelude.{◌≡◌, [], true, false, IfErr, IfOk, OnOk};
-ghost use Rattle.sipl_daemon.specs.declared.fault.DeskFault.TheVariants.{AsksOnly};
+ghost use Rattle.sipl_daemon.specs.declared.fault.DeskFault.TheVariants.{AsksOnly, NotKept};
 
 use crate::daemon::Daemon;
 use crate::fault::DeskFault;
+use crate::journal::pages::{answer_octets, board_octets, edit_octets};
 use sipl_book::{Done, Edit, Extent, Handed};
 use sipl_choice::Endpoint;
 use sipl_evidence::Evidence;
@@ -14,7 +15,7 @@ use sipl_uri::Question;
 use std::alloc::Global;
 use std::marker::Model;
 use std::sync::Wait;
-use std::sync::atomic::AtomicU64;
+use std::sync::atomic::{AtomicU64, Ordering};
 use std::time::Clock;
 
 /// The daemon's service, as the desk of one session with a pass of its own.
@@ -92,6 +93,22 @@ impl<'a, R: Wait + Clock> SessionDesk<'a, R> {
         }
     }
 
+    // Where the last change of the session ends in the file of changes.
+    fn changed(&self) -> u64 {
+        self.place.load(Ordering::SeqCst)
+    }
+
+    // Checks that a change can be written to the files of the state, if there are any.
+    fn check_kept(&self) -> Result<(), DeskFault>
+        ensures { IfErr result (λ fault. fault ≡ NotKept) }
+    {
+        if self.daemon.source.has_failed() {
+            Err(DeskFault::NotKept)
+        } else {
+            Ok(())
+        }
+    }
+
     // Moves the book's time to that of the host, if it is the host's.
     fn set_clock(&self) {
         if !self.is_restoring {
@@ -124,7 +141,8 @@ impl<'a, R: Wait + Clock> Desk for SessionDesk<'a, R> {
         let (rt, daemon) = (self.rt, self.daemon);
         match daemon.lookup(rt, &mut self.pass, &question, draws) {
             Ok(told) => {
-                daemon.count_event(rt, told.number());
+                let octets = answer_octets(told.answer());
+                daemon.count_event(rt, told.number(), octets, self.changed());
                 daemon.counts.count_answer(told.answer());
                 Ok(Handed {
                     number: told.number(),
@@ -140,10 +158,15 @@ impl<'a, R: Wait + Clock> Desk for SessionDesk<'a, R> {
             drop(edit);
             return Err(fault);
         }
+        if let Err(fault) = self.check_kept() {
+            drop(edit);
+            return Err(fault);
+        }
         let (rt, daemon) = (self.rt, self.daemon);
-        match daemon.source.edit(rt, &mut self.pass, edit, self.place) {
+        let octets = edit_octets(&edit);
+        match daemon.edit(rt, &mut self.pass, edit, self.place) {
             Ok(done) => {
-                daemon.count_event(rt, done.number);
+                daemon.count_event(rt, done.number, octets, self.changed());
                 Ok(done)
             }
             Err(fault) => Err(DeskFault::Service(fault)),
@@ -151,6 +174,7 @@ impl<'a, R: Wait + Clock> Desk for SessionDesk<'a, R> {
     }
 
     fn hold(&mut self, endpoint: &Endpoint, ms: u64) -> Result<u64, DeskFault> {
+        self.check_kept()?;
         let (rt, daemon) = (self.rt, self.daemon);
         self.set_clock();
         match daemon
@@ -158,7 +182,7 @@ impl<'a, R: Wait + Clock> Desk for SessionDesk<'a, R> {
             .hold(rt, &mut self.pass, endpoint, ms, self.place)
         {
             Ok(number) => {
-                daemon.count_event(rt, number);
+                daemon.count_event(rt, number, board_octets(), self.changed());
                 Ok(number)
             }
             Err(fault) => Err(DeskFault::Service(fault)),
@@ -167,6 +191,7 @@ impl<'a, R: Wait + Clock> Desk for SessionDesk<'a, R> {
 
     fn release(&mut self, endpoint: &Endpoint) -> Result<u64, DeskFault> {
         self.check_rights()?;
+        self.check_kept()?;
         let (rt, daemon) = (self.rt, self.daemon);
         self.set_clock();
         match daemon
@@ -174,7 +199,7 @@ impl<'a, R: Wait + Clock> Desk for SessionDesk<'a, R> {
             .release(rt, &mut self.pass, endpoint, self.place)
         {
             Ok(number) => {
-                daemon.count_event(rt, number);
+                daemon.count_event(rt, number, board_octets(), self.changed());
                 Ok(number)
             }
             Err(fault) => Err(DeskFault::Service(fault)),
@@ -187,9 +212,10 @@ impl<'a, R: Wait + Clock> Desk for SessionDesk<'a, R> {
         if daemon.has_host_time() && !self.is_restoring {
             return Err(DeskFault::HostTime);
         }
+        self.check_kept()?;
         match daemon.source.advance(rt, &mut self.pass, to, self.place) {
             Ok(number) => {
-                daemon.count_event(rt, number);
+                daemon.count_event(rt, number, board_octets(), self.changed());
                 Ok(number)
             }
             Err(fault) => Err(DeskFault::Service(fault)),
@@ -231,6 +257,7 @@ impl<'a, R: Wait + Clock> Desk for SessionDesk<'a, R> {
     fn write_fault(fault: DeskFault, out: &mut Vec<u8>) {
         match fault {
             DeskFault::HostTime => out.extend_from_slice(b"err D1\n").unwrap(),
+            DeskFault::NotKept => out.extend_from_slice(b"err D2\n").unwrap(),
             DeskFault::AsksOnly => out.extend_from_slice(b"err D3\n").unwrap(),
             DeskFault::Service(fault) => ServiceDesk::<'a, R>::write_fault(fault, out),
         }

@@ -2,13 +2,16 @@
 ghost use Rattle.std.specs.Io.{ReadsAtMost};
 ghost use Rattle.std.specs.Prelude.{◌≤◌, length};
 
+use crate::daemon::Daemon;
 use crate::http::{MAX_METHOD_LEN, begins_request};
+use crate::observed::Cause;
+use crate::session::course::Course;
 use crate::session::meter::ZoneMeter;
 use sipl_lines::MAX_LINE_LEN;
-use sipl_listen::{Stop, Stream};
-use std::alloc::Global;
+use sipl_listen::Stream;
 use std::io;
 use std::io::{ErrorKind, Read};
+use std::time::Clock;
 
 // How many octets make a line too long, whatever it has before them.
 const TOO_LONG: usize = MAX_LINE_LEN + 1;
@@ -17,10 +20,11 @@ const TOO_LONG: usize = MAX_LINE_LEN + 1;
 /// lines of a zone: so a line whose end has not come is not carried out, and no part of a zone is loaded. Where the lines of a zone have too many octets, one of them is made too long, and
 /// the session refuses the zone for it and keeps no lines.
 #[derive(Drop)]
-pub(crate) struct Input<'a> {
-    alloc: Global,
+pub(crate) struct Input<'a, R> {
+    rt: &'a R,
+    daemon: &'a Daemon,
     stream: &'a Stream,
-    stop: &'a Stop,
+    course: &'a Course,
     meter: ZoneMeter,
     // The first octets that were read.
     first: Vec<u8>,
@@ -31,14 +35,21 @@ pub(crate) struct Input<'a> {
     begin: usize,
 }
 
-impl<'a> Input<'a> {
-    /// The reader of a session, whose zones may have so many octets.
-    pub(crate) fn new(alloc: Global, stream: &'a Stream, stop: &'a Stop, max_zone: u64) -> Self {
+impl<'a, R: Clock> Input<'a, R> {
+    /// The reader of a session.
+    pub(crate) fn new(
+        rt: &'a R,
+        daemon: &'a Daemon,
+        stream: &'a Stream,
+        course: &'a Course,
+    ) -> Self {
+        let alloc = daemon.alloc;
         Input {
-            alloc,
+            rt,
+            daemon,
             stream,
-            stop,
-            meter: ZoneMeter::new(alloc, max_zone),
+            course,
+            meter: ZoneMeter::new(alloc, daemon.zone_octets),
             first: Vec::new(alloc),
             filling: 0,
             tail: Vec::new(alloc),
@@ -47,7 +58,7 @@ impl<'a> Input<'a> {
     }
 
     fn check(&self) -> io::Result<()> {
-        if self.stop.is_asked() {
+        if self.daemon.stop.is_asked() {
             return Err(io::Error::from(ErrorKind::ConnectionAborted));
         }
         Ok(())
@@ -59,8 +70,16 @@ impl<'a> Input<'a> {
     {
         // A client that came while the others were ended is ended here.
         self.check()?;
+        self.course.end_batch(self.daemon);
         let mut stream = self.stream;
-        let count = stream.read(buf)?;
+        let count = match stream.read(buf) {
+            Ok(count) => count,
+            Err(error) => {
+                self.course.end_if_late(Cause::Idle, &error);
+                return Err(error);
+            }
+        };
+        self.course.begin_batch(self.rt, self.daemon);
         self.check()?;
         if count == 0 && self.meter.is_within() {
             return Err(io::Error::from(ErrorKind::UnexpectedEof));
@@ -78,6 +97,7 @@ impl<'a> Input<'a> {
         let piece = octets.get(..space.min(octets.len())).unwrap_or(&[]);
         self.first.extend_from_slice(piece)?;
         if begins_request(&self.first) {
+            self.course.end(Cause::Http);
             return Err(io::Error::from(ErrorKind::InvalidData));
         }
         Ok(())
@@ -110,7 +130,7 @@ impl<'a> Input<'a> {
 
     // Keeps what was read for later, before the rest of the tail.
     fn keep(&mut self, octets: &[u8]) -> io::Result<()> {
-        let mut tail = Vec::from_slice(self.alloc, octets)?;
+        let mut tail = Vec::from_slice(self.daemon.alloc, octets)?;
         let rest = self.tail.as_slice().get(self.begin..).unwrap_or(&[]);
         tail.extend_from_slice(rest)?;
         self.tail = tail;
@@ -119,7 +139,7 @@ impl<'a> Input<'a> {
     }
 }
 
-impl Read for Input<'_> {
+impl<R: Clock> Read for Input<'_, R> {
     fn read(&mut self, buf: &mut [u8]) -> io::Result<usize> {
         if self.filling > 0 {
             return Ok(self.fill(buf));

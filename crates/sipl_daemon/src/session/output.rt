@@ -2,11 +2,14 @@
 ghost use Rattle.std.specs.Io.{WritesAtMost};
 
 use crate::daemon::Daemon;
+use crate::observed::Cause;
+use crate::session::course::Course;
+use crate::settings::OnFailure;
 use sipl_listen::Stream;
 use std::io;
 use std::io::{ErrorKind, Write};
 use std::sync::Wait;
-use std::sync::atomic::{AtomicU64, Ordering};
+use std::sync::atomic::Ordering;
 use std::time::{Clock, Duration, Instant};
 
 // For how many milliseconds a client may take no reply, and then not all replies to one read.
@@ -21,35 +24,39 @@ pub(crate) struct Output<'a, R> {
     rt: &'a R,
     daemon: &'a Daemon,
     stream: &'a Stream,
-    place: &'a AtomicU64,
+    course: &'a Course,
     // Since when the client is given the replies to one read, of which it has not taken all.
     since: Option<Instant>,
 }
 
 impl<'a, R: Wait + Clock> Output<'a, R> {
-    /// The writer of a session, whose last change ends at this place in the file of changes.
+    /// The writer of a session.
     pub(crate) fn new(
         rt: &'a R,
         daemon: &'a Daemon,
         stream: &'a Stream,
-        place: &'a AtomicU64,
+        course: &'a Course,
     ) -> Self {
         Output {
             rt,
             daemon,
             stream,
-            place,
+            course,
             since: None,
         }
     }
 
-    // Waits until the session's changes are in their file.
+    // Waits until the session's changes are in their file. Where they can't be, the session ends without its reply.
     fn sync(&self) -> io::Result<()> {
         let Some(changes) = &self.daemon.source.changes else {
             return Ok(());
         };
-        let synced = changes.sync(self.rt, self.place.load(Ordering::SeqCst));
-        if synced.is_err() {
+        let synced = changes.sync(self.rt, self.course.place.load(Ordering::SeqCst));
+        if let Err(error) = &synced {
+            self.daemon.observed.tell_unsynced(self.rt, error);
+            if self.daemon.on_failure == OnFailure::End {
+                self.daemon.stop.ask(self.rt);
+            }
             self.daemon.stop.ask(self.rt);
         }
         synced
@@ -60,7 +67,13 @@ impl<'a, R: Wait + Clock> Output<'a, R> {
         ensures { WritesAtMost result buf.now }
     {
         let mut stream = self.stream;
-        stream.write(&buf[..buf.len().min(PIECE)])
+        match stream.write(&buf[..buf.len().min(PIECE)]) {
+            Ok(count) => Ok(count),
+            Err(error) => {
+                self.course.end_if_late(Cause::Slow, &error);
+                Err(error)
+            }
+        }
     }
 
     // Gives a client up that takes the replies to one read too slowly: its receipts wait for it, and all
@@ -68,6 +81,7 @@ impl<'a, R: Wait + Clock> Output<'a, R> {
     fn give_up_if_late(&self, since: Instant) -> io::Result<()> {
         match since.elapsed(self.rt) {
             Ok(passed) if passed >= Duration::from_millis(WRITE) => {
+                self.course.end(Cause::Slow);
                 Err(io::Error::from(ErrorKind::TimedOut))
             }
             _ => Ok(()),
@@ -90,8 +104,9 @@ impl<R: Wait + Clock> Write for Output<'_, R> {
         };
         let count = self.write_piece(buf)?;
         self.since = if count < buf.len() { since } else { None };
-        if let Some(since) = self.since {
-            self.give_up_if_late(since)?;
+        match self.since {
+            Some(since) => self.give_up_if_late(since)?,
+            None => self.course.write_batch(self.rt),
         }
         Ok(count)
     }

@@ -1,0 +1,204 @@
+//! What is told of the daemon while it runs: its log, and what is counted for its metrics.
+mod edits;
+mod states;
+
+use crate::settings::DaemonSettings;
+use sipl_config::{VERSION, changed_settings};
+use sipl_listen::Address;
+use sipl_log::{Level, Line, Log};
+use sipl_metrics::Histogram;
+use std::alloc::{AllocError, Global};
+use std::sync::atomic::{AtomicBool, AtomicU64, Ordering};
+use std::sync::{Arc, Wait};
+use std::time::Clock;
+
+/// Why a client has no session, or not any more.
+#[derive(Clone, Copy, Debug, PartialEq, Eq)]
+pub(crate) enum Cause {
+    /// As many clients are connected as there may be.
+    Busy,
+    /// There is no thread for it.
+    Threads,
+    /// It has sent nothing for too long.
+    Idle,
+    /// It takes its replies too slowly.
+    Slow,
+    /// What it sends begins as a request of HTTP does.
+    Http,
+}
+
+impl Cause {
+    pub(crate) fn name(self) -> &'static str {
+        match self {
+            Cause::Busy => "busy",
+            Cause::Threads => "threads",
+            Cause::Idle => "idle",
+            Cause::Slow => "slow",
+            Cause::Http => "http",
+        }
+    }
+}
+
+/// How many clients there were, and how many had no session, or not any more, for which cause.
+#[derive(Drop)]
+pub(crate) struct ClientCounts {
+    pub(crate) accepted: AtomicU64,
+    busy: AtomicU64,
+    threads: AtomicU64,
+    idle: AtomicU64,
+    slow: AtomicU64,
+    http: AtomicU64,
+}
+
+impl ClientCounts {
+    fn new() -> ClientCounts {
+        ClientCounts {
+            accepted: AtomicU64::new(0),
+            busy: AtomicU64::new(0),
+            threads: AtomicU64::new(0),
+            idle: AtomicU64::new(0),
+            slow: AtomicU64::new(0),
+            http: AtomicU64::new(0),
+        }
+    }
+
+    /// The count of a cause.
+    pub(crate) fn of(&self, cause: Cause) -> &AtomicU64 {
+        match cause {
+            Cause::Busy => &self.busy,
+            Cause::Threads => &self.threads,
+            Cause::Idle => &self.idle,
+            Cause::Slow => &self.slow,
+            Cause::Http => &self.http,
+        }
+    }
+}
+
+/// What is told of the daemon while it runs.
+#[derive(Drop)]
+pub(crate) struct Observed {
+    alloc: Global,
+    pub(crate) log: Arc<Log, Global>,
+    pub(crate) clients: ClientCounts,
+    // From the read of a batch to its replies written, where there are metrics.
+    pub(crate) batches: Option<Histogram>,
+    // Whether the state was read: edits before are not told one by one.
+    is_open: AtomicBool,
+    // How many pages waited when that was told last.
+    waiting: AtomicU64,
+    // The path of the state, if there is one.
+    state: Option<String>,
+}
+
+impl Observed {
+    /// Nothing was told yet.
+    pub(crate) fn new(
+        alloc: Global,
+        settings: &DaemonSettings,
+        log: Arc<Log, Global>,
+    ) -> Result<Observed, AllocError> {
+        let batches = match &settings.metrics {
+            Some(_) => Some(Histogram::new(alloc)?),
+            None => None,
+        };
+        let state = match &settings.state {
+            Some(path) => Some(String::from_str(alloc, path.as_str())?),
+            None => None,
+        };
+        Ok(Observed {
+            alloc,
+            log,
+            clients: ClientCounts::new(),
+            batches,
+            is_open: AtomicBool::new(false),
+            waiting: AtomicU64::new(0),
+            state,
+        })
+    }
+
+    // The beginning of a line of an event.
+    fn line(&self, level: Level, event: &str) -> Line {
+        Line::new(self.alloc, level, event)
+    }
+
+    /// Counts a client that has a session.
+    pub(crate) fn count_accepted(&self) {
+        self.clients.accepted.fetch_add(1, Ordering::SeqCst);
+    }
+
+    /// Tells of a client that is refused at an address.
+    pub(crate) fn refuse<R: Wait + Clock>(&self, rt: &R, cause: Cause, at: &Address) {
+        self.clients.of(cause).fetch_add(1, Ordering::SeqCst);
+        let line = self
+            .line(Level::Warn, "refused")
+            .text("cause", cause.name());
+        self.log.push(rt, self.with_address(line, at));
+    }
+
+    /// Tells of a client whose session has ended, and why, where that is the daemon's doing.
+    pub(crate) fn close<R: Wait + Clock>(&self, rt: &R, cause: Option<Cause>) {
+        match cause {
+            Some(cause) => {
+                self.clients.of(cause).fetch_add(1, Ordering::SeqCst);
+                let line = self.line(Level::Info, "closed").text("cause", cause.name());
+                self.log.push(rt, line);
+            }
+            None if self.log.allows(Level::Debug) => {
+                let line = self.line(Level::Debug, "closed").text("cause", "end");
+                self.log.push(rt, line);
+            }
+            None => {}
+        }
+    }
+
+    /// Tells where it listens, for whom.
+    pub(crate) fn tell_ready<R: Wait + Clock>(&self, rt: &R, whom: &str, at: &Address) {
+        let line = self.line(Level::Info, "ready").text("for", whom);
+        self.log.push(rt, self.with_address(line, at));
+    }
+
+    /// Tells an event.
+    pub(crate) fn tell<R: Wait + Clock>(&self, rt: &R, level: Level, event: &str) {
+        self.log.push(rt, self.line(level, event));
+    }
+
+    // The line with an address more.
+    fn with_address(&self, line: Line, at: &Address) -> Line {
+        match format!(in self.alloc; "{at}") {
+            Ok(text) => line.text("at", text.as_str()),
+            Err(_) => line,
+        }
+    }
+
+    /// Tells how many pages were claimed and wait, where twice as many wait as when that was told last.
+    pub(crate) fn see_pages<R: Wait + Clock>(&self, rt: &R, claimed: u64, waiting: u64) {
+        if waiting == 0 {
+            self.waiting.store(0, Ordering::SeqCst);
+        }
+        let told = self.waiting.load(Ordering::SeqCst);
+        if waiting < told.saturating_mul(2).max(4) {
+            return;
+        }
+        self.waiting.store(waiting, Ordering::SeqCst);
+        let line = self
+            .line(Level::Info, "pages")
+            .number("claimed", claimed)
+            .number("waiting", waiting);
+        self.log.push(rt, line);
+    }
+}
+
+/// Tells that a daemon starts with the settings of a text.
+pub(crate) fn tell_start<R: Wait + Clock>(
+    rt: &R,
+    alloc: Global,
+    log: &Log,
+    settings: &str,
+) -> Result<(), AllocError> {
+    let mut line = Line::new(alloc, Level::Info, "start").text("version", VERSION);
+    for (key, value) in changed_settings(alloc, settings)? {
+        line = line.text(key.as_str(), value.as_str());
+    }
+    log.push(rt, line);
+    Ok(())
+}

@@ -1,0 +1,50 @@
+//! What is told of states, and of writes that fail.
+use super::Observed;
+use super::edits::with_time;
+use crate::report::write_torn;
+use sipl_log::Level;
+use std::alloc::AllocError;
+use std::rt::Files;
+use std::sync::Wait;
+use std::time::{Clock, Instant};
+use std::{fs, io};
+
+impl Observed {
+    /// Tells that a state was written which was begun at a time: how long it took, and how long it is.
+    pub(crate) fn tell_state<R: Files + Wait + Clock>(&self, rt: &R, begun: Option<Instant>) {
+        let Some(path) = &self.state else {
+            return;
+        };
+        let line = self
+            .line(Level::Info, "written")
+            .text("path", path.as_str());
+        let line = match fs::metadata(rt, path.as_str()) {
+            Ok(found) => line.number("octets", found.len()),
+            Err(_) => line,
+        };
+        self.log.push(rt, with_time(rt, line, begun));
+    }
+
+    /// Says that a log had a write that did not end, at this octet.
+    pub(crate) fn tell_torn<R: Wait>(
+        &self,
+        rt: &R,
+        path: &str,
+        octet: usize,
+    ) -> Result<(), AllocError> {
+        let mut text = String::new(self.alloc);
+        write_torn(&mut text, path, octet)?;
+        self.log.push_message(rt, Level::Warn, text.as_str());
+        Ok(())
+    }
+
+    /// Tells that changes could not be written.
+    pub(crate) fn tell_unsynced<R: Wait + Clock>(&self, rt: &R, error: &io::Error) {
+        let line = self.line(Level::Error, "failed").text("what", "changes");
+        let line = match format!(in self.alloc; "{error}") {
+            Ok(text) => line.text("cause", text.as_str()),
+            Err(_) => line,
+        };
+        self.log.push(rt, line);
+    }
+}

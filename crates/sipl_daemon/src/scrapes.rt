@@ -1,0 +1,172 @@
+//! Those who read the metrics, over HTTP: one request a connection, and ten seconds for it.
+use crate::daemon::Daemon;
+use crate::host::Host;
+use crate::samples::exposition;
+use sipl_listen::{Client, Listener, Stream, next_stream};
+use sipl_metrics::{Asked, read_request, write_reply};
+use std::alloc::{AllocError, Global};
+use std::io::{ErrorKind, Read, Write};
+use std::net::Shutdown;
+use std::sync::Arc;
+use std::time::{Clock, Duration, Instant};
+use std::{io, thread};
+
+// How long a connection may last, in milliseconds.
+const PATIENCE: u64 = 10_000;
+
+// How many octets are read at a time.
+const CHUNK: usize = 1_024;
+
+// How many reads a head may take, and how many writes a reply.
+const MAX_TURNS: u32 = 1 << 14;
+
+// The type of a text for people, and that of metrics.
+const PLAIN: &str = "text/plain; charset=utf-8";
+
+const EXPOSITION: &str = "text/plain; version=0.0.4; charset=utf-8";
+
+/// Accepts who reads the metrics, until the sessions have ended, and serves each in a thread: one for whom there is no
+/// place is closed. Returns when they have ended.
+pub(crate) fn accept_scrapers<H: Host>(host: &H, daemon: &Daemon, listener: &Listener) {
+    thread::scope(thread::scope_env(), host, |scope| {
+        for _ in host.forever() {
+            if daemon.scrapes_end.is_asked() {
+                break;
+            }
+            let Some(client) = accept_scraper(host, daemon, listener) else {
+                continue;
+            };
+            let place = client.place;
+            if scope
+                .spawn(move || serve_scraper(host, daemon, client))
+                .is_err()
+            {
+                daemon.scrapers.leave(host, place);
+            }
+        }
+    })
+}
+
+/// Ends all of this.
+pub(crate) fn end_scrapes<H: Host>(host: &H, daemon: &Daemon, listener: &Listener) {
+    daemon.scrapes_end.ask(host);
+    listener.close();
+    daemon.scrapers.end(host, Duration::from_millis(0));
+}
+
+fn accept_scraper<H: Host>(host: &H, daemon: &Daemon, listener: &Listener) -> Option<Client> {
+    let stream = next_stream(host, &daemon.scrapes_end, listener)?;
+    let stream = Arc::new(daemon.alloc, stream).ok()?;
+    daemon.scrapers.enter(host, &stream)
+}
+
+// Serves a connection, and frees its place.
+fn serve_scraper<H: Host>(host: &H, daemon: &Daemon, client: Client) {
+    let Client { stream, place } = client;
+    if let Ok(begun) = Instant::now(host) {
+        let _ = reply_to(host, daemon, &stream, begun);
+    }
+    drop(stream);
+    daemon.scrapers.leave(host, place);
+}
+
+// Replies to the request of a connection that has begun at a time.
+fn reply_to<H: Host>(host: &H, daemon: &Daemon, stream: &Stream, begun: Instant) -> io::Result<()> {
+    let asked = read_head(host, daemon.alloc, stream, begun)?;
+    let reply = reply_text(host, daemon, asked)?;
+    write_all(host, stream, begun, reply.as_bytes())?;
+    match asked {
+        Asked::Metrics | Asked::Health => Ok(()),
+        _ => read_rest(host, stream, begun),
+    }
+}
+
+// Reads what is left of a request that was refused. Without that the system may end the connection before the reply was
+// read.
+fn read_rest<H: Host>(host: &H, stream: &Stream, begun: Instant) -> io::Result<()> {
+    stream.shutdown(Shutdown::Write)?;
+    let mut chunk = [0; CHUNK];
+    for _ in 0..MAX_TURNS {
+        read_some(host, stream, begun, &mut chunk)?;
+    }
+    Ok(())
+}
+
+// Reads a request's head, and what it asks for. An end before that of the head is an error.
+fn read_head<H: Host>(
+    host: &H,
+    alloc: Global,
+    stream: &Stream,
+    begun: Instant,
+) -> io::Result<Asked> {
+    let mut head = Vec::new(alloc);
+    let mut chunk = [0; CHUNK];
+    for _ in 0..MAX_TURNS {
+        let count = read_some(host, stream, begun, &mut chunk)?;
+        head.extend_from_slice(chunk.get(..count).unwrap_or(&[]))?;
+        if let Some(asked) = read_request(&head) {
+            return Ok(asked);
+        }
+    }
+    Err(io::Error::from(ErrorKind::TimedOut))
+}
+
+// Reads at least one octet.
+fn read_some<H: Host>(
+    host: &H,
+    stream: &Stream,
+    begun: Instant,
+    chunk: &mut [u8],
+) -> io::Result<usize> {
+    set_rest(host, stream, begun)?;
+    let mut reader = stream;
+    match reader.read(chunk)? {
+        0 => Err(io::Error::from(ErrorKind::UnexpectedEof)),
+        count => Ok(count),
+    }
+}
+
+// Writes a reply.
+fn write_all<H: Host>(host: &H, stream: &Stream, begun: Instant, octets: &[u8]) -> io::Result<()> {
+    let mut written = 0usize;
+    for _ in 0..MAX_TURNS {
+        let rest = octets.get(written..).unwrap_or(&[]);
+        if rest.is_empty() {
+            return Ok(());
+        }
+        set_rest(host, stream, begun)?;
+        let mut writer = stream;
+        written = written.saturating_add(writer.write(rest)?);
+    }
+    Err(io::Error::from(ErrorKind::TimedOut))
+}
+
+// Lets the next read or write wait for what is left of the time.
+fn set_rest<R: Clock>(rt: &R, stream: &Stream, begun: Instant) -> io::Result<()> {
+    let left = Duration::from_millis(PATIENCE).saturating_sub(begun.elapsed(rt)?);
+    if left.is_zero() {
+        return Err(io::Error::from(ErrorKind::TimedOut));
+    }
+    stream.set_timeouts(Some(left), Some(left))
+}
+
+// The reply to a request.
+fn reply_text<H: Host>(host: &H, daemon: &Daemon, asked: Asked) -> Result<String, AllocError> {
+    let mut reply = String::new(daemon.alloc);
+    match asked {
+        Asked::Metrics => {
+            let metrics = exposition(host, daemon)?;
+            write_reply(&mut reply, "200 OK", EXPOSITION, metrics.as_str())?;
+        }
+        Asked::Health if daemon.stop.is_asked() => {
+            write_reply(&mut reply, "503 Service Unavailable", PLAIN, "stopping\n")?;
+        }
+        Asked::Health => write_reply(&mut reply, "200 OK", PLAIN, "ok\n")?,
+        Asked::Missing => write_reply(&mut reply, "404 Not Found", PLAIN, "not found\n")?,
+        Asked::WrongMethod => {
+            write_reply(&mut reply, "405 Method Not Allowed", PLAIN, "only GET\n")?;
+        }
+        Asked::Bad => write_reply(&mut reply, "400 Bad Request", PLAIN, "bad request\n")?,
+    }
+    Ok(reply)
+}

@@ -1,0 +1,168 @@
+"""Changes that can't be written: what a daemon does then that goes on, and how much a log and a page may have."""
+
+from __future__ import annotations
+
+import errno
+import pathlib
+import subprocess
+import time
+
+from commits import log_of, state_of
+from daemon_tests.support import PROGRAM, Checks, Client, Daemon, started, stopped, test, until
+from daemon_tests.syncs import Syncs
+
+REFUSED = ["err D2"]
+TOLD = "siplocd: state: {}: changes are refused\nsiplocd: state: written again, changes are accepted\n"
+# (more than a megabyte, so that a state is written)
+LONG = "x" * 255
+LONG_ZONE = "zone example.com. 1401\na A 192.0.2.1" + "".join(f'\nn{n} NAPTR 1 1 "{LONG}" "{LONG}" "{LONG}" .' for n in range(1_400))
+
+
+def target(number: int) -> list[str]:
+    return [f"target 1 udp 192.0.2.{number} 1", "ok find 1"]
+
+
+def accepts(client: Client, line: str) -> bool:
+    """Whether a change is accepted within some time, and refused until then."""
+    return bool(until(lambda: client.ask(line) != REFUSED))
+
+
+@test
+def answers_while_no_change_can_be_written(checks: Checks, folder: pathlib.Path) -> None:
+    for name, error, text in ("sync", errno.ENOSPC, "no storage space"), ("write", errno.ENOSPC, "no storage space"), \
+            ("write", errno.EIO, "uncategorized error"):
+        inner = folder / f"{name}-{error}"
+        inner.mkdir()
+        syncs, settings = Syncs(inner), f'state = "{inner}/state"\non_failure = "read"'
+        with started(checks, inner, settings, environment=syncs.environment) as daemon, \
+                Client(daemon.address) as client, Client(daemon.address) as other:
+            checks.equal(client.ask("zone example.com. 1\na A 192.0.2.1"), ["ok zone 1 0 0 1"], "zone")
+            syncs.fail(name, error)
+            checks.equal(client.ask("add b.example.com. A 192.0.2.2"), None, f"{name}: reply to a change that failed")
+            for line in "add c.example.com. A 192.0.2.3", "drop example.com.", "zone example.net. 1\na A 192.0.2.4", \
+                    "hold udp 192.0.2.1 1 60000", "release udp 192.0.2.1 1":
+                checks.equal(other.ask(line), REFUSED, f"{name}: {line}")
+            checks.equal(other.ask("find sip:a.example.com:1"), target(1), f"{name}: a question meanwhile")
+            checks.expect(until(lambda: text in daemon.said()), f"{name}: {daemon.said()!r}")
+            syncs.fail(name, 0)
+            checks.expect(accepts(other, "add c.example.com. A 192.0.2.3"), f"{name}: refused for ever")
+            checks.expect(until(lambda: daemon.said() == TOLD.format(text)), f"{name}: {daemon.said()!r}")
+            daemon.kill()
+        with started(checks, inner, settings) as daemon, Client(daemon.address) as client:
+            # (that of b was not replied to, and was made)
+            for host, number in ("a", 1), ("b", 2), ("c", 3):
+                checks.equal(client.ask(f"find sip:{host}.example.com:1"), target(number), f"{host} after a failed {name}")
+            checks.equal(client.ask("find sip:a.example.net:1"), ["none NoAddress"], "a zone that was refused")
+            stopped(checks, daemon)
+
+
+@test
+def goes_on_after_a_trim_that_failed(checks: Checks, folder: pathlib.Path) -> None:
+    for place, error in (1, errno.EIO), (2, errno.EIO), (3, errno.EIO), (0, errno.EMFILE):
+        inner = folder / f"{place}"
+        inner.mkdir()
+        syncs, settings = Syncs(inner), f'state = "{inner}/state"\non_failure = "read"'
+        with started(checks, inner, settings, environment=syncs.environment) as daemon, Client(daemon.address) as client:
+            if place:
+                syncs.watch_folder(place, error)
+                syncs.go_on()
+            else:
+                syncs.fail("open", error)
+            checks.equal(client.ask(LONG_ZONE), ["ok zone 1401 0 0 1401"], "zone")
+            checks.expect(until(lambda: "refused" in daemon.said()) or place == 3, f"{place}: {daemon.said()!r}")
+            syncs.fail("open", 0)
+            checks.expect(accepts(client, "add b.example.com. A 192.0.2.2"), f"{place}: refused for ever")
+            daemon.kill()
+        with started(checks, inner, settings) as daemon, Client(daemon.address) as client:
+            for host, number in ("a", 1), ("b", 2):
+                checks.equal(client.ask(f"find sip:{host}.example.com:1"), target(number), f"{host} after step {place}")
+            stopped(checks, daemon)
+
+
+@test
+def a_log_is_as_long_as_its_state(checks: Checks, folder: pathlib.Path) -> None:
+    log = folder / "state.log"
+    with started(checks, folder, f'state = "{folder}/state"') as daemon, Client(daemon.address) as client:
+        for _ in range(6):
+            checks.expect((client.ask(LONG_ZONE) or [""])[-1].startswith("ok zone 1401 "), "a zone")
+        # (the log has what came after the last state, of which there may be one more while it is written)
+        checks.expect(until(lambda: daemon.stats()["waiting"] == 0), daemon.stats())
+        checks.expect(until(lambda: log.stat().st_size < 3 * len(LONG_ZONE)), f"{log.stat().st_size} octets")
+        checks.expect(daemon.stats()["pages"] >= 3, daemon.stats())
+        stopped(checks, daemon)
+
+
+@test
+def a_page_has_so_many_octets(checks: Checks, folder: pathlib.Path) -> None:
+    with started(checks, folder, "page_octets = 1000000") as daemon, Client(daemon.address) as client:
+        records = "".join(f"\na A 192.0.2.{number}" for number in range(1, 33))
+        checks.equal(client.ask(f"zone example.com. 32{records}"), ["ok zone 32 0 0 1"], "zone")
+        # Of each answer its targets count, 64 octets each: some 2,300 octets.
+        client.send("find sip:a.example.com:1\n" * 1_500)
+        checks.equal({(client.reply() or [""])[-1] for _ in range(1_500)}, {"ok find 32"}, "find")
+        checks.expect(until(lambda: daemon.stats()["pages"] >= 3), daemon.stats())
+        stopped(checks, daemon)
+    for value in "0", "-1", "1099511627777", '"1"':
+        daemon = Daemon(folder, f"page_octets = {value}", waits=False)
+        checks.equal((daemon.end()[0], daemon.said()), (1, "siplocd: settings G3 page_octets\n"), value)
+
+
+@test
+def checks_a_state(checks: Checks, folder: pathlib.Path) -> None:
+    def checked() -> tuple[int, str, str]:
+        ran = subprocess.run([PROGRAM, "check-state", str(state)], capture_output=True, text=True, timeout=60, check=False)
+        return ran.returncode, ran.stdout, ran.stderr
+
+    def files() -> dict[str, tuple[bytes, int]]:
+        return {path.name: (path.read_bytes(), path.stat().st_mtime_ns) for path in folder.iterdir() if path.is_file()}
+
+    state, log = folder / "state", folder / "state.log"
+    checks.equal(checked(), (1, "", f"siplocd: state {state}: entity not found\n"), "no state")
+    text = state_of(b"# page 3\nclock 5000\nzone example.com. 2\na.example.com. A 192.0.2.1\nb.example.com. A 192.0.2.2\n"
+                    b"hold udp 192.0.2.9 5060 60000\n")
+    whole = log_of(text, [b"add c.example.com. A 192.0.2.3\n", b"zone example.net. 0\n"])
+    state.write_bytes(text)
+    log.write_bytes(whole)
+    counts = "format 2\nzones 2\nrecords 3\nheld 1\ncommits 2\nok state\n"
+    before = files()
+    checks.equal(checked(), (0, counts, ""), "a state and its log")
+    checks.equal(files(), before, "the files that were checked")
+    log.write_bytes(whole + b"torn")
+    before = files()
+    checks.equal(checked(), (0, counts, f"siplocd: state {log}: a write did not end at octet {len(whole)}\n"), "a torn tail")
+    checks.equal(files(), before, "the files with a torn tail")
+    (folder / "state.log.new").write_bytes(whole)
+    log.write_bytes(log_of(state_of(b"# page 2\n"), []))
+    before = files()
+    checks.equal(checked(), (0, counts, ""), "a log that a kill kept from its place")
+    checks.equal(files(), before, "the files that a kill left")
+    (folder / "state.log.new").unlink()
+    checks.equal(checked(), (1, "", f"siplocd: state {log}: not of this state\n"), "another log")
+    log.write_bytes(whole.replace(b"add c.", b"add d."))
+    checks.equal((checked()[0], checked()[1]), (1, ""), "a damaged log")
+    state.write_bytes(text.replace(b"192.0.2.1", b"192.0.2.7"))
+    checks.equal(checked(), (1, "", f"siplocd: state {state}: not as it was written\n"), "a damaged state")
+    state.write_bytes(b"# page 3\nzone example.com. 1\na.example.com. A 192.0.2.1\n")
+    log.write_bytes(b"# page 3\nadd b.example.com. A 192.0.2.2\n")
+    before = files()
+    checks.equal(checked(), (0, counts.replace("format 2\nzones 2\nrecords 3\nheld 1\ncommits 2", "format 1\nzones 1\nrecords 2\nheld 0\n"
+                                               "commits 0"), ""), "the first format")
+    checks.equal(files(), before, "files of the first format")
+
+
+@test
+def claims_its_pages_while_it_starts(checks: Checks, folder: pathlib.Path) -> None:
+    # Pages of 200 events, each with all records: without claims they would take a hundred times the records.
+    state, lines = folder / "state", [f"n{number} A 192.0.2.{number % 250}" for number in range(10_000)]
+    body = f"# page 0\nzone example.com. {len(lines)}\n" + "".join(line.replace(" ", ".example.com. ", 1) + "\n" for line in lines)
+    state.write_bytes(state_of(body.encode()))
+    adds = [f"add m{number}.example.com. A 192.0.2.1\n".encode() for number in range(4_000)]
+    sizes = []
+    for journal in 1_000_000, 200:
+        (folder / "state.log").write_bytes(log_of(state.read_bytes(), [b"".join(adds)]))
+        begin = time.monotonic()
+        with started(checks, folder, f'state = "{state}"\njournal = {journal}') as daemon:
+            checks.equal(daemon.tell("zones"), ["zone example.com. 14000", "ok zones 1"], f"after {time.monotonic() - begin:.1f} seconds")
+            sizes.append(daemon.peak())
+            daemon.kill()
+    checks.expect(sizes[1] < 1.3 * sizes[0], f"{sizes[1]} octets at most, and {sizes[0]} where no page is turned")
