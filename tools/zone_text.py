@@ -1,4 +1,4 @@
-"""What `tools/explain` and `tools/lint` share: the text of a zone, read as docs/FORMATS.md has it, and what its records
+"""What `tools/explain` and `tools/lint` share: the text of a zone, read as docs/use/FORMATS.md has it, and what its records
 mean for a route. The reading is that of `tools/plain`."""
 
 from __future__ import annotations

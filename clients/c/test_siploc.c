@@ -1,6 +1,6 @@
 /*
  * Tests of the client against servers that they start: the program that the environment names in SIPLOC, and some that
- * do what no server should. Replies are those of docs/FORMATS.md, and of the README's session.
+ * do what no server should. Replies are those of docs/use/FORMATS.md, and of the README's session.
  *
  *     cc -std=c11 -o test_siploc test_siploc.c siploc.c && SIPLOC=PROGRAM ./test_siploc TOP EXAMPLE
  *
@@ -436,7 +436,7 @@ static void keep_refusal(void *context, size_t place, const siploc_reply *reply)
     }
 }
 
-/* Each code once, by a batch: 47 of the 57 of docs/CODES.md; K2, L1, S8, B6, Memory, X1, F1 and the daemon's D1, D3
+/* Each code once, by a batch: 47 of the 57 of docs/use/CODES.md; K2, L1, S8, B6, Memory, X1, F1 and the daemon's D1, D3
  * and Busy are not in the file. */
 static void each_refusal(void)
 {

@@ -3,7 +3,7 @@
 
     SIPLOC=crates/siploc/out/siploc clients/python/test_siploc.py [Sessions.test_draws ..]
 
-Replies are those of docs/FORMATS.md, and of the README's session. The last line is `N passed, M failed`.
+Replies are those of docs/use/FORMATS.md, and of the README's session. The last line is `N passed, M failed`.
 """
 
 import contextlib
@@ -480,7 +480,7 @@ class Faults(unittest.TestCase):
         self.assertEqual(received, [b""])
 
     def test_what_is_sent(self):
-        """The octets of each method, as docs/FORMATS.md has the lines."""
+        """The octets of each method, as docs/use/FORMATS.md has the lines."""
         def serve(stream):
             for reply in (b"ok zone 2 0 0 1\n", b"ok drop 1\n", b"ok hold\n", b"ok release\n", b"ok add 1\n",
                           b"ok del 1\n", b"none NoAddress\n", b"none NoAddress\n", b"none NoAddress\n", b"ok deps 0\n",
@@ -609,8 +609,8 @@ class Faults(unittest.TestCase):
             self.assertEqual(caught.exception.code, "U7")
 
     def test_all_codes_are_known(self):
-        """Each code of docs/CODES.md that a session may have has a meaning, and no other."""
-        text = (TOP / "docs/CODES.md").read_text()
+        """Each code of docs/use/CODES.md that a session may have has a meaning, and no other."""
+        text = (TOP / "docs/use/CODES.md").read_text()
         text = text[:text.index("\n## Workers of a script")]
         codes = set(re.findall(r"^\| `([A-Z][0-9]+|Memory)` \|", text, re.MULTILINE))
         of_scripts_and_libraries = {"B1", "B2", "B4", "B5", "Q1", "X3"}

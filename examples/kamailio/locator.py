@@ -2,7 +2,7 @@
 
 Each process of Kamailio has a session of its own with the locator at SIPLOC_ADDRESS. Where it is away, `locate`
 says so at once, and each process tries a new connection once a second. With SIPLOC_STREAM, a Redis stream, and
-SIPLOC_REDIS, what has failed is published there for all locators (docs/CLUSTER.md), and not held beside the stream.
+SIPLOC_REDIS, what has failed is published there for all locators (examples/cluster/README.md), and not held beside the stream.
 """
 
 from __future__ import annotations

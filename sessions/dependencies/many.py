@@ -1,4 +1,4 @@
-"""Prints a script in which 300 kept answers depend on one set, and half of them on another (docs/FORMATS.md, "Kept
+"""Prints a script in which 300 kept answers depend on one set, and half of them on another (docs/use/FORMATS.md, "Kept
 results")."""
 
 ALL = range(300)

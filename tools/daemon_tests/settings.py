@@ -57,9 +57,8 @@ def says_what_is_wrong_in_a_file(checks: Checks, folder: pathlib.Path) -> None:
     # Each key that the documents have is one of those that are named.
     path.write_text("unknown = 1\n")
     named = set(re.findall(r"[a-z_]+", run("check", "--config", str(path), folder=folder)[2].partition("there are ")[2]))
-    texts = re.split(r"^## ", (TOP / "docs/FORMATS.md").read_text(), flags=re.M)
-    told = {key for text in texts if text.startswith(("Settings", "The daemon")) for key in re.findall(r"^\| `([a-z_]+)` \|", text, re.M)}
-    told -= {"stats", "zones", "holds", "now", "page", "stop", "sessions"}
+    tables = re.findall(r"<!-- table settings .*?<!-- end -->", (TOP / "docs/use/FORMATS.md").read_text(), re.S)
+    told = {key for table in tables for key in re.findall(r"^\| `([a-z_]+)` \|", table, re.M)} - {"sessions"}
     checks.expect(len(told) > 15 and told <= named, f"keys that are not named: {told - named}")
     path.write_bytes(b"state = \"\xff\"\n")
     for words in (["check", "--config", str(path)], ["check", "--config", f"{folder}/none"], ["--config", str(folder)]):

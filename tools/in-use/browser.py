@@ -57,8 +57,8 @@ class Browser:
         """What an expression of the page is."""
         return self.send("/execute/sync", {"script": f"return {script}", "args": []})
 
-    def picture(self, path: Path) -> None:
-        """The whole page, as a PNG."""
+    def picture(self, path: Path, is_whole: bool = True) -> None:
+        """The whole page, or what the window shows of it, as a PNG."""
         whole = self.send("/goog/cdp/execute", {"cmd": "Page.captureScreenshot",
-                                                "params": {"captureBeyondViewport": True}})
+                                                "params": {"captureBeyondViewport": is_whole}})
         path.write_bytes(base64.b64decode(whole["data"]))

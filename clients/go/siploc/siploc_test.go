@@ -1,5 +1,5 @@
 // Tests of the client against servers that they start: the program that the environment names in SIPLOC, and some
-// that do what no server should. Replies are those of docs/FORMATS.md, and of the README's session.
+// that do what no server should. Replies are those of docs/use/FORMATS.md, and of the README's session.
 package siploc
 
 import (
