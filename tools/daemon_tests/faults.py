@@ -20,7 +20,7 @@ from typing import Any, Iterator, NamedTuple, Optional, Sequence
 
 from commits import bodies_of, body_of, log_of, state_of
 from daemon_tests.states import Edits
-from daemon_tests.support import PATIENCE, PROGRAM, SEED, TOP, Checks, Client, Daemon, test, until
+from daemon_tests.support import PATIENCE, SEED, TOP, Checks, Client, Daemon, test
 
 # What becomes of an operation of a kind, as tools/faults.c has it: the end of the process, or an error.
 ENDS = ["before", "half", "after"]
@@ -33,6 +33,9 @@ ACTIONS = {
 }
 # Few events a page, so that pages turn; and no moves of the host's clock among them.
 SETTINGS = 'journal = 60\nclock = "lines"\nworkers = 0\n'
+# The scenes of a daemon that ends where a change can't be written, and those with a whole load.
+ENDING = "nothing", "torn", "moved", "first format"
+WHOLE = "torn", "goes on"
 # How a daemon says why it ended.
 SAID = re.compile(r"(siplocd: [^\n]+\n)+")
 # How many faults the test has, of so many operations of each kind and name at most, and how many are tried at once.
@@ -50,6 +53,13 @@ class Fault(NamedTuple):
     def __str__(self) -> str:
         action = errno.errorcode[int(self.action)] if self.action.isdigit() else self.action
         return f"{self.scene}: {self.kind} {self.name} {self.count}: {action}"
+
+
+class Run(NamedTuple):
+    """What a daemon with a fault did: its operations, whether it met the one that has the fault, and what is wrong."""
+    operations: list[str]
+    is_met: bool
+    wrong: list[str]
 
 
 class Loads:
@@ -70,8 +80,8 @@ class Loads:
 class Scene:
     """What is in the folder of a state when a daemon starts there, and what its clients have made of it."""
 
-    def __init__(self, name: str, files: dict[str, bytes], edits: Sequence[Edits]) -> None:
-        self.name, self.files, self.edits = name, files, copy.deepcopy(edits)
+    def __init__(self, name: str, files: dict[str, bytes], edits: Sequence[Edits], settings: str = "") -> None:
+        self.name, self.files, self.edits, self.settings = name, files, copy.deepcopy(edits), settings
 
     def put(self, folder: pathlib.Path) -> None:
         (folder / "archive").mkdir(parents=True)
@@ -88,50 +98,119 @@ class Clients:
         self.may_be: list[list[Any]] = [[(own.hosts, own.held)] for own in self.edits]
         self.wrong: list[str] = []
 
-    def use(self, daemon: Daemon, place: int, sizes: Sequence[int], turns_pages: bool = False) -> None:
-        """One client sends batches of edits, until its connection ends."""
-        own, may_be = self.edits[place], self.may_be[place]
+    def use(self, daemon: Daemon, place: int, sizes: Sequence[int], turns_pages: bool = False) -> bool:
+        """One client sends batches of changes. Returns whether its connection did not end before."""
         with contextlib.suppress(OSError), Client(daemon.address) as client:
             for size in sizes:
-                batch = []
-                for _ in range(size):
-                    line, wanted, after = own.next()
-                    own.hosts, own.held = after
-                    may_be.append(after)
-                    batch.append((line, wanted))
-                client.send("".join(f"{line}\n" for line, _ in batch))
-                for line, wanted in batch:
+                lines = [self.next(place) for _ in range(size)]
+                client.send("".join(f"{line}\n" for line, _ in lines))
+                for line, wanted in lines:
                     reply = client.reply()
                     if reply is None:
-                        return
-                    if len(reply) != 1 or not reply[0].startswith(wanted):
-                        self.wrong.append(f"{line[-100:]}: {reply}, and not {wanted}")
-                    may_be.pop(0)
+                        return False
+                    self.take(place, line, wanted, reply)
                 if turns_pages and client.ask("page") is None:
-                    return
+                    return False
+            return True
+        return False
+
+    def next(self, place: int) -> tuple[str, str]:
+        """A line of a client, which may be carried out from now on, and its reply."""
+        own = self.edits[place]
+        line, wanted, after = own.next()
+        own.hosts, own.held = after
+        self.may_be[place].append(after)
+        return line, wanted
+
+    def take(self, place: int, line: str, wanted: str, reply: list[str]) -> None:
+        """A client takes a reply: what it had before is gone."""
+        if len(reply) != 1 or not reply[0].startswith(wanted):
+            self.wrong.append(f"{line[-100:]}: {reply}, and not {wanted}")
+        self.may_be[place].pop(0)
+
+    def use_on(self, daemon: Daemon, place: int, count: int) -> None:
+        """One client makes so many changes of a daemon that goes on where changes can't be written: it tries again where
+        they are refused, and comes again where its connection ends."""
+        end = time.monotonic() + PATIENCE
+        while count > 0 and daemon.process.poll() is None:
+            with contextlib.suppress(OSError), Client(daemon.address) as client:
+                self.come_again(client, place)
+                while count > 0 and (is_made := self.change(client, place)) is not None:
+                    count -= is_made
+                    time.sleep(0 if is_made else 0.1)
+            if time.monotonic() > end:
+                self.wrong.append(f"{count} changes of {self.edits[place].apex[-20:]} are not made for ever")
+                return
+
+    def come_again(self, client: Client, place: int) -> None:
+        """A client that comes again goes on from what there is, which need not be written."""
+        own, may_be = self.edits[place], self.may_be[place]
+        seen = own.seen(client) if isinstance(own, Edits) else may_be[-1]
+        if seen not in may_be:
+            self.wrong.append(f"{seen} after a connection, and not one of {may_be}")
+        else:
+            del may_be[may_be.index(seen) + 1:]
+            own.hosts, own.held = seen
+
+    def change(self, client: Client, place: int) -> Optional[bool]:
+        """One change of a client: whether it was not refused; None where it has no reply."""
+        own, may_be = self.edits[place], self.may_be[place]
+        before = own.hosts, own.held
+        line, wanted = self.next(place)
+        reply = client.ask(line)
+        if reply == ["err D2"]:
+            own.hosts, own.held = before
+            may_be.pop()
+        elif reply is not None:
+            self.take(place, line, wanted, reply)
+            del may_be[:-1]
+        return None if reply is None else reply != ["err D2"]
+
+    def cut(self, daemon: Daemon) -> None:
+        """One client more ends within a zone, and one within a line: nothing of that is carried out."""
+        for text in "zone half.example. 3\na A 192.0.2.1\nb A 192.0.2.2\n", "zone half.example. 0", "hold udp 10.0.1.5 5060 1000":
+            with contextlib.suppress(OSError), Client(daemon.address) as client:
+                client.send(text)
+
+    def see(self, daemon: Daemon) -> list[Any]:
+        """Checks that there is what may be, and returns it."""
+        seen = []
+        with Client(daemon.address) as client:
+            zones = dict(line.split(" ")[1:] for line in daemon.tell("zones")[:-1])
+            holds = daemon.tell("holds")[:-1]
+            for own, may_be in zip(self.edits, self.may_be):
+                count = zones.pop(own.apex, None)
+                is_loads = isinstance(own, Loads)
+                seen.append((count and int(count), own.held) if is_loads else own.seen(client))
+                if seen[-1] not in may_be:
+                    self.wrong.append(f"{own.apex[-20:]}: {seen[-1]}, and not one of {may_be[:2]} .. {may_be[-1]}")
+        if zones or len(holds) != sum(len(held) for _, held in seen):
+            self.wrong.append(f"zones {zones} and holds {holds} of nobody")
+        return seen
+
+    def go_on(self, daemon: Daemon) -> None:
+        """Checks that there is what may be, and goes on from it."""
+        for own, may_be, seen in zip(self.edits, self.may_be, self.see(daemon)):
+            own.hosts, own.held = seen
+            may_be[:] = [seen]
 
     def check(self, folder: pathlib.Path) -> None:
-        """Starts a daemon without faults, and checks that there is what may be, by questions and by its state."""
+        """Starts a daemon without faults, and checks that there is what may be, and the same in its state."""
         daemon = Daemon(folder, settings(folder))
         try:
             if not daemon.is_ready():
                 self.wrong.append(f"no start after it: {daemon.said()!r}, {daemon.process.poll()}")
                 return
-            seen: list[Any] = []
-            with Client(daemon.address) as client:
-                seen = [own.seen(client) if isinstance(own, Edits) else None for own in self.edits]
+            seen = self.see(daemon)
             status, last, _ = daemon.stop()
             if status != 0 or not last.startswith("closed "):
                 self.wrong.append(f"stopped with {status}, {last!r}, {daemon.said()!r}")
             zones, holds = read_state(folder / "state")
-            for own, answers, may_be in zip(self.edits, seen, self.may_be):
-                kept = kept_of(own, zones, holds)
-                if kept not in may_be or answers not in (kept, None):
-                    self.wrong.append(f"{own.apex[-20:]}: {kept} is kept, {answers} answered, and not one of "
-                                      f"{may_be[:2]} .. {may_be[-1]}")
+            kept = [kept_of(own, zones, holds) for own in self.edits]
+            if kept != seen:
+                self.wrong.append(f"a state with {kept}, and not {seen}")
         finally:
-            if daemon.process.poll() is None:
-                daemon.kill()
+            daemon.kill()
 
 
 def read_state(path: pathlib.Path) -> tuple[dict[str, list[str]], list[str]]:
@@ -155,8 +234,8 @@ def kept_of(own: Any, zones: dict[str, list[str]], holds: Sequence[str]) -> Any:
         return (None if records is None else len(records) if sorted(records) == sorted(wanted) else records), own.held
     found: dict[int, tuple[int, ...]] = {}
     for record in records or []:
-        host, _, last = record.replace(".", " ").split(" ", 2)[0], None, int(record.rpartition(".")[2])
-        found[int(host[1:])] = (*found.get(int(host[1:]), ()), last)
+        host, last = int(record[1:record.index(".")]), int(record.rpartition(".")[2])
+        found[host] = (*found.get(host, ()), last)
     held = [int(it.split(" ")[2].split(".")[3]) for it in holds if it.startswith(f"hold udp 10.{own.place}.1.")]
     return (None if records is None else found), frozenset(held)
 
@@ -171,9 +250,6 @@ class Faults:
     def __init__(self, folder: pathlib.Path) -> None:
         self.folder, self.library = folder, folder / "faults.so"
         subprocess.run(["cc", "-O2", "-shared", "-fPIC", "-o", self.library, TOP / "tools/faults.c"], check=True)
-        # What was wrong, and with how many faults the operation was met that was chosen.
-        self.wrong: list[str] = []
-        self.met = 0
         self.scenes = {it.name: it for it in self.make_scenes()}
 
     def make_scenes(self) -> list[Scene]:
@@ -190,7 +266,7 @@ class Faults:
             if is_stopped:
                 daemon.stop()
             daemon.kill()
-        self.wrong += clients.wrong
+        assert not clients.wrong, clients.wrong
         state, log = (folder / "state").read_bytes(), (folder / "state.log").read_bytes()
         body, bodies = body_of(state), bodies_of(log)
         torn = log_of(state, [*bodies, b"add late.example. A 192.0.2.1\n"])[:-9]
@@ -199,17 +275,19 @@ class Faults:
         return [
             nothing,
             Scene("torn", {"state": state, "state.log": torn}, clients.edits),
+            Scene("goes on", {"state": state, "state.log": log}, clients.edits, 'on_failure = "read"'),
             Scene("moved", {"state": state, "state.log": other, "state.log.new": log}, clients.edits),
             Scene("first format", {"state": body, "state.log": lines}, clients.edits),
         ]
 
-    def find(self, most: int) -> list[Fault]:
-        """The faults of each operation, of which so many of a kind and name are chosen at most; each operation once in
-        the order of chance, and then the others."""
+    def find(self, most: int, scenes: Sequence[str]) -> list[Fault]:
+        """The faults of each operation in scenes, of which so many of a kind and name are chosen at most; each operation
+        once in the order of chance, and then the others."""
         found: list[Fault] = []
-        for scene in self.scenes.values():
-            operations = self.run(Fault(scene.name, "none", "none", 0, "0"))
-            if scene.name != "torn":
+        for scene in (self.scenes[it] for it in scenes):
+            operations, _, wrong = self.run(Fault(scene.name, "none", "none", 0, "0"))
+            assert not wrong, wrong
+            if scene.name not in WHOLE:
                 operations = operations[:operations.index("accept socket")]
             for operation, total in collections.Counter(operations).items():
                 kind, name = operation.split(" ")
@@ -220,39 +298,34 @@ class Faults:
         seen: set[tuple[str, str, str]] = set()
         return sorted(found, key=lambda it: (it[:3] in seen, seen.add(it[:3]))[0])
 
-    def run(self, fault: Fault) -> list[str]:
-        """Runs a daemon with a fault, and then one without. Returns the operations of the first one."""
+    def run(self, fault: Fault) -> Run:
+        """Runs a daemon with a fault, and then one without."""
         folder = pathlib.Path(tempfile.mkdtemp(prefix="", dir=self.folder))
         scene, trace = self.scenes[fault.scene], folder.with_suffix(".trace")
         scene.put(folder)
         environment = {"LD_PRELOAD": str(self.library), "FAULT_FOLDER": f"{folder}/", "FAULT_LOG": str(trace),
                        "FAULT": " ".join(str(it) for it in fault[1:])}
         clients = Clients([*scene.edits, Loads()])
-        daemon = Daemon(folder, settings(folder), environment=environment)
+        daemon = Daemon(folder, settings(folder) + scene.settings, environment=environment)
         try:
             if daemon.is_ready():
-                load(daemon, clients, is_whole=fault.scene == "torn")
+                load(daemon, clients, fault.scene)
                 daemon.stop()
             status, last = daemon.end()
             lines = trace.read_text().splitlines()
             is_met = any(it[0] == "!" for it in lines)
-            self.met += is_met
             if not is_end(fault.action in ENDS and is_met, status, last, daemon.said()):
                 clients.wrong.append(f"ended with {status}, {last!r}, {daemon.said()!r}")
             clients.check(folder)
         finally:
             daemon.process.kill()
-        self.wrong += [f"{fault}: {it}" for it in clients.wrong]
-        if not clients.wrong:
-            shutil.rmtree(folder)
-        return lines
+        shutil.rmtree(folder)
+        return Run(lines, is_met, [f"{fault}: {it}" for it in clients.wrong])
 
-
-    def run_all(self, faults: Sequence[Fault]) -> Iterator[Fault]:
-        """Runs a daemon with each fault. Returns each that was wrong."""
+    def run_all(self, faults: Sequence[Fault]) -> Iterator[Run]:
+        """Runs a daemon with each fault, some side by side."""
         with concurrent.futures.ThreadPoolExecutor(AT_ONCE) as pool:
-            for fault, _ in zip(faults, pool.map(self.run, faults)):
-                yield fault
+            yield from pool.map(self.run, faults)
 
 
 def is_end(is_killed: bool, status: Optional[int], last: str, said: str) -> bool:
@@ -264,22 +337,34 @@ def is_end(is_killed: bool, status: Optional[int], last: str, said: str) -> bool
     return status == 1 and SAID.fullmatch(said) is not None
 
 
-def load(daemon: Daemon, clients: Clients, is_whole: bool) -> None:
-    """Clients side by side, up to the end of the daemon; of the whole load pages are turned, and states written."""
-    chance = random.Random(SEED)
-    with concurrent.futures.ThreadPoolExecutor(4) as pool:
-        sizes = [[chance.choice([1, 1, 2, 5, 12]) for _ in range(12 if is_whole else 2)] for _ in range(3)]
-        works = [pool.submit(clients.use, daemon, place, it) for place, it in enumerate(sizes)]
-        if is_whole:
-            works.append(pool.submit(clients.use, daemon, 3, [4, 4], True))
+def load(daemon: Daemon, clients: Clients, scene: str) -> None:
+    """Clients side by side, up to the end of the daemon; of a whole load pages are turned, and states written."""
+    chance, is_whole = random.Random(SEED), scene in WHOLE
+    with concurrent.futures.ThreadPoolExecutor(5) as pool:
+        if scene == "goes on":
+            works = [pool.submit(clients.use_on, daemon, place, count) for place, count in enumerate([20, 20, 20, 8])]
+        else:
+            sizes = [[chance.choice([1, 1, 2, 5, 12]) for _ in range(12 if is_whole else 2)] for _ in range(3)]
+            works = [pool.submit(clients.use, daemon, place, it) for place, it in enumerate(sizes)]
+            works += [pool.submit(clients.use, daemon, 3, [4, 4], True)] * is_whole
+        works.append(pool.submit(clients.cut, daemon))
         for work in works:
             work.result()
 
 
+def check_some(checks: Checks, folder: pathlib.Path, scenes: Sequence[str], count: int) -> None:
+    faults = Faults(folder)
+    runs = [*faults.run_all(faults.find(MOST, scenes)[:count])]
+    wrong, met = [it for run in runs for it in run.wrong], sum(run.is_met for run in runs)
+    checks.equal(wrong[:5], [], f"{len(wrong)} wrong")
+    checks.expect(met >= len(runs) * 3 // 4, f"only {met} of {len(runs)} operations were met")
+
+
 @test
 def keeps_what_was_replied_to_whatever_fails(checks: Checks, folder: pathlib.Path) -> None:
-    faults = Faults(folder)
-    checks.equal(faults.wrong, [], "scenes")
-    tried = [*faults.run_all(faults.find(MOST)[:FEW])]
-    checks.equal(faults.wrong[:5], [], f"{len(faults.wrong)} wrong")
-    checks.expect(faults.met >= len(tried) * 3 // 4, f"only {faults.met} of {len(tried)} operations were met")
+    check_some(checks, folder, ENDING, FEW)
+
+
+@test
+def goes_on_whatever_fails(checks: Checks, folder: pathlib.Path) -> None:
+    check_some(checks, folder, ["goes on"], FEW // 4)

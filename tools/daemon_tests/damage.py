@@ -1,0 +1,147 @@
+"""Damage of a state and of its log: octets that are changed, and files that are cut. A start goes on from what there was,
+or refuses it at its place, or tells what a last write left that did not end, and keeps that."""
+
+from __future__ import annotations
+
+import concurrent.futures
+import os
+import pathlib
+import random
+import select
+import subprocess
+from typing import Iterator, NamedTuple, Optional, Sequence
+
+from commits import HEAD_LEN, LINE_LEN, STATE_LINE, bodies_of, body_of, log_of, state_of
+from daemon_tests.support import PATIENCE, PROGRAM, SEED, Checks, Client, polled, started, test
+
+# How much damage the test tries, and in how many folders at once.
+FEW, AT_ONCE = int(os.environ.get("DAMAGES", "600")), 4
+# The zones and a hold of the state, and the changes of its log: in each case what is asked, and the answer.
+STATE = [("zone e. 4\n@ NAPTR 50 50 \"s\" \"SIP+D2T\" \"\" _sip._tcp\n_sip._tcp SRV 0 1 5060 a\na A 192.0.2.1\nb AAAA 2001:db8::1",
+          "find sip:e", ["target 1 tcp 192.0.2.1 5060", "ok find 1"]),
+         ("hold udp 192.0.2.9 5060 1000000", "find sip:192.0.2.9", ["none AllHeld"])]
+CHANGES = [("add c.e. A 192.0.2.3", "find sip:c.e:1", ["target 1 udp 192.0.2.3 1", "ok find 1"]),
+           ("zone d.example. 1\nd A 192.0.2.4", "find sip:d.d.example:1", ["target 1 udp 192.0.2.4 1", "ok find 1"])]
+
+
+class Damage(NamedTuple):
+    """A file that is damaged, the place, and the octet that is there then; None where the file is cut there."""
+    file: str
+    place: int
+    octet: Optional[int]
+
+    def __str__(self) -> str:
+        return f"{self.file} {'cut' if self.octet is None else f'with {self.octet:#04x}'} at {self.place}"
+
+
+class Outcome(NamedTuple):
+    """What a start has to do: what it says after the name of the state; how many commits it makes, None where it is
+    refused; and what it keeps as torn."""
+    said: str
+    commits: Optional[int]
+    torn: bytes
+
+
+class Files:
+    """A state, and its log with two commits."""
+
+    def __init__(self, checks: Checks, folder: pathlib.Path) -> None:
+        for changes in STATE, CHANGES:
+            with started(checks, folder, f'state = "{folder}/state"\nclock = "lines"') as daemon, Client(daemon.address) as client:
+                for lines, _, _ in changes:
+                    checks.expect((client.ask(lines) or [""])[0].startswith("ok "), lines)
+                if changes == STATE:
+                    daemon.stop()
+        self.octets = {"state": (folder / "state").read_bytes(), "log": (folder / "state.log").read_bytes()}
+        state, bodies = self.octets["state"], bodies_of(self.octets["log"])
+        checks.equal(tuple(self.octets.values()), (state_of(body_of(state)), log_of(state, bodies)), "the octets of the files")
+        checks.equal(len(bodies), len(CHANGES), "commits")
+        # Where the commits begin.
+        self.places = [HEAD_LEN, HEAD_LEN + LINE_LEN + len(bodies[0])]
+
+    def damages(self, bits: int) -> Iterator[Damage]:
+        """Each octet with so many of its bits changed in turn, by chance, and each cut."""
+        chance = random.Random(SEED)
+        for file, octets in self.octets.items():
+            for place, octet in enumerate(octets):
+                yield Damage(file, place, None)
+                yield from (Damage(file, place, octet ^ 1 << bit) for bit in chance.sample(range(8), bits))
+
+    def damaged(self, damage: Damage) -> dict[str, bytes]:
+        """The files."""
+        octets = self.octets[damage.file]
+        end = b"" if damage.octet is None else bytes([damage.octet]) + octets[damage.place + 1:]
+        return {**self.octets, damage.file: octets[:damage.place] + end}
+
+    def outcome(self, damage: Damage) -> Outcome:
+        """What a start has to do, as docs/FORMATS.md says."""
+        if damage.file == "state":
+            return Outcome(": line 1" if damage.place < len(STATE_LINE) else ": not as it was written", None, b"")
+        if damage.place < HEAD_LEN:
+            return Outcome(".log: line 1", None, b"")
+        commits = int(damage.place >= self.places[1])
+        begin = self.places[commits]
+        if commits == 0 and damage.octet is not None:
+            # (the next commit is there, which was written after this one was synced)
+            return Outcome(f".log: octet {begin}", None, b"")
+        torn = self.damaged(damage)["log"][begin:]
+        # Of a log that is cut between two commits nobody can know that there were more.
+        return Outcome(f".log: a write did not end at octet {begin}" if torn else "", commits, torn)
+
+    def try_in(self, folder: pathlib.Path, damage: Damage) -> str:
+        """Starts a daemon over damaged files in a folder. Returns what is wrong, if anything is."""
+        files, outcome, state = self.damaged(damage), self.outcome(damage), folder / "state"
+        paths = {"state": state, "log": folder / "state.log"}
+        torn = folder / "state.log.torn"
+        torn.unlink(missing_ok=True)
+        for name, octets in files.items():
+            paths[name].write_bytes(octets)
+        answers, said = started_once(state, [*STATE, *CHANGES])
+        wanted = None if outcome.commits is None else [
+            answer if place < len(STATE) + outcome.commits else ["none NoAddress"]
+            for place, (_, _, answer) in enumerate([*STATE, *CHANGES])]
+        line = f"siplocd: state {state}{outcome.said}\n" if outcome.said else ""
+        left = {**files, "log": files["log"][:len(files["log"]) - len(outcome.torn)]}
+        seen = answers, said, {name: path.read_bytes() for name, path in paths.items()}, torn.read_bytes() if torn.exists() else b""
+        return "" if seen == (wanted, line, left, outcome.torn) else f"{damage}: {seen}, and not {(wanted, line, left, outcome.torn)}"
+
+
+def started_once(state: pathlib.Path, asked: Sequence[tuple[str, str, list[str]]]) -> tuple[Optional[list[Optional[list[str]]]], str]:
+    """The answers of a daemon that is started over a state and then killed, None where it refuses it, and what it says."""
+    settings = f'listen = ["127.0.0.1:0"]\nstate = "{state}"\nclock = "lines"\nworkers = 0'
+    answers = None
+    with subprocess.Popen([PROGRAM, settings], stdin=subprocess.DEVNULL, stdout=subprocess.PIPE, stderr=subprocess.PIPE) as process:
+        try:
+            line = process.stdout.readline().decode() if polled(process.stdout, select.POLLIN, PATIENCE) else "nothing"
+            if line.startswith("ready "):
+                with Client(line.split()[1]) as client:
+                    client.send("".join(f"{question}\n" for _, question, _ in asked))
+                    answers = [client.reply() for _ in asked]
+            is_refused = not line and process.wait(PATIENCE) == 1
+        finally:
+            process.kill()
+        said = process.stderr.read().decode(errors="replace")
+    return answers, said if answers or is_refused else f"{said} (after {line!r}, status {process.returncode})"
+
+
+def tried(files: Files, folder: pathlib.Path, damages: Sequence[Damage]) -> Iterator[str]:
+    """Tries damages, some at a time. Returns what is wrong with each, if anything is."""
+    def share(place: int) -> list[str]:
+        inner = folder / f"damaged-{place}"
+        inner.mkdir()
+        return [files.try_in(inner, it) for it in damages[place::AT_ONCE]]
+
+    with concurrent.futures.ThreadPoolExecutor(AT_ONCE) as pool:
+        for wrong in pool.map(share, range(AT_ONCE)):
+            yield from wrong
+
+
+@test
+def starts_on_no_damaged_file_in_silence(checks: Checks, folder: pathlib.Path) -> None:
+    files = Files(checks, folder)
+    # (the places at which a commit, or a file, begins or ends, and others by chance)
+    every, edges = [*files.damages(1)], {*files.places, HEAD_LEN - 1, len(STATE_LINE), *(len(it) - 1 for it in files.octets.values())}
+    first = [it for it in every if {it.place, it.place + 1, it.place - 1} & edges]
+    chosen = [*first, *random.Random(SEED).sample([it for it in every if it not in first], FEW - len(first))]
+    wrong = [it for it in tried(files, folder, chosen) if it]
+    checks.equal(wrong[:3], [], f"{len(wrong)} of {len(chosen)} wrong")
