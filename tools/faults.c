@@ -4,12 +4,16 @@
 //   FAULT_FOLDER   the folder whose files are meant, with a `/` at its end
 //   FAULT_LOG      a file in which each operation gets a line, `OPERATION NAME`, with a `!` before the one that is chosen
 //   FAULT          `OPERATION NAME COUNT ACTION`: the so manieth operation of this kind on this name is chosen
+//   FAULT_SYNCED   a folder, with a `/` at its end, that gets what outlasts the end of the machine: the octets of each
+//                  file as they were synced, by the number of its inode, and in `names` and `names-archive` the name and
+//                  inode of each file of a folder when that was synced
 //
 // NAME is the path below the folder, `.` for the folder itself, `archive/page` for each page that has its place there,
 // and `socket`. ACTION is the number of an error; `before` or `after`, the end of the process before the operation or
 // after it; of a write `half`, the end after half of its octets, and `short`, which writes half of them; or `full`:
 // half of the octets are written, and from then on the disk has no space, until the folder has a file `emptied`.
 #define _GNU_SOURCE
+#include <dirent.h>
 #include <errno.h>
 #include <fcntl.h>
 #include <signal.h>
@@ -19,13 +23,14 @@
 #include <stdlib.h>
 #include <string.h>
 #include <sys/socket.h>
+#include <sys/sendfile.h>
 #include <sys/stat.h>
 #include <sys/syscall.h>
 #include <unistd.h>
 
 enum { NAMES = 4096 };
 
-static char folder[NAMES], chosen[NAMES], action[64];
+static char folder[NAMES], synced[NAMES], chosen[NAMES], action[64];
 static long count;
 static int trace = -1;
 static _Atomic long met;
@@ -37,6 +42,7 @@ __attribute__((constructor)) static void begin(void) {
     if (path == NULL || top == NULL || strlen(top) >= sizeof folder)
         return;
     strcpy(folder, top);
+    snprintf(synced, sizeof synced, "%s", getenv("FAULT_SYNCED") ? getenv("FAULT_SYNCED") : "");
     if (fault != NULL && sscanf(fault, "%63s %1023s %ld %63s", kind, name, &count, action) == 4)
         snprintf(chosen, sizeof chosen, "%s %s\n", kind, name);
     int file = open(path, O_WRONLY | O_CREAT | O_APPEND | O_CLOEXEC, 0666);
@@ -170,12 +176,63 @@ ssize_t read(int file, void *octets, size_t size) {
     ON_FILE("read", file, syscall(SYS_read, file, octets, size));
 }
 
+// Keeps the octets of a file that are synced.
+static void keep_octets(int file, const char *to) {
+    char from[64];
+    snprintf(from, sizeof from, "/proc/self/fd/%d", file);
+    int source = syscall(SYS_openat, AT_FDCWD, from, O_RDONLY | O_CLOEXEC);
+    int copy = syscall(SYS_openat, AT_FDCWD, to, O_WRONLY | O_CREAT | O_TRUNC | O_CLOEXEC, 0600);
+    while (source >= 0 && sendfile(copy, source, NULL, 1 << 30) > 0)
+        ;
+    close(source);
+    close(copy);
+}
+
+// Keeps the names in a folder that is synced.
+static void keep_names(const char *path, const char *to) {
+    DIR *found = opendir(path);
+    FILE *names = fopen(to, "we");
+    for (struct dirent *it; found != NULL && names != NULL && (it = readdir(found)) != NULL;)
+        if (it->d_type == DT_REG)
+            fprintf(names, "%s %lu\n", it->d_name, (unsigned long)it->d_ino);
+    if (found != NULL)
+        closedir(found);
+    if (names != NULL)
+        fclose(names);
+}
+
+static int keep_synced(int result, int file, const char *path, const char *name) {
+    char to[NAMES + 64], next[NAMES + 128];
+    struct stat found;
+    if (result != 0 || *synced == 0 || name == NULL || fstat(file, &found) != 0)
+        return result;
+    if (S_ISREG(found.st_mode))
+        snprintf(to, sizeof to, "%s%lu", synced, (unsigned long)found.st_ino);
+    else
+        snprintf(to, sizeof to, "%snames%s", synced, strcmp(name, "archive") == 0 ? "-archive" : "");
+    // (the process may end meanwhile)
+    snprintf(next, sizeof next, "%s.%d", to, gettid());
+    if (S_ISREG(found.st_mode))
+        keep_octets(file, next);
+    else
+        keep_names(path, next);
+    syscall(SYS_rename, next, to);
+    return result;
+}
+
+static int sync_by(long call, const char *kind, int file) {
+    char path[NAMES];
+    const char *name = path_of(file, path);
+    int is = is_chosen(kind, name);
+    return fails(is) ? -1 : done(is, keep_synced(syscall(call, file), file, path, name));
+}
+
 int fsync(int file) {
-    ON_FILE("fsync", file, syscall(SYS_fsync, file));
+    return sync_by(SYS_fsync, "fsync", file);
 }
 
 int fdatasync(int file) {
-    ON_FILE("fdatasync", file, syscall(SYS_fdatasync, file));
+    return sync_by(SYS_fdatasync, "fdatasync", file);
 }
 
 int ftruncate(int file, off_t size) {

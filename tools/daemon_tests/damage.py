@@ -1,5 +1,5 @@
-"""Damage of a state and of its log: octets that are changed, and files that are cut. A start goes on from what there was,
-or refuses it at its place, or tells what a last write left that did not end, and keeps that."""
+"""Damage of a state and of its log: octets that are changed, and files that are cut. A start goes on from what there
+was, or is refused at the place, or tells what a last write left that did not end, and keeps that."""
 
 from __future__ import annotations
 
@@ -17,8 +17,12 @@ from daemon_tests.support import PATIENCE, PROGRAM, SEED, Checks, Client, polled
 # How much damage the test tries, and in how many folders at once.
 FEW, AT_ONCE = int(os.environ.get("DAMAGES", "600")), 4
 # The zones and a hold of the state, and the changes of its log: in each case what is asked, and the answer.
-STATE = [("zone e. 4\n@ NAPTR 50 50 \"s\" \"SIP+D2T\" \"\" _sip._tcp\n_sip._tcp SRV 0 1 5060 a\na A 192.0.2.1\nb AAAA 2001:db8::1",
-          "find sip:e", ["target 1 tcp 192.0.2.1 5060", "ok find 1"]),
+ZONE = '''zone e. 4
+@ NAPTR 50 50 "s" "SIP+D2T" "" _sip._tcp
+_sip._tcp SRV 0 1 5060 a
+a A 192.0.2.1
+b AAAA 2001:db8::1'''
+STATE = [(ZONE, "find sip:e", ["target 1 tcp 192.0.2.1 5060", "ok find 1"]),
          ("hold udp 192.0.2.9 5060 1000000", "find sip:192.0.2.9", ["none AllHeld"])]
 CHANGES = [("add c.e. A 192.0.2.3", "find sip:c.e:1", ["target 1 udp 192.0.2.3 1", "ok find 1"]),
            ("zone d.example. 1\nd A 192.0.2.4", "find sip:d.d.example:1", ["target 1 udp 192.0.2.4 1", "ok find 1"])]
@@ -47,14 +51,16 @@ class Files:
 
     def __init__(self, checks: Checks, folder: pathlib.Path) -> None:
         for changes in STATE, CHANGES:
-            with started(checks, folder, f'state = "{folder}/state"\nclock = "lines"') as daemon, Client(daemon.address) as client:
+            settings = f'state = "{folder}/state"\nclock = "lines"'
+            with started(checks, folder, settings) as daemon, Client(daemon.address) as client:
                 for lines, _, _ in changes:
                     checks.expect((client.ask(lines) or [""])[0].startswith("ok "), lines)
                 if changes == STATE:
                     daemon.stop()
         self.octets = {"state": (folder / "state").read_bytes(), "log": (folder / "state.log").read_bytes()}
         state, bodies = self.octets["state"], bodies_of(self.octets["log"])
-        checks.equal(tuple(self.octets.values()), (state_of(body_of(state)), log_of(state, bodies)), "the octets of the files")
+        files = state_of(body_of(state)), log_of(state, bodies)
+        checks.equal(tuple(self.octets.values()), files, "the octets of the files")
         checks.equal(len(bodies), len(CHANGES), "commits")
         # Where the commits begin.
         self.places = [HEAD_LEN, HEAD_LEN + LINE_LEN + len(bodies[0])]
@@ -96,26 +102,29 @@ class Files:
         torn.unlink(missing_ok=True)
         for name, octets in files.items():
             paths[name].write_bytes(octets)
-        answers, said = started_once(state, [*STATE, *CHANGES])
-        wanted = None if outcome.commits is None else [
-            answer if place < len(STATE) + outcome.commits else ["none NoAddress"]
-            for place, (_, _, answer) in enumerate([*STATE, *CHANGES])]
-        line = f"siplocd: state {state}{outcome.said}\n" if outcome.said else ""
-        left = {**files, "log": files["log"][:len(files["log"]) - len(outcome.torn)]}
-        seen = answers, said, {name: path.read_bytes() for name, path in paths.items()}, torn.read_bytes() if torn.exists() else b""
-        return "" if seen == (wanted, line, left, outcome.torn) else f"{damage}: {seen}, and not {(wanted, line, left, outcome.torn)}"
+        answers, said = started_once(state, [question for _, question, _ in [*STATE, *CHANGES]])
+        left = {name: path.read_bytes() for name, path in paths.items()}
+        seen = answers, said, left, torn.read_bytes() if torn.exists() else b""
+        wanted = (
+            None if outcome.commits is None else [
+                answer if place < len(STATE) + outcome.commits else ["none NoAddress"]
+                for place, (_, _, answer) in enumerate([*STATE, *CHANGES])],
+            f"siplocd: state {state}{outcome.said}\n" if outcome.said else "",
+            {**files, "log": files["log"][:len(files["log"]) - len(outcome.torn)]}, outcome.torn)
+        return "" if seen == wanted else f"{damage}: {seen}, and not {wanted}"
 
 
-def started_once(state: pathlib.Path, asked: Sequence[tuple[str, str, list[str]]]) -> tuple[Optional[list[Optional[list[str]]]], str]:
-    """The answers of a daemon that is started over a state and then killed, None where it refuses it, and what it says."""
+def started_once(state: pathlib.Path, asked: Sequence[str]) -> tuple[Optional[list[Optional[list[str]]]], str]:
+    """The answers of a daemon that is started over a state and killed then, None where it is refused; what it says."""
     settings = f'listen = ["127.0.0.1:0"]\nstate = "{state}"\nclock = "lines"\nworkers = 0'
     answers = None
-    with subprocess.Popen([PROGRAM, settings], stdin=subprocess.DEVNULL, stdout=subprocess.PIPE, stderr=subprocess.PIPE) as process:
+    with subprocess.Popen([PROGRAM, settings], stdin=subprocess.DEVNULL, stdout=subprocess.PIPE,
+                          stderr=subprocess.PIPE) as process:
         try:
             line = process.stdout.readline().decode() if polled(process.stdout, select.POLLIN, PATIENCE) else "nothing"
             if line.startswith("ready "):
                 with Client(line.split()[1]) as client:
-                    client.send("".join(f"{question}\n" for _, question, _ in asked))
+                    client.send("".join(f"{question}\n" for question in asked))
                     answers = [client.reply() for _ in asked]
             is_refused = not line and process.wait(PATIENCE) == 1
         finally:
@@ -139,9 +148,9 @@ def tried(files: Files, folder: pathlib.Path, damages: Sequence[Damage]) -> Iter
 @test
 def starts_on_no_damaged_file_in_silence(checks: Checks, folder: pathlib.Path) -> None:
     files = Files(checks, folder)
-    # (the places at which a commit, or a file, begins or ends, and others by chance)
-    every, edges = [*files.damages(1)], {*files.places, HEAD_LEN - 1, len(STATE_LINE), *(len(it) - 1 for it in files.octets.values())}
+    # (about the places at which something begins or ends, and at others by chance)
+    every, edges = [*files.damages(1)], {*files.places, len(STATE_LINE), *(len(it) for it in files.octets.values())}
     first = [it for it in every if {it.place, it.place + 1, it.place - 1} & edges]
     chosen = [*first, *random.Random(SEED).sample([it for it in every if it not in first], FEW - len(first))]
-    wrong = [it for it in tried(files, folder, chosen) if it]
-    checks.equal(wrong[:3], [], f"{len(wrong)} of {len(chosen)} wrong")
+    for wrong in tried(files, folder, chosen):
+        checks.expect(not wrong, wrong)
