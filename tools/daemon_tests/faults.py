@@ -51,7 +51,7 @@ class Fault(NamedTuple):
     action: str
 
     def __str__(self) -> str:
-        action = errno.errorcode[int(self.action)] if self.action.isdigit() else self.action
+        action = errno.errorcode.get(int(self.action), "none") if self.action.isdigit() else self.action
         return f"{self.scene}: {self.kind} {self.name} {self.count}: {action}"
 
 
