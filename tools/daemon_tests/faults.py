@@ -15,6 +15,7 @@ import re
 import shutil
 import subprocess
 import tempfile
+import threading
 import time
 from typing import Any, Iterator, NamedTuple, Optional, Sequence
 
@@ -334,13 +335,19 @@ class Faults:
         daemon = Daemon(folder, settings(folder) + scene.settings, environment=environment)
         try:
             if daemon.is_ready():
+                # (a disk that is full is emptied after some time)
+                emptied = threading.Timer(1, (folder / "emptied").touch)
+                emptied.start()
                 load(daemon, clients, fault.scene)
+                emptied.cancel()
                 daemon.stop()
             status, last = daemon.end()
             lines = trace.read_text().splitlines()
             is_met = any(it[0] == "!" for it in lines)
-            if not is_end(fault.action in ENDS and is_met, status, last, daemon.said()):
+            if not is_end(fault, is_met, status, last, daemon.said()):
                 clients.wrong.append(f"ended with {status}, {last!r}, {daemon.said()!r}")
+            if is_outlived(fault) and any(len(it) > 1 for it in clients.may_be):
+                clients.wrong.append(f"changes without a reply: {clients.may_be}")
             # As the process left it, and as the end of the machine may have left it then.
             for name, left in ("names that are not synced are lost", left_by_machine(folder, synced, False)), \
                     ("octets that are not synced are lost", left_by_machine(folder, synced, True)), ("as it was left", folder):
@@ -359,12 +366,20 @@ class Faults:
             yield from pool.map(self.run, faults)
 
 
-def is_end(is_killed: bool, status: Optional[int], last: str, said: str) -> bool:
+def is_outlived(fault: Fault) -> bool:
+    """Whether a daemon has to go on as if there were no fault: where a call was interrupted that the standard library
+    of Rust makes again, where a write was short, and where no connection could be accepted."""
+    is_repeated = fault.kind in "open read write fsync fdatasync ftruncate flock accept recv send".split()
+    is_interrupt = fault.action == str(errno.EINTR) and is_repeated and fault.name != "archive/"
+    return is_interrupt or fault.action == "short" or fault.kind == "accept" and fault.action.isdigit()
+
+
+def is_end(fault: Fault, is_met: bool, status: Optional[int], last: str, said: str) -> bool:
     """Whether a daemon with a fault has ended as it may: by the fault, well, or with what it says."""
-    if is_killed:
+    if is_met and fault.action in ENDS:
         return status == -9
-    if status == 0:
-        return last.startswith("closed ") and SAID.fullmatch(said or "siplocd: -\n") is not None
+    if status == 0 or is_outlived(fault):
+        return status == 0 and last.startswith("closed ") and SAID.fullmatch(said or "siplocd: -\n") is not None
     return status == 1 and SAID.fullmatch(said) is not None
 
 
