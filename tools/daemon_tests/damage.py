@@ -116,7 +116,7 @@ class Files:
 
 def started_once(state: pathlib.Path, asked: Sequence[str]) -> tuple[Optional[list[Optional[list[str]]]], str]:
     """The answers of a daemon that is started over a state and killed then, None where it is refused; what it says."""
-    settings = f'listen = ["127.0.0.1:0"]\nstate = "{state}"\nclock = "lines"\nworkers = 0'
+    settings = f'listen = ["unix:{state.parent}/lines"]\nstate = "{state}"\nclock = "lines"\nworkers = 0'
     answers = None
     with subprocess.Popen([PROGRAM, settings], stdin=subprocess.DEVNULL, stdout=subprocess.PIPE,
                           stderr=subprocess.PIPE) as process:

@@ -41,6 +41,8 @@ WHOLE = "torn", "goes on"
 SAID = re.compile(r"(siplocd: [^\n]+\n)+")
 # How many faults the test has, of so many operations of each kind and name at most, and how many are tried at once.
 FEW, MOST, AT_ONCE = int(os.environ.get("FAULTS", "60")), 3, 4
+# How often a zone is loaded that makes the log long: where few faults are tried, of a slow program, too seldom for that.
+LOADS = 8 if FEW >= 30 else 1
 
 
 class Fault(NamedTuple):
@@ -222,7 +224,7 @@ class Clients:
 
     def check(self, folder: pathlib.Path) -> None:
         """Starts a daemon without faults, and checks that there is what may be, and the same in its state."""
-        daemon = Daemon(folder, settings(folder))
+        daemon = begin(folder)
         try:
             if not daemon.is_ready():
                 self.wrong.append(f"no start after it: {daemon.said()!r}, {daemon.process.poll()}")
@@ -266,8 +268,10 @@ def kept_of(own: Any, zones: dict[str, list[str]], holds: Sequence[str]) -> Any:
     return (None if records is None else found), frozenset(held)
 
 
-def settings(folder: pathlib.Path) -> str:
-    return f'{SETTINGS}state = "{folder}/state"\narchive = "{folder}/archive"\n'
+def begin(folder: pathlib.Path, more: str = "", environment: Optional[dict[str, str]] = None) -> Daemon:
+    """Starts a daemon over the files of a folder. Nobody else comes to its socket."""
+    settings = f'{SETTINGS}state = "{folder}/state"\narchive = "{folder}/archive"\n{more}'
+    return Daemon(folder, settings, listen=[f"unix:{folder}/lines"], environment=environment)
 
 
 class Faults:
@@ -286,7 +290,7 @@ class Faults:
         nothing = Scene("nothing", {}, clients.edits)
         nothing.put(folder, self.folder / "before.synced")
         for is_stopped in True, False:
-            daemon = Daemon(folder, settings(folder))
+            daemon = begin(folder)
             for place in range(3):
                 clients.use(daemon, place, [4, 4, 4])
             if is_stopped:
@@ -317,6 +321,9 @@ class Faults:
                 operations = operations[:operations.index("accept socket")]
             for operation, total in collections.Counter(operations).items():
                 kind, name = operation.split(" ")
+                if name.startswith("lines"):
+                    # (as of the other socket)
+                    continue
                 counts = {1 + it * (total - 1) // max(1, min(most, total) - 1) for it in range(min(most, total))}
                 found += [Fault(scene.name, kind, name, count, action)
                           for count in sorted(counts) for action in ACTIONS.get(kind, [*ENDS[::2], *ERRORS])]
@@ -332,7 +339,7 @@ class Faults:
         environment = {"LD_PRELOAD": str(self.library), "FAULT_FOLDER": f"{folder}/", "FAULT_LOG": str(trace),
                        "FAULT_SYNCED": f"{synced}/", "FAULT": " ".join(str(it) for it in fault[1:])}
         clients = Clients([*scene.edits, Loads()])
-        daemon = Daemon(folder, settings(folder) + scene.settings, environment=environment)
+        daemon = begin(folder, scene.settings, environment)
         try:
             if daemon.is_ready():
                 # (a disk that is full is emptied after some time)
@@ -388,11 +395,11 @@ def load(daemon: Daemon, clients: Clients, scene: str) -> None:
     chance, is_whole = random.Random(SEED), scene in WHOLE
     with concurrent.futures.ThreadPoolExecutor(5) as pool:
         if scene == "goes on":
-            works = [pool.submit(clients.use_on, daemon, place, count) for place, count in enumerate([20, 20, 20, 8])]
+            works = [pool.submit(clients.use_on, daemon, place, count) for place, count in enumerate([20, 20, 20, LOADS])]
         else:
             sizes = [[chance.choice([1, 1, 2, 5, 12]) for _ in range(12 if is_whole else 2)] for _ in range(3)]
             works = [pool.submit(clients.use, daemon, place, it) for place, it in enumerate(sizes)]
-            works += [pool.submit(clients.use, daemon, 3, [4, 4], True)] * is_whole
+            works += [pool.submit(clients.use, daemon, 3, [LOADS - LOADS // 2, LOADS // 2], True)] * is_whole
         works.append(pool.submit(clients.cut, daemon))
         for work in works:
             work.result()
