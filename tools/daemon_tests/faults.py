@@ -41,8 +41,8 @@ WHOLE = "torn", "goes on"
 SAID = re.compile(r"(siplocd: [^\n]+\n)+")
 # How many faults the test has, of so many operations of each kind and name at most, and how many are tried at once.
 FEW, MOST, AT_ONCE = int(os.environ.get("FAULTS", "60")), 3, 4
-# How often a zone is loaded that makes the log long: where few faults are tried, of a slow program, too seldom for that.
-LOADS = 8 if FEW >= 30 else 1
+# How often a zone is loaded that makes the log long: where few faults are tried, of a slow program, never.
+LOADS = 8 if FEW >= 30 else 0
 
 
 class Fault(NamedTuple):
