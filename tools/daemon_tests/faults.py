@@ -162,23 +162,29 @@ class Clients:
         end = time.monotonic() + PATIENCE
         while count > 0 and daemon.process.poll() is None:
             with contextlib.suppress(OSError), Client(daemon.address) as client:
-                self.come_again(client, place)
-                while count > 0 and (is_made := self.change(client, place)) is not None:
-                    count -= is_made
+                is_there = self.come_again(client, place)
+                while is_there and count > 0 and time.monotonic() < end:
+                    is_made = self.change(client, place)
+                    is_there = is_made is not None
+                    count -= bool(is_made)
                     time.sleep(0 if is_made else 0.1)
             if time.monotonic() > end:
                 self.wrong.append(f"{count} changes of {self.edits[place].apex[-20:]} are not made for ever")
                 return
 
-    def come_again(self, client: Client, place: int) -> None:
-        """A client that comes again goes on from what there is, which need not be written."""
+    def come_again(self, client: Client, place: int) -> bool:
+        """A client that comes again goes on from what there is, which need not be written. Returns whether its
+        connection did not end meanwhile."""
         own, may_be = self.edits[place], self.may_be[place]
         seen = own.seen(client) if isinstance(own, Edits) else may_be[-1]
+        if client.ask("repair") is None:
+            return False
         if seen not in may_be:
             self.wrong.append(f"{seen} after a connection, and not one of {may_be}")
         else:
             del may_be[may_be.index(seen) + 1:]
             own.hosts, own.held = seen
+        return True
 
     def change(self, client: Client, place: int) -> Optional[bool]:
         """One change of a client: whether it was not refused; None where it has no reply."""
@@ -347,6 +353,8 @@ class Faults:
                 emptied.start()
                 load(daemon, clients, fault.scene)
                 emptied.cancel()
+                if is_gone_on(fault) and daemon.process.poll() is not None:
+                    clients.wrong.append("it does not go on")
                 daemon.stop()
             status, last = daemon.end()
             lines = trace.read_text().splitlines()
@@ -379,6 +387,11 @@ def is_outlived(fault: Fault) -> bool:
     is_repeated = fault.kind in "open read write fsync fdatasync ftruncate flock accept recv send".split()
     is_interrupt = fault.action == str(errno.EINTR) and is_repeated and fault.name != "archive/"
     return is_interrupt or fault.action == "short" or fault.kind == "accept" and fault.action.isdigit()
+
+
+def is_gone_on(fault: Fault) -> bool:
+    """Whether a daemon that is to go on where changes can't be written has to do that."""
+    return fault.scene == "goes on" and fault.action not in ENDS and not fault.name.startswith("archive")
 
 
 def is_end(fault: Fault, is_met: bool, status: Optional[int], last: str, said: str) -> bool:
