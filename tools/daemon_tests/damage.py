@@ -7,9 +7,10 @@ import concurrent.futures
 import os
 import pathlib
 import random
+import re
 import select
 import subprocess
-from typing import Iterator, NamedTuple, Optional, Sequence
+from typing import Callable, Iterator, NamedTuple, Optional, Sequence
 
 from commits import HEAD_LEN, LINE_LEN, STATE_LINE, bodies_of, body_of, log_of, state_of
 from daemon_tests.support import PATIENCE, PROGRAM, SEED, Checks, Client, polled, started, test
@@ -44,6 +45,9 @@ class Outcome(NamedTuple):
     said: str
     commits: Optional[int]
     torn: bytes
+
+    def line(self, state: pathlib.Path) -> str:
+        return f"siplocd: state {state}{self.said}\n" if self.said else ""
 
 
 class Files:
@@ -97,21 +101,41 @@ class Files:
     def try_in(self, folder: pathlib.Path, damage: Damage) -> str:
         """Starts a daemon over damaged files in a folder. Returns what is wrong, if anything is."""
         files, outcome, state = self.damaged(damage), self.outcome(damage), folder / "state"
-        paths = {"state": state, "log": folder / "state.log"}
-        torn = folder / "state.log.torn"
-        torn.unlink(missing_ok=True)
-        for name, octets in files.items():
-            paths[name].write_bytes(octets)
+        put(folder, files)
         answers, said = started_once(state, [question for _, question, _ in [*STATE, *CHANGES]])
-        left = {name: path.read_bytes() for name, path in paths.items()}
-        seen = answers, said, left, torn.read_bytes() if torn.exists() else b""
         wanted = (
             None if outcome.commits is None else [
                 answer if place < len(STATE) + outcome.commits else ["none NoAddress"]
                 for place, (_, _, answer) in enumerate([*STATE, *CHANGES])],
-            f"siplocd: state {state}{outcome.said}\n" if outcome.said else "",
+            outcome.line(state),
             {**files, "log": files["log"][:len(files["log"]) - len(outcome.torn)]}, outcome.torn)
+        seen = answers, said, *left_in(folder)
         return "" if seen == wanted else f"{damage}: {seen}, and not {wanted}"
+
+    def check_in(self, folder: pathlib.Path, damage: Damage) -> str:
+        """Has damaged files checked in a folder, which changes nothing. Returns what is wrong, if anything is."""
+        files, outcome, state = self.damaged(damage), self.outcome(damage), folder / "state"
+        put(folder, files)
+        ran = subprocess.run([PROGRAM, "check-state", str(state)], capture_output=True, text=True, timeout=PATIENCE,
+                             check=False)
+        commits = re.findall(r"^commits (\d+)$", ran.stdout, re.M)
+        seen = ran.returncode, commits, ran.stderr, *left_in(folder)
+        wanted = (1, []) if outcome.commits is None else (0, [str(outcome.commits)])
+        wanted = *wanted, outcome.line(state), files, b""
+        return "" if seen == wanted else f"{damage}: {seen}, and not {wanted}"
+
+
+def put(folder: pathlib.Path, files: dict[str, bytes]) -> None:
+    (folder / "state").write_bytes(files["state"])
+    (folder / "state.log").write_bytes(files["log"])
+    (folder / "state.log.torn").unlink(missing_ok=True)
+
+
+def left_in(folder: pathlib.Path) -> tuple[dict[str, bytes], bytes]:
+    """The files, and what is kept as torn."""
+    torn = folder / "state.log.torn"
+    left = {"state": (folder / "state").read_bytes(), "log": (folder / "state.log").read_bytes()}
+    return left, torn.read_bytes() if torn.exists() else b""
 
 
 def started_once(state: pathlib.Path, asked: Sequence[str]) -> tuple[Optional[list[Optional[list[str]]]], str]:
@@ -133,24 +157,34 @@ def started_once(state: pathlib.Path, asked: Sequence[str]) -> tuple[Optional[li
     return answers, said if answers or is_refused else f"{said} (after {line!r}, status {process.returncode})"
 
 
-def tried(files: Files, folder: pathlib.Path, damages: Sequence[Damage]) -> Iterator[str]:
-    """Tries damages, some at a time. Returns what is wrong with each, if anything is."""
+def tried(way: Callable[[pathlib.Path, Damage], str], folder: pathlib.Path, damages: Sequence[Damage]) -> Iterator[str]:
+    """Tries damages in a way, some at a time. Returns what is wrong with each, if anything is."""
     def share(place: int) -> list[str]:
         inner = folder / f"damaged-{place}"
         inner.mkdir()
-        return [files.try_in(inner, it) for it in damages[place::AT_ONCE]]
+        return [way(inner, it) for it in damages[place::AT_ONCE]]
 
     with concurrent.futures.ThreadPoolExecutor(AT_ONCE) as pool:
         for wrong in pool.map(share, range(AT_ONCE)):
             yield from wrong
 
 
+def some(files: Files, count: int) -> list[Damage]:
+    """So many damages: about the places at which something begins or ends, and at others by chance."""
+    every, edges = [*files.damages(1)], {*files.places, len(STATE_LINE), *(len(it) for it in files.octets.values())}
+    first = [it for it in every if {it.place, it.place + 1, it.place - 1} & edges]
+    return [*first, *random.Random(SEED).sample([it for it in every if it not in first], count - len(first))]
+
+
 @test
 def starts_on_no_damaged_file_in_silence(checks: Checks, folder: pathlib.Path) -> None:
     files = Files(checks, folder)
-    # (about the places at which something begins or ends, and at others by chance)
-    every, edges = [*files.damages(1)], {*files.places, len(STATE_LINE), *(len(it) for it in files.octets.values())}
-    first = [it for it in every if {it.place, it.place + 1, it.place - 1} & edges]
-    chosen = [*first, *random.Random(SEED).sample([it for it in every if it not in first], FEW - len(first))]
-    for wrong in tried(files, folder, chosen):
+    for wrong in tried(files.try_in, folder, some(files, FEW)):
+        checks.expect(not wrong, wrong)
+
+
+@test
+def a_check_of_damaged_files_says_what_a_start_does(checks: Checks, folder: pathlib.Path) -> None:
+    files = Files(checks, folder)
+    for wrong in tried(files.check_in, folder, some(files, FEW // 4)):
         checks.expect(not wrong, wrong)

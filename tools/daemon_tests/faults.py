@@ -365,7 +365,7 @@ class Faults:
                 clients.wrong.append(f"changes without a reply: {clients.may_be}")
             # As the process left it, and as the end of the machine may have left it then.
             for name, left in ("names that are not synced are lost", left_by_machine(folder, synced, False)), \
-                    ("octets that are not synced are lost", left_by_machine(folder, synced, True)), ("as it was left", folder):
+                    ("octets that are not synced are lost", left_by_machine(folder, synced, True)), ("as left", folder):
                 before = len(clients.wrong)
                 clients.check(left)
                 clients.wrong[before:] = [f"{name}: {it}" for it in clients.wrong[before:]]
@@ -408,7 +408,8 @@ def load(daemon: Daemon, clients: Clients, scene: str) -> None:
     chance, is_whole = random.Random(SEED), scene in WHOLE
     with concurrent.futures.ThreadPoolExecutor(5) as pool:
         if scene == "goes on":
-            works = [pool.submit(clients.use_on, daemon, place, count) for place, count in enumerate([20, 20, 20, LOADS])]
+            counts = [20, 20, 20, LOADS]
+            works = [pool.submit(clients.use_on, daemon, place, count) for place, count in enumerate(counts)]
         else:
             sizes = [[chance.choice([1, 1, 2, 5, 12]) for _ in range(12 if is_whole else 2)] for _ in range(3)]
             works = [pool.submit(clients.use, daemon, place, it) for place, it in enumerate(sizes)]
