@@ -419,9 +419,12 @@ def load(daemon: Daemon, clients: Clients, scene: str) -> None:
             work.result()
 
 
-def check_some(checks: Checks, folder: pathlib.Path, scenes: Sequence[str], count: int) -> None:
-    faults = Faults(folder)
-    runs = [*faults.run_all(faults.find(MOST, scenes)[:count])]
+def check_some(checks: Checks, scenes: Sequence[str], count: int) -> None:
+    # (in memory where it can be: each file is synced many times)
+    room = "/dev/shm" if os.access("/dev/shm", os.W_OK) else None
+    with tempfile.TemporaryDirectory(prefix="siplocd-", dir=room) as folder:
+        faults = Faults(pathlib.Path(folder))
+        runs = [*faults.run_all(faults.find(MOST, scenes)[:count])]
     for run in runs:
         checks.expect(not run.wrong, run.wrong)
     met = sum(run.is_met for run in runs)
@@ -429,10 +432,10 @@ def check_some(checks: Checks, folder: pathlib.Path, scenes: Sequence[str], coun
 
 
 @test
-def keeps_what_was_replied_to_whatever_fails(checks: Checks, folder: pathlib.Path) -> None:
-    check_some(checks, folder, ENDING, FEW)
+def keeps_what_was_replied_to_whatever_fails(checks: Checks, _: pathlib.Path) -> None:
+    check_some(checks, ENDING, FEW)
 
 
 @test
-def goes_on_whatever_fails(checks: Checks, folder: pathlib.Path) -> None:
-    check_some(checks, folder, ["goes on"], FEW // 4)
+def goes_on_whatever_fails(checks: Checks, _: pathlib.Path) -> None:
+    check_some(checks, ["goes on"], FEW // 4)
