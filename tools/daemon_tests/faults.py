@@ -125,6 +125,8 @@ class Clients:
         self.edits: list[Any] = list(copy.deepcopy(edits))
         self.may_be: list[list[Any]] = [[(own.hosts, own.held)] for own in self.edits]
         self.wrong: list[str] = []
+        # How many changes had a reply.
+        self.replied = 0
 
     def use(self, daemon: Daemon, place: int, sizes: Sequence[int], turns_pages: bool = False) -> bool:
         """One client sends batches of changes. Returns whether its connection did not end before."""
@@ -155,6 +157,7 @@ class Clients:
         if len(reply) != 1 or not reply[0].startswith(wanted):
             self.wrong.append(f"{line[-100:]}: {reply}, and not {wanted}")
         self.may_be[place].pop(0)
+        self.replied += 1
 
     def use_on(self, daemon: Daemon, place: int, count: int) -> None:
         """One client makes so many changes of a daemon that goes on where changes can't be written: it tries again
