@@ -10,6 +10,7 @@ import random
 import re
 import resource
 import runpy
+import select
 import signal
 import socket
 import time
@@ -17,7 +18,7 @@ import types
 from typing import Any, Iterator
 
 import siploc
-from daemon_tests.support import PATIENCE, SEED, TOP, Checks, Client, Daemon, started, stopped, test, until
+from daemon_tests.support import PATIENCE, SEED, TOP, Checks, Client, Daemon, polled, started, stopped, test, until
 
 # Sessions of `siploc` that a daemon must serve as well: by arguments and lines, without those whose reply depends on the
 # time, on a full journal, or on what one more session would see, and without those that end within a zone.
@@ -287,14 +288,18 @@ def never_reading(checks: Checks, daemon: Daemon, address: str, hosts: int = 1) 
         loaded = client.ask("\n".join([f"zone {apex} {len(lines)}", *lines]))
         checks.equal(loaded, [f"ok zone {len(lines)} 0 0 {hosts + 1}"], "a zone of many targets")
         checks.equal(len(client.ask(f"find sip:{apex[:-1]}") or []), 32 * hosts + 1, "lines of a reply")
-    slow = Client(address, is_slow=True)
-    slow.stream.settimeout(1)
-    with contextlib.suppress(OSError):
-        for _ in range(2_000):
-            slow.stream.sendall(f"find sip:{apex[:-1]}\n".encode() * 1_000)
+    slow, questions, place = Client(address, is_slow=True), f"find sip:{apex[:-1]}\n".encode() * 1_000, 0
+
+    def waits() -> bool:
+        """Sends on, and returns whether nothing is taken, and no question answered, for two seconds."""
+        nonlocal place
+        while polled(slow.stream, select.POLLOUT):
+            place += slow.stream.send(questions[place:], socket.MSG_DONTWAIT)
+            place %= len(questions)
+        return stands_still(daemon) and not polled(slow.stream, select.POLLOUT)
+
     # The system takes some megabytes of replies before a write has to wait.
-    until(lambda: stands_still(daemon), 6 * PATIENCE)
-    slow.stream.settimeout(PATIENCE)
+    checks.expect(until(waits, 6 * PATIENCE), "it is never waited for")
     return slow
 
 
@@ -318,13 +323,12 @@ def outlives_a_client_that_never_reads(checks: Checks, folder: pathlib.Path) -> 
 @test
 def closes_a_client_that_takes_no_reply(checks: Checks, folder: pathlib.Path) -> None:
     # Over TCP the system takes more of the replies meanwhile, and the thirty seconds begin anew.
-    unix = f"unix:{folder}/s"
+    unix, begin = f"unix:{folder}/s", time.monotonic()
     with started(checks, folder, "journal = 10000", unix=unix) as daemon, never_reading(checks, daemon, unix):
-        begin = time.monotonic()
         checks.equal(daemon.stats()["clients"], 1, "clients")
-        checks.expect(until(lambda: daemon.stats()["clients"] == 0, 45), "never closed")
-        # It has thirty seconds.
-        checks.expect(time.monotonic() - begin > 20, f"closed after {time.monotonic() - begin:.0f} seconds")
+        checks.expect(until(lambda: daemon.stats()["clients"] == 0, 30 + PATIENCE), "never closed")
+        # It has thirty seconds, from its last question on that was answered.
+        checks.expect(time.monotonic() - begin > 30, f"closed after {time.monotonic() - begin:.0f} seconds")
         stopped(checks, daemon)
 
 
@@ -390,12 +394,12 @@ def a_process_that_is_stopped_and_goes_on_ends_no_session(checks: Checks, folder
 
 @test
 def closes_clients_that_send_nothing(checks: Checks, folder: pathlib.Path) -> None:
-    with started(checks, folder, "idle = 2") as daemon, Client(daemon.address) as silent, Client(daemon.address) as lively:
+    with started(checks, folder, "idle = 5") as daemon, Client(daemon.address) as silent, Client(daemon.address) as lively:
         begin = time.monotonic()
-        for _ in range(10):
+        for _ in range(14):
             checks.equal(lively.ask("repair"), ["ok repair"], "of one that sends")
-            time.sleep(0.35)
-        checks.expect(silent.is_ended() and time.monotonic() - begin >= 2, "of one that is silent")
+            time.sleep(0.5)
+        checks.expect(silent.is_ended() and time.monotonic() - begin >= 5, "of one that is silent")
         checks.equal(lively.ask("repair"), ["ok repair"], "of one that sends")
         stopped(checks, daemon, 0)
 

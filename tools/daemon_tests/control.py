@@ -52,7 +52,10 @@ def silent_control_connections_keep_no_one_out(checks: Checks, folder: pathlib.P
     with started(checks, folder) as daemon, contextlib.ExitStack() as stack:
         silent = [stack.enter_context(Client(daemon.control)) for _ in range(7)]
         lively = silent.pop(0)
-        stack.enter_context(Client(daemon.control))
+        last = stack.enter_context(Client(daemon.control))
+        # (each has its place then: one that is heard before another comes was silent for longer)
+        for client in lively, *silent, last:
+            checks.equal((client.ask("now") or [""])[-1][:6], "ok now", "one of eight")
         for _ in range(12):
             checks.equal((lively.ask("stats") or [""])[-1], "ok stats", "of one that sends lines")
             more = stack.enter_context(Client(daemon.control))

@@ -13,7 +13,6 @@ import struct
 import subprocess
 
 import siploc
-from started import free_ports
 from daemon_tests.support import (
     PATIENCE,
     PROGRAM,
@@ -100,8 +99,8 @@ def prints_help_version_and_usage(checks: Checks, folder: pathlib.Path) -> None:
 
 @test
 def refuses_wrong_settings(checks: Checks, folder: pathlib.Path) -> None:
-    taken = free_ports(1)[0]
-    with socket.create_server(("127.0.0.1", taken)):
+    with socket.create_server(("127.0.0.1", 0)) as listener:
+        taken = listener.getsockname()[1]
         for settings, cause in [
             ("clients = 0", "clients"), ("clock = 1", "clock"), ('clock = "sun"', "clock"), ("sessions = 1", "sessions"),
             ("unknown = 1", "unknown"), ("mode = 512", "mode"), ("listen = []", "listen"), ("idle = 0", "idle"), ("find = 1", "find"),

@@ -18,8 +18,6 @@ import threading
 import time
 from typing import Any, Callable, Iterator, Optional, Sequence
 
-from started import free_ports
-
 TOP = pathlib.Path(__file__).resolve().parent.parent.parent
 # The program that is tested.
 PROGRAM = os.environ["PROGRAM"]
@@ -160,9 +158,8 @@ class Daemon:
                  waits: bool = True, listen: Sequence[str] = (), find: Sequence[str] = (), control: str = "", umask: int = -1,
                  environment: Optional[dict[str, str]] = None, file: Optional[pathlib.Path] = None) -> None:
         self.folder = folder
-        # A port of the system's choice, where it says which it is before anyone has to know.
-        port = 0 if waits else free_ports(1)[0]
-        own = [f"127.0.0.1:{port}"] + ([f"[::1]:{port}", unix] if unix else [])
+        # (the system chooses the ports, and the daemon prints them)
+        own = ["127.0.0.1:0"] + (["[::1]:0", unix] if unix else [])
         # Where it listens, as it prints that; the last is `control`.
         self.addresses = [*(listen or own), *find, control or f"unix:{folder}/control"]
         self.address, self.control = self.addresses[0], self.addresses[-1]

@@ -14,12 +14,12 @@ def a_hold_ends_by_itself(checks: Checks, folder: pathlib.Path) -> None:
         question, target = "find sip:192.0.2.1", ["target 1 udp 192.0.2.1 5060", "ok find 1"]
         checks.equal(client.ask(question), target, "before")
         begin = time.monotonic()
-        checks.equal(client.ask("hold udp 192.0.2.1 5060 700"), ["ok hold"], "hold")
+        checks.equal(client.ask("hold udp 192.0.2.1 5060 3000"), ["ok hold"], "hold")
         # (by another client, which types nothing but the question)
         with Client(daemon.address) as other:
             checks.equal(other.ask(question), ["none AllHeld"], "held")
             checks.expect(until(lambda: other.ask(question) == target), "held for ever")
-        checks.expect(time.monotonic() - begin >= 0.7, f"held for {time.monotonic() - begin:.3f} seconds of 0.7")
+        checks.expect(time.monotonic() - begin >= 3, f"held for {time.monotonic() - begin:.3f} seconds of 3")
         checks.equal(client.ask("clock 1"), ["err D1"], "clock")
         # Without holds and calls the time costs nothing.
         before = daemon.stats()["events"]

@@ -8,8 +8,7 @@ import pathlib
 import socket
 import subprocess
 
-from daemon_tests.support import PROGRAM, TOP, Checks, test, until
-from started import free_ports
+from daemon_tests.support import PATIENCE, PROGRAM, TOP, Checks, test, until
 
 # Users and groups that nobody has: of the daemon, of the proxy, of another program; the group that the unit names.
 DAEMON, PROXY, OTHER, NAMED = 64_101, 64_102, 64_103, 64_104
@@ -44,7 +43,7 @@ def the_unit_lets_the_proxy_in(checks: Checks, folder: pathlib.Path) -> None:
     for path, mode in ((run, 0o755), (state, 0o700)):
         path.mkdir(mode)
         os.chown(path, DAEMON, group)
-    text = (TOP / "examples/siplocd.toml").read_text().replace("127.0.0.1:5099", f"127.0.0.1:{free_ports(1)[0]}")
+    text = (TOP / "examples/siplocd.toml").read_text().replace("127.0.0.1:5099", "127.0.0.1:0")
     text = text.replace("/run/siplocd/", f"{run}/").replace("/var/lib/siplocd/", f"{state}/")
     stop = unit["Service"]["ExecStop"].replace("/run/siplocd/", f"{run}/").replace("/var/lib/siplocd/", f"{state}/")
     process = subprocess.Popen([PROGRAM, text], user=DAEMON, group=group, extra_groups=[], stdout=subprocess.DEVNULL, cwd="/")
@@ -57,8 +56,8 @@ def the_unit_lets_the_proxy_in(checks: Checks, folder: pathlib.Path) -> None:
         checks.expect(not may_connect(control, PROXY, members), "the proxy can connect to the control address")
         words = [PROGRAM, *stop.split(" ")[1:]]
         checks.equal(subprocess.run(words, user=DAEMON, group=group, extra_groups=[], stdout=subprocess.PIPE, text=True,
-                                    timeout=20, check=False).stdout, "ok stop\n", "the unit's stop")
-        checks.equal(process.wait(20), 0, "its status")
+                                    timeout=PATIENCE, check=False).stdout, "ok stop\n", "the unit's stop")
+        checks.equal(process.wait(PATIENCE), 0, "its status")
     finally:
         process.kill()
         process.wait()
