@@ -84,7 +84,7 @@ class Files:
         return {**self.octets, damage.file: octets[:damage.place] + end}
 
     def outcome(self, damage: Damage) -> Outcome:
-        """What a start has to do, as docs/FORMATS.md says."""
+        """What a start has to do, as docs/use/FORMATS.md says."""
         if damage.file == "state":
             return Outcome(": line 1" if damage.place < len(STATE_LINE) else ": not as it was written", None, b"")
         if damage.place < HEAD_LEN:
