@@ -16,6 +16,8 @@ const DEFAULTS: [(&str, &str); 17] = [
     ("listen", "127.0.0.1:5099"),
     ("log", "info"),
     ("mode", "384"),
+    ("on_failure", "end"),
+    ("page_octets", "67108864"),
     ("records", "1048576"),
     ("stdin", "ignore"),
     ("transports", "udp,tcp"),
