@@ -4,7 +4,7 @@ use std::fmt::Write as _;
 use toml::Value;
 
 // The settings of the daemon that have a default, as the texts of their values.
-const DEFAULTS: [(&str, &str); 17] = [
+const DEFAULTS: [(&str, &str); 19] = [
     ("clients", "512"),
     ("clock", "host"),
     ("entries", "65536"),
