@@ -66,12 +66,12 @@ pub(crate) fn read_arguments<R: Env + AllocGlobal>(rt: &R) -> Result<Call, Unrea
     }
     match command(alloc)?.try_get_matches_from(words.as_slice()) {
         Ok(matches) => call_of(alloc, &matches),
-        Err(error) => Err(unread(&words, error)),
+        Err(error) => Err(reason_of(&words, error)),
     }
 }
 
 // Why the words ask for nothing that is done. Where there is no option, the usage says it all.
-fn unread(words: &[String], error: Error) -> Unread {
+fn reason_of(words: &[String], error: Error) -> Unread {
     if error.kind() == ErrorKind::OutOfMemory {
         return Unread::Memory;
     }
@@ -89,16 +89,16 @@ fn unread(words: &[String], error: Error) -> Unread {
 // What the words of a call ask for, if they are right.
 fn call_of(alloc: Global, matches: &ArgMatches<'_>) -> Result<Call, Unread> {
     match matches.subcommand() {
-        Some(("run", words)) => Ok(Call::Run(given(alloc, words)?)),
-        Some(("world", words)) => Ok(Call::World(given(alloc, words)?)),
-        Some(("serve", words)) => Ok(Call::Serve(given(alloc, words)?)),
+        Some(("run", words)) => Ok(Call::Run(settings_of(alloc, words)?)),
+        Some(("world", words)) => Ok(Call::World(settings_of(alloc, words)?)),
+        Some(("serve", words)) => Ok(Call::Serve(settings_of(alloc, words)?)),
         Some((_, words)) => read_apex(alloc, words.get_str("APEX").unwrap_or("")),
         None => Err(Unread::Wrong),
     }
 }
 
 // The settings that a command has.
-fn given(alloc: Global, words: &ArgMatches<'_>) -> Result<Given, AllocError> {
+fn settings_of(alloc: Global, words: &ArgMatches<'_>) -> Result<Given, AllocError> {
     match words.get_str("FILE") {
         Some(path) => Ok(Given::File(String::from_str(alloc, path)?)),
         None => Ok(Given::Text(String::from_str(alloc, words.get_str("SETTINGS").unwrap_or(""))?)),
