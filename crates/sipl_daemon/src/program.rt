@@ -31,7 +31,7 @@ const USAGE: &str = "Usage: siplocd [OPTIONS] [SETTINGS]\n       siplocd <COMMAN
 const WRONG_ARGUMENTS: u8 = 2;
 
 // How long the end waits for the log to be written, in milliseconds.
-const LAST_LINES: u64 = 1_000;
+const LAST_LINES: u64 = 3_000;
 
 /// Does what the arguments of a process ask for. The status is 0, 1 after a fault, or where a line that
 /// was told is refused, or 2 where the arguments are wrong; for a fault and for 2 standard error has the

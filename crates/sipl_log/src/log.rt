@@ -72,24 +72,44 @@ impl Log {
     /// Writes lines as they come, without end. One thread of the program does, for which nothing waits: standard error
     /// may be a pipe that no one reads.
     pub fn run<R: Eprint + Wait + Clock>(&self, rt: &R) {
-        self.queue.lock(rt).has_writer = true;
+        self.expect_writer(rt);
         for _ in 0..u64::MAX {
             self.write_next(rt);
         }
     }
 
-    /// Waits until all lines are written, for so long at most. Where no thread writes them, this one does.
-    pub fn end<R: Eprint + Wait + Clock>(&self, rt: &R, longest: Duration) {
-        let mut queue = self.queue.lock(rt);
+    /// A thread writes lines from now on, or is about to.
+    pub fn expect_writer<R: Wait>(&self, rt: &R) {
+        self.queue.lock(rt).has_writer = true;
+    }
+
+    /// Waits until all lines are written, for so long at most, if a thread writes them.
+    pub fn wait_until_written<R: Wait + Clock>(&self, rt: &R, longest: Duration) {
+        let queue = self.queue.lock(rt);
         if queue.has_writer {
             let _queue = self
                 .changed
                 .wait_timeout_while(rt, queue, longest, |queue| !queue.is_done());
-            return;
         }
-        let text = queue.take();
-        drop(queue);
-        let _ = eprint!(rt; "{text}");
+    }
+
+    /// Waits until all lines are written, for so long at most. This thread writes those that no other one has begun to
+    /// write.
+    pub fn end<R: Eprint + Wait + Clock>(&self, rt: &R, longest: Duration) {
+        self.wait_until_written(rt, longest);
+        let text = self.take_rest(rt);
+        if !text.is_empty() {
+            let _ = eprint!(rt; "{text}");
+        }
+    }
+
+    // Takes out the lines that wait, unless a thread is at writing others.
+    fn take_rest<R: Wait>(&self, rt: &R) -> String {
+        let mut queue = self.queue.lock(rt);
+        if queue.is_writing {
+            return String::new(self.alloc);
+        }
+        queue.take()
     }
 
     // Waits for lines, and writes them.

@@ -21,7 +21,10 @@ fn main(rt: HostRuntime) -> Result<ExitCode, AllocError> {
     let _watching = thread::spawn(&rt, move || watched.run(&rt));
     let log = Arc::new(rt.alloc(), Log::new(rt.alloc()))?;
     let written = Arc::try_clone(&log)?;
-    let _writing = thread::spawn(&rt, move || written.run(&rt));
+    let writing = thread::spawn(&rt, move || written.run(&rt));
+    if writing.is_ok() {
+        log.expect_writer(&rt);
+    }
     let _types: HostTypes = PhantomData;
     Ok(start(&rt, &rt, &input, &log))
 }

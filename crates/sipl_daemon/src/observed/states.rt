@@ -6,8 +6,11 @@ use sipl_log::Level;
 use std::alloc::AllocError;
 use std::rt::Files;
 use std::sync::Wait;
-use std::time::{Clock, Instant};
+use std::time::{Clock, Duration, Instant};
 use std::{fs, io};
+
+// How long a message of the start waits until it is written, in milliseconds.
+const TOLD: u64 = 1_000;
 
 impl Observed {
     /// Tells that a state was written which was begun at a time: how long it took, and how long it is.
@@ -25,8 +28,8 @@ impl Observed {
         self.log.push(rt, with_time(rt, line, begun));
     }
 
-    /// Says that a log had a write that did not end, at this octet.
-    pub(crate) fn tell_torn<R: Wait>(
+    /// Says that a log had a write that did not end, at this octet, before anything else is done.
+    pub(crate) fn tell_torn<R: Wait + Clock>(
         &self,
         rt: &R,
         path: &str,
@@ -35,6 +38,7 @@ impl Observed {
         let mut text = String::new(self.alloc);
         write_torn(&mut text, path, octet)?;
         self.log.push_message(rt, Level::Warn, text.as_str());
+        self.log.wait_until_written(rt, Duration::from_millis(TOLD));
         Ok(())
     }
 
