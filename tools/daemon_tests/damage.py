@@ -13,7 +13,7 @@ import subprocess
 from typing import Callable, Iterator, NamedTuple, Optional, Sequence
 
 from commits import HEAD_LEN, LINE_LEN, STATE_LINE, bodies_of, body_of, log_of, state_of
-from daemon_tests.support import PATIENCE, PROGRAM, SEED, Checks, Client, polled, started, test
+from daemon_tests.support import LOGGED, PATIENCE, PROGRAM, SEED, Checks, Client, polled, started, test
 
 # How much damage the test tries, and in how many folders at once.
 FEW, AT_ONCE = int(os.environ.get("DAMAGES", "600")), 4
@@ -153,7 +153,8 @@ def started_once(state: pathlib.Path, asked: Sequence[str]) -> tuple[Optional[li
             is_refused = not line and process.wait(PATIENCE) == 1
         finally:
             process.kill()
-        said = process.stderr.read().decode(errors="replace")
+        lines = process.stderr.read().decode(errors="replace").splitlines(keepends=True)
+    said = "".join(it for it in lines if not LOGGED.match(it))
     return answers, said if answers or is_refused else f"{said} (after {line!r}, status {process.returncode})"
 
 
