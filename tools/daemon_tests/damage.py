@@ -174,7 +174,7 @@ def some(files: Files, count: int) -> list[Damage]:
     """So many damages: about the places at which something begins or ends, and at others by chance."""
     every, edges = [*files.damages(1)], {*files.places, len(STATE_LINE), *(len(it) for it in files.octets.values())}
     first = [it for it in every if {it.place, it.place + 1, it.place - 1} & edges]
-    return [*first, *random.Random(SEED).sample([it for it in every if it not in first], count - len(first))]
+    return [*first, *random.Random(SEED).sample([it for it in every if it not in first], max(0, count - len(first)))]
 
 
 @test
