@@ -140,7 +140,7 @@ def left_in(folder: pathlib.Path) -> tuple[dict[str, bytes], bytes]:
 
 def started_once(state: pathlib.Path, asked: Sequence[str]) -> tuple[Optional[list[Optional[list[str]]]], str]:
     """The answers of a daemon that is started over a state and killed then, None where it is refused; what it says."""
-    settings = f'listen = ["unix:{state.parent}/lines"]\nstate = "{state}"\nclock = "lines"\nworkers = 0'
+    settings = f'listen = ["unix:{state.parent}/lines"]\nstate = "{state}"\nclock = "lines"\nlog = "off"\nworkers = 0'
     answers = None
     with subprocess.Popen([PROGRAM, settings], stdin=subprocess.DEVNULL, stdout=subprocess.PIPE,
                           stderr=subprocess.PIPE) as process:

@@ -4,7 +4,7 @@ use std::fmt::Write as _;
 use toml::Value;
 
 // The settings of the daemon that have a default, as the texts of their values.
-const DEFAULTS: [(&str, &str); 17] = [
+const DEFAULTS: [(&str, &str); 19] = [
     ("clients", "512"),
     ("clock", "host"),
     ("entries", "65536"),
@@ -16,6 +16,8 @@ const DEFAULTS: [(&str, &str); 17] = [
     ("listen", "127.0.0.1:5099"),
     ("log", "info"),
     ("mode", "384"),
+    ("on_failure", "end"),
+    ("page_octets", "67108864"),
     ("records", "1048576"),
     ("stdin", "ignore"),
     ("transports", "udp,tcp"),

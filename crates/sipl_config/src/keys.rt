@@ -7,7 +7,7 @@ pub fn service_keys() -> &'static str {
 
 /// The keys of the daemon.
 pub fn daemon_keys() -> &'static str {
-    "archive, clients, clock, control, entries, families, find, held, holds, idle, journal, listen, log, metrics, mode, records, state, stdin, transports, tries, workers and zone_octets"
+    "archive, clients, clock, control, entries, families, find, held, holds, idle, journal, listen, log, metrics, mode, on_failure, page_octets, records, state, stdin, transports, tries, workers and zone_octets"
 }
 
 /// What the value of a key of `run`, `world` and `serve` may be.
@@ -44,6 +44,8 @@ pub fn daemon_value(key: &str) -> Option<&'static str> {
         "log" => "\"off\", \"error\", \"warn\", \"info\" or \"debug\"",
         "metrics" => "an address, as \"127.0.0.1:9464\"",
         "mode" => "0 to 511 (0o777)",
+        "on_failure" => "\"end\" or \"read\"",
+        "page_octets" => "1 to 1099511627776",
         "sessions" => return None,
         "state" => "the path of a file",
         "stdin" => "\"stop\" or \"ignore\"",

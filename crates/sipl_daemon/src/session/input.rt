@@ -9,6 +9,7 @@ use crate::session::course::Course;
 use crate::session::meter::ZoneMeter;
 use sipl_lines::MAX_LINE_LEN;
 use sipl_listen::Stream;
+use std::alloc::Global;
 use std::io;
 use std::io::{ErrorKind, Read};
 use std::time::Clock;
@@ -21,6 +22,7 @@ const TOO_LONG: usize = MAX_LINE_LEN + 1;
 /// the session refuses the zone for it and keeps no lines.
 #[derive(Drop)]
 pub(crate) struct Input<'a, R> {
+    alloc: Global,
     rt: &'a R,
     daemon: &'a Daemon,
     stream: &'a Stream,
@@ -45,6 +47,7 @@ impl<'a, R: Clock> Input<'a, R> {
     ) -> Self {
         let alloc = daemon.alloc;
         Input {
+            alloc,
             rt,
             daemon,
             stream,
@@ -130,7 +133,7 @@ impl<'a, R: Clock> Input<'a, R> {
 
     // Keeps what was read for later, before the rest of the tail.
     fn keep(&mut self, octets: &[u8]) -> io::Result<()> {
-        let mut tail = Vec::from_slice(self.daemon.alloc, octets)?;
+        let mut tail = Vec::from_slice(self.alloc, octets)?;
         let rest = self.tail.as_slice().get(self.begin..).unwrap_or(&[]);
         tail.extend_from_slice(rest)?;
         self.tail = tail;
