@@ -10,7 +10,7 @@ import random
 import re
 import select
 import subprocess
-from typing import Callable, Iterator, NamedTuple, Optional, Sequence
+from typing import Any, Callable, Iterator, NamedTuple, Optional, Sequence
 
 from commits import HEAD_LEN, LINE_LEN, STATE_LINE, bodies_of, body_of, log_of, state_of
 from daemon_tests.support import PATIENCE, PROGRAM, SEED, Checks, Client, polled, started, test
@@ -102,7 +102,7 @@ class Files:
         """Starts a daemon over damaged files in a folder. Returns what is wrong, if anything is."""
         files, outcome, state = self.damaged(damage), self.outcome(damage), folder / "state"
         put(folder, files)
-        answers, said = started_once(state, [question for _, question, _ in [*STATE, *CHANGES]])
+        answers, said = started_once(state, [question for _, question, _ in [*STATE, *CHANGES]], bool(outcome.said))
         wanted = (
             None if outcome.commits is None else [
                 answer if place < len(STATE) + outcome.commits else ["none NoAddress"]
@@ -138,10 +138,11 @@ def left_in(folder: pathlib.Path) -> tuple[dict[str, bytes], bytes]:
     return left, torn.read_bytes() if torn.exists() else b""
 
 
-def started_once(state: pathlib.Path, asked: Sequence[str]) -> tuple[Optional[list[Optional[list[str]]]], str]:
-    """The answers of a daemon that is started over a state and killed then, None where it is refused; what it says."""
+def started_once(state: pathlib.Path, asked: Sequence[str], says: bool) -> tuple[Optional[list[Any]], str]:
+    """The answers of a daemon that is started over a state and killed then, None where it is refused; what it says.
+    Where it has to say something it is not killed before that."""
     settings = f'listen = ["unix:{state.parent}/lines"]\nstate = "{state}"\nclock = "lines"\nlog = "off"\nworkers = 0'
-    answers = None
+    answers, first = None, b""
     with subprocess.Popen([PROGRAM, settings], stdin=subprocess.DEVNULL, stdout=subprocess.PIPE,
                           stderr=subprocess.PIPE) as process:
         try:
@@ -150,10 +151,12 @@ def started_once(state: pathlib.Path, asked: Sequence[str]) -> tuple[Optional[li
                 with Client(line.split()[1]) as client:
                     client.send("".join(f"{question}\n" for question in asked))
                     answers = [client.reply() for _ in asked]
+                if says and polled(process.stderr, select.POLLIN, PATIENCE):
+                    first = process.stderr.readline()
             is_refused = not line and process.wait(PATIENCE) == 1
         finally:
             process.kill()
-        said = process.stderr.read().decode(errors="replace")
+        said = (first + process.stderr.read()).decode(errors="replace")
     return answers, said if answers or is_refused else f"{said} (after {line!r}, status {process.returncode})"
 
 
@@ -173,7 +176,7 @@ def some(files: Files, count: int) -> list[Damage]:
     """So many damages: about the places at which something begins or ends, and at others by chance."""
     every, edges = [*files.damages(1)], {*files.places, len(STATE_LINE), *(len(it) for it in files.octets.values())}
     first = [it for it in every if {it.place, it.place + 1, it.place - 1} & edges]
-    return [*first, *random.Random(SEED).sample([it for it in every if it not in first], count - len(first))]
+    return [*first, *random.Random(SEED).sample([it for it in every if it not in first], max(0, count - len(first)))]
 
 
 @test

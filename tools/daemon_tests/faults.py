@@ -67,7 +67,7 @@ class Run(NamedTuple):
 
 class Loads:
     """The edits of a client that loads a zone of long names again and again, which makes the log long. There is one
-    record more each time."""
+    record more each time, up to 200."""
 
     # (a name of 240 octets, of which most are printed as four)
     apex = ".".join(["\\001" * 63] * 3 + ["\\001" * 40]) + "."
@@ -76,7 +76,7 @@ class Loads:
 
     def next(self) -> tuple[str, str, Any]:
         """A line, its reply, and what there is after it."""
-        count = (self.hosts or 150) + 1
+        count = 151 if self.hosts in (None, 200) else self.hosts + 1
         text = "".join(f"\nt{n} SRV 0 0 1 t" for n in range(count))
         return f"zone {self.apex} {count}{text}", f"ok zone {count} 0 0 ", (count, self.held)
 

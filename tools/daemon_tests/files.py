@@ -8,7 +8,7 @@ from typing import Optional
 
 import snapshots
 from commits import HEAD_LEN, LINE_LEN, bodies_of, body_of, log_of, state_of
-from daemon_tests.support import SEED, Checks, Client, ended_start, started, stopped, test
+from daemon_tests.support import SEED, Checks, Client, ended_start, started, stopped, test, until
 
 
 @test
@@ -28,6 +28,8 @@ def reads_its_log(checks: Checks, folder: pathlib.Path) -> None:
         with started(checks, folder, state) as daemon, Client(daemon.address) as client:
             checks.equal(client.ask("find sip:b.example.com:1"), ["target 1 udp 192.0.2.2 1", "ok find 1"], ("torn", torn))
             checks.equal(client.ask("find sip:c.example.com:1"), ["none NoAddress"], ("torn", torn))
+            # (it is told by a thread of its own)
+            until(daemon.said)
             daemon.kill()
         checks.equal(daemon.said(), f"siplocd: state {folder}/state.log: a write did not end at octet {len(octets)}\n", ("torn", torn))
         checks.equal((log.read_bytes(), (folder / "state.log.torn").read_bytes()), (octets, torn), "what is left, and what is kept")
