@@ -196,13 +196,17 @@ def writes_a_state_at_a_page(checks: Checks, folder: pathlib.Path) -> None:
             daemon.kill()
 
     with started(checks, folder, settings) as daemon, Client(daemon.address) as client:
-        while log.stat().st_size < 1 << 20 and steps.make(client):
+        while log.stat().st_size < 900_000 and steps.make(client):
             pass
         time.sleep(0.2)
-        checks.equal(state.read_bytes(), state_of(b"# page 0\n"), "a state before a page is turned")
+        checks.equal(state.read_bytes(), state_of(b"# page 0\n"), "a state while the log is short")
         for _ in range(8):
             client.send(questions)
             checks.equal([client.reply() for _ in range(50)], [answer] * 50, "questions")
+        checks.expect(until(lambda: daemon.stats()["pages"] >= 1), "a page")
+        checks.equal(state.read_bytes(), state_of(b"# page 0\n"), "a state after a page, while the log is short")
+        while log.stat().st_size > HEAD_LEN and body_of(state.read_bytes()) == b"# page 0\n" and steps.make(client):
+            pass
         checks.expect(until(lambda: body_of(state.read_bytes()).startswith(b"# page 1\n")), "no state at a page")
         checks.expect(until(lambda: log.stat().st_size == HEAD_LEN), f"{log.stat().st_size} octets of a log after a state")
         checks.equal(log.read_bytes(), log_of(state.read_bytes(), []), "no changes")

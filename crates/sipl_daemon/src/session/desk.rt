@@ -5,6 +5,7 @@ ghost use Rattle.sipl_daemon.specs.declared.fault.DeskFault.TheVariants.{AsksOnl
 use crate::daemon::Daemon;
 use crate::fault::DeskFault;
 use crate::journal::pages::{answer_octets, board_octets, edit_octets};
+use crate::settings::OnFailure;
 use sipl_book::{Done, Edit, Extent, Handed};
 use sipl_choice::Endpoint;
 use sipl_evidence::Evidence;
@@ -98,11 +99,12 @@ impl<'a, R: Wait + Clock> SessionDesk<'a, R> {
         self.place.load(Ordering::SeqCst)
     }
 
-    // Checks that a change can be written to the files of the state, if there are any.
+    // Checks that a change can be written to the files of the state, if there are any, where the daemon goes on when
+    // it can't be.
     fn check_kept(&self) -> Result<(), DeskFault>
         ensures { IfErr result (λ fault. fault ≡ NotKept) }
     {
-        if self.daemon.source.has_failed() {
+        if self.daemon.on_failure == OnFailure::Read && self.daemon.source.has_failed() {
             Err(DeskFault::NotKept)
         } else {
             Ok(())
