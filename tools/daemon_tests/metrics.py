@@ -185,8 +185,9 @@ def has_eight_scrapers_at_most(checks: Checks, folder: pathlib.Path) -> None:
             stopped(checks, daemon, 0)
 
 
-@test
-def is_not_healthy_once_it_stops(checks: Checks, folder: pathlib.Path) -> None:
+def asked_once_it_stops(checks: Checks, folder: pathlib.Path) -> list[str]:
+    """Asks a daemon whether it is healthy, before it is stopped, and until it ends: the last status lines."""
+    seen = []
     with started(checks, folder, 'metrics = "127.0.0.1:0"') as daemon:
         address = metrics_of(daemon)
         checks.equal(get(address, "/healthz")[2], "ok\n", "before")
@@ -197,13 +198,20 @@ def is_not_healthy_once_it_stops(checks: Checks, folder: pathlib.Path) -> None:
                 client.stream.settimeout(1)
                 for _ in range(200):
                     client.send("find sip:example.com\n" * 2_000)
-            with Client(daemon.control) as control:
+            with Client(daemon.control) as control, contextlib.suppress(OSError, ValueError):
                 control.send("stop\n")
                 control.reply()
-                seen = []
-                with contextlib.suppress(OSError, ValueError):
-                    for _ in range(200):
-                        seen.append(get(address, "/healthz")[0])
-                        time.sleep(0.02)
-            checks.expect("HTTP/1.1 503 Service Unavailable" in seen, seen[:3] + seen[-3:])
+                for _ in range(200):
+                    seen.append(get(address, "/healthz")[0])
+                    time.sleep(0.02)
         checks.equal(daemon.end()[0], 0, "its status")
+    return seen
+
+
+@test
+def is_not_healthy_once_it_stops(checks: Checks, folder: pathlib.Path) -> None:
+    # (a busy machine may take the second that there is for it)
+    tries = [asked_once_it_stops(checks, folder)]
+    while "HTTP/1.1 503 Service Unavailable" not in tries[-1] and len(tries) < 5:
+        tries.append(asked_once_it_stops(checks, folder))
+    checks.expect("HTTP/1.1 503 Service Unavailable" in tries[-1], [seen[-3:] for seen in tries])
