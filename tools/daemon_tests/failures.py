@@ -166,3 +166,34 @@ def claims_its_pages_while_it_starts(checks: Checks, folder: pathlib.Path) -> No
             sizes.append(daemon.peak())
             daemon.kill()
     checks.expect(sizes[1] < 2 * sizes[0], f"{sizes[1]} octets at most, and {sizes[0]} where no page is turned")
+
+
+@test
+def pages_wait_until_they_are_archived(checks: Checks, folder: pathlib.Path) -> None:
+    archive, syncs = folder / "archive", Syncs(folder)
+    archive.mkdir()
+    settings = f'archive = "{archive}"\non_failure = "read"\nclock = "lines"'
+    with started(checks, folder, settings, environment=syncs.environment) as daemon, Client(daemon.address) as client:
+        checks.equal(client.ask("zone example.com. 1\na A 192.0.2.1"), ["ok zone 1 0 0 1"], "zone")
+        syncs.fail("write", errno.ENOSPC)
+        for number in range(4):
+            daemon.tell("page")
+            checks.equal(client.ask("find sip:a.example.com:1"), target(1), f"a question after page {number}")
+        checks.expect(until(lambda: daemon.said() == "siplocd: archive: No space left on device (os error 28): pages wait\n"), daemon.said())
+        checks.equal(list(archive.glob("*page*")), [], "pages")
+        syncs.fail("write", 0)
+        checks.expect(until(lambda: daemon.said().endswith("siplocd: archive: written again\n")), daemon.said())
+        checks.expect(until(lambda: daemon.stats()["waiting"] == 0), daemon.stats())
+        stopped(checks, daemon, 5)
+    ran = subprocess.run([PROGRAM, "replay", str(archive)], capture_output=True, text=True, timeout=60, check=False)
+    checks.equal((ran.returncode, ran.stdout, ran.stderr), (0, "replayed 5\n", ""), "replay")
+    # So many pages may wait, and no more.
+    with started(checks, folder, settings, environment=syncs.environment) as daemon, Client(daemon.address) as client:
+        syncs.fail("write", errno.ENOSPC)
+        for _ in range(40):
+            if client.ask("find sip:a.example.com:1") is None:
+                break
+            daemon.tell("page")
+        checks.equal(daemon.end()[0], 1, "its status")
+        checks.expect(daemon.said().endswith("siplocd: archive: No space left on device (os error 28)\n"), daemon.said())
+    syncs.fail("write", 0)

@@ -182,6 +182,9 @@ class Clients:
         seen = own.seen(client) if isinstance(own, Edits) else may_be[-1]
         if client.ask("repair") is None:
             return False
+        if seen[0] == {} and seen not in may_be:
+            # (where changes are refused, a zone that is not loaded can't be told from an empty one)
+            seen = None, seen[1]
         if seen not in may_be:
             self.wrong.append(f"{seen} after a connection, and not one of {may_be}")
         else:
@@ -393,8 +396,8 @@ def is_outlived(fault: Fault) -> bool:
 
 
 def is_gone_on(fault: Fault) -> bool:
-    """Whether a daemon that is to go on where changes can't be written has to do that."""
-    return fault.scene == "goes on" and fault.action not in ENDS and not fault.name.startswith("archive")
+    """Whether a daemon that is to go on where changes can't be written, or pages archived, has to do that."""
+    return fault.scene == "goes on" and fault.action not in ENDS
 
 
 def is_end(fault: Fault, is_met: bool, status: Optional[int], last: str, said: str) -> bool:

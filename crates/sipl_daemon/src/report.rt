@@ -118,11 +118,6 @@ pub(crate) fn write_torn(out: &mut String, path: &str, octet: usize) -> Result<(
     )
 }
 
-/// Appends that changes can't be written, and are refused.
-pub(crate) fn write_refusing(out: &mut String, error: &io::Error) -> Result<(), AllocError> {
-    write!(out, "siplocd: state: {error}: changes are refused")
-}
-
 // Appends why the daemon ends with a fault.
 fn write_close_fault(out: &mut String, fault: &CloseFault) -> Result<(), AllocError> {
     match fault {

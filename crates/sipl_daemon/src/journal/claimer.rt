@@ -13,6 +13,15 @@ use std::time::{Clock, Duration, Instant};
 // How long a claim waits for receipts that are on their way, in milliseconds.
 const PATIENCE: u64 = 20;
 
+// How long it is until a page is archived again that could not be, in milliseconds, and how many others may wait
+// meanwhile.
+const AGAIN: u64 = 1_000;
+
+const MAX_WAITING: usize = 8;
+
+// What is said once that page is archived.
+const ARCHIVED: &str = "siplocd: archive: written again";
+
 /// Claims pages until the daemon is to stop. A fault stops it: then the journal is not what callers were
 /// told, or a page can't be archived, or the state can't be written, unless it is to go on then.
 pub(crate) fn claim_pages<H: Host>(host: &H, daemon: &Daemon, claims: &mut Claims) {
@@ -42,19 +51,59 @@ pub(crate) fn claim_turned<R: Files<File = File> + Wait + Clock>(
     }
 }
 
-// Tries to claim the next page, and waits where that is not to be claimed yet.
+// Tries to claim the next page, and waits where that is not to be claimed yet. A page that could not be archived comes
+// before it.
 fn claim_once<H: Host>(host: &H, daemon: &Daemon, claims: &mut Claims) {
+    if let Some(turned) = claims.take_unarchived() {
+        keep_or_wait(host, daemon, claims, turned, true);
+        return;
+    }
     let claimed = claims.claim_next(host, &daemon.pages);
     let waiting = daemon.pages.waiting(host) as u64;
     daemon
         .observed
         .see_pages(host, daemon.pages.claimed(), waiting);
     match claimed {
-        Ok(Claimed::Page) => keep_claimed(host, daemon, claims),
+        Ok(Claimed::Page) => {
+            if let Some(turned) = claims.take() {
+                keep_or_wait(host, daemon, claims, turned, false);
+            }
+        }
         Ok(Claimed::NotYet) => daemon.stop.pause(host, Duration::from_millis(PATIENCE)),
         Ok(Claimed::Nothing) => daemon.pages.wait_for_page(host),
         Err(fault) => fail(host, daemon, claims, CloseFault::Claim(fault)),
     }
+}
+
+// Keeps a page that was claimed. Where it can't be archived, and the daemon is to go on then, it is kept until that is
+// tried again.
+fn keep_or_wait<H: Host>(
+    host: &H,
+    daemon: &Daemon,
+    claims: &mut Claims,
+    turned: Turned,
+    has_waited: bool,
+) {
+    match keep(host, daemon, &turned) {
+        Ok(()) => {
+            if has_waited {
+                daemon.observed.say(host, ARCHIVED);
+            }
+        }
+        Err(CloseFault::Archive(error)) if may_wait(host, daemon) => {
+            if !has_waited {
+                daemon.observed.say_waiting(host, &error);
+            }
+            claims.put_unarchived(turned);
+            daemon.stop.pause(host, Duration::from_millis(AGAIN));
+        }
+        Err(fault) => fail(host, daemon, claims, fault),
+    }
+}
+
+// Whether a page may wait until it can be archived.
+fn may_wait<H: Host>(host: &H, daemon: &Daemon) -> bool {
+    daemon.on_failure == OnFailure::Read && daemon.pages.waiting(host) < MAX_WAITING
 }
 
 // Keeps the page that was claimed.

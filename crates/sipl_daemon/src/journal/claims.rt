@@ -11,13 +11,14 @@ use std::fs::File;
 use std::rt::Files;
 use std::sync::Wait;
 
-/// What was claimed, the receipts that are to be added to it, the page that is to be claimed next, and the
-/// fault with which the daemon is to end, if there is one.
+/// What was claimed, the receipts that are to be added to it, the page that is to be claimed next, the one that was
+/// claimed and could not be archived, and the fault with which the daemon is to end, if there are any.
 #[derive(Drop)]
 pub(crate) struct Claims {
     ledger: Ledger,
     handed: VecDeque<Receipts>,
     next: Option<Turned>,
+    unarchived: Option<Turned>,
     fault: Option<CloseFault>,
 }
 
@@ -39,6 +40,7 @@ impl Claims {
             ledger: Ledger::new(alloc),
             handed: VecDeque::new(alloc),
             next: None,
+            unarchived: None,
             fault: None,
         }
     }
@@ -46,6 +48,16 @@ impl Claims {
     /// Takes the page out that is to be claimed next, or was claimed last.
     pub(crate) fn take(&mut self) -> Option<Turned> {
         self.next.take()
+    }
+
+    /// Keeps a page that was claimed and could not be archived.
+    pub(crate) fn put_unarchived(&mut self, turned: Turned) {
+        self.unarchived = Some(turned);
+    }
+
+    /// Takes that page out, if there is one.
+    pub(crate) fn take_unarchived(&mut self) -> Option<Turned> {
+        self.unarchived.take()
     }
 
     /// Keeps the fault with which the daemon is to end.
@@ -123,6 +135,7 @@ impl Claims {
         if let Some(fault) = self.fault.take() {
             return Err(fault);
         }
+        self.archive_again(rt, archive)?;
         self.add_handed()?;
         self.put_handed(rt, pages);
         self.add_handed()?;
@@ -132,6 +145,19 @@ impl Claims {
         }
         self.ledger.claim(last)?;
         archive_page(rt, archive, last)
+    }
+
+    // Archives the page that could not be archived, if there is one.
+    fn archive_again<R: Files<File = File>>(
+        &mut self,
+        rt: &R,
+        archive: Option<&Archive>,
+    ) -> Result<(), CloseFault> {
+        if let Some(turned) = &self.unarchived {
+            archive_page(rt, archive, &turned.page)?;
+        }
+        self.unarchived = None;
+        Ok(())
     }
 
     // Claims the page that is to be claimed next, if there is one, and archives it.

@@ -42,6 +42,27 @@ impl Observed {
         Ok(())
     }
 
+    /// Says something, whatever is written of the log.
+    pub(crate) fn say<R: Wait>(&self, rt: &R, text: &str) {
+        self.log.push_message(rt, Level::Error, text);
+    }
+
+    /// Says why changes can't be written, and that they are refused.
+    pub(crate) fn say_refusing<R: Wait>(&self, rt: &R, error: &io::Error) {
+        match format!(in self.alloc; "siplocd: state: {error}: changes are refused") {
+            Ok(text) => self.say(rt, text.as_str()),
+            Err(_) => self.say(rt, "siplocd: state: changes are refused"),
+        }
+    }
+
+    /// Says why a page can't be archived, and that pages wait.
+    pub(crate) fn say_waiting<R: Wait>(&self, rt: &R, error: &io::Error) {
+        match format!(in self.alloc; "siplocd: archive: {error}: pages wait") {
+            Ok(text) => self.say(rt, text.as_str()),
+            Err(_) => self.say(rt, "siplocd: archive: pages wait"),
+        }
+    }
+
     /// Tells that changes could not be written.
     pub(crate) fn tell_unsynced<R: Wait + Clock>(&self, rt: &R, error: &io::Error) {
         let line = self.line(Level::Error, "failed").text("what", "changes");
