@@ -6,7 +6,7 @@ use Rattle.std.specs.Str.{str_eq_ignore_ascii_case}
 use lib.Pointwise.{pointwise}
 use Rattle.sipl_names.specs.Labels.{Octets, Labels}
 use Rattle.sipl_records.specs.Kinds.{text_of_kind}
-use Rattle.sipl_records.specs.Octets.{begins_with_letter}
+use Rattle.sipl_names.specs.Hostnames.{begins_with_letter}
 use Rattle.sipl_records.specs.declared.data.Data.{Data}
 use Rattle.sipl_records.specs.declared.data.Data.TheVariants as values
 use Rattle.sipl_records.specs.declared.kind.Kind.{Kind}

@@ -6,8 +6,8 @@ ghost use Rattle.sipl_masterfile.specs.Rdata.{data_of, data_of_kind, address4_da
 
 use crate::fault::ZoneCause;
 use crate::reader::{check_end, first_field, first_number, first_string, last_name};
-use sipl_names::Name;
-use sipl_records::{Boxed, Data, Kind, begins_with_letter, read_ipv4, read_ipv6};
+use sipl_names::{Name, begins_with_letter};
+use sipl_records::{Boxed, Data, Kind, read_ipv4, read_ipv6};
 use std::alloc::Global;
 
 // The data of the fields from the type on.

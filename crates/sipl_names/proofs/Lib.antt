@@ -8,6 +8,7 @@ mod Counts
 mod Wildcards
 mod ReadText
 mod Denotes
+mod ReadHostname
 mod Prefixes
 mod RoundTrip
 mod TextLength

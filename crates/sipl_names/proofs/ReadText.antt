@@ -10,6 +10,7 @@ use Rattle.sipl_names.specs.declared.fault.InvalidName.TheVariants.{BadEscape}
 use Rattle.sipl_names.specs.Escapes.{escape_of}
 use Rattle.sipl_names.specs.Labels.{Octets, Labels, length_prefixed, wire_of, IsLabel, label_fault}
 use Rattle.sipl_names.specs.NameText.{Symbol, octet, dot, bad_escape, symbols, Read, prepend_label, prepend_checked_label, labels_from}
+use Rattle.sipl_names.specs.Wire.{labels_of_wire}
 use Rattle.sipl_names.specs.Reading.{Spells, IsBadEscape}
 use Rattle.sipl_names.proofs.Wires.{labels_at, wire_at}
 use Rattle.sipl_names.proofs.Lowercase.{lowered_label, label_fault-lowered, octets_push}
@@ -108,7 +109,8 @@ pub read_fault : (text rest wire : Octets) (start : ℕ) (fault : InvalidName) �
 read_fault text rest wire start fault r none =
     r.reads ∙ ap (λ ss. prepend_labels r.done (labels_from r.label ss)) none.spells ∙ prepend_labels-err r.done BadEscape ∙ ap (λ f. Err f) (sym none.fault_is)
 
-label_so_far : (text rest wire : Octets) (start : ℕ) (r : IsReadTo text rest wire start) → drop (start + 1) wire ≡ str_to_ascii_lowercase r.label
+-- the label that has not ended
+pub label_so_far : (text rest wire : Octets) (start : ℕ) (r : IsReadTo text rest wire start) → drop (start + 1) wire ≡ str_to_ascii_lowercase r.label
 label_so_far text rest wire start r =
     let front : Octets = wire_of r.done ++ 0 ∷ [] in
     let begins = r.begins in
@@ -137,6 +139,11 @@ closed text rest wire start r n is =
     let sizes : length wire ≡ length (wire_of r.done) + (length lowered + 1) = ap length r.wires ∙ length-append (wire_of r.done) (0 ∷ lowered) ∙ omega arith in
     let count : n - (start + 1) ≡ length lowered = omega arith in
     ap (set wire start) count ∙ ap (λ w. set w start (length lowered)) r.wires ∙ set_at (wire_of r.done) 0 lowered (length lowered) start begins ∙ sym (wire_of-push r.done lowered)
+
+-- the labels, once the length of the last is written
+pub labels_so_far : (text rest wire : Octets) (start : ℕ) (ended_wire : Octets) (n : ℕ) (r : IsReadTo text rest wire start) → n ≡ length wire → ended_wire ≡ set wire start (n - (start + 1)) → labels_of_wire ended_wire ≡ r.done ++ str_to_ascii_lowercase r.label ∷ []
+labels_so_far text rest wire start ended_wire n r counts wires =
+    labels_at ended_wire (r.done ++ str_to_ascii_lowercase r.label ∷ []) (wires ∙ closed text rest wire start r n counts)
 
 labels_push : (done : Labels) (label : Octets) → AllByRecursion IsLabel done → IsLabel label → AllByRecursion IsLabel (done ++ label ∷ [])
 labels_push [] label all is = (is, tt)

@@ -4,7 +4,9 @@ pub mod Labels
 pub mod Wire
 pub mod Escapes
 pub mod NameText
+pub mod Hostnames
 pub mod NamePrint
 pub mod Reading
+pub mod HostnameWires
 pub mod LabelSlices
 pub mod Shared

@@ -1,9 +1,10 @@
-//! Domain names (RFC 1034, RFC 1035): their text in master files, their wire form, and which names
-//! are within which.
+//! Domain names (RFC 1034, RFC 1035): their text in master files and as hostnames, their wire form, and
+//! which names are within which.
 #![tactic(auto)]
 
 mod escape;
 mod fault;
+mod hostname;
 pub mod laws;
 mod long;
 mod name;
@@ -15,6 +16,7 @@ mod wire;
 
 pub use escape::read_escape;
 pub use fault::{InvalidName, NameFault};
+pub use hostname::{begins_with_letter, is_hostname_octet};
 pub use name::Name;
 
 /// The maximum number of octets of a label (RFC 1035, 2.3.4).

@@ -1,8 +1,10 @@
-ghost use Rattle.std.specs.Prelude.{◌≡◌, ◌≢◌, ◌↔◌, ◌+◌, ◌≤◌, [], ◌++◌, Some, false, length, IsTrue, IsOk, IfOk, IfErr, IfSome, OnOk, OnErr, vec_len, vec_capacity};
+ghost use Rattle.std.specs.Prelude.{◌≡◌, ◌≢◌, ◌↔◌, ◌+◌, ◌≤◌, [], ◌++◌, Some, true, false, length, IsTrue, IsOk, IfOk, IfErr, IfSome, OnOk, OnErr, vec_len, vec_capacity};
+ghost use Rattle.std.specs.List.{list_all};
 ghost use Rattle.std.specs.Option.{option_copied};
 ghost use Rattle.std.specs.Cmp.{partial_equiv_from_equiv};
 ghost use Rattle.std.specs.Cmp.Lexicographic.{lists_equiv, nat_list_eq_equiv};
 ghost use Rattle.sipl_names.specs.Labels.{Labels, IsName, wire_length, same_name, is_within, parent_of, wildcard_beside, is_wildcard, prefixed_of, top_label_of};
+ghost use Rattle.sipl_names.specs.Hostnames.{is_hostname_octet, hostname_of};
 ghost use Rattle.sipl_names.specs.LabelSlices.{octets_of};
 ghost use Rattle.sipl_names.specs.NameFault.{IfInvalid};
 ghost use Rattle.sipl_names.specs.NamePrint.{text_of};
@@ -13,6 +15,7 @@ ghost use lib.Pointwise.{pointwise_decides, bytes_decides};
 
 use crate::MAX_NAME_LEN;
 use crate::fault::{InvalidName, NameFault};
+use crate::hostname::{has_alphabetic_top, has_hostname_octets, read_plain};
 use crate::print::{reserve_text, write_text};
 use crate::shared::SharedOctets;
 use crate::text::read_labels;
@@ -86,6 +89,39 @@ impl Name {
         }
         let wire = SharedOctets::from_slice(alloc, wire.as_slice())?;
         Ok(Name { wire })
+    }
+
+    /// Parses a hostname (RFC 3261, 25.1) as an absolute name. Its octets are letters, digits, `-`, `_`
+    /// and dots, and its last label begins with a letter. `None` where the text is not a hostname. Allocates only where
+    /// all its octets are such.
+    pub fn from_hostname(alloc: Global, text: &[u8]) -> Result<Option<Self>, AllocError>
+        ensures value { IfOk result (λ name. name ≡ hostname_of text.now) }
+        ensures limits { IfOk result (λ name. IfSome name IsName) }
+        ensures memory { OnErr result (list_all is_hostname_octet text.now ≡ true) }
+    {
+        let mut wire = [0; 64];
+        let Some(len) = read_plain(&mut wire, text) else {
+            return Name::from_any_hostname(alloc, text);
+        };
+        let wire = SharedOctets::from_slice(alloc, &wire[..len])?;
+        Ok(Some(Name { wire }))
+    }
+
+    // Parses a hostname that may also be long or end with a dot.
+    fn from_any_hostname(alloc: Global, text: &[u8]) -> Result<Option<Self>, AllocError>
+        ensures value { IfOk result (λ name. name ≡ hostname_of text.now) }
+        ensures limits { IfOk result (λ name. IfSome name IsName) }
+        ensures memory { OnErr result (list_all is_hostname_octet text.now ≡ true) }
+    {
+        if !has_hostname_octets(text) {
+            return Ok(None);
+        }
+        let root = Name::root(alloc);
+        match Name::from_text(alloc, text, &root) {
+            Ok(name) => Ok(has_alphabetic_top(&name).then_some(name)),
+            Err(NameFault::Invalid(_)) => Ok(None),
+            Err(NameFault::Memory) => Err(AllocError),
+        }
     }
 
     /// The name with these labels prepended, in lower case. The fault of the first that is not a

@@ -1,7 +1,6 @@
 pub mod Unique
 pub mod Parts
 pub mod Numbers
-pub mod Octets
 pub mod Fields
 pub mod Ipv4
 pub mod Ipv6

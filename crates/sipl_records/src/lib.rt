@@ -26,7 +26,7 @@ pub use fault::AddressFault;
 pub use field::{is_wsp, next_field, trim_start};
 pub use kind::Kind;
 pub use number::read_number;
-pub use octets::{are_digits, begins_with_letter};
+pub use octets::are_digits;
 pub use record::{Key, MAX_SET_LEN, Record};
 pub use sequence::Sequence;
 pub use split::split_once;

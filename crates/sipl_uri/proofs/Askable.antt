@@ -6,6 +6,7 @@ use Rattle.std.specs.Char.{to_ascii_lowercase}
 use Rattle.std.specs.Str.{str_to_ascii_lowercase}
 use Rattle.std.proofs.lemmas.Bool.{and_parts, and_from}
 use Rattle.sipl_names.specs.Labels.{Octets, Labels, IsLabel}
+use Rattle.sipl_names.specs.Hostnames.{is_label_octet, has_alphabetic_top}
 use Rattle.sipl_names.proofs.Public.{lowered_label}
 use Rattle.sipl_records.specs.declared.address.Address.TheVariants.{V4, V6}
 use Rattle.sipl_choice.specs.declared.transport.Transport.{Transport}
@@ -13,8 +14,6 @@ use Rattle.sipl_choice.specs.declared.transport.Transport.TheVariants.{Udp, Tcp,
 use Rattle.sipl_uri.specs.declared.question.Question.{Question}
 use Rattle.sipl_uri.specs.declared.question.Target.{Target}
 use Rattle.sipl_uri.specs.declared.question.Target.TheVariants.{Numeric, Domain}
-use Rattle.sipl_uri.specs.UriOctets.{is_label_octet}
-use Rattle.sipl_uri.specs.Hosts.{has_alphabetic_top}
 use Rattle.sipl_uri.specs.Params.{Param}
 use Rattle.sipl_uri.specs.Uris.{transport_with, question_of}
 use Rattle.sipl_uri.specs.Grammar.{IsDomainLabel, IsHostname, IsHost, IsPortPart, IsTargetOf, IsTransportOf, IsUri, param_named}

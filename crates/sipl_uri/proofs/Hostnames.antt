@@ -13,9 +13,7 @@ use Rattle.sipl_names.specs.declared.fault.InvalidName.{InvalidName}
 use Rattle.sipl_names.specs.declared.fault.InvalidName.TheVariants.{NameTooLong}
 use Rattle.sipl_names.specs.Labels.{Octets, Labels, label_fault, wire_length, top_label_of, name_within_limit}
 use Rattle.sipl_names.specs.NameText.{Symbol, octet, dot, symbols, labels_from, Read, prepend_label, prepend_checked_label, relative_to, name_of}
-use Rattle.sipl_uri.specs.UriOctets.{is_label_octet, is_hostname_octet}
-use Rattle.sipl_records.specs.Octets.{begins_with_letter}
-use Rattle.sipl_uri.specs.Hosts.{has_alphabetic_top, hostname_of}
+use Rattle.sipl_names.specs.Hostnames.{is_label_octet, is_hostname_octet, begins_with_letter, has_alphabetic_top, hostname_of}
 use Rattle.sipl_uri.specs.Grammar.{IsOptional, IsDomainLabel, IsTopLabel, dotted, IsHostname}
 use Rattle.sipl_uri.proofs.Octets.{list_all-weaker, no_backslash, no_dot, no_at, of_hostname, of_label, begins_with_letter-lower}
 

@@ -4,13 +4,14 @@ use Rattle.std.specs.List.{list_all}
 use Rattle.std.proofs.lemmas.Bool.{and_parts, and_from, eqb-true, cond-false}
 use Rattle.std.proofs.lemmas.List.Folds.{list_all-append}
 use Rattle.sipl_names.specs.Labels.{Octets}
+use Rattle.sipl_names.specs.Hostnames.{is_hostname_octet}
 use Rattle.sipl_records.specs.declared.address.Address.TheVariants.{V4, V6}
 use Rattle.sipl_records.specs.Parts.{split_once}
 use Rattle.sipl_uri.specs.declared.fault.UriFault.{UriFault}
 use Rattle.sipl_uri.specs.declared.fault.UriFault.TheVariants.{Port}
 use Rattle.sipl_uri.specs.declared.question.Target.{Target}
 use Rattle.sipl_uri.specs.declared.question.Target.TheVariants.{Numeric, Domain}
-use Rattle.sipl_uri.specs.UriOctets.{is_hostname_octet, is_param_octet}
+use Rattle.sipl_uri.specs.UriOctets.{is_param_octet}
 use Rattle.sipl_uri.specs.Hosts.{host_of}
 use Rattle.sipl_uri.specs.UriParts.{after_brackets, split_port}
 use Rattle.sipl_uri.specs.Uris.{port_of, port_part}

@@ -8,15 +8,15 @@ use Rattle.std.proofs.lemmas.Bool.{cases_Bool, and_parts, and_from, or_left, or_
 use Rattle.std.proofs.lemmas.Bool.Decides.{nat_tests}
 use Rattle.std.proofs.lemmas.List.Folds.{list_all-append}
 use Rattle.sipl_names.specs.Labels.{Octets, Labels}
+use Rattle.sipl_names.specs.Hostnames.{is_hostname_octet, begins_with_letter, hostname_of}
 use Rattle.sipl_records.specs.declared.address.Address.TheVariants.{V4, V6}
 use Rattle.sipl_records.specs.Ipv4.{number_of_text}
 use Rattle.sipl_records.specs.Ipv6.{address6_of_text}
 use Rattle.sipl_records.specs.Parts.{split_once}
 use Rattle.sipl_uri.specs.declared.question.Target.{Target}
 use Rattle.sipl_uri.specs.declared.question.Target.TheVariants.{Numeric, Domain}
-use Rattle.sipl_uri.specs.UriOctets.{is_param_octet, is_hostname_octet}
-use Rattle.sipl_records.specs.Octets.{begins_with_letter}
-use Rattle.sipl_uri.specs.Hosts.{hostname_of, bracketed_text, reference_of, host_of}
+use Rattle.sipl_uri.specs.UriOctets.{is_param_octet}
+use Rattle.sipl_uri.specs.Hosts.{bracketed_text, reference_of, host_of}
 use Rattle.sipl_uri.specs.Grammar.{dotted, IsHostname, IsReference, IsHost}
 use Rattle.sipl_uri.proofs.Octets.{list_all-weaker, of_hostname, digit_of_label, hostname_param, no_bracket}
 use Rattle.sipl_uri.proofs.Splits.{lacks, split_once-append, split_once-joins}

@@ -15,6 +15,7 @@ mod SeenNames
 mod ReadParams
 mod WrittenParts
 mod PlainParts
+mod PlainQuestions
 mod AddressBounds
 mod Askable
 mod Printing

@@ -6,8 +6,8 @@ use Rattle.std.specs.Str.{str_to_ascii_lowercase, all_ascii_digits}
 use Rattle.std.proofs.lemmas.Bool.{cases_Bool, cases_lt, and_parts, and_from, or_left, eqb-true}
 use Rattle.std.proofs.lemmas.Bool.Decides.{nat_tests}
 use Rattle.sipl_names.specs.Labels.{Octets}
-use Rattle.sipl_uri.specs.UriOctets.{is_uri_octet, is_free_octet, is_param_octet, is_label_octet, is_hostname_octet}
-use Rattle.sipl_records.specs.Octets.{begins_with_letter}
+use Rattle.sipl_names.specs.Hostnames.{is_label_octet, is_hostname_octet, begins_with_letter}
+use Rattle.sipl_uri.specs.UriOctets.{is_uri_octet, is_free_octet, is_param_octet}
 
 -- what one test says of each octet of a text, a weaker one says too
 pub list_all-weaker : (p q : ℕ → Bool) → ((c : ℕ) → p c ≡ true → q c ≡ true) → (text : Octets) → list_all p text ≡ true → list_all q text ≡ true

@@ -7,8 +7,9 @@ use Rattle.std.proofs.lemmas.Bool.{cases_Bool, and_parts, and_from, or_left, eqb
 use Rattle.std.proofs.lemmas.Bool.Decides.{nat_tests}
 use Rattle.std.proofs.lemmas.List.Folds.{list_all-append}
 use Rattle.sipl_names.specs.Labels.{Octets}
+use Rattle.sipl_names.specs.Hostnames.{is_hostname_octet}
 use Rattle.sipl_records.specs.Parts.{split_once}
-use Rattle.sipl_uri.specs.UriOctets.{is_uri_octet, is_hostname_octet}
+use Rattle.sipl_uri.specs.UriOctets.{is_uri_octet}
 use Rattle.sipl_uri.specs.UriParts.{Parts, parts_of, parts_of_hostport, split_port, after_userinfo, before_headers}
 use Rattle.sipl_uri.specs.Uris.{has_allowed_octets}
 

@@ -11,6 +11,7 @@ use Rattle.std.proofs.lemmas.List.Concat.{flat_map-append}
 use Rattle.std.proofs.lemmas.Str.Parse.{IsNumeralModel, numerals_by_value, tells_all_ascii_digits}
 use Rattle.sipl_names.specs.Labels.{Octets, Labels, IsLabel}
 use Rattle.sipl_names.specs.NamePrint.{is_special, printed_octet, printed_label, text_of}
+use Rattle.sipl_names.specs.Hostnames.{is_label_octet, begins_with_letter, has_alphabetic_top}
 use Rattle.sipl_names.proofs.Public.{length-text_of}
 use Rattle.sipl_records.specs.declared.address.Address.TheVariants.{V4, V6}
 use Rattle.sipl_records.specs.Ipv6.{text_of_address6}
@@ -21,9 +22,7 @@ use Rattle.sipl_choice.specs.declared.transport.Transport.TheVariants.{Udp, Tcp,
 use Rattle.sipl_uri.specs.declared.question.Question.{Question}
 use Rattle.sipl_uri.specs.declared.question.Target.{Target}
 use Rattle.sipl_uri.specs.declared.question.Target.TheVariants.{Numeric, Domain}
-use Rattle.sipl_uri.specs.UriOctets.{is_param_octet, is_label_octet}
-use Rattle.sipl_records.specs.Octets.{begins_with_letter}
-use Rattle.sipl_uri.specs.Hosts.{has_alphabetic_top}
+use Rattle.sipl_uri.specs.UriOctets.{is_param_octet}
 use Rattle.sipl_uri.specs.Params.{Param}
 use Rattle.sipl_uri.specs.Uris.{transport_with, question_of}
 use Rattle.sipl_uri.specs.Grammar.{IsDomainLabel, dotted, IsHostname, IsHost, IsPortPart, IsScheme, IsParam, AreParams, IsTargetOf, IsTransportOf, IsUri, param_named}

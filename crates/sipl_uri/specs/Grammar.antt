@@ -11,6 +11,7 @@ use Rattle.std.specs.List.{AllByRecursion, AllPairs, find, flat_map, list_all, l
 use Rattle.std.specs.Str.{str_to_ascii_lowercase, all_ascii_digits}
 use Rattle.std.specs.Str.Parse.{digits_value}
 use Rattle.sipl_names.specs.Labels.{Octets, Labels, wire_length}
+use Rattle.sipl_names.specs.Hostnames.{is_label_octet, begins_with_letter}
 use Rattle.sipl_records.specs.declared.address.Address.TheVariants.{V4, V6}
 use Rattle.sipl_records.specs.Ipv4.{number_of_text}
 use Rattle.sipl_records.specs.Ipv6.{address6_of_text}
@@ -19,8 +20,7 @@ use Rattle.sipl_choice.specs.declared.transport.Transport.{Transport}
 use Rattle.sipl_uri.specs.declared.question.Question.{Question}
 use Rattle.sipl_uri.specs.declared.question.Target.{Target}
 use Rattle.sipl_uri.specs.declared.question.Target.TheVariants.{Numeric, Domain}
-use Rattle.sipl_uri.specs.UriOctets.{is_label_octet, is_free_octet, is_param_octet}
-use Rattle.sipl_records.specs.Octets.{begins_with_letter}
+use Rattle.sipl_uri.specs.UriOctets.{is_free_octet, is_param_octet}
 use Rattle.sipl_uri.specs.Params.{Param, same_text}
 use Rattle.sipl_uri.specs.Uris.{transport_with}
 

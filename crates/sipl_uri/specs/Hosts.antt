@@ -1,31 +1,14 @@
 -- Hosts (RFC 3261, 25.1): the target that a text names, if it is a host.
-use Rattle.std.specs.Prelude.{Bool, false, [], ◌∷◌, Option, None, Some, Ok, Err, option_map, if◌then◌else◌, ◌==◌}
+use Rattle.std.specs.Prelude.{[], ◌∷◌, Option, None, Some, option_map, if◌then◌else◌, ◌==◌}
 use Rattle.std.specs.Option.{option_or}
-use Rattle.std.specs.List.{list_all}
-use Rattle.sipl_names.specs.Labels.{Octets, Labels, top_label_of}
-use Rattle.sipl_names.specs.NameText.{name_of}
+use Rattle.sipl_names.specs.Labels.{Octets}
+use Rattle.sipl_names.specs.Hostnames.{hostname_of}
 use Rattle.sipl_records.specs.declared.address.Address.TheVariants.{V4, V6}
 use Rattle.sipl_records.specs.Ipv4.{number_of_text}
 use Rattle.sipl_records.specs.Ipv6.{address6_of_text}
-use Rattle.sipl_records.specs.Octets.{begins_with_letter}
 use Rattle.sipl_records.specs.Parts.{split_once}
 use Rattle.sipl_uri.specs.declared.question.Target.{Target}
 use Rattle.sipl_uri.specs.declared.question.Target.TheVariants.{Numeric, Domain}
-use Rattle.sipl_uri.specs.UriOctets.{is_hostname_octet}
-
--- whether the label next to the root begins with a letter, as a hostname's does
-abbrev pub has_alphabetic_top : Labels → Bool
-has_alphabetic_top labels =
-    elim (top_label_of labels) [ Some label ↦ begins_with_letter label | None ↦ false ]
-
--- the name of a hostname, which is absolute
-abbrev pub hostname_of : Octets → Option Labels
-hostname_of text =
-    if list_all is_hostname_octet text
-    then elim (name_of text []) [
-      | Ok labels ↦ if has_alphabetic_top labels then Some labels else None
-      | Err fault ↦ None
-    ] else None
 
 -- the text within brackets, if all of it is (91 is `[`, 93 is `]`)
 abbrev pub bracketed_text : Octets → Option Octets

@@ -3,6 +3,7 @@ use Rattle.std.specs.Prelude.{◌≡◌, ℕ, ◌≤◌, Bool, true, false, [], 
 use Rattle.std.specs.List.{AllByRecursion, list_all}
 use Rattle.sipl_names.specs.Labels.{Octets, Labels, IsName}
 use Rattle.sipl_names.specs.NamePrint.{text_of}
+use Rattle.sipl_names.specs.Hostnames.{is_label_octet, has_alphabetic_top}
 use Rattle.sipl_records.specs.Addresses.{IsAddress, text_of_address}
 use Rattle.sipl_records.specs.declared.address.Address.TheVariants.{V4, V6}
 use Rattle.sipl_choice.specs.Transports.{transport_text}
@@ -11,8 +12,6 @@ use Rattle.sipl_choice.specs.declared.transport.Transport.TheVariants.{Tls}
 use Rattle.sipl_uri.specs.declared.question.Question.{Question}
 use Rattle.sipl_uri.specs.declared.question.Target.{Target}
 use Rattle.sipl_uri.specs.declared.question.Target.TheVariants.{Numeric, Domain}
-use Rattle.sipl_uri.specs.UriOctets.{is_label_octet}
-use Rattle.sipl_uri.specs.Hosts.{has_alphabetic_top}
 
 -- the scheme and its colon
 abbrev pub scheme_text : Bool → Octets

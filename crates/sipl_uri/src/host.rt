@@ -1,18 +1,16 @@
 //! Hosts (RFC 3261, 25.1): addresses and hostnames.
 ghost use Rattle.std.specs.Prelude.{◌≡◌, ◌≢◌, Some, None, option_map, IfOk, IfErr};
-ghost use Rattle.std.specs.List.{list_all};
 ghost use Rattle.std.specs.Option.{option_copied};
+ghost use Rattle.sipl_names.specs.Hostnames.{hostname_of};
 ghost use Rattle.sipl_records.specs.Ipv4.{number_of_text};
 ghost use Rattle.sipl_records.specs.declared.address.Address.TheVariants.{V6};
 ghost use Rattle.sipl_uri.specs.declared.question.Target.TheVariants.{Numeric};
-ghost use Rattle.sipl_uri.specs.Hosts.{host_of, reference_of, hostname_of, bracketed_text, has_alphabetic_top};
-ghost use Rattle.sipl_uri.specs.UriOctets.{is_hostname_octet};
+ghost use Rattle.sipl_uri.specs.Hosts.{host_of, reference_of, bracketed_text};
 
 use crate::fault::UriFault;
-use crate::octet::is_hostname_octet;
 use crate::question::Target;
-use sipl_names::{Name, NameFault};
-use sipl_records::{Address, begins_with_letter, read_ipv4, read_ipv6, split_once};
+use sipl_names::Name;
+use sipl_records::{Address, read_ipv4, read_ipv6, split_once};
 use std::alloc::Global;
 
 // Reads an IPv4 address, an IPv6 address in brackets, or a hostname.
@@ -67,33 +65,8 @@ fn read_hostname(alloc: Global, text: &[u8]) -> Result<Name, UriFault>
     ensures refused { IfErr result
         (λ fault. fault ≢ UriFault.Memory → hostname_of text.now ≡ None) }
 {
-    if !has_hostname_octets(text) {
-        return Err(UriFault::Host);
-    }
-    let root = Name::root(alloc);
-    let name = Name::from_text(alloc, text, &root).map_err(|fault| match fault {
-        NameFault::Invalid(_) => UriFault::Host,
-        NameFault::Memory => UriFault::Memory,
-    })?;
-    if !has_alphabetic_top(&name) {
-        return Err(UriFault::Host);
-    }
-    Ok(name)
-}
-
-// Whether a hostname can have each of the octets.
-fn has_hostname_octets(text: &[u8]) -> bool
-    ensures { result ≡ list_all is_hostname_octet text.now }
-{
-    text.iter().all(|octet| is_hostname_octet(*octet))
-}
-
-// Whether the label next to the root begins with a letter.
-fn has_alphabetic_top(name: &Name) -> bool
-    ensures { result ≡ has_alphabetic_top name.now }
-{
-    match name.top_label() {
-        Some(label) => begins_with_letter(label),
-        None => false,
+    match Name::from_hostname(alloc, text)? {
+        Some(name) => Ok(name),
+        None => Err(UriFault::Host),
     }
 }

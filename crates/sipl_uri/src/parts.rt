@@ -2,11 +2,13 @@
 ghost use Rattle.std.specs.Prelude.{◌≡◌, ◌==◌, ◌∷◌, ◌++◌, true, count_by, IsTrue, IfSome};
 ghost use Rattle.std.specs.List.{list_all};
 ghost use Rattle.std.specs.Option.{option_copied, is_some, OnSome};
-ghost use Rattle.sipl_uri.specs.UriOctets.{is_uri_octet, is_hostname_octet};
+ghost use Rattle.sipl_names.specs.Hostnames.{is_hostname_octet};
+ghost use Rattle.sipl_uri.specs.UriOctets.{is_uri_octet};
 ghost use Rattle.sipl_uri.specs.Uris.{has_allowed_octets};
 ghost use Rattle.sipl_uri.specs.UriParts.{parts_of, params_in, after_userinfo, split_port};
 
-use crate::octet::{is_hostname_octet, is_uri_octet};
+use crate::octet::is_uri_octet;
+use sipl_names::is_hostname_octet;
 use sipl_records::{are_digits, split_once};
 
 // The parts that say where a request is sent.

@@ -1,4 +1,4 @@
-ghost use Rattle.std.specs.Prelude.{◌≡◌, ◌≢◌, Ok, Err, IsTrue, IfOk, IfErr};
+ghost use Rattle.std.specs.Prelude.{◌≡◌, ◌≢◌, Ok, Err, true, IsTrue, IfOk, IfErr, IfSome, OnErr};
 ghost use Rattle.std.specs.Option.{option_copied};
 ghost use Rattle.sipl_uri.specs.QuestionText.{IsAskable};
 ghost use Rattle.sipl_uri.specs.Uris.{has_allowed_octets, has_scheme_and_octets, question_of, question_after_scheme, question_with, security_of, transport_with, port_of, port_part};
@@ -9,8 +9,9 @@ use crate::params::{Settings, read_params};
 use crate::parts::read_parts;
 use crate::question::{Question, Target};
 use sipl_choice::Transport;
+use sipl_names::{Name, begins_with_letter};
 use sipl_records::{read_number, split_once};
-use std::alloc::Global;
+use std::alloc::{AllocError, Global};
 
 /// A SIP or SIPS URI in text (RFC 3261, 19.1.1).
 pub struct Uri;
@@ -79,6 +80,9 @@ fn read_after_scheme(alloc: Global, secure: bool, text: &[u8]) -> Result<Questio
         → question_after_scheme secure text.now ≡ Err fault) }
     ensures memory { result ≡ Err UriFault.Memory → IsTrue (has_allowed_octets text.now) }
 {
+    if let Some(question) = read_plain(alloc, secure, text)? {
+        return Ok(question);
+    }
     let parts = read_parts(text).ok_or(UriFault::Characters)?;
     let host = read_host(alloc, parts.host)?;
     let port = read_port_part(parts.port)?;
@@ -92,6 +96,31 @@ fn read_after_scheme(alloc: Global, secure: bool, text: &[u8]) -> Result<Questio
     };
     let settings = read_params(alloc, params)?;
     question_with(secure, host, port, settings)
+}
+
+// Reads a hostname with a port or without, as most texts are: each octet of the host once. `None` for
+// all other texts, and where the port is invalid.
+fn read_plain(alloc: Global, secure: bool, text: &[u8]) -> Result<Option<Question>, AllocError>
+    ensures read { IfOk result (λ read. IfSome read
+        (λ question. question_after_scheme secure text.now ≡ Ok question)) }
+    ensures memory { OnErr result (has_allowed_octets text.now ≡ true) }
+{
+    let (host, digits) = split_once(text, b':');
+    let Ok(port) = read_port_part(digits) else {
+        return Ok(None);
+    };
+    if !begins_with_letter(host) {
+        return Ok(None);
+    }
+    let Some(name) = Name::from_hostname(alloc, host)? else {
+        return Ok(None);
+    };
+    Ok(Some(Question {
+        secure,
+        target: Target::Domain(name),
+        port,
+        transport: None,
+    }))
 }
 
 // Reads the port, where there is a colon.
