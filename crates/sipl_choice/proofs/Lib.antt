@@ -1,3 +1,4 @@
 pub mod Public
 mod SameEndpoint
 mod Choosing
+mod FewTransports

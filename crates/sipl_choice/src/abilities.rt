@@ -15,22 +15,26 @@ use std::marker::Model;
 /// transport, and lists none twice.
 #[derive(Debug, Drop)]
 pub struct Abilities {
-    preference: Vec<Transport>,
+    // The transports, in the first places.
+    kept: [Transport; 4],
+    // How many there are.
+    count: u8,
     families: Families,
 }
 
 impl Model for Abilities {
-    ghost use Rattle.std.specs.Prelude.{◌≡◌, None};
+    ghost use Rattle.std.specs.Prelude.{◌≡◌, ◌≤◌, None, take};
     ghost use Rattle.sipl_choice.specs.Abilities.{Client, abilities_fault};
 
     ghost Value = { Client };
 
     ghost view = { λ client. record {
-      preference = client.preference.items;
+      preference = take client.count client.kept;
       families = client.families;
     } };
 
-    ghost invariant = { λ client. abilities_fault client.preference.items ≡ None };
+    ghost invariant = { λ client.
+        (client.count ≤ 4) × (abilities_fault (take client.count client.kept) ≡ None) };
 }
 
 impl Abilities {
@@ -47,8 +51,12 @@ impl Abilities {
         if repeats_transport(&preference) {
             return Err(AbilitiesFault::RepeatedTransport);
         }
+        let count = preference.len();
+        let mut kept = [Transport::Udp; 4];
+        kept[..count].copy_from_slice(&preference);
         Ok(Abilities {
-            preference,
+            kept,
+            count: count as u8,
             families,
         })
     }
@@ -58,7 +66,7 @@ impl Abilities {
         ensures value { result.now ≡ self.now.preference }
         ensures valid { abilities_fault self.now.preference ≡ None }
     {
-        &self.preference
+        &self.kept[..self.count as usize]
     }
 
     /// The families of addresses that the client uses.
@@ -75,13 +83,13 @@ impl Abilities {
         self.preference().contains(&transport)
     }
 
-    /// A copy. The only error is an allocation failure.
-    pub fn dup(&self, alloc: Global) -> Result<Self, AllocError>
+    /// A copy. Does not allocate.
+    pub fn dup(&self, _alloc: Global) -> Result<Self, AllocError>
         ensures { IfOk result (λ copy. copy ≡ self.now) }
     {
-        let preference = Vec::from_slice(alloc, &self.preference)?;
         Ok(Abilities {
-            preference,
+            kept: self.kept,
+            count: self.count,
             families: self.families,
         })
     }
@@ -93,7 +101,7 @@ impl PartialEq for Abilities {
     ghost laws = { partial_equiv_from_equiv same_client-equivalence };
 
     fn eq(&self, other: &Abilities) -> bool {
-        self.preference == other.preference && self.families == other.families
+        self.preference() == other.preference() && self.families == other.families
     }
 }
 

@@ -1,6 +1,7 @@
 -- The places of items, by the names and the kinds of their keys.
-use Rattle.std.specs.Prelude.{◌≡◌, ℕ, ◌<◌, List, length, Option, None, Some, position}
-use Rattle.sipl_names.specs.Labels.{Labels}
+use Rattle.std.specs.Prelude.{◌≡◌, ℕ, ◌<◌, Box, List, length, Option, None, Some, box_value, position}
+use Rattle.indexmap.specs.IndexMap.{IndexMap, get}
+use Rattle.sipl_names.specs.Labels.{Labels, same_name}
 use Rattle.sipl_records.specs.declared.kind.Kind.{Kind}
 use Rattle.sipl_records.specs.declared.kind.Kind.TheVariants.{Address4, Address6, Alias, Service, Pointer, Exists}
 use Rattle.sipl_records.specs.declared.record.Key.{Key}
@@ -21,6 +22,11 @@ place_at places Exists = places.exists
 abbrev pub place_among : Option Places → Kind → Option ℕ
 place_among None kind = None
 place_among (Some places) kind = place_at places kind
+
+-- the places of a name in a table, if there is one
+abbrev pub table_of : {S Z : Type 0} → Option (Box (IndexMap Labels Places S) Z) → Labels → Option Places
+table_of None name = None
+table_of (Some table) name = get same_name (box_value table) name
 
 -- the place of a key in a table by names
 abbrev pub place_in : (Labels → Option Places) → Key → Option ℕ

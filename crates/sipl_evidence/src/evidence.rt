@@ -1,16 +1,14 @@
 ghost use Rattle.std.specs.Prelude.{◌≡◌, ◌↔◌, ◌+◌, ◌≤◌, [], ◌∷◌, ◌++◌, false, true, length, None, vec_len, vec_capacity, IsTrue, IfOk, IfErr, IfSome, OnOk, OnErr};
 ghost use Rattle.std.specs.Option.{option_copied};
-ghost use Rattle.indexmap.specs.IndexMap.{get};
-ghost use Rattle.sipl_names.specs.Labels.{same_name};
 ghost use Rattle.sipl_records.specs.declared.record.Key.{Key};
 ghost use Rattle.sipl_evidence.specs.Items.{HasDistinctKeys, Item};
 ghost use Rattle.sipl_evidence.specs.Known.{known, is_unknown};
 ghost use Rattle.sipl_evidence.specs.Looks.{key};
-ghost use Rattle.sipl_evidence.specs.Places.{IsEvidence, place_of};
+ghost use Rattle.sipl_evidence.specs.Places.{IsEvidence, place_of, table_of};
 
 use crate::fault::EvidenceFault;
 use crate::item::Item;
-use crate::places::{Places, index_items, insert_place, place_among_few, remove_place};
+use crate::places::{Places, insert_place, place_among_few, remove_place, table_with};
 use indexmap::IndexMap;
 use sipl_names::Name;
 use sipl_records::{Data, Key, Kind};
@@ -26,7 +24,8 @@ const MAX_SEARCHED: usize = 8;
 pub struct Evidence {
     alloc: Global,
     items: Vec<Item>,
-    places: IndexMap<Name, Places>,
+    // Where there are too many to search.
+    places: Option<Box<IndexMap<Name, Places>>>,
 }
 
 impl Model for Evidence {
@@ -35,13 +34,11 @@ impl Model for Evidence {
 
     ghost Value = { List Item };
 
-    ghost use Rattle.indexmap.specs.IndexMap.{get};
-    ghost use Rattle.sipl_names.specs.Labels.{same_name};
-    ghost use Rattle.sipl_evidence.specs.Places.{IsEvidence};
+    ghost use Rattle.sipl_evidence.specs.Places.{IsEvidence, table_of};
 
     ghost view = { λ e. e.items.items };
 
-    ghost invariant = { λ e. IsEvidence e.items.items (get same_name e.places) };
+    ghost invariant = { λ e. IsEvidence e.items.items (table_of e.places) };
 }
 
 /// An item that was not appended, and why.
@@ -59,7 +56,7 @@ impl Evidence {
         Evidence {
             alloc,
             items: Vec::new(alloc),
-            places: IndexMap::new(alloc),
+            places: None,
         }
     }
 
@@ -114,15 +111,16 @@ impl Evidence {
         Some(self.items[place].content())
     }
 
-    // The place of the item of a name and a kind.
-    fn place(&self, name: &Name, kind: Kind) -> Option<usize>
+    /// The place of the item of a name and a kind, from 0 on; `None` where its set was not read.
+    /// Constant time but for hashing. Does not allocate.
+    pub fn place(&self, name: &Name, kind: Kind) -> Option<usize>
         ensures place { result ≡ place_of self.now (key name.now kind) }
         ensures distinct { HasDistinctKeys self.now }
     {
         if self.items.len() <= MAX_SEARCHED {
             return place_among_few(&self.items, name, kind);
         }
-        self.places.get(name)?.get(kind)
+        self.places.as_ref()?.get(name)?.get(kind)
     }
 
     /// Appends an item. Constant time but for hashing. The fault is E1 exactly where the key's set
@@ -145,6 +143,18 @@ impl Evidence {
             let fault = EvidenceFault::from(error);
             return Err(Refused { fault, item });
         }
+        self.items.push_reserved(item);
+        Ok(())
+    }
+
+    /// Appends an item of a key whose set was not read. Constant time but for hashing. The only error is
+    /// an allocation failure; the evidence is unchanged then.
+    pub fn push_unread(&mut self, item: Item) -> Result<(), AllocError>
+        requires { place_of self.old item.key ≡ None }
+        ensures ok { OnOk result (self.new ≡ self.old ++ item ∷ []) }
+        ensures err { OnErr result (self.new ≡ self.old) }
+    {
+        reserve_item(&mut self.items, &mut self.places, self.alloc, item.key())?;
         self.items.push_reserved(item);
         Ok(())
     }
@@ -179,25 +189,59 @@ impl Evidence {
 // place, which is the next one.
 fn reserve_item(
     items: &mut Vec<Item>,
-    places: &mut IndexMap<Name, Places>,
+    places: &mut Option<Box<IndexMap<Name, Places>>>,
     alloc: Global,
     key: &Key,
 ) -> Result<(), AllocError>
-    requires evidence { IsEvidence items.old.items (get same_name places.old) }
+    requires evidence { IsEvidence items.old.items (table_of places.old) }
     requires new { place_of items.old.items key.now ≡ None }
     ensures items { items.new.items ≡ items.old.items }
     ensures space { OnOk result (vec_len items.new + 1 ≤ vec_capacity items.new) }
     ensures ok { OnOk result ((item : Item) → item.key ≡ key.now
-        → IsEvidence (items.old.items ++ item ∷ []) (get same_name places.new)) }
-    ensures err { OnErr result (IsEvidence items.old.items (get same_name places.new)) }
+        → IsEvidence (items.old.items ++ item ∷ []) (table_of places.new)) }
+    ensures err { OnErr result (IsEvidence items.old.items (table_of places.new)) }
 {
-    items.reserve(1)?;
+    reserve_one(items)?;
     let len = items.len();
     if len < MAX_SEARCHED {
         return Ok(());
     }
-    if len == MAX_SEARCHED {
-        index_items(places, alloc, items)?;
+    index_next(items, places, alloc, key)
+}
+
+// Reserves space for one item more: no more than that where it is the first.
+fn reserve_one(items: &mut Vec<Item>) -> Result<(), AllocError>
+    ensures items { items.new.items ≡ items.old.items }
+    ensures space { OnOk result (vec_len items.new + 1 ≤ vec_capacity items.new) }
+{
+    if items.is_empty() {
+        items.reserve_exact(1)?;
+        return Ok(());
     }
-    insert_place(places, alloc, key, len)
+    items.reserve(1)?;
+    Ok(())
+}
+
+// Sets the place of the next item, which has this key, in the table.
+fn index_next(
+    items: &[Item],
+    places: &mut Option<Box<IndexMap<Name, Places>>>,
+    alloc: Global,
+    key: &Key,
+) -> Result<(), AllocError>
+    requires evidence { IsEvidence items.now (table_of places.old) }
+    requires new { place_of items.now key.now ≡ None }
+    ensures ok { OnOk result ((item : Item) → item.key ≡ key.now
+        → IsEvidence (items.now ++ item ∷ []) (table_of places.new)) }
+    ensures err { OnErr result (IsEvidence items.now (table_of places.new)) }
+{
+    let len = items.len();
+    if len > MAX_SEARCHED {
+        if let Some(table) = places {
+            return insert_place(table, alloc, key, len);
+        }
+    }
+    let table = table_with(alloc, items, key)?;
+    *places = Some(Box::new(alloc, table)?);
+    Ok(())
 }

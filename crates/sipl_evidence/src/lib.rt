@@ -21,4 +21,5 @@ pub use dependents::Dependents;
 pub use evidence::{Evidence, Refused};
 pub use fault::EvidenceFault;
 pub use item::{Item, dup_data};
+pub use turn::first_target;
 pub use walk::{MAX_ALIASES, Reached, Walk};

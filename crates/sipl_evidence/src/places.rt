@@ -1,12 +1,12 @@
-ghost use Rattle.std.specs.Prelude.{◌≡◌, None, Some, if◌then◌else◌, OnOk, OnErr};
+ghost use Rattle.std.specs.Prelude.{◌≡◌, [], ◌∷◌, ◌++◌, None, Some, if◌then◌else◌, IfOk, OnOk, OnErr};
 ghost use Rattle.indexmap.specs.IndexMap.{get, IsUnchanged};
 ghost use Rattle.sipl_names.specs.Labels.{Labels, same_name};
 ghost use Rattle.sipl_records.specs.declared.kind.Kind.{Kind};
 ghost use Rattle.sipl_records.specs.declared.record.Key.{Key};
 ghost use Rattle.sipl_records.specs.Sets.{same_key, same_kind};
-ghost use Rattle.sipl_evidence.specs.Items.{HasDistinctKeys};
+ghost use Rattle.sipl_evidence.specs.Items.{HasDistinctKeys, Item};
 ghost use Rattle.sipl_evidence.specs.Looks.{key};
-ghost use Rattle.sipl_evidence.specs.Places.{IsIndexed, place_at, place_in, place_of};
+ghost use Rattle.sipl_evidence.specs.Places.{IsIndexed, place_at, place_in, place_of, table_of};
 
 use crate::item::Item;
 use indexmap::IndexMap;
@@ -79,20 +79,24 @@ pub(crate) fn place_among_few(items: &[Item], name: &Name, kind: Kind) -> Option
         .position(|item| item.key().kind == kind && item.key().name == *name)
 }
 
-// Sets a table by names to the places of only these items.
-pub(crate) fn index_items(
-    table: &mut IndexMap<Name, Places>,
+// A table by names with the places of these items, and of the next one, which has this key.
+pub(crate) fn table_with(
     alloc: Global,
     items: &[Item],
-) -> Result<(), AllocError>
-    requires { HasDistinctKeys items.now }
-    ensures { OnOk result (IsIndexed items.now (get same_name table.new)) }
+    key: &Key,
+) -> Result<IndexMap<Name, Places>, AllocError>
+    requires distinct { HasDistinctKeys items.now }
+    requires new { place_of items.now key.now ≡ None }
+    ensures { IfOk result (λ table. (item : Item) → item.key ≡ key.now
+        → IsIndexed (items.now ++ item ∷ []) (get same_name table)) }
 {
-    table.clear();
+    let mut table = IndexMap::new(alloc);
     for (place, item) in items.iter().enumerate() {
-        insert_place(table, alloc, item.key(), place)?;
+        insert_place(&mut table, alloc, item.key(), place)?;
     }
-    Ok(())
+    let next = items.len();
+    insert_place(&mut table, alloc, key, next)?;
+    Ok(table)
 }
 
 // Sets the place of a key's item in a table by names.
@@ -112,8 +116,18 @@ pub(crate) fn insert_place(
     replace_places(table, alloc, &key.name, places)
 }
 
+// Removes the place of a key's item from a table by names, if there is one.
+pub(crate) fn remove_place(table: &mut Option<Box<IndexMap<Name, Places>>>, key: &Key)
+    ensures { (other : Key) → place_in (table_of table.new) other
+        ≡ (if same_key key.now other then None else place_in (table_of table.old) other) }
+{
+    if let Some(table) = table {
+        remove_from(table, key);
+    }
+}
+
 // Removes the place of a key's item from a table by names.
-pub(crate) fn remove_place(table: &mut IndexMap<Name, Places>, key: &Key)
+fn remove_from(table: &mut IndexMap<Name, Places>, key: &Key)
     ensures { (other : Key) → place_in (get same_name table.new) other
         ≡ (if same_key key.now other then None else place_in (get same_name table.old) other) }
 {

@@ -61,8 +61,8 @@ pub(crate) fn alias_turn<'e>(evidence: &'e Evidence, name: &Name, left: u8) -> T
     }
 }
 
-// The target of the first alias.
-fn first_target(values: &[Data]) -> Option<&Name>
+/// The target of the first alias.
+pub fn first_target(values: &[Data]) -> Option<&Name>
     ensures { option_copied result ≡ first_target values.now }
 {
     for datum in values {

@@ -18,3 +18,7 @@ pub mod ServersLeft
 pub mod ServiceWalks
 pub mod Synthesizing
 pub mod Unread
+mod Outcomes
+mod AnswersRead
+mod Fetching
+mod RoutesRead

@@ -10,3 +10,4 @@ pub mod Stages
 pub mod Run
 pub mod Finding
 pub mod Unfinished
+pub mod Readings

@@ -169,12 +169,23 @@ pub(crate) fn push_addresses(found: &mut Vec<Address>, set: &[Data]) -> Result<(
     ensures { OnOk result
         (found.new.items ≡ found.old.items ++ filter_map address_of_data set.now) }
 {
+    reserve_first(found, set.len())?;
     for datum in set {
         match datum {
             Data::Address4(number) => found.push(Address::V4(*number))?,
             Data::Address6(number) => found.push(Address::V6(*number))?,
             _ => {}
         }
+    }
+    Ok(())
+}
+
+// Reserves space for just so many items, where there is none yet.
+pub(crate) fn reserve_first<T>(list: &mut Vec<T>, count: usize) -> Result<(), AllocError>
+    ensures { list.new.items ≡ list.old.items }
+{
+    if list.is_empty() {
+        list.reserve_exact(count)?;
     }
     Ok(())
 }

@@ -250,7 +250,7 @@ fn serve(
 }
 
 // One server, of these addresses at this port.
-fn sole_server(
+pub(crate) fn sole_server(
     alloc: Global,
     transport: Transport,
     port: u16,

@@ -7,6 +7,7 @@ ghost use Rattle.sipl_evidence.specs.Walks.{walk_asking};
 ghost use Rattle.sipl_plans.specs.Stages.{asking_later, serving_after, serving_left};
 
 use crate::layout::{Layout, Source};
+use crate::look::reserve_first;
 use sipl_choice::{Families, Transport};
 use sipl_evidence::Walk;
 use sipl_records::{Address, Sequence};
@@ -76,6 +77,7 @@ impl Serving {
         ensures next_kind { OnOk result (self.new.next_kind ≡ 0) }
     {
         self.next_kind = 0;
+        reserve_first(&mut self.servers, self.picks.len())?;
         let Some(pick) = self.picks.pop_front() else {
             return Ok(());
         };

@@ -4,7 +4,7 @@ use Rattle.sipl_names.specs.Labels.{same_name}
 use Rattle.sipl_records.specs.Sets.{same_kind}
 use Rattle.sipl_evidence.specs.Places.{place_among, place_in}
 use Rattle.sipl_evidence.proofs.Placing.{place_in-set, place_in-absent}
-use Rattle.sipl_evidence.proofs.places.remove_place.Goals as goal
+use Rattle.sipl_evidence.proofs.places.remove_from.Goals as goal
 
 pub returns-in-Some : goal.returns-in-Some
 returns-in-Some c =
