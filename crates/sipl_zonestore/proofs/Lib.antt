@@ -11,6 +11,7 @@ pub mod NameTables
 pub mod Counts
 pub mod Contents
 pub mod SetTables
+pub mod OwnerPlaces
 pub mod BareOwners
 pub mod Comparing
 pub mod ChangedKeys

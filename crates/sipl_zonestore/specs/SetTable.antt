@@ -1,5 +1,5 @@
 -- A table of record sets by their owners and kinds.
-use Rattle.std.specs.Prelude.{◌≡◌, ℕ, Bool, false, not, ◌&&◌, ◌||◌, List, [], ◌∷◌, filter, if◌then◌else◌, IfSome}
+use Rattle.std.specs.Prelude.{◌≡◌, ℕ, Bool, false, not, ◌&&◌, ◌||◌, List, [], ◌∷◌, filter, slice_get, Some, if◌then◌else◌, IfSome}
 use Rattle.std.specs.List.{position_from}
 use Rattle.std.specs.Map.{lookup}
 use Rattle.std.specs.Option.{option_to_list, unwrap_or}
@@ -63,6 +63,12 @@ abbrev pub content_of : OwnerTable → Key → Content
 content_of [] key = no_content
 content_of (owner ∷ owners) key =
     if same_name owner.0 key.name then held key.kind owner.1 else content_of owners key
+
+-- the owner has this place, and its sets are those that a look-up finds
+pub record IsPlace (owners : OwnerTable) (name : Labels) (place : ℕ) : Type 0 where
+  pub sets : OwnerSets
+  pub there : slice_get owners place ≡ Some (name, sets)
+  pub found : lookup (same_name name) owners ≡ Some sets
 
 -- the number of an owner's set
 abbrev pub number_at : Kind → Labels × OwnerSets → SetNumber

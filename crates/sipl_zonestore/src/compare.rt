@@ -16,6 +16,13 @@ use sipl_names::Name;
 use sipl_records::{Data, Key, Kind, Record};
 use std::alloc::{AllocError, Global};
 
+// The places in two tables of the owner that was looked up last.
+#[derive(Clone, Copy)]
+struct Near {
+    old: usize,
+    new: usize,
+}
+
 // The key of the set that the record is in, if it is in one.
 pub(crate) fn own_key(alloc: Global, changed: &Record) -> Result<Vec<Key>, AllocError>
     ensures { IfOk result (λ keys. keys.items ≡ option_to_list (key_of changed.now)) }
@@ -66,9 +73,10 @@ fn push_changed(
         → keys.old.items ≡ changed_among records.now text []
         → keys.new.items ≡ changed_among records.now text (records_within apex.now records.now)) }
 {
+    let mut near = Near { old: 0, new: 0 };
     for record in records {
         if record.owner.is_within(apex) {
-            push_if_changed(alloc, keys, record, old, new)?;
+            push_if_changed(alloc, keys, record, old, new, &mut near)?;
         }
     }
     Ok(())
@@ -90,8 +98,9 @@ fn push_added(
         → keys.new.items ≡ changed_among records text.now
         (records_within apex records ++ text.now)) }
 {
+    let mut near = Near { old: 0, new: 0 };
     for record in text {
-        push_if_added(alloc, keys, record, old, new)?;
+        push_if_added(alloc, keys, record, old, new, &mut near)?;
     }
     Ok(())
 }
@@ -103,6 +112,7 @@ fn push_if_changed(
     next: &Record,
     old: &SetTable,
     new: &SetTable,
+    near: &mut Near,
 ) -> Result<(), AllocError>
     ensures { OnOk result
         (keys.new.items ≡ keys.old.items ++ changed_in old.now new.now next.now) }
@@ -110,8 +120,10 @@ fn push_if_changed(
     let Some(kind) = next.value.kind() else {
         return Ok(());
     };
-    let values = old.values(&next.owner, kind);
-    if is_first(&next.value, values) && is_other_set(values, new.values(&next.owner, kind)) {
+    let values = old.get_near(&next.owner, kind, &mut near.old).1;
+    if is_first(&next.value, values)
+        && is_other_set(values, new.get_near(&next.owner, kind, &mut near.new).1)
+    {
         push_key(alloc, keys, &next.owner, kind)?;
     }
     Ok(())
@@ -124,6 +136,7 @@ fn push_if_added(
     next: &Record,
     old: &SetTable,
     new: &SetTable,
+    near: &mut Near,
 ) -> Result<(), AllocError>
     ensures { OnOk result
         (keys.new.items ≡ keys.old.items ++ added_in old.now new.now next.now) }
@@ -131,8 +144,9 @@ fn push_if_added(
     let Some(kind) = next.value.kind() else {
         return Ok(());
     };
-    let values = new.values(&next.owner, kind);
-    if old.values(&next.owner, kind).is_empty() && is_first(&next.value, values) {
+    let values = new.get_near(&next.owner, kind, &mut near.new).1;
+    let old_values = old.get_near(&next.owner, kind, &mut near.old).1;
+    if old_values.is_empty() && is_first(&next.value, values) {
         push_key(alloc, keys, &next.owner, kind)?;
     }
     Ok(())

@@ -19,6 +19,7 @@ mod loaded_tables;
 mod name_table;
 mod numbered_set;
 mod owner_codes;
+mod owner_places;
 mod owner_sets;
 mod patches;
 mod places;

@@ -19,6 +19,9 @@ use std::alloc::{AllocError, Global};
 pub(crate) fn count_of(names: &IndexMap<Name, usize>, name: &Name) -> usize
     ensures { result ≡ count_at names.now.entries name.now }
 {
+    if names.is_empty() {
+        return 0;
+    }
     match names.get(name) {
         Some(count) => *count,
         None => 0,

@@ -35,9 +35,10 @@ pub(crate) fn sets_of(
         ≡ carried (content_of old.now key).number (data_of records.now key)) }
 {
     let mut sets = SetTable::new(alloc);
+    let mut near = 0;
     for record in records {
         if let Some(kind) = record.value.kind() {
-            let number = old.number(&record.owner, kind);
+            let number = old.get_near(&record.owner, kind, &mut near).0;
             push_to_set(alloc, &mut sets, number, record)?;
         }
     }
@@ -48,9 +49,14 @@ pub(crate) fn sets_of(
 pub(crate) fn count_numbered(keys: &[Key], sets: &SetTable) -> usize
     ensures { result ≡ length (filter (has_set sets.now) keys.now) }
 {
-    keys.iter()
-        .filter(|key| !sets.values(&key.name, key.kind).is_empty())
-        .count()
+    let mut near = 0;
+    let mut count = 0;
+    for key in keys {
+        if !sets.get_near(&key.name, key.kind, &mut near).1.is_empty() {
+            count += 1;
+        }
+    }
+    count
 }
 
 // Numbers the sets of the keys in their order, from this number on.
@@ -61,8 +67,9 @@ pub(crate) fn number_sets(sets: &mut SetTable, keys: &[Key], mut next: u64)
     ensures { (key : Key) → content_of sets.new key
         ≡ numbered_content sets.old keys.now next key }
 {
+    let mut near = 0;
     for key in keys {
-        if sets.set_number(&key.name, key.kind, next) {
+        if sets.set_number(&key.name, key.kind, next, &mut near) {
             next += 1;
         }
     }
@@ -116,7 +123,7 @@ pub(crate) fn remove_from_set(sets: &mut SetTable, number: u64, old: &Record)
         return;
     };
     sets.remove(&old.owner, kind, &old.value);
-    sets.set_number(&old.owner, kind, number);
+    sets.set_number(&old.owner, kind, number, &mut 0);
 }
 
 // Whether the set has a datum that is not this one.

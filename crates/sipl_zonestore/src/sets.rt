@@ -9,6 +9,7 @@ ghost use Rattle.sipl_records.specs.Sets.{same_key, same_kind};
 ghost use Rattle.sipl_zonestore.specs.Content.{no_content, pushed, without, renumbered};
 ghost use Rattle.sipl_zonestore.specs.SetTable.{content_of, has_set};
 
+use crate::owner_places::place_near;
 use crate::owner_sets::OwnerSets;
 use indexmap::{IndexMap, IndexSet};
 use sipl_names::Name;
@@ -58,6 +59,21 @@ impl SetTable {
         }
     }
 
+    // As `get`, where the owner's place is looked for near the last one, and becomes the last one.
+    pub(crate) fn get_near(&self, owner: &Name, kind: Kind, near: &mut usize) -> (u64, &[Data])
+        ensures number { result.0
+            ≡ (content_of self.now (record { name = owner.now; kind = kind })).number }
+        ensures values { result.1.now
+            ≡ (content_of self.now (record { name = owner.now; kind = kind })).values }
+    {
+        let Some(place) = place_near(&self.owners, owner, *near) else {
+            return (0, &[]);
+        };
+        *near = place;
+        let sets = &self.owners[place];
+        sets.get(kind)
+    }
+
     // The data of a set.
     pub(crate) fn values(&self, owner: &Name, kind: Kind) -> &[Data]
         ensures { result.now
@@ -74,7 +90,8 @@ impl SetTable {
         self.get(owner, kind).0
     }
 
-    // Appends a datum to a set, which gets this number. Constant time but for hashing.
+    // Appends a datum to a set, which gets this number. Constant time but for hashing; an owner that is
+    // last is not hashed.
     pub(crate) fn push(
         &mut self,
         alloc: Global,
@@ -90,7 +107,9 @@ impl SetTable {
             else content_of self.old key)) }
         ensures unchanged { OnErr result (self.new ≡ self.old) }
     {
-        if let Some(sets) = self.owners.get_mut(owner) {
+        let last = self.owners.len().saturating_sub(1);
+        if let Some(place) = place_near(&self.owners, owner, last) {
+            let (_, sets) = self.owners.pair_mut(place);
             return sets.push(alloc, kind, number, value);
         }
         let name = owner.dup(alloc)?;
@@ -118,9 +137,15 @@ impl SetTable {
         }
     }
 
-    // Numbers a set, unless it is empty, and returns whether it is not. Constant time but for
-    // hashing. Does not allocate.
-    pub(crate) fn set_number(&mut self, owner: &Name, kind: Kind, number: u64) -> bool
+    // Numbers a set, unless it is empty, and returns whether it is not. The owner's place is looked for
+    // near the last one, and becomes the last one. Constant time but for hashing. Does not allocate.
+    pub(crate) fn set_number(
+        &mut self,
+        owner: &Name,
+        kind: Kind,
+        number: u64,
+        near: &mut usize,
+    ) -> bool
         requires { same_kind kind Kind.Exists ≡ false }
         ensures found { result
             ≡ has_set self.old (record { name = owner.now; kind = kind }) }
@@ -129,9 +154,11 @@ impl SetTable {
             then renumbered number (content_of self.old key)
             else content_of self.old key) }
     {
-        let Some(sets) = self.owners.get_mut(owner) else {
+        let Some(place) = place_near(&self.owners, owner, *near) else {
             return false;
         };
+        *near = place;
+        let (_, sets) = self.owners.pair_mut(place);
         sets.set_number(kind, number);
         !sets.get(kind).1.is_empty()
     }

@@ -14,6 +14,6 @@ loop-record-preserved c = elim c.match-kind.branch [
   | in-Some+in_ok-push_to_set w ↦
       let own : Key = record { name = c.record-item.result.owner; kind = w.in-Some.kind } in
       let key_is : key_of c.record-item.result ≡ Some own = key-of_kind c.record-item.result w.in-Some.kind (sym c.kind.ensures ∙ w.in-Some.is) in
-      rw w.sets-is (made-some c.loop-record.sets _ c.args.old.now c.args.records.now c.loop-record.record-index c.record-item.result own w.number-number.result c.record-item.result.value c.loop-record-test.true c.record-item.is key_is w.number-number.ensures refl c.loop-record.invariant (λ key. w.in_ok-push_to_set.ensures.content key ∙ ap (λ b. if b then pushed w.number-number.result c.record-item.result.value (content_of c.loop-record.sets key) else content_of c.loop-record.sets key) (has_key-key_of key c.record-item.result ∙ ap (is_key key) key_is)))
+      rw w.sets-is (made-some c.loop-record.sets _ c.args.old.now c.args.records.now c.loop-record.record-index c.record-item.result own w.get_near-number.result.0 c.record-item.result.value c.loop-record-test.true c.record-item.is key_is w.get_near-number.ensures.number refl c.loop-record.invariant (λ key. w.in_ok-push_to_set.ensures.content key ∙ ap (λ b. if b then pushed w.get_near-number.result.0 c.record-item.result.value (content_of c.loop-record.sets key) else content_of c.loop-record.sets key) (has_key-key_of key c.record-item.result ∙ ap (is_key key) key_is)))
   | in_default w ↦ rw w.sets-is (made-none c.loop-record.sets c.args.old.now c.args.records.now c.loop-record.record-index c.record-item.result c.loop-record-test.true c.record-item.is (key-of_none c.record-item.result (sym c.kind.ensures ∙ w.in_default.is)) c.loop-record.invariant)
 ]

@@ -1,4 +1,5 @@
-use Rattle.std.proofs.Common.{◌≡◌, List, not, IsSome, if◌then◌else◌, Some, refl, sym, ap, subst, ◌∙◌}
+use Rattle.std.proofs.Common.{◌≡◌, List, not, if◌then◌else◌, Some, refl, sym, ap, subst, ◌∙◌}
+use Rattle.indexmap.specs.IndexMap.{set_value_at}
 use Rattle.sipl_records.specs.declared.data.Data.{Data}
 use Rattle.sipl_records.specs.declared.record.Key.{Key}
 use Rattle.sipl_records.specs.Sets.{same_key}
@@ -6,36 +7,44 @@ use Rattle.sipl_zonestore.specs.Numbers.{is_empty}
 use Rattle.sipl_zonestore.specs.Content.{Content, renumbered}
 use Rattle.sipl_zonestore.specs.SetTable.{OwnerTable, content_of, has_no_data, set_at}
 use Rattle.sipl_zonestore.proofs.Contents.{renumbered_carried}
+use Rattle.sipl_zonestore.proofs.OwnerPlaces.{entry-at, updated-at}
 use Rattle.sipl_zonestore.proofs.SetTables.{becomes-found, content-is, content-none, content-stays, content-updated, data-found, data-same, data-updated, length-empty, set_at-with_set, Becomes}
 use Rattle.sipl_zonestore.proofs.sets.SetTable.set_number.Goals as goal
 
 pub returns-in_default-clause-found : goal.returns-in_default-clause-found
 returns-in_default-clause-found c =
-    ap (λ (content : Content). not (is_empty content.values)) (sym (content-none c.self.inside.owners.entries c.args.owner.now c.args.kind c.in_default.ensures.value) ∙ ap (λ owners. content_of owners (record { name = c.args.owner.now; kind = c.args.kind })) c.self.view_is)
+    ap (λ (content : Content). not (is_empty content.values)) (sym (content-none c.self.inside.owners.entries c.args.owner.now c.args.kind (sym c.in_default.ensures.none)) ∙ ap (λ owners. content_of owners (record { name = c.args.owner.now; kind = c.args.kind })) c.self.view_is)
 
 pub returns-in_default-clause-numbered : goal.returns-in_default-clause-numbered
 returns-in_default-clause-numbered c = λ key.
-    ap (λ owners. content_of owners key) (ap (λ m. m.entries) c.get_mut.follows.holds-at-none ∙ c.self.view_is)
-    ∙ content-stays (renumbered c.args.number) c.args.self.now c.args.owner.now c.args.kind (sym (ap (λ owners. content_of owners (record { name = c.args.owner.now; kind = c.args.kind })) c.self.view_is) ∙ content-none c.self.inside.owners.entries c.args.owner.now c.args.kind c.in_default.ensures.value) refl key
+    content-stays (renumbered c.args.number) c.args.self.now c.args.owner.now c.args.kind (sym (ap (λ owners. content_of owners (record { name = c.args.owner.now; kind = c.args.kind })) c.self.view_is) ∙ content-none c.self.inside.owners.entries c.args.owner.now c.args.kind (sym c.in_default.ensures.none)) refl key
 
-pub invariant_of-self-2 : goal.invariant_of-self-2
-invariant_of-self-2 c =
+pub invariant_of-self : goal.invariant_of-self
+invariant_of-self c =
+    let es = c.self.inside.owners.entries in
+    let sets = c.pair_mut-sets.result.1.now in
     let written = c.set_number.new.self in
-    data-updated c.self.inside.owners.entries (c.get_mut.follows.lender written).entries c.args.owner.now (Some written)
-    ((c.get_mut.follows.holds written).3 (subst IsSome c.in-Some.ensures.value refl)).0 c.self.invariant
-    (ap has_no_data c.set_number.ensures ∙ data-same c.args.kind (renumbered c.args.number (set_at c.args.kind c.in-Some.sets.now)) c.in-Some.sets.now refl ∙ data-found c.self.inside.owners.entries c.args.owner.now c.in-Some.sets.now c.self.invariant c.in-Some.ensures.value)
+    let at = c.in-Some.ensures.found in
+    data-updated es (set_value_at es c.in-Some.place written) c.args.owner.now (Some written)
+    (updated-at c.self.inside.owners c.args.owner.now c.in-Some.place written c.pair_mut-sets.ensures.unique at) c.self.invariant
+    (ap has_no_data c.set_number.ensures ∙ data-same c.args.kind (renumbered c.args.number (set_at c.args.kind sets)) sets refl ∙ data-found es c.args.owner.now sets c.self.invariant (entry-at es c.args.owner.now c.in-Some.place (c.pair_mut-sets.result.0.now, sets) at c.pair_mut-sets.ensures.value))
 
 pub returns-clause-found : goal.returns-clause-found
 returns-clause-found c =
+    let es = c.self.inside.owners.entries in
+    let sets = c.pair_mut-sets.result.1.now in
     ap not (c.is_empty.ensures ∙ length-empty c.get.result.1.now)
-    ∙ ap (λ (values : List Data). not (is_empty values)) (c.get.ensures.values ∙ ap (λ (set : Content). set.values) (ap (set_at c.args.kind) c.set_number.ensures ∙ set_at-with_set c.args.kind (renumbered c.args.number (set_at c.args.kind c.in-Some.sets.now)) c.in-Some.sets.now c.requires))
-    ∙ ap (λ (content : Content). not (is_empty content.values)) (sym (content-is c.self.inside.owners.entries c.args.owner.now c.args.kind c.in-Some.sets.now c.in-Some.ensures.value) ∙ ap (λ owners. content_of owners (record { name = c.args.owner.now; kind = c.args.kind })) c.self.view_is)
+    ∙ ap (λ (values : List Data). not (is_empty values)) (c.get.ensures.values ∙ ap (λ (set : Content). set.values) (ap (set_at c.args.kind) c.set_number.ensures ∙ set_at-with_set c.args.kind (renumbered c.args.number (set_at c.args.kind sets)) sets c.requires))
+    ∙ ap (λ (content : Content). not (is_empty content.values)) (sym (content-is es c.args.owner.now c.args.kind sets (entry-at es c.args.owner.now c.in-Some.place (c.pair_mut-sets.result.0.now, sets) c.in-Some.ensures.found c.pair_mut-sets.ensures.value)) ∙ ap (λ owners. content_of owners (record { name = c.args.owner.now; kind = c.args.kind })) c.self.view_is)
 
 pub returns-clause-numbered : goal.returns-clause-numbered
 returns-clause-numbered c =
+    let es = c.self.inside.owners.entries in
+    let sets = c.pair_mut-sets.result.1.now in
     let written = c.set_number.new.self in
-    let new = (c.get_mut.follows.lender written).entries in
+    let at = c.in-Some.ensures.found in
+    let new = set_value_at es c.in-Some.place written in
     subst (λ (owners : OwnerTable). (key : Key) → content_of new key ≡ (if same_key (record { name = c.args.owner.now; kind = c.args.kind }) key then renumbered c.args.number (content_of owners key) else content_of owners key)) c.self.view_is
-    (content-updated (renumbered c.args.number) c.self.inside.owners.entries new c.args.owner.now c.args.kind (Some written)
-    ((c.get_mut.follows.holds written).3 (subst IsSome c.in-Some.ensures.value refl)).0
-    (subst (λ sets. Becomes (renumbered c.args.number) c.self.inside.owners.entries c.args.owner.now c.args.kind (Some sets)) (sym c.set_number.ensures) (becomes-found (renumbered c.args.number) (renumbered c.args.number) c.self.inside.owners.entries c.args.owner.now c.args.kind c.in-Some.sets.now c.requires (renumbered_carried c.args.number) c.in-Some.ensures.value)))
+    (content-updated (renumbered c.args.number) es new c.args.owner.now c.args.kind (Some written)
+    (updated-at c.self.inside.owners c.args.owner.now c.in-Some.place written c.pair_mut-sets.ensures.unique at)
+    (subst (λ sets. Becomes (renumbered c.args.number) es c.args.owner.now c.args.kind (Some sets)) (sym c.set_number.ensures) (becomes-found (renumbered c.args.number) (renumbered c.args.number) es c.args.owner.now c.args.kind sets c.requires (renumbered_carried c.args.number) (entry-at es c.args.owner.now c.in-Some.place (c.pair_mut-sets.result.0.now, sets) at c.pair_mut-sets.ensures.value))))
