@@ -5,11 +5,12 @@ use Rattle.sipl_records.specs.Sets.{set_of}
 use Rattle.sipl_choice.specs.Abilities.{Client}
 use Rattle.sipl_uri.specs.declared.question.Question.{Question}
 use Rattle.sipl_evidence.specs.Items.{Item}
-use Rattle.sipl_zonestore.specs.Store.{Store}
+use Rattle.sipl_zonestore.specs.Store.{Store, number_in}
 use Rattle.sipl_plans.specs.Findings.{Found, IsSound}
+use Rattle.sipl_plans.specs.Readings.{Source}
 use Rattle.sipl_plans.specs.Route.{reads}
 use Rattle.sipl_book.specs.Book.{BookState, answer_now, next_event}
-use Rattle.sipl_book.specs.Calls.{CountsLooks, after_commit, after_looks, answer_event, looks_after, recorded, unless_full, with_looks}
+use Rattle.sipl_book.specs.Calls.{CountsLooks, after_commit, after_look, after_looks, answer_event, looks_after, recorded, unless_full, with_looks}
 use Rattle.sipl_book.specs.Entries.{EntryState, has_current_entry}
 use Rattle.sipl_book.specs.Honesty.{AreCurrent}
 use Rattle.sipl_book.specs.Repairs.{entry_with}
@@ -24,6 +25,14 @@ pub record IsLocated (store : Store) (asked : Question) (asker : Client) (found 
   pub client : found.client ≡ asker
   pub current : AreCurrent store found.items
   pub sound : IsSound found
+
+-- the numbers and the sets of a book, which counts the looks at them
+abbrev pub source_of : Source BookState
+source_of = record {
+  number_at = λ book k. number_in book.store k;
+  set_at = λ book k. set_of book.store.zones.records k;
+  after_look = after_look;
+}
 
 -- a book after so many looks more at its sets
 abbrev pub after_reads : ℕ → BookState → BookState

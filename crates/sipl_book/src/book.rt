@@ -105,8 +105,10 @@ impl Book {
         }
     }
 
-    // The allocator of all that the book keeps.
-    pub(crate) fn alloc(&self) -> Global {
+    // The allocator of all that the book keeps. Its store is as it always is.
+    pub(crate) fn alloc(&self) -> Global
+        ensures { IsConsistentStore self.now.store }
+    {
         self.alloc
     }
 

@@ -1,23 +1,22 @@
-// Looking questions up: runs over a book's own sets.
-ghost use Rattle.std.specs.Prelude.{◌≡◌, ◌≢◌, ◌<◌, [], drop, take, length, None, IfOk, IfErr, OnOk, IsFalse};
+// Looking questions up, over a book's own sets.
+ghost use Rattle.std.specs.Prelude.{◌≡◌, ◌≢◌, ◌<◌, [], drop, take, length, IfOk, IfErr, OnOk, IsFalse};
 ghost use Rattle.std.specs.List.{sum_by};
-ghost use Rattle.sipl_plans.specs.Runs.{wanted};
 ghost use Rattle.sipl_book.specs.Calls.{CountsLooks, looks_after, with_looks};
 ghost use Rattle.sipl_book.specs.Entries.{has_current_entry};
-ghost use Rattle.sipl_book.specs.Honesty.{AreCurrent};
 ghost use Rattle.sipl_book.specs.Lookups.{AreDependencies, IsAnswered, IsLocated, IsRenewed, IsRepaired, after_reads, sets_read};
 
 use crate::book::Book;
 use crate::fault::BookFault;
 use crate::outcome::{Handed, Uncommitted};
 use sipl_evidence::Evidence;
-use sipl_plans::{Finding, Run};
+use sipl_plans::{Finding, Sets, locate};
+use sipl_records::{Data, Key, Sequence};
 use sipl_srv::Draws;
 use sipl_uri::Question;
 use std::alloc::AllocError;
 
 impl Book {
-    // The answer to a question that has no current entry: by a run, whose finding is committed. Its
+    // The answer to a question that has no current entry: that of its finding, which is committed. The
     // sets are as they were read, for nothing changes between.
     pub(crate) fn find_anew(
         &mut self,
@@ -90,34 +89,23 @@ impl Book {
         ensures counted { CountsLooks self.old self.new }
     {
         let alloc = self.alloc();
-        let mut run = Run::start(alloc, question, self.abilities())?;
-        match self.give_sets(&mut run) {
-            Ok(()) => Ok(run.finish().ok().unwrap()),
-            Err(error) => {
-                drop(run);
-                Err(error)
-            }
-        }
+        let abilities = self.abilities().dup(alloc)?;
+        locate(alloc, self, question, abilities)
+    }
+}
+
+impl Sets for Book {
+    ghost use Rattle.std.specs.Prelude.{refl};
+    ghost use Rattle.sipl_book.specs.Lookups.{source_of};
+
+    ghost source = { source_of };
+
+    fn read(&mut self, key: &Key) -> Result<(u64, Sequence<Data>), AllocError> {
+        Book::read(self, key)
     }
 
-    // Gives a run that has read nothing each set that it wants, as the zones have it. The only error is an
-    // allocation failure. Only the count of looks changes.
-    fn give_sets(&mut self, run: &mut Run) -> Result<(), AllocError>
-        requires client { run.old.client ≡ self.old.client }
-        requires begun { run.old.items ≡ [] }
-        ensures question { run.new.question ≡ run.old.question }
-        ensures client { run.new.client ≡ run.old.client }
-        ensures current { AreCurrent self.old.store run.new.items }
-        ensures done { OnOk result (wanted run.new ≡ None) }
-        ensures looks { OnOk result (self.new ≡ after_reads (length run.new.items) self.old) }
-        ensures unchanged { self.new ≡ with_looks self.new.store.looks self.old }
-        ensures counted { CountsLooks self.old self.new }
-    {
-        let alloc = self.alloc();
-        while let Some(key) = run.wants() {
-            let (number, content) = self.read(key)?;
-            run.give(alloc, number, content)?;
-        }
-        Ok(())
-    }
+    ghost kept = { record {
+      numbers = λ book key. refl;
+      sets = λ book key. refl;
+    } };
 }

@@ -1,4 +1,4 @@
-ghost use Rattle.std.specs.Prelude.{◌≡◌, ◌≤◌, ◌^◌, ◌-◌, length, None, Some};
+ghost use Rattle.std.specs.Prelude.{◌≡◌, ◌≤◌, ◌^◌, ◌-◌, [], length, None, Some};
 ghost use Rattle.std.specs.Bool.{Decides};
 ghost use Rattle.sipl_book.specs.Machine.{IsLegal, replay};
 ghost use Rattle.sipl_book.specs.Pages.{Follows, IsPage, extent_of, next_of};
@@ -64,6 +64,25 @@ impl Page {
         ensures few { length self.now.events ≤ 1048576 }
     {
         self.events.as_slice()
+    }
+
+    /// The space of the events, which are let go of: for those after a later page.
+    pub fn into_space(self) -> Vec<Event>
+        ensures { result.items ≡ [] }
+    {
+        let Page {
+            events,
+            base,
+            result,
+            abilities,
+            ..
+        } = self;
+        drop(base);
+        drop(result);
+        drop(abilities);
+        let mut space = events.into_vec();
+        space.clear();
+        space
     }
 
     /// The state after the events.

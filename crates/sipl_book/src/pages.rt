@@ -1,13 +1,14 @@
 //! Pages: the journal is handed out, and begins anew.
-ghost use Rattle.std.specs.Prelude.{◌≡◌, [], IfOk};
-ghost use Rattle.sipl_book.specs.Book.{state_of};
-ghost use Rattle.sipl_book.specs.Pages.{IsPage, IsTurned, page_of};
+ghost use Rattle.std.specs.Prelude.{◌≡◌, ◌≢◌, [], None, Some, IfErr, IfOk, OnOk};
+ghost use Rattle.sipl_book.specs.Book.{next_event, state_of};
+ghost use Rattle.sipl_book.specs.Pages.{IsPage, IsTurned, page_of, turn_refusal};
 
 use crate::book::Book;
 use crate::event::Event;
 use crate::fault::BookFault;
 use crate::page::Page;
 use crate::state::State;
+use sipl_choice::Abilities;
 use sipl_records::Sequence;
 use std::alloc::{AllocError, Global};
 use std::mem;
@@ -26,16 +27,25 @@ impl Book {
         ensures turned { IsTurned self.old self.new result }
         ensures is_page { IfOk result (λ page. IsPage page) }
     {
-        let next = self.next_event();
-        if next > MAX_FIRST {
-            return Err(BookFault::PagesSpent);
-        }
-        let abilities = self.abilities.dup(self.alloc)?;
-        let Ok((base, result)) = self.share_states() else {
-            drop(abilities);
-            return Err(BookFault::Memory);
+        let space = empty_journal(self.alloc, self.journal.len());
+        self.turn_page_into(space)
+    }
+
+    /// Turns the page as `turn_page` does, but that the new journal has this space. Events in it are let go of.
+    pub fn turn_page_into(&mut self, space: Vec<Event>) -> Result<Page, BookFault>
+        ensures turned { IsTurned self.old self.new result }
+        ensures is_page { IfOk result (λ page. IsPage page) }
+    {
+        let mut journal = space;
+        journal.clear();
+        let (next, states, abilities) = match self.parts_of_page() {
+            Ok(parts) => parts,
+            Err(fault) => {
+                drop(journal);
+                return Err(fault);
+            }
         };
-        let journal = empty_journal(self.alloc, self.journal.len());
+        let (base, result) = states;
         Ok(Page {
             first: mem::replace(&mut self.first, next),
             base: mem::replace(&mut self.base, base),
@@ -44,6 +54,34 @@ impl Book {
             abilities,
             held: self.held,
         })
+    }
+
+    // What a page that is turned has beside what the book has: the number of the next event, the state as it is, twice,
+    // and the abilities. B6 where there is no such number.
+    fn parts_of_page(&mut self) -> Result<(u64, (State, State), Abilities), BookFault>
+        ensures accepted { OnOk result (turn_refusal self.old ≡ None) }
+        ensures next { IfOk result (λ parts. parts.0 ≡ next_event self.old) }
+        ensures first { IfOk result (λ parts. parts.1.0 ≡ state_of self.old) }
+        ensures second { IfOk result (λ parts. parts.1.1 ≡ state_of self.old) }
+        ensures client { IfOk result (λ parts. parts.2 ≡ self.old.client) }
+        ensures refused { IfErr result
+            (λ fault. fault ≢ BookFault.Memory → turn_refusal self.old ≡ Some fault) }
+        ensures memory { IfErr result
+            (λ fault. fault ≡ BookFault.Memory → turn_refusal self.old ≡ None) }
+        ensures unchanged { self.new ≡ self.old }
+    {
+        let next = self.next_event();
+        if next > MAX_FIRST {
+            return Err(BookFault::PagesSpent);
+        }
+        let abilities = self.abilities.dup(self.alloc)?;
+        match self.share_states() {
+            Ok(states) => Ok((next, states, abilities)),
+            Err(_) => {
+                drop(abilities);
+                Err(BookFault::Memory)
+            }
+        }
     }
 
     // The state as it is, twice. The only error is an allocation failure; then nothing changes.

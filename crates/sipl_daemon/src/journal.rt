@@ -4,3 +4,4 @@ pub(crate) mod claims;
 mod close;
 pub(crate) mod mender;
 pub(crate) mod pages;
+pub(crate) mod spaces;

@@ -8,10 +8,10 @@ abbrev pub told_of : Inside → ToldState
 told_of t =
     record {
       number = t.number;
-      question = t.question;
-      client = t.abilities;
-      held = t.held;
-      words = t.draws;
+      question = t.asked.value.question;
+      client = t.asked.value.abilities;
+      held = t.asked.value.held;
+      words = t.asked.value.draws;
       answer = t.answer;
       items = arc_value t.evidence;
       board = t.holds;

@@ -35,20 +35,20 @@ pub(crate) fn hand(
     alloc: Global,
     book: &mut Book,
     pass: &Pass,
-    asked: Asked,
+    asked: Box<Asked>,
     words: &SharedDraws,
 ) -> Result<Answered, ServiceFault>
-    requires words { words.now ≡ asked.draws }
+    requires words { words.now ≡ asked.value.draws }
     ensures front { OnOk result (pass.now.front ≤ next_event book.old) }
     ensures limit { OnOk result (next_event book.old ≤ 2 ^ 52) }
-    ensures answered { IfOk result (λ answered. Records asked (next_event book.old) answered) }
-    ensures handed { IfOk result (λ answered. IsHanded asked.question asked.draws book.old book.new
+    ensures answered { IfOk result (λ answered. Records asked.value (next_event book.old) answered) }
+    ensures handed { IfOk result (λ answered. IsHanded asked.value.question asked.value.draws book.old book.new
         (Ok (record { number = answered.told.number; answer = answered.told.answer }))) }
     ensures store { book.new.store ≡ book.old.store }
     ensures refused { IfErr result (λ fault. fault ≢ ServiceFault.Memory
-        → hand_fault pass.now asked book.old ≡ Some fault) }
+        → hand_fault pass.now asked.value book.old ≡ Some fault) }
     ensures memory { IfErr result (λ fault. fault ≡ ServiceFault.Memory
-        → early_fault pass.now asked.abilities asked.held book.old ≡ None) }
+        → early_fault pass.now asked.value.abilities asked.value.held book.old ≡ None) }
     ensures unchanged { OnErr result (book.new ≡ book.old) }
 {
     let number = match next_answer(book, pass, &asked.abilities, asked.held) {
@@ -165,20 +165,20 @@ fn tell_entry(
     alloc: Global,
     book: &mut Book,
     number: u64,
-    asked: Asked,
+    asked: Box<Asked>,
     holds: SharedBoard,
 ) -> Result<Told, ServiceFault>
-    requires client { book.old.client ≡ asked.abilities }
-    requires held { book.old.held ≡ asked.held }
+    requires client { book.old.client ≡ asked.value.abilities }
+    requires held { book.old.held ≡ asked.value.held }
     requires holds { holds ≡ book.old.board }
     ensures number { IfOk result (λ told. told.number ≡ number) }
-    ensures asked { IfOk result (λ told. IsAnswerTo asked told) }
+    ensures asked { IfOk result (λ told. IsAnswerTo asked.value told) }
     ensures answer { IfOk result
-        (λ told. told.answer ≡ answer_now book.old asked.question asked.draws) }
-    ensures current { OnOk result (has_current_entry book.old.entries asked.question ≡ true) }
+        (λ told. told.answer ≡ answer_now book.old asked.value.question asked.value.draws) }
+    ensures current { OnOk result (has_current_entry book.old.entries asked.value.question ≡ true) }
     ensures refused { IfErr result (λ fault. fault ≢ ServiceFault.Memory
         → (fault ≡ ServiceFault.Book BookFault.NotCurrent)
-        × (has_current_entry book.old.entries asked.question ≡ false)) }
+        × (has_current_entry book.old.entries asked.value.question ≡ false)) }
     ensures unchanged { book.new ≡ book.old }
 {
     let entry = match book.entry(&asked.question) {
@@ -203,26 +203,26 @@ pub(crate) fn commit(
     alloc: Global,
     book: &mut Book,
     pass: &Pass,
-    asked: Asked,
+    asked: Box<Asked>,
     words: &SharedDraws,
     drawn: Answer,
     finding: Finding,
 ) -> Result<Answered, ServiceFault>
-    requires words { words.now ≡ asked.draws }
-    requires drawn { IsDrawnFor finding asked drawn }
+    requires words { words.now ≡ asked.value.draws }
+    requires drawn { IsDrawnFor finding asked.value drawn }
     requires sound { IsSound finding }
     ensures front { OnOk result (pass.now.front ≤ next_event book.old) }
     ensures limit { OnOk result (next_event book.old ≤ 2 ^ 52) }
-    ensures answered { IfOk result (λ answered. Records asked (next_event book.old) answered) }
+    ensures answered { IfOk result (λ answered. Records asked.value (next_event book.old) answered) }
     ensures journal { IfOk result
         (λ answered. book.new.journal ≡ book.old.journal ++ event_of answered.told ∷ []) }
     ensures store { book.new.store ≡ store_with_looks book.new.store.looks book.old.store }
-    ensures committed { IfOk result (λ answered. CommitsAnswer finding asked.draws
+    ensures committed { IfOk result (λ answered. CommitsAnswer finding asked.value.draws
         book.old book.new (Ok (record { number = answered.told.number; released = answered.released }))) }
     ensures refused { IfErr result (λ fault. fault ≢ ServiceFault.Memory
-        → commit_fault pass.now asked finding book.old ≡ Some fault) }
+        → commit_fault pass.now asked.value finding book.old ≡ Some fault) }
     ensures memory { IfErr result (λ fault. fault ≡ ServiceFault.Memory
-        → early_fault pass.now asked.abilities asked.held book.old ≡ None) }
+        → early_fault pass.now asked.value.abilities asked.value.held book.old ≡ None) }
     ensures unchanged { OnErr result (book.new.journal ≡ book.old.journal) }
     ensures looked { OnErr result
         ((book.new ≡ book.old) ⊎ (book.new ≡ after_check finding book.old)) }
@@ -261,25 +261,25 @@ fn tell_finding(
     alloc: Global,
     book: &mut Book,
     pass: &Pass,
-    asked: Asked,
+    asked: Box<Asked>,
     drawn: Answer,
     finding: &Finding,
 ) -> Result<Told, ServiceFault>
-    requires drawn { IsDrawnFor finding.now asked drawn }
+    requires drawn { IsDrawnFor finding.now asked.value drawn }
     requires sound { IsSound finding.now }
     ensures front { OnOk result (pass.now.front ≤ next_event book.old) }
     ensures limit { OnOk result (next_event book.old ≤ 2 ^ 52) }
-    ensures told { IfOk result (λ told. told ≡ told_to asked (next_event book.old)
-        (draw finding.now.layout book.old.board.holds asked.draws asked.held)
+    ensures told { IfOk result (λ told. told ≡ told_to asked.value (next_event book.old)
+        (draw finding.now.layout book.old.board.holds asked.value.draws asked.value.held)
         finding.now.items book.old.board) }
-    ensures client { OnOk result (book.old.client ≡ asked.abilities) }
-    ensures held { OnOk result (book.old.held ≡ asked.held) }
+    ensures client { OnOk result (book.old.client ≡ asked.value.abilities) }
+    ensures held { OnOk result (book.old.held ≡ asked.value.held) }
     ensures accepted { OnOk result
-        (early_fault pass.now asked.abilities asked.held book.old ≡ None) }
+        (early_fault pass.now asked.value.abilities asked.value.held book.old ≡ None) }
     ensures refused { IfErr result (λ fault. fault ≢ ServiceFault.Memory
-        → early_fault pass.now asked.abilities asked.held book.old ≡ Some fault) }
+        → early_fault pass.now asked.value.abilities asked.value.held book.old ≡ Some fault) }
     ensures memory { IfErr result (λ fault. fault ≡ ServiceFault.Memory
-        → early_fault pass.now asked.abilities asked.held book.old ≡ None) }
+        → early_fault pass.now asked.value.abilities asked.value.held book.old ≡ None) }
     ensures unchanged { book.new ≡ book.old }
 {
     let number = match next_answer(book, pass, &asked.abilities, asked.held) {

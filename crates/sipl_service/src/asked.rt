@@ -16,15 +16,15 @@ pub(crate) struct Asked {
 }
 
 impl Asked {
-    // Copies of what is asked.
+    // Copies of what is asked, in a box: so an answer that is told is short, and quick to hand on.
     pub fn of(
         alloc: Global,
         question: &Question,
         abilities: &Abilities,
         held: Held,
         draws: &Draws,
-    ) -> Result<Self, AllocError>
-        ensures { IfOk result (λ asked. asked ≡ record {
+    ) -> Result<Box<Self>, AllocError>
+        ensures { IfOk result (λ asked. asked.value ≡ record {
           question = question.now;
           abilities = abilities.now;
           held = held;
@@ -32,11 +32,12 @@ impl Asked {
         }) }
     {
         let abilities = abilities.dup(alloc)?;
-        Ok(Asked {
+        let asked = Asked {
             question: question.dup(alloc)?,
             abilities,
             held,
             draws: *draws,
-        })
+        };
+        Ok(Box::new(alloc, asked)?)
     }
 }

@@ -1,5 +1,5 @@
 //! Claims that go on page by page.
-ghost use Rattle.std.specs.Prelude.{◌≡◌, ◌≢◌, [], IfErr, IfOk, OnErr, OnOk};
+ghost use Rattle.std.specs.Prelude.{◌≡◌, ◌≢◌, [], IfErr, IfOk, IfSome, OnErr, OnOk};
 ghost use Rattle.std.specs.Bool.{Decides};
 ghost use Rattle.std.specs.Option.{option_copied};
 ghost use Rattle.sipl_book.specs.Pages.{IsPage};
@@ -26,6 +26,8 @@ pub struct Ledger {
     alloc: Global,
     last: Option<Last>,
     waiting: Vec<Receipts>,
+    // Hand-overs that were let go of, for their space.
+    spaces: Vec<Receipts>,
 }
 
 impl Model for Ledger {
@@ -81,6 +83,7 @@ impl Ledger {
             alloc,
             last: None,
             waiting: Vec::new(alloc),
+            spaces: Vec::new(alloc),
         }
     }
 
@@ -135,9 +138,20 @@ impl Ledger {
         let Ok(last) = Last::of(self.alloc, page) else {
             return Err(ClaimFault::Memory);
         };
-        let_go(&mut self.waiting, last.next);
+        let_go(self.alloc, &mut self.waiting, &mut self.spaces, last.next);
         drop(mem::replace(&mut self.last, Some(last)));
         Ok(())
+    }
+
+    /// Takes out the space of a hand-over whose receipts were let go of, if there is some: for a pass that goes on in it.
+    pub fn take_space(&mut self) -> Option<Receipts>
+        ensures empty { IfSome result (λ space. space ≡ []) }
+        ensures unchanged { self.new ≡ self.old }
+    {
+        match self.spaces.pop() {
+            Some(space) if space.is_empty() => Some(space),
+            _ => None,
+        }
     }
 
     /// The number of the event after those that were claimed; at first 0.

@@ -157,11 +157,11 @@ impl Service {
         &self,
         finding: &Finding,
         draws: &Draws,
-    ) -> Result<(Asked, Answer, SharedDraws), AllocError>
+    ) -> Result<(Box<Asked>, Answer, SharedDraws), AllocError>
         requires { finding.now.client ≡ self.now.client }
-        ensures drawn { IfOk result (λ drawn. IsDrawnFor finding.now drawn.0 drawn.1) }
-        ensures held { IfOk result (λ drawn. drawn.0.held ≡ self.now.held) }
-        ensures words { IfOk result (λ drawn. drawn.0.draws ≡ draws.now) }
+        ensures drawn { IfOk result (λ drawn. IsDrawnFor finding.now drawn.0.value drawn.1) }
+        ensures held { IfOk result (λ drawn. drawn.0.value.held ≡ self.now.held) }
+        ensures words { IfOk result (λ drawn. drawn.0.value.draws ≡ draws.now) }
         ensures shared { IfOk result (λ drawn. drawn.2 ≡ draws.now) }
     {
         let words = SharedDraws::of(self.alloc, draws)?;

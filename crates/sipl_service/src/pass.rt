@@ -63,6 +63,14 @@ impl Pass {
         Receipts::from_vec(mem::replace(&mut self.receipts, Vec::new(self.alloc)))
     }
 
+    /// Takes the receipts out as `hand_over` does, and goes on in the space of others, which are let go of.
+    pub fn hand_over_into(&mut self, space: Receipts) -> Receipts
+        ensures receipts { result ≡ self.old.receipts }
+        ensures front { self.new ≡ record { receipts = []; front = self.old.front } }
+    {
+        Receipts::from_vec(mem::replace(&mut self.receipts, space.into_space()))
+    }
+
     /// Two callers meet: both have then seen what one of them had. Does not allocate.
     pub fn meet(&mut self, other: &mut Pass)
         ensures own { self.new ≡ record {

@@ -1,4 +1,4 @@
-ghost use Rattle.std.specs.Prelude.{◌≡◌, ◌<◌, ◌≤◌, ◌==◌, ℕ, length, take, drop, slice_index_or};
+ghost use Rattle.std.specs.Prelude.{◌≡◌, ◌<◌, ◌≤◌, ◌==◌, ℕ, [], length, take, drop, slice_index_or};
 ghost use Rattle.sipl_service.specs.Receipts.{IsAscending, due, later};
 ghost use Rattle.sipl_service.specs.declared.receipt.Receipt.{Receipt as AReceipt};
 
@@ -35,6 +35,15 @@ impl Receipts {
         Receipts {
             queue: VecDeque::from_vec(receipts),
         }
+    }
+
+    // Their space: they are let go of.
+    pub(crate) fn into_space(self) -> Vec<Receipt>
+        ensures { result.items ≡ [] }
+    {
+        let mut space = Vec::from(self.queue);
+        space.clear();
+        space
     }
 
     /// How many there are.

@@ -280,10 +280,27 @@ impl Service {
             ⊎ ((fault ≡ ServiceFault.OtherBook) ⊎ ((fault ≡ ServiceFault.Book BookFault.PagesSpent)
             ⊎ (fault ≡ ServiceFault.Memory)))) }
     {
+        self.turn_page_into(rt, None)
+    }
+
+    /// Turns the page as `turn_page` does, but that the new journal has this space, if there is one. Events in it
+    /// are let go of.
+    pub fn turn_page_into<R: Wait>(
+        &self,
+        rt: &R,
+        space: Option<Vec<Event>>,
+    ) -> Result<Page, ServiceFault>
+        ensures page { IfOk result (λ page. IsPage page) }
+        ensures client { IfOk result (λ page. page.client ≡ self.now.client) }
+        ensures held { IfOk result (λ page. page.held ≡ self.now.held) }
+        ensures refused { IfErr result (λ fault. (fault ≡ ServiceFault.Stopped)
+            ⊎ ((fault ≡ ServiceFault.OtherBook) ⊎ ((fault ≡ ServiceFault.Book BookFault.PagesSpent)
+            ⊎ (fault ≡ ServiceFault.Memory)))) }
+    {
         let versions = new_versions(self.alloc)?;
         let mut shared = self.lock(rt);
         shared.check(&self.abilities, self.held)?;
-        let (page, read) = shared.turn_page(self.alloc, versions)?;
+        let (page, read) = shared.turn_page(self.alloc, versions, space)?;
         drop(shared);
         drop(read);
         Ok(page)

@@ -5,7 +5,7 @@ ghost use Rattle.sipl_records.specs.Sets.{is_existence, same_key};
 ghost use Rattle.sipl_records.specs.declared.record.Key.{Key};
 ghost use Rattle.sipl_zonestore.specs.Store.{number_in};
 ghost use Rattle.sipl_book.specs.Calls.{IsChanged};
-ghost use Rattle.sipl_book.specs.Pages.{IsPage, after_turn, page_of};
+ghost use Rattle.sipl_book.specs.Pages.{IsPage, IsTurned, after_turn, page_of};
 ghost use Rattle.sipl_service.specs.Marks.{book_after_mark, key_edited, mark_of, marked_at};
 ghost use Rattle.sipl_service.specs.Refusals.{unless_other, unless_stopped};
 
@@ -160,12 +160,13 @@ impl Shared {
         Ok(edited)
     }
 
-    // Turns the page of the book, and goes on with these versions, of which there is none. Those before
-    // are returned with their marks, to be dropped after the lock.
+    // Turns the page of the book, whose new journal has this space if there is one, and goes on with these versions, of
+    // which there is none. Those before are returned with their marks, to be dropped after the lock.
     pub fn turn_page(
         &mut self,
         alloc: Global,
         versions: Arc<Versions>,
+        space: Option<Vec<Event>>,
     ) -> Result<(Page, Read), ServiceFault>
         ensures page { IfOk result (λ turned. turned.0 ≡ page_of self.old.book) }
         ensures is_page { IfOk result (λ turned. IsPage turned.0) }
@@ -176,7 +177,7 @@ impl Shared {
         ensures unchanged { OnErr result (self.new ≡ self.old) }
         ensures stopped { self.new.is_stopped ≡ self.old.is_stopped }
     {
-        let page = self.book.turn_page()?;
+        let page = turn_book_page(&mut self.book, space)?;
         let read = Read {
             versions: mem::replace(&mut self.versions, versions),
             marks: mem::replace(&mut self.marks, Marks::new(alloc)),
@@ -198,6 +199,17 @@ impl Shared {
         drop(versions);
         drop(marks);
         book.into_page()
+    }
+}
+
+// Turns the page of a book, whose new journal has this space if there is one.
+fn turn_book_page(book: &mut Book, space: Option<Vec<Event>>) -> Result<Page, BookFault>
+    ensures turned { IsTurned book.old book.new result }
+    ensures is_page { IfOk result (λ page. IsPage page) }
+{
+    match space {
+        Some(space) => book.turn_page_into(space),
+        None => book.turn_page(),
     }
 }
 

@@ -22,10 +22,7 @@ use std::sync::Arc;
 #[derive(Drop)]
 pub struct Told {
     number: u64,
-    question: Question,
-    abilities: Abilities,
-    held: Held,
-    draws: Draws,
+    asked: Box<Asked>,
     answer: Answer,
     evidence: Arc<Evidence>,
     holds: SharedBoard,
@@ -49,23 +46,23 @@ impl Told {
     pub(crate) fn of(
         alloc: Global,
         number: u64,
-        asked: Asked,
+        asked: Box<Asked>,
         entry: &Entry,
         holds: SharedBoard,
     ) -> Result<Self, AllocError>
         requires sound { IsSound (record {
-          question = asked.question;
-          client = asked.abilities;
+          question = asked.value.question;
+          client = asked.value.abilities;
           layout = entry.now.found.layout;
           items = entry.now.found.items;
         }) }
         ensures number { IfOk result (λ told. told.number ≡ number) }
-        ensures question { IfOk result (λ told. told.question ≡ asked.question) }
-        ensures client { IfOk result (λ told. told.client ≡ asked.abilities) }
-        ensures held { IfOk result (λ told. told.held ≡ asked.held) }
-        ensures words { IfOk result (λ told. told.words ≡ asked.draws) }
+        ensures question { IfOk result (λ told. told.question ≡ asked.value.question) }
+        ensures client { IfOk result (λ told. told.client ≡ asked.value.abilities) }
+        ensures held { IfOk result (λ told. told.held ≡ asked.value.held) }
+        ensures words { IfOk result (λ told. told.words ≡ asked.value.draws) }
         ensures answer { IfOk result (λ told. told.answer
-            ≡ draw entry.now.found.layout holds.holds asked.draws asked.held) }
+            ≡ draw entry.now.found.layout holds.holds asked.value.draws asked.value.held) }
         ensures evidence { IfOk result (λ told. told.items ≡ entry.now.found.items) }
         ensures board { IfOk result (λ told. told.board ≡ holds) }
     {
@@ -90,26 +87,17 @@ impl Told {
     // event.
     pub(crate) fn drawn(
         number: u64,
-        asked: Asked,
+        asked: Box<Asked>,
         answer: Answer,
         evidence: Arc<Evidence>,
         holds: SharedBoard,
     ) -> Self
-        requires { IsDecided (told_to asked number answer (arc_value evidence) holds) }
-        ensures { result ≡ told_to asked number answer (arc_value evidence) holds }
+        requires { IsDecided (told_to asked.value number answer (arc_value evidence) holds) }
+        ensures { result ≡ told_to asked.value number answer (arc_value evidence) holds }
     {
-        let Asked {
-            question,
-            abilities,
-            held,
-            draws,
-        } = asked;
         Told {
             number,
-            question,
-            abilities,
-            held,
-            draws,
+            asked,
             answer,
             evidence,
             holds,
@@ -127,28 +115,28 @@ impl Told {
     pub fn question(&self) -> &Question
         ensures { result.now ≡ self.now.question }
     {
-        &self.question
+        &self.asked.question
     }
 
     /// The abilities of the client.
     pub fn abilities(&self) -> &Abilities
         ensures { result.now ≡ self.now.client }
     {
-        &self.abilities
+        &self.asked.abilities
     }
 
     /// The policy on held endpoints.
     pub fn held(&self) -> Held
         ensures { result ≡ self.now.held }
     {
-        self.held
+        self.asked.held
     }
 
     /// The random words.
     pub fn draws(&self) -> &Draws
         ensures { result.now ≡ self.now.words }
     {
-        &self.draws
+        &self.asked.draws
     }
 
     /// The targets, or the reason that there are none.
@@ -165,15 +153,13 @@ impl Told {
         ensures decided { IsDecided self }
     {
         let Told {
-            question,
-            abilities,
+            asked,
             answer,
             evidence,
             holds,
             ..
         } = self;
-        drop(question);
-        drop(abilities);
+        drop(asked);
         drop(evidence);
         drop(holds);
         answer

@@ -5,7 +5,7 @@ ghost use Rattle.sipl_book.specs.Pages.{IsPage};
 use crate::changes::Changes;
 use crate::pending::Mark;
 use crate::tally::Tally;
-use sipl_book::Page;
+use sipl_book::{Event, Page};
 use sipl_service::{Service, ServiceFault};
 use std::alloc::Global;
 use std::sync::{Mutex, Wait};
@@ -56,15 +56,20 @@ impl Source {
 
     /// Turns the page. Where the file of changes has become long it gets a mark there, and the state after
     /// the page is to be written.
-    pub fn turn_page<R: Wait>(&self, rt: &R) -> Result<Turned, ServiceFault>
+    /// The new journal has this space, if there is one.
+    pub fn turn_page<R: Wait>(
+        &self,
+        rt: &R,
+        space: Option<Vec<Event>>,
+    ) -> Result<Turned, ServiceFault>
         ensures { IfOk result (λ turned. IsPage turned.page) }
     {
         let Some(changes) = &self.changes else {
-            let page = self.service.turn_page(rt)?;
+            let page = self.service.turn_page_into(rt, space)?;
             return Ok(Turned { page, mark: None });
         };
         let mut pending = changes.lock(rt);
-        let page = self.service.turn_page(rt)?;
+        let page = self.service.turn_page_into(rt, space)?;
         let mark = if pending.is_long() && !changes.has_failed() {
             changes.push_mark(&mut pending).ok()
         } else {

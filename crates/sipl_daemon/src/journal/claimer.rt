@@ -86,6 +86,7 @@ fn keep_or_wait<H: Host>(
 ) {
     match keep(host, daemon, &turned) {
         Ok(()) => {
+            use_again(host, daemon, turned);
             if has_waited {
                 daemon.observed.say(host, ARCHIVED);
             }
@@ -113,10 +114,17 @@ fn keep_claimed<R: Files<File = File> + Wait + Clock>(
     claims: &mut Claims,
 ) {
     if let Some(turned) = claims.take() {
-        if let Err(fault) = keep(rt, daemon, &turned) {
-            fail(rt, daemon, claims, fault);
+        match keep(rt, daemon, &turned) {
+            Ok(()) => use_again(rt, daemon, turned),
+            Err(fault) => fail(rt, daemon, claims, fault),
         }
     }
+}
+
+// Keeps the space of a page that was claimed and kept.
+fn use_again<R: Wait>(rt: &R, daemon: &Daemon, turned: Turned) {
+    let Turned { page, .. } = turned;
+    daemon.pages.spaces.put_journal(rt, page.into_space());
 }
 
 // Keeps a fault, and asks for the stop.

@@ -79,6 +79,7 @@ impl Claims {
         let claimed = self.claim()?;
         if let Claimed::Page = claimed {
             pages.count_claimed();
+            pages.spaces.put_receipts(rt, &mut self.ledger);
         }
         Ok(claimed)
     }

@@ -3,6 +3,7 @@
 ghost use Rattle.std.specs.Prelude.{IfOk};
 ghost use Rattle.sipl_daemon.specs.SessionDesk.{IsExtent, IsHandedOver};
 
+use crate::journal::spaces::Spaces;
 use sipl_book::{Edit, Extent};
 use sipl_plans::Answer;
 use sipl_service::{Pass, Receipts, ServiceFault};
@@ -43,6 +44,7 @@ pub(crate) struct Pages {
     woken: Condvar,
     // The receipts that were handed over since the last claim.
     handed: Mutex<VecDeque<Receipts>>,
+    pub(crate) spaces: Spaces,
     claimed: AtomicU64,
 }
 
@@ -58,6 +60,7 @@ impl Pages {
             turned: Mutex::new(VecDeque::new(alloc)),
             woken: Condvar::new(),
             handed: Mutex::new(VecDeque::new(alloc)),
+            spaces: Spaces::new(alloc),
             claimed: AtomicU64::new(0),
         }
     }
@@ -118,7 +121,7 @@ impl Pages {
         ensures { IfOk result IsExtent }
     {
         turned.reserve(1)?;
-        let next = source.turn_page(rt)?;
+        let next = source.turn_page(rt, self.spaces.take_journal(rt))?;
         let extent = next.page.extent();
         let due = due_after(next.page.next(), self.journal);
         self.due.store(due, Ordering::SeqCst);
@@ -140,7 +143,11 @@ impl Pages {
         if handed.reserve(1).is_err() {
             return false;
         }
-        handed.push_back_reserved(pass.hand_over());
+        let receipts = match self.spaces.take_receipts(rt) {
+            Some(space) => pass.hand_over_into(space),
+            None => pass.hand_over(),
+        };
+        handed.push_back_reserved(receipts);
         true
     }
 

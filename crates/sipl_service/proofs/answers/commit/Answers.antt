@@ -18,10 +18,10 @@ returns-in-Ok-commit_answer-clause-journal c =
     let book : BookState = c.tell_finding.new.book in
     let same : book ≡ old = c.tell_finding.ensures.unchanged in
     let words = c.in-Ok-twice.copies.words in
-    let asked : words ≡ c.args.asked.draws = c.in-Ok-twice.ensures.words ∙ ap (λ (t : ToldState). t.words) c.in-Ok.ensures.told in
+    let asked : words ≡ c.args.asked.value.draws = c.in-Ok-twice.ensures.words ∙ ap (λ (t : ToldState). t.words) c.in-Ok.ensures.told in
     let client : found.client ≡ book.client =
     sym c.requires.drawn.client ∙ sym c.in-Ok.ensures.client ∙ sym (ap (λ (b : BookState). b.client) same) in
-    let held : book.held ≡ c.args.asked.held = ap (λ (b : BookState). b.held) same ∙ c.in-Ok.ensures.held in
+    let held : book.held ≡ c.args.asked.value.held = ap (λ (b : BookState). b.held) same ∙ c.in-Ok.ensures.held in
     let event : Answer found.question words (draw found.layout book.board.holds words book.held) ≡ event_of c.in-Ok.told =
     (λ i. Answer (sym c.requires.drawn.question i) (asked i) (draw found.layout (same i).board.holds (asked i) (held i))) ∙ ap event_of (sym c.in-Ok.ensures.told) in
     journal-committed found words book c.commit_answer.new.self c.requires.sound client c.in-Ok-commit_answer.ensures.accepted c.in-Ok-commit_answer.ensures.after
@@ -33,7 +33,7 @@ returns-in-Ok-commit_answer-clause-committed c =
     let same : c.tell_finding.new.book ≡ c.args.book.now = c.tell_finding.ensures.unchanged in
     let number : c.in-Ok.told.number ≡ next_event c.tell_finding.new.book =
     ap (λ (t : ToldState). t.number) c.in-Ok.ensures.told ∙ sym (ap next_event same) in
-    subst (λ (b : BookState). CommitsAnswer c.args.finding c.args.asked.draws b c.commit_answer.new.self
+    subst (λ (b : BookState). CommitsAnswer c.args.finding c.args.asked.value.draws b c.commit_answer.new.self
     (Ok (record { number = c.in-Ok.told.number; released = c.in-Ok-commit_answer.committed.released }))) same
     (subst (λ (words : List ℕ). CommitsAnswer c.args.finding words c.tell_finding.new.book c.commit_answer.new.self
     (Ok (record { number = c.in-Ok.told.number; released = c.in-Ok-commit_answer.committed.released })))
@@ -50,7 +50,7 @@ returns-in-Ok-commit_answer-clause-committed c =
 
 pub returns-in-Err-clause-refused : goal.returns-in-Err-clause-refused
 returns-in-Err-clause-refused c = λ known.
-    commit_before c.args.pass.now c.args.asked c.args.finding c.args.book.now c.in-Err.fault (c.in-Err.ensures.refused known)
+    commit_before c.args.pass.now c.args.asked.value c.args.finding c.args.book.now c.in-Err.fault (c.in-Err.ensures.refused known)
 
 pub fault_of-fault-requires : goal.fault_of-fault-requires
 fault_of-fault-requires c = record {
@@ -65,5 +65,5 @@ returns-in-Err-commit_answer-clause-refused c = λ known.
     let found = c.args.finding in
     let refusal = subst (λ (b : BookState). commit_refusal is_stale found b ≡ Some c.in-Err-commit_answer.uncommitted.fault)
     c.tell_finding.ensures.unchanged (c.in-Err-commit_answer.ensures.refused (c.fault_of-fault.ensures.known known)) in
-    commit_refused c.args.pass.now c.args.asked found c.args.book.now c.in-Err-commit_answer.uncommitted c.fault_of-fault.result
+    commit_refused c.args.pass.now c.args.asked.value found c.args.book.now c.in-Err-commit_answer.uncommitted c.fault_of-fault.result
     c.in-Ok.ensures.accepted refusal c.in-Err-commit_answer.ensures.finding (c.fault_of-fault.ensures.contended known)

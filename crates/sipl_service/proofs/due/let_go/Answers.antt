@@ -6,7 +6,7 @@ use Rattle.sipl_service.proofs.due.let_go.Goals as goal
 
 pub loop-place-preserved : goal.loop-place-preserved
 loop-place-preserved c =
-    let_go-step c.args.end c.loop-place.place c.args.waiting.now.items c.loop-place.waiting.items c.index_mut.result.now c.let_go.new.self c.loop-place.invariant (omega arith) c.index_mut.ensures.value c.let_go.ensures
+    let_go-step c.args.end c.loop-place.place c.args.waiting.now.items c.loop-place.waiting.items c.index_mut.result.now c.let_go_of_handed.new.handed c.loop-place.invariant (omega arith) c.index_mut.ensures.value c.let_go_of_handed.ensures
 
 pub returns : goal.returns
 returns c =
