@@ -1,4 +1,4 @@
-"""The files of a `siplocd`'s state, a state and a log of commits, read and written as docs/use/FORMATS.md says."""
+"""The files of a `siplocd`'s state, a state and a log of commits, read and written as docs/use/OPERATING.md says."""
 
 from __future__ import annotations
 

@@ -44,7 +44,7 @@ def of_state(path: Path) -> Snapshot:
 
 
 def state_lines(path: Path) -> List[bytes]:
-    """The lines of a state, and of the changes after it (docs/use/FORMATS.md, "The daemon")."""
+    """The lines of a state, and of the changes after it (docs/use/OPERATING.md)."""
     for _ in range(100):
         state, log = (it.read_bytes() if it.exists() else b"" for it in (path, Path(f"{path}.log")))
         lines = commits.lines_of(state, log)

@@ -357,7 +357,7 @@ static void readme_session_by_calls(void)
     CHECK(closes(&server, 20));
 }
 
-/* What the README's session has not: sessions/holds.txt, calls.txt, edits.txt and draws.txt. */
+/* What the README's session has not: tests/sessions/holds.txt, calls.txt, edits.txt and draws.txt. */
 static void other_calls(void)
 {
     const uint32_t words[] = {3795398737, 17903413, 3545275701, 194195274, 2326030198};
@@ -396,7 +396,7 @@ static void other_calls(void)
     siploc_close(s);
 }
 
-/* sessions/serve.txt: a full journal, and room again; `closed` counts all pages. */
+/* tests/sessions/serve.txt: a full journal, and room again; `closed` counts all pages. */
 static void pages(void)
 {
     const char *uri = "sip:server1.example.com:5060";

@@ -214,7 +214,7 @@ class Sessions(unittest.TestCase):
             self.assertEqual(find(), [SECOND, FIRST, THIRD])
 
     def test_other_methods(self):
-        """What the README's session has not: sessions/holds.txt, calls.txt and edits.txt."""
+        """What the README's session has not: tests/sessions/holds.txt, calls.txt and edits.txt."""
         with Server(settings="") as server, server.connect() as session:
             self.assertEqual(session.load("e.", ["a A 192.0.2.1\r\n", "a A 192.0.2.2\n", "b.f. A 192.0.2.1"]),
                              (2, 1, 0, 1))
@@ -234,7 +234,7 @@ class Sessions(unittest.TestCase):
                                                Exhausted()])
 
     def test_pages(self):
-        """sessions/serve.txt: a full journal, and room again; `closed` counts all pages."""
+        """tests/sessions/serve.txt: a full journal, and room again; `closed` counts all pages."""
         with Server(settings="journal = 2") as server:
             with server.connect() as session:
                 session.load("example.com.", "")
@@ -249,7 +249,7 @@ class Sessions(unittest.TestCase):
             self.assertEqual(server.closed(), ("closed 3\n", 0))
 
     def test_draws(self):
-        """A seed, as in sessions/draws.txt; words that are given; and none."""
+        """A seed, as in tests/sessions/draws.txt; words that are given; and none."""
         zone = [f"_sip._tcp SRV {place // 4} {place % 4 + 1} 5060 {name}" for place, name in enumerate("abcd")]
         zone += ["_sip._tcp SRV 1 0 5060 e", *(f"{name} A 192.0.2.{n}" for n, name in enumerate("abcde", 1))]
         with Server() as server, server.connect() as session:
@@ -303,7 +303,7 @@ class Sessions(unittest.TestCase):
             self.assertEqual(list(session.find("sip:192.0.2.9")), [("udp", "192.0.2.9", 5060)])
 
     def test_refused_hold_of_a_call(self):
-        """sessions/calls.txt: a hold that is refused has its step all the same."""
+        """tests/sessions/calls.txt: a hold that is refused has its step all the same."""
         with Server(settings="holds = 0") as server, server.connect() as session:
             session.load("example.com.", "a A 192.0.2.1\na A 192.0.2.2")
             session.call("invite", 1, "sip:a.example.com:5060")

@@ -238,7 +238,7 @@ func TestReadmeSessionByMethods(t *testing.T) {
 	find(second, first, third)
 }
 
-// sessions/serve.txt: a full journal, and room again; `closed` counts all pages.
+// tests/sessions/serve.txt: a full journal, and room again; `closed` counts all pages.
 func TestPages(t *testing.T) {
 	server := start(t, 1, "journal = 2")
 	session := connect(t, server.address, 30*time.Second)
@@ -255,7 +255,7 @@ func TestPages(t *testing.T) {
 	server.closes(t, 3)
 }
 
-// What the README's session has not: sessions/holds.txt, calls.txt, edits.txt and draws.txt.
+// What the README's session has not: tests/sessions/holds.txt, calls.txt, edits.txt and draws.txt.
 func TestOtherMethods(t *testing.T) {
 	session := connect(t, start(t, 1, "").address, 30*time.Second)
 	target := Target{"udp", "192.0.2.9", 5060}

@@ -1,0 +1,285 @@
+"""What dev/definitions sees to in the documents: tables that are written from the crates, from the heads of files and
+from docs/tables, and the length of each document and of its sentences.
+
+A table is between the lines `<!-- table NAME WORD.. -->` and `<!-- end -->`:
+
+    settings NAME     the settings of docs/tables/settings.txt, whose keys are those of the crates
+    lines NAME        a table of docs/tables/lines.txt, whose words are those of the crates
+    crates            what each crate is, and on which it stands, by crates.txt
+    proved            the clauses of docs/tables/proved.txt, which the crates have, and all laws with their comments
+    performance       the figures of docs/tables/performance.txt, which bench/run measures
+    harms             the wrong bodies of docs/tables/harms.txt
+    programs PATH..   these programs, and those of these folders, each by the first sentence at its head
+
+A file of docs/tables has comments after `#`, begins a table by `== NAME`, maybe with the heads of its columns, and has
+a row in each other line. docs/tables/targets.txt has for each document how many words it may have: those of its tables
+and marked blocks are not counted. A document with a tenth more, or with a sentence of more than 35 words, is refused.
+"""
+
+from __future__ import annotations
+
+import pathlib
+import re
+from typing import Callable, Iterator, Optional
+
+from crate_text import CRATES, TOP, WORD, about, crate_names, laws, uses
+
+TABLES = TOP / "docs/tables"
+LONGEST = 35
+BEGIN = re.compile(r"<!-- table ((?:[\w/-]+ ?)+)-->")
+END = "<!-- end -->"
+
+
+def rows_of(file: str) -> dict[str, list[list[str]]]:
+    """The tables of a file of docs/tables, each as its rows, the first of which are the heads of its columns."""
+    found: dict[str, list[list[str]]] = {}
+    rows: list[list[str]] = found.setdefault("", [])
+    for line in (TABLES / f"{file}.txt").read_text().split("\n"):
+        if line.startswith("== "):
+            name, *heads = line[3:].split(" | ")
+            rows = found[name] = [heads] if heads else []
+        elif line and line[0] != "#":
+            rows.append([it.strip() for it in re.split(r" \|(?: |$)", line)])
+    return found
+
+
+def markdown(heads: list[str], rows: list[list[str]]) -> list[str]:
+    """A table as lines."""
+    cells = [heads, *([cell.replace("|", "\\|") for cell in row] for row in rows)]
+    first, *others = ["| " + " | ".join(row) + " |" for row in cells]
+    return [first, "|" + "---|" * len(heads), *others]
+
+
+def text_of(path: str) -> str:
+    """The text of a file, or of all files of a folder."""
+    files = sorted((CRATES / path).glob("*.rt")) if (CRATES / path).is_dir() else [CRATES / path]
+    return "\n".join(it.read_text() for it in files)
+
+
+def refuse(what: str, known: set[str], written: set[str]) -> None:
+    """Refuses a table that has not got all words of the crates, or has others."""
+    if known != written:
+        raise SystemExit(f"{what}: {', '.join(sorted(known ^ written))} in the crates or in the table alone")
+
+
+# ---- tables
+
+
+def keys_of(name: str) -> set[str]:
+    """The keys of the settings of a program."""
+    if name == "siplocd":
+        own = re.search(r"const OWN_KEYS: .*?\[\n(.*?)\];", text_of("sipl_daemon/src/settings.rt"), re.S)
+        return set(re.findall(r'"(\w+)"', own[1] if own else ""))
+    body = re.search(r"^pub struct Settings \{(.*?)^\}", text_of("sipl_lines/src/settings.rt"), re.S | re.M)
+    fields = set(re.findall(r"^    pub (\w+):", body[1] if body else "", re.M))
+    return fields - {"abilities"} | {"transports", "families"}
+
+
+def settings(name: str) -> list[str]:
+    heads, *rows = rows_of("settings")[name]
+    refuse(f"settings.txt, {name}", keys_of(name), {row[0].strip("`") for row in rows})
+    return markdown(heads, rows)
+
+
+# By the name of a table the file, or the folder, that has its words, and what they are in it.
+WORDS = {
+    "session": ("sipl_lines/specs/Requests.antt", r'codes "(\w+)"\) then \w+_request'),
+    "script": ("sipl_lines/specs/ScriptLines.antt", r'codes "(\w+)"\) then \w+_request'),
+    "control": ("sipl_daemon/src/control.rt", r'^ +"(\w+)" =>'),
+    "program": ("siploc/src", r'(?:^ +|Command::new\(alloc, |with_settings\(\s*alloc,\s*)"(?!siploc")(\w+)"(?= =>|\)|,)'),
+}
+
+
+def performance() -> list[str]:
+    tables = rows_of("performance")
+    heads, *rows = tables["rows"]
+    return [*tables["run"][0], "", *markdown(heads, [row + [""] * (len(heads) - len(row)) for row in rows])]
+
+
+def lines(name: str) -> list[str]:
+    heads, *rows = rows_of("lines")[name]
+    if name in WORDS:
+        path, word = WORDS[name]
+        known = set(re.findall(word, text_of(path), re.M))
+        written = {row[0].strip("`").removeprefix("siploc ").split(" ")[0] for row in rows}
+        refuse(f"lines.txt, {name}", known, {it for it in written if not it.startswith("-")})
+    return markdown(heads, [row + [""] * (len(heads) - len(row)) for row in rows])
+
+
+def crates() -> list[str]:
+    """What each crate is, and on which it stands."""
+    below = uses()
+    rows = [[f"`{name}`", text, ", ".join(f"`{it}`" for it in below[name])] for name, text in about().items()]
+    return markdown(["Crate", "What it has", "It stands on"], rows)
+
+
+def check_proved(crate: str, row: list[str], words: set[str]) -> None:
+    """Refuses a row whose clause or file a crate does not have."""
+    for file in re.findall(r"`([^`]+)`", row[2]):
+        if not any((CRATES / crate).glob(f"s*/**/{file}")):
+            raise SystemExit(f"proved.txt: {crate} has no {file}")
+    for word in WORD.findall(" ".join(re.findall(r"`([^`]+)`", row[1]))):
+        if word not in words:
+            raise SystemExit(f"proved.txt: {crate} has no {word}")
+
+
+def proved() -> list[str]:
+    """What each crate's calls promise, and its laws."""
+    out, written = [], rows_of("proved")
+    for crate in crate_names():
+        rows = written.pop(crate, [])
+        words = {it for path in (CRATES / crate).glob("s*/**/*.*t*") for it in WORD.findall(path.read_text())}
+        for row in rows:
+            check_proved(crate, row, words)
+        rows += [[comment, f"`{name}`", "`laws.rt`"] for name, comment in laws(crate)]
+        if rows:
+            out += ["", f"### {crate}", "", *markdown(["Sentence", "Clause or law", "File"], rows)]
+    refuse("proved.txt", set(), {it for it, rows in written.items() if rows})
+    return out[1:]
+
+
+def harms() -> list[str]:
+    """What wrong bodies would do, and the edits."""
+    rows = rows_of("harms")[""]
+    for edit in (it for row in rows for it in row[1].split()):
+        if not (CRATES / f"{edit}.edit").is_file():
+            raise SystemExit(f"harms.txt: there is no {edit}.edit")
+    cells = [[harm, "; ".join(f"`{it}.edit`" for it in edits.split())] for harm, edits in rows]
+    return markdown(["Harm", "Refused"], cells)
+
+
+def first_sentence(path: pathlib.Path) -> str:
+    """The first sentence at the head of a script."""
+    found = re.search(r'^"""(.*?)"""', path.read_text(), re.S | re.M)
+    paragraph = " ".join((found[1] if found else "").split("\n\n")[0].split())
+    return re.split(r"(?<=\.) ", paragraph)[0].rstrip(":")
+
+
+def programs(*names: str) -> list[str]:
+    """Some programs, and those of some folders."""
+    paths = [it for name in names for it in (sorted((TOP / name).iterdir()) if (TOP / name).is_dir() else [TOP / name])]
+    files = [it for it in paths if it.is_file() and not it.suffix]
+    return markdown(["Program", "What it does"], [[f"`{it.relative_to(TOP)}`", first_sentence(it)] for it in files])
+
+
+TABLE: dict[str, Callable[..., list[str]]] = {
+    "settings": settings, "lines": lines, "crates": crates, "proved": proved, "harms": harms,
+    "performance": performance,
+    "programs": programs,
+}
+
+
+def with_tables(text: str) -> str:
+    """A document whose tables have what the crates have now."""
+    out: list[str] = []
+    rest = iter(text.split("\n"))
+    for line in rest:
+        out.append(line)
+        found = BEGIN.fullmatch(line)
+        if found:
+            name, *words = found[1].split()
+            if name not in TABLE:
+                raise SystemExit(f"there is no table {name}")
+            out += ["", *TABLE[name](*words), "", END]
+            if END not in rest:
+                raise SystemExit(f"the table {name} has no end")
+    return "\n".join(out)
+
+
+# ---- words
+
+
+BLOCK = r"^```(?:antt|rust|text|python) \S.*?^```$"
+
+
+def by_hand(text: str) -> str:
+    """A document without the tables and the marked blocks that are written into it."""
+    return re.sub(rf"^<!-- table .*?^<!-- end -->$|{BLOCK}", "", text, flags=re.S | re.M)
+
+
+def pages() -> list[pathlib.Path]:
+    """The documents."""
+    patterns = ("*.md", "docs/**/*.md", "clients/*.md", "examples/*/*.md", "crates/*/*.md")
+    return [path for it in patterns for path in sorted(TOP.glob(it))]
+
+
+def slug(title: str) -> str:
+    """What leads to a title within a page."""
+    return re.sub(r"[^\w\- ]", "", title.lower()).replace(" ", "-")
+
+
+def broken_links(path: pathlib.Path, text: str) -> Iterator[str]:
+    """The links of a document that lead nowhere."""
+    for link in re.findall(r"\]\(([^)\s]+)\)", re.sub(r"^```.*?^```$", "", text, flags=re.S | re.M)):
+        file, _, place = link.partition("#")
+        aim = (path.parent / file).resolve() if file else path
+        titles = re.findall(r"^#+ (.*)", aim.read_text(), re.M) if place and aim.is_file() else []
+        if "://" not in link and (not aim.exists() or place and place not in map(slug, titles)):
+            yield f"{path.relative_to(TOP)} has a link that leads nowhere: {link}"
+
+
+# A path of the repository in a text; in the code of a crate that of a document.
+PATH = re.compile(r"(?<![\w/.\"}$*-])(?:docs|tools|dev|tests|bench|clients|examples)/(?!FILE)[A-Za-z][\w/.-]*\w")
+DOCUMENT = re.compile(r"\bdocs/[\w/-]+\.md\b")
+TEXTS = ("", ".py", ".txt", ".sh", ".c", ".go", ".md", ".rattle", ".rt")
+
+
+def lost_paths() -> Iterator[str]:
+    """The paths of the repository that documents, tools, tests, examples and crates name, and that are not there."""
+    folders = ("tools", "dev", "tests", "bench", "clients", "examples", "docs", ".ci", "crates")
+    files = (it for folder in folders for it in sorted((TOP / folder).rglob("*")) if it.suffix in TEXTS and it.is_file())
+    for path in (*sorted(TOP.glob("*.md")), *files):
+        if "out" not in path.relative_to(TOP).parts:
+            for name in (DOCUMENT if path.suffix == ".rt" else PATH).findall(path.read_text(errors="replace")):
+                if not (TOP / name).exists():
+                    yield f"{path.relative_to(TOP)} names {name}, which is not there"
+
+
+def units(text: str) -> Iterator[str]:
+    """The paragraphs, items of lists and cells of tables of a document, without its examples."""
+    text = re.sub(r"^```.*?^```$", "", text, flags=re.S | re.M)
+    for part in re.split(r"\n\n+", text):
+        if part.startswith("    ") or part.startswith("#"):
+            continue
+        for item in re.split(r"\n(?=- |[0-9]+\. |\|)", part):
+            yield from re.split(r"(?<!\\)\|", item) if item.startswith("|") else [item]
+
+
+def sentences(text: str) -> Iterator[str]:
+    for unit in units(text):
+        yield from re.split(r"(?<=[.!?])[)*\"']*\s+", " ".join(unit.split()))
+
+
+def is_word(text: str) -> bool:
+    return any(it.isalnum() for it in text)
+
+
+def long_sentences(path: pathlib.Path, text: str) -> Iterator[str]:
+    """The sentences of a document that are too long."""
+    for sentence in sentences(text):
+        length = sum(map(is_word, sentence.split()))
+        if length > LONGEST:
+            yield f"{path.relative_to(TOP)} has a sentence of {length} words: {sentence[:60]} .."
+
+
+def excess(path: pathlib.Path, text: str, target: Optional[int]) -> Iterator[str]:
+    """What a document has too much of, of what is written by hand."""
+    own = by_hand(text)
+    count = len(own.split())
+    if target is None:
+        yield f"{path.relative_to(TOP)} has no target in docs/tables/targets.txt"
+    elif count > target * 1.1:
+        yield f"{path.relative_to(TOP)} has {count} words, and its target is {target}"
+    yield from long_sentences(path, own)
+
+
+def excess_of_tables() -> Iterator[str]:
+    """The sentences of docs/tables that are too long."""
+    for path in sorted(TABLES.glob("*.txt")):
+        cells = [cell for rows in rows_of(path.stem).values() for row in rows for cell in row]
+        yield from long_sentences(path, "\n\n".join(cells))
+
+
+def targets() -> dict[str, int]:
+    """The words that each document may have, by its path."""
+    return {path: int(count) for path, count in rows_of("targets")[""]}
