@@ -1,5 +1,5 @@
 //! The README's example, and what a book shows to callers of the library alone. What it replies is in
-//! `sessions/workers`, and in `tools/orders`.
+//! `tests/sessions/workers`, and in `tests/campaigns/orders`.
 #![tactic(auto)]
 
 #[cfg(test)]

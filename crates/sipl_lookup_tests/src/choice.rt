@@ -1,5 +1,5 @@
 //! What no line shows of a client's choice: the codes of its faults, the place of the NAPTR record
-//! that decides, and transports as text. The rest is in `sessions/choice/`.
+//! that decides, and transports as text. The rest is in `tests/sessions/choice/`.
 use crate::assertions::{expects, expects_equal};
 use sipl_choice::Transport::{Sctp, Tcp, Tls, Udp};
 use sipl_choice::{Abilities, Families, Transport, choose_pointer};

@@ -1,6 +1,6 @@
 //! What no line shows of the evidence of a look-up: places, copies and the removal of what was
 //! read, a set that is read twice, and walks that begin anew or over sets that no store has. The
-//! rest is in `sessions/dependencies/` and `sessions/wildcards/`.
+//! rest is in `tests/sessions/dependencies/` and `tests/sessions/wildcards/`.
 use crate::assertions::{expects, expects_equal};
 use sipl_evidence::{Evidence, EvidenceFault, Item, Walk};
 use sipl_names::Name;

@@ -1,5 +1,5 @@
 //! Calls that no line makes: over targets of several transports, with a clock of their own, of attempts that
-//! were not sent (RFC 3263, 4.3). The sessions of `sessions/calls` have the rest.
+//! were not sent (RFC 3263, 4.3). The sessions of `tests/sessions/calls` have the rest.
 
 use crate::assertions::{expects, expects_equal, expects_equal_at};
 use Call::{Receive, Tick, TransportError};

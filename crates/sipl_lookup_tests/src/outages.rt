@@ -1,5 +1,5 @@
 //! What a session shows nothing of: copies of a board, and boards that share theirs. The sessions of
-//! `sessions/holds` have the rest.
+//! `tests/sessions/holds` have the rest.
 
 use crate::assertions::expects_equal;
 use sipl_choice::{Endpoint, Transport};

@@ -1,6 +1,6 @@
 //! What no line shows of plans: a run that is to finish early, what its finding keeps, and the plan
-//! from all records beside it. The rest is in `sessions/routes/`, `sessions/dependencies/` and
-//! `sessions/wildcards/`.
+//! from all records beside it. The rest is in `tests/sessions/routes/`, `tests/sessions/dependencies/` and
+//! `tests/sessions/wildcards/`.
 mod runs;
 
 use crate::assertions::expects_equal;

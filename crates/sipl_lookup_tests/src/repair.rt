@@ -1,5 +1,5 @@
 //! Queues and leases that no script shows: of many ids, of several queues, and what a queue tells of itself.
-//! `sessions/repairs` has the rest.
+//! `tests/sessions/repairs` has the rest.
 
 use crate::assertions::{expects, expects_at, expects_equal, expects_equal_at};
 use sipl_repair::{Lease, Queue, QueueFault};

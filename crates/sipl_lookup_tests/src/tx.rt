@@ -1,5 +1,5 @@
 //! What a call shows nothing of: a transaction in Completed, the timers D and K that end it, and its own
-//! refusals (RFC 3261, figures 5 and 6). The sessions of `sessions/calls` have the rest.
+//! refusals (RFC 3261, figures 5 and 6). The sessions of `tests/sessions/calls` have the rest.
 
 use crate::assertions::{expects_equal, expects_equal_at};
 use Event::{Receive, Tick, TransportError};

@@ -1,5 +1,5 @@
 //! What no line shows of a store: the keys that an edit changes, in their order, the numbers that their sets
-//! take, the order of all records, and the looks. `sessions/zones` has the rest.
+//! take, the order of all records, and the looks. `tests/sessions/zones` has the rest.
 mod plays;
 
 ghost use Rattle.std.specs.Prelude.{◌^◌, ◌≤◌};

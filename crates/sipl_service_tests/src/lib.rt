@@ -1,5 +1,5 @@
 //! The tests of the service, by public calls alone: of what a session under `siploc serve` does not show.
-//! The rest is in `sessions/service`.
+//! The rest is in `tests/sessions/service`.
 #![tactic(auto)]
 
 #[cfg(test)]

@@ -1,4 +1,4 @@
-// The settings of texts without a fault. Those with one are in `sessions/settings`.
+// The settings of texts without a fault. Those with one are in `tests/sessions/settings`.
 use super::assertions::expects_at;
 use sipl_choice::{Families, Transport};
 use sipl_lines::Settings;
