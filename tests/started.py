@@ -35,6 +35,11 @@ def program(words: Sequence[str]) -> str:
     return str(path)
 
 
+def daemon_program() -> str:
+    """The daemon's program: SIPLOCD, or the one that was built here."""
+    return program([os.environ.get("SIPLOCD", str(TOP / "crates/siplocd/out/siplocd"))])
+
+
 def free_ports(count: int, kind: int = socket.SOCK_STREAM) -> List[int]:
     """Ports of 127.0.0.1 that nobody has, each given once by this process. They are below those that the system gives
     to sockets without one, so that none is taken before it is used."""

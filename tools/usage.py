@@ -1,0 +1,94 @@
+"""What a program does with its words: `--help` prints the comment at its head, and words that it does not take end it
+with status 2, its usage and the cause on standard error.
+
+    tools/usage.py SCRIPT WORD..     the same for a SCRIPT in another language, which takes no words
+
+The usage is those lines of the comment that begin with four spaces and the program's path, or with `NAME=VALUE` before
+it. Their continuations are not part of it.
+"""
+
+from __future__ import annotations
+
+import os
+import pathlib
+import re
+import sys
+from typing import NoReturn, Optional, Sequence
+
+TOP = pathlib.Path(__file__).resolve().parent.parent
+
+
+class Head:
+    """A program's path in the repository, and the comment at its head."""
+
+    def __init__(self, path: str, comment: str) -> None:
+        file = pathlib.Path(path).resolve()
+        self.path = str(file.relative_to(TOP)) if file.is_relative_to(TOP) else file.name
+        self.comment = comment.strip("\n")
+
+    def usage(self) -> str:
+        form = re.compile(rf"    ((?:\w+=\S+ )*{re.escape(self.path)}(?: .*)?)")
+        found = [match[1] for match in map(form.fullmatch, self.comment.split("\n")) if match]
+        return "usage: " + "\n       ".join(found or [self.path])
+
+    def check(self, words: Sequence[str]) -> None:
+        """Ends the program with its comment where that is asked for."""
+        if any(it in ("-h", "--help") for it in words):
+            print(self.comment)
+            sys.exit(0)
+
+    def wrong(self, cause: str) -> NoReturn:
+        print(f"{self.usage()}\n{self.path}: {cause}", file=sys.stderr)
+        sys.exit(2)
+
+
+def main_head() -> Head:
+    """That of the program that runs."""
+    return Head(sys.argv[0], sys.modules["__main__"].__doc__ or "")
+
+
+def wrong(cause: str) -> NoReturn:
+    """Ends the program, whose words are wrong for this cause."""
+    main_head().wrong(cause)
+
+
+def words(most: Optional[int] = None, options: Sequence[str] = (), least: int = 0) -> list[str]:
+    """The program's words: at least and at most so many, where options are not counted. Others end it."""
+    found, head = sys.argv[1:], main_head()
+    head.check(found)
+    for word in found:
+        if word.startswith("--") and word not in options:
+            head.wrong(f"{word}: no such option")
+    count = sum(it not in options for it in found)
+    if count < least or most is not None and count > most:
+        head.wrong("too few words" if count < least else "too many words")
+    return found
+
+
+def program(words: Sequence[str], name: str = "siploc") -> str:
+    """The program that the first of these words names, or without one that which the gate has built."""
+    path = pathlib.Path(words[0] if words else TOP / f"crates/{name}/out/{name}").absolute()
+    return str(path) if path.is_file() and os.access(path, os.X_OK) else wrong(f"{path}: no such program")
+
+
+def number(word: str) -> int:
+    """The number that a word is."""
+    return int(word) if re.fullmatch("[0-9]+", word) else wrong(f"{word}: not a number")
+
+
+def comment_of(script: str) -> str:
+    """The comment at the head of a script whose comments begin with `#`."""
+    lines = pathlib.Path(script).read_text().split("\n")[1:]
+    found = [line for line in lines[:next(n for n, line in enumerate(lines) if not line.startswith("#"))]]
+    return "\n".join(line[2:] for line in found)
+
+
+def main() -> NoReturn:
+    script, *rest = sys.argv[1:] or wrong("too few words")
+    head = Head(script, comment_of(script))
+    head.check(rest)
+    head.wrong("it takes no words")
+
+
+if __name__ == "__main__":
+    main()
