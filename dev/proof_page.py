@@ -6,9 +6,10 @@ from __future__ import annotations
 import collections
 import html
 import pathlib
+import re
 
 import definition_graph as graph
-from crate_text import CRATES, TOP
+from crate_text import CRATES
 from documents import rows_of
 
 STYLE = """
@@ -18,18 +19,22 @@ STYLE = """
 * { box-sizing: border-box; }
 body { margin: 0 auto; padding: 1rem; max-width: 62rem; font: 1rem/1.5 system-ui, sans-serif; color: var(--ink);
        background: var(--back); overflow-wrap: anywhere; }
-a { color: var(--link); text-decoration-thickness: 1px; text-underline-offset: 2px; }
+a { color: var(--link); text-decoration-thickness: 1px; text-underline-offset: 4px; }
 h1 { font-size: 1.6rem; margin: .5rem 0; } h2 { font-size: 1.25rem; margin: 2rem 0 .5rem; }
 h3 { font-size: 1rem; margin: 0; font-family: ui-monospace, monospace; }
-section { border-top: 1px solid var(--line); padding: .8rem 0; } section:target, pre:target { background: var(--mark); }
+section { border-top: 1px solid var(--line); padding: .8rem 0; } pre { scroll-margin-top: 4.5rem; }
+section:target, pre:target { background: var(--mark); }
+section:target { box-shadow: -.5rem 0 var(--mark), .5rem 0 var(--mark); }
 pre { margin: .4rem 0; padding: .6rem; overflow-x: auto; border: 1px solid var(--line); border-radius: .3rem;
       font: .85rem/1.45 ui-monospace, monospace; overflow-wrap: normal; }
 p { margin: .3rem 0; } .pale { color: var(--pale); font-size: .9rem; } ol li { margin: .5rem 0; }
-ul { margin: .3rem 0; padding-left: 1.2rem; }
+ul { margin: .3rem 0; padding-left: 1.2rem; } code { font: .9em ui-monospace, monospace; }
+@media (max-width: 32rem) { pre { font-size: .75rem; padding: .4rem; } ol { padding-left: 1.8rem; } }
 """
 ABOUT = """The sentences below are the headlines. Each leads to its clause as it stands in the code, each clause to the
 definitions that it cites, and each definition to what it rests on, down to lists and numbers. Beside them are the
-wrong bodies that are refused there: changes of a right body that the prover has to refuse, each named by what it does. Written from the crates by <code>dev/definitions --page</code>."""
+wrong bodies that are refused there: changes of a right body that the prover has to refuse, each named by what it does.
+Written from the crates by <code>dev/definitions --page</code>."""
 NOTES = """How to read them: numbers have no bound, and <code>-</code> stops at 0. A text is a list of octets; a name is
 the list of its labels, that next to the root last. <code>elim x [ A ↦ b | C ↦ d ]</code> is a match. A
 <code>record</code> of facts means that all of them hold. <code>×</code> is "and", <code>⊎</code> "or", <code>→</code>
@@ -49,6 +54,11 @@ BASIC = {
 
 def anchor(*parts: str) -> str:
     return html.escape("-".join(parts).replace("::", ".").replace("/", "."), quote=True)
+
+
+def prose(text: str) -> str:
+    """A sentence, in which words in backticks are code."""
+    return re.sub("`([^`]*)`", r"<code>\1</code>", html.escape(text))
 
 
 def linked(text: str, keys: dict[str, str]) -> str:
@@ -142,7 +152,7 @@ class Page:
         it = graph.DEFINITIONS[key]
         text = "\n".join(it.lines)
         return (f'<section id="{anchor(key)}"><h3>{html.escape(it.word)}</h3>'
-                f"<p>{html.escape(it.comment)}</p><pre>{linked(text, words_of(it.path, text, it.cites))}</pre>"
+                f"<p>{prose(it.comment)}</p><pre>{linked(text, words_of(it.path, text, it.cites))}</pre>"
                 f"{self.links('Rests on', it.cites)}{self.links('Cited by', self.cited_by[key])}"
                 f"{self.edits(self.refused[key])}"
                 f"<p class=pale>{html.escape(graph.relative(it.path))}:{it.line}</p></section>")
@@ -151,7 +161,7 @@ class Page:
     def basic() -> str:
         """What all ends at."""
         rows = [f'<section id="{anchor("basic", word)}"><h3>{html.escape(word)}</h3>'
-                f'<p>{html.escape(meaning.replace("`", ""))}</p></section>' for word, meaning in BASIC.items()]
+                f"<p>{prose(meaning)}</p></section>" for word, meaning in BASIC.items()]
         return f"<h2>Lists and numbers</h2>{''.join(rows)}"
 
     def text(self) -> str:
@@ -167,4 +177,7 @@ class Page:
 
 def write(path: str) -> None:
     """Writes the page."""
-    (TOP / path).write_text(Page().text())
+    try:
+        pathlib.Path(path).write_text(Page().text())
+    except OSError as fault:
+        raise SystemExit(f"dev/definitions: {path}: {fault.strerror}") from None
