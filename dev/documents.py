@@ -110,7 +110,7 @@ def crates() -> list[str]:
     """What each crate is, and on which it stands."""
     below = uses()
     rows = [[f"`{name}`", text, ", ".join(f"`{it}`" for it in below[name])] for name, text in about().items()]
-    return markdown(["Crate", "What it has", "It stands on"], rows)
+    return markdown(["Crate", "What it has", "Depends on"], rows)
 
 
 def check_proved(crate: str, row: list[str], words: set[str]) -> None:
