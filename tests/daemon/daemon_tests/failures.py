@@ -88,7 +88,8 @@ def a_log_is_as_long_as_its_state(checks: Checks, folder: pathlib.Path) -> None:
         # (the log has what came after the last state, of which there may be one more while it is written)
         checks.expect(until(lambda: daemon.stats()["waiting"] == 0), daemon.stats())
         checks.expect(until(lambda: log.stat().st_size < 3 * len(LONG_ZONE)), f"{log.stat().st_size} octets")
-        checks.expect(daemon.stats()["pages"] >= 3, daemon.stats())
+        # (the page that is being claimed waits no more, and is not counted yet)
+        checks.expect(until(lambda: daemon.stats()["pages"] >= 3), daemon.stats())
         stopped(checks, daemon)
 
 

@@ -170,6 +170,7 @@ class Clients:
                     is_made = self.change(client, place)
                     is_there = is_made is not None
                     count -= bool(is_made)
+                    end = time.monotonic() + PATIENCE if is_made else end
                     time.sleep(0 if is_made else 0.1)
             if time.monotonic() > end:
                 self.wrong.append(f"{count} changes of {self.edits[place].apex[-20:]} are not made for ever")

@@ -104,18 +104,25 @@ def logs_edits_and_states(checks: Checks, folder: pathlib.Path) -> None:
 
 @test
 def logs_why_a_client_is_closed(checks: Checks, folder: pathlib.Path) -> None:
+    def logs(daemon: Daemon, cause: str, level: str) -> None:
+        line = wait_for(checks, daemon, "closed", cause=cause)
+        checks.equal(line and line.level, level, cause)
+        stopped(checks, daemon, 0)
+
     with started(checks, folder, 'idle = 1\nlog = "debug"') as daemon:
         with Client(daemon.address) as client:
             checks.expect(client.is_ended(), "idle")
+        logs(daemon, "idle", "info")
+    # (not of that one, which a busy machine may find idle before it has sent anything)
+    with started(checks, folder, 'log = "debug"') as daemon:
         with Client(daemon.address) as client:
             client.send("GET / HTTP/1.1\r\n\r\n")
             checks.expect(client.is_ended(), "a request of HTTP")
+        logs(daemon, "http", "info")
+    with started(checks, folder, 'log = "debug"') as daemon:
         with Client(daemon.address) as client:
             client.ask("quit")
-        for cause, level in ("idle", "info"), ("http", "info"), ("end", "debug"):
-            line = wait_for(checks, daemon, "closed", cause=cause)
-            checks.equal(line and line.level, level, cause)
-        stopped(checks, daemon, 0)
+        logs(daemon, "end", "debug")
 
 
 @test

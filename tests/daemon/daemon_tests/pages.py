@@ -52,7 +52,8 @@ def the_journal_rolls(checks: Checks, folder: pathlib.Path) -> None:
         events = use_pages(checks, daemon, 3_000)
         # Each but the last one is claimed, within a moment.
         checks.expect(until(lambda: daemon.stats()["waiting"] == 0), daemon.stats())
-        checks.expect(daemon.stats()["pages"] >= events // 1000, daemon.stats())
+        # (the one that is being claimed waits no more, and is not counted yet)
+        checks.expect(until(lambda: daemon.stats()["pages"] >= events // 1000), daemon.stats())
         checks.equal(daemon.stats()["events"], events, "events")
         stopped(checks, daemon, events)
 
