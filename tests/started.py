@@ -52,8 +52,8 @@ def free_ports(count: int, kind: int = socket.SOCK_STREAM) -> List[int]:
     return ports
 
 
-def wait_for(what: str, is_so: Callable[[], object], seconds: float = 15.0, pause: float = 0.02) -> None:
-    """Waits until something is so."""
+def wait_for(what: str, is_so: Callable[[], object], seconds: float = 60.0, pause: float = 0.02) -> None:
+    """Waits until something is so, for as long as a busy machine may need."""
     end = time.monotonic() + seconds
     while not is_so():
         if time.monotonic() > end:
