@@ -77,10 +77,14 @@ def number(word: str) -> int:
 
 
 def comment_of(script: str) -> str:
-    """The comment at the head of a script whose comments begin with `#`."""
-    lines = pathlib.Path(script).read_text().split("\n")[1:]
-    found = [line for line in lines[:next(n for n, line in enumerate(lines) if not line.startswith("#"))]]
-    return "\n".join(line[2:] for line in found)
+    """The comment at the head of a script whose comments begin with `#`, without what tests/in-use/run reads there."""
+    found = []
+    for line in pathlib.Path(script).read_text().split("\n")[1:]:
+        if not line.startswith("#"):
+            break
+        if not re.fullmatch("# (gate|(packages|minutes):.*)", line):
+            found.append(line[2:])
+    return "\n".join(found)
 
 
 def main() -> NoReturn:
