@@ -8,12 +8,9 @@ use crate::claims::{first_free, first_number, join, mark};
 use crate::fault::ClaimFault;
 use crate::receipt::Receipt;
 use crate::receipts::Receipts;
+use crate::spaces::Spaces;
 use sipl_book::{Event, Page};
 use std::alloc::Global;
-use std::mem;
-
-// How many hand-overs' space is kept at most.
-const MAX_SPACES: usize = 512;
 
 // Whether the events of the pages are the union of the receipts that wait with numbers below the end,
 // where those with numbers below the next were claimed.
@@ -81,37 +78,20 @@ fn mark_new(
     mark(marks, first, events, receipt)
 }
 
-// Lets go of the receipts with numbers below the end. The space of hand-overs of which none is left is kept. Does not
-// fail where it can't be.
-pub(crate) fn let_go(
-    alloc: Global,
-    waiting: &mut Vec<Receipts>,
-    spaces: &mut Vec<Receipts>,
-    end: u64,
-)
+// Lets go of the receipts with numbers below the end. The space of hand-overs of which none is left may be kept.
+pub(crate) fn let_go(waiting: &mut Vec<Receipts>, spaces: &mut Spaces, end: u64)
     ensures { all_receipts waiting.new.items ≡ later end (all_receipts waiting.old.items) }
 {
     for place in 0..waiting.len() {
-        let_go_of_handed(alloc, &mut waiting[place], spaces, end);
+        let_go_of_handed(&mut waiting[place], spaces, end);
     }
     waiting.retain(|handed| !handed.is_empty());
 }
 
 // Lets go of the receipts of a hand-over with numbers below the end.
-fn let_go_of_handed(alloc: Global, handed: &mut Receipts, spaces: &mut Vec<Receipts>, end: u64)
+fn let_go_of_handed(handed: &mut Receipts, spaces: &mut Spaces, end: u64)
     ensures { handed.new ≡ later end handed.old }
 {
     handed.let_go(end);
-    keep_space(alloc, handed, spaces);
-}
-
-// Keeps the space of a hand-over of which no receipt is left, up to so many spaces.
-fn keep_space(alloc: Global, handed: &mut Receipts, spaces: &mut Vec<Receipts>)
-    ensures { handed.new ≡ handed.old }
-{
-    if !handed.is_empty() || spaces.len() >= MAX_SPACES || spaces.reserve(1).is_err() {
-        return;
-    }
-    let nothing = Receipts::from_vec(Vec::new(alloc));
-    spaces.push_reserved(mem::replace(handed, nothing));
+    spaces.keep(handed);
 }

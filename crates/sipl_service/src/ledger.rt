@@ -9,6 +9,7 @@ ghost use Rattle.sipl_service.specs.Receipts.{all_receipts};
 use crate::due::{check, let_go};
 use crate::fault::ClaimFault;
 use crate::receipts::Receipts;
+use crate::spaces::Spaces;
 use sipl_book::{Page, State};
 use sipl_choice::Abilities;
 use sipl_outages::Held;
@@ -26,8 +27,7 @@ pub struct Ledger {
     alloc: Global,
     last: Option<Last>,
     waiting: Vec<Receipts>,
-    // Hand-overs that were let go of, for their space.
-    spaces: Vec<Receipts>,
+    spaces: Spaces,
 }
 
 impl Model for Ledger {
@@ -83,7 +83,7 @@ impl Ledger {
             alloc,
             last: None,
             waiting: Vec::new(alloc),
-            spaces: Vec::new(alloc),
+            spaces: Spaces::new(alloc),
         }
     }
 
@@ -138,9 +138,17 @@ impl Ledger {
         let Ok(last) = Last::of(self.alloc, page) else {
             return Err(ClaimFault::Memory);
         };
-        let_go(self.alloc, &mut self.waiting, &mut self.spaces, last.next);
+        let_go(&mut self.waiting, &mut self.spaces, last.next);
         drop(mem::replace(&mut self.last, Some(last)));
         Ok(())
+    }
+
+    /// Keeps the space of so many hand-overs at most whose receipts are let go of from now on, for `take_space`. At first
+    /// it keeps none.
+    pub fn keep_spaces(&mut self, max: usize)
+        ensures { self.new ≡ self.old }
+    {
+        self.spaces.set_max(max);
     }
 
     /// Takes out the space of a hand-over whose receipts were let go of, if there is some: for a pass that goes on in it.
@@ -148,10 +156,7 @@ impl Ledger {
         ensures empty { IfSome result (λ space. space ≡ []) }
         ensures unchanged { self.new ≡ self.old }
     {
-        match self.spaces.pop() {
-            Some(space) if space.is_empty() => Some(space),
-            _ => None,
-        }
+        self.spaces.take()
     }
 
     /// The number of the event after those that were claimed; at first 0.

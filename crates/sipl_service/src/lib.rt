@@ -29,6 +29,7 @@ mod receipts;
 mod repairs;
 mod service;
 mod shared;
+mod spaces;
 mod told;
 mod versions;
 

@@ -1,6 +1,7 @@
 //! What was claimed.
 use crate::fault::CloseFault;
 use crate::journal::pages::Pages;
+use crate::journal::spaces::MAX_RECEIPTS;
 use sipl_archive::Archive;
 use sipl_book::Page;
 use sipl_service::{ClaimFault, Ledger, Receipts};
@@ -36,8 +37,10 @@ pub(crate) enum Claimed {
 impl Claims {
     /// Nothing was claimed.
     pub(crate) fn new(alloc: Global) -> Claims {
+        let mut ledger = Ledger::new(alloc);
+        ledger.keep_spaces(MAX_RECEIPTS);
         Claims {
-            ledger: Ledger::new(alloc),
+            ledger,
             handed: VecDeque::new(alloc),
             next: None,
             unarchived: None,

@@ -4,9 +4,10 @@ use sipl_service::{Ledger, Receipts};
 use std::alloc::Global;
 use std::sync::{Mutex, Wait};
 
-// How many hand-overs' space, and how many journals', is kept at most.
-const MAX_RECEIPTS: usize = 512;
+/// How many hand-overs' space is kept at most.
+pub(crate) const MAX_RECEIPTS: usize = 512;
 
+// How many journals' space is kept at most.
 const MAX_JOURNALS: usize = 8;
 
 /// The space of receipts and of events that were claimed, in which later ones are kept: so a daemon that runs for months

@@ -1,0 +1,52 @@
+// The space of hand-overs whose receipts were let go of.
+ghost use Rattle.std.specs.Prelude.{◌≡◌, [], IfSome};
+
+use crate::receipts::Receipts;
+use std::alloc::Global;
+use std::mem;
+
+// The space of hand-overs of which no receipt is left, for callers to go on in.
+#[derive(Drop)]
+pub(crate) struct Spaces {
+    alloc: Global,
+    kept: Vec<Receipts>,
+    // How many are kept at most.
+    max: usize,
+}
+
+impl Spaces {
+    // None, and none is kept.
+    pub fn new(alloc: Global) -> Self {
+        Spaces {
+            alloc,
+            kept: Vec::new(alloc),
+            max: 0,
+        }
+    }
+
+    // Keeps so many at most from now on.
+    pub fn set_max(&mut self, max: usize) {
+        self.max = max;
+    }
+
+    // Keeps that of a hand-over, where no receipt of it is left.
+    pub fn keep(&mut self, handed: &mut Receipts)
+        ensures { handed.new ≡ handed.old }
+    {
+        if !handed.is_empty() || self.kept.len() >= self.max || self.kept.reserve(1).is_err() {
+            return;
+        }
+        let nothing = Receipts::from_vec(Vec::new(self.alloc));
+        self.kept.push_reserved(mem::replace(handed, nothing));
+    }
+
+    // Takes one out, if there is one.
+    pub fn take(&mut self) -> Option<Receipts>
+        ensures { IfSome result (λ space. space ≡ []) }
+    {
+        match self.kept.pop() {
+            Some(space) if space.is_empty() => Some(space),
+            _ => None,
+        }
+    }
+}
