@@ -6,6 +6,7 @@ import concurrent.futures
 import pathlib
 import random
 import subprocess
+import time
 from typing import Any, Iterator
 
 from daemon_tests.support import (
@@ -22,6 +23,7 @@ from daemon_tests.support import (
     test,
     until,
 )
+from daemon_tests.syncs import Syncs
 
 
 def use_pages(checks: Checks, daemon: Daemon, lines: int) -> int:
@@ -67,6 +69,33 @@ def the_archive_is_replayed(checks: Checks, folder: pathlib.Path) -> None:
         stopped(checks, daemon, events)
     checks.equal(replay(archive), (0, f"replayed {events}\n"), "replay")
     damage(checks, archive)
+
+
+@test
+def sessions_wait_for_pages_that_wait(checks: Checks, folder: pathlib.Path) -> None:
+    """While a page can't be archived, eight clients send all that they are answered: that makes few pages, not all memory."""
+    archive, syncs = folder / "archive", Syncs(folder)
+    archive.mkdir()
+    with started(checks, folder, f'journal = 100\narchive = "{archive}"', environment=syncs.environment) as daemon:
+        syncs.wait(True)
+        ends = time.monotonic() + 3
+
+        def use(_: int) -> int:
+            with Client(daemon.address) as client:
+                count = 0
+                while time.monotonic() < ends:
+                    client.send("find sip:192.0.2.1:1\n" * 50)
+                    count += sum(client.reply() is not None for _ in range(50))
+                return count
+
+        with concurrent.futures.ThreadPoolExecutor(8) as pool:
+            counts = [*pool.map(use, range(8))]
+        waiting = daemon.stats()["waiting"]
+        checks.expect(min(counts) >= 50, ("lines of each client", counts))
+        checks.expect(waiting <= 100, (waiting, "pages wait"))
+        syncs.wait(False)
+        checks.expect(until(lambda: daemon.stats()["waiting"] == 0), daemon.stats())
+        stopped(checks, daemon, sum(counts))
 
 
 def replay(archive: pathlib.Path) -> tuple[int, str]:

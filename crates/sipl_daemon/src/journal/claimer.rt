@@ -88,6 +88,7 @@ fn keep_or_wait<H: Host>(
         Ok(()) => {
             use_again(host, daemon, turned);
             if has_waited {
+                daemon.pages.hold_up(false);
                 daemon.observed.say(host, ARCHIVED);
             }
         }
@@ -96,6 +97,7 @@ fn keep_or_wait<H: Host>(
                 daemon.observed.say_waiting(host, &error);
             }
             claims.put_unarchived(turned);
+            daemon.pages.hold_up(true);
             daemon.stop.pause(host, Duration::from_millis(AGAIN));
         }
         Err(fault) => fail(host, daemon, claims, fault),

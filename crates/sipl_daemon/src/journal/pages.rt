@@ -11,7 +11,7 @@ use sipl_state::{Source, Turned};
 use std::alloc::Global;
 use std::collections::VecDeque;
 use std::mem;
-use std::sync::atomic::{AtomicU64, Ordering};
+use std::sync::atomic::{AtomicBool, AtomicU64, Ordering};
 use std::sync::{Condvar, CondvarTimeouts, Mutex, Wait};
 use std::time::{Clock, Duration};
 
@@ -25,6 +25,12 @@ const RECORD_OCTETS: u64 = 100;
 
 // How often the thread that claims looks whether the daemon is to stop, in milliseconds.
 const LOOK: u64 = 100;
+
+// How many pages may wait to be claimed before those who make events wait too, and how long these do at most for each
+// page more, in milliseconds.
+const MAX_AHEAD: usize = 2;
+
+const PACE: u64 = 20;
 
 /// The pages that were turned, and what their events are claimed with, until the thread that claims takes them.
 #[derive(Drop)]
@@ -42,6 +48,10 @@ pub(crate) struct Pages {
     turned: Mutex<VecDeque<Turned>>,
     // Wakes the thread that claims.
     woken: Condvar,
+    // Wakes those who wait for it.
+    taken: Condvar,
+    // Whether it can't go on, and none is to wait for it.
+    is_held_up: AtomicBool,
     // The receipts that were handed over since the last claim.
     handed: Mutex<VecDeque<Receipts>>,
     pub(crate) spaces: Spaces,
@@ -59,6 +69,8 @@ impl Pages {
             octets: AtomicU64::new(0),
             turned: Mutex::new(VecDeque::new(alloc)),
             woken: Condvar::new(),
+            taken: Condvar::new(),
+            is_held_up: AtomicBool::new(false),
             handed: Mutex::new(VecDeque::new(alloc)),
             spaces: Spaces::new(alloc),
             claimed: AtomicU64::new(0),
@@ -160,9 +172,30 @@ impl Pages {
             .wait_timeout_while(rt, turned, longest, |turned| turned.is_empty());
     }
 
+    /// Waits until at most two pages wait to be claimed, for 20 milliseconds at most for each page more: so those who
+    /// make events do not get ahead of the thread that claims them. Where that can't go on it does not wait.
+    pub(crate) fn keep_pace<R: Wait + Clock>(&self, rt: &R) {
+        let turned = self.turned.lock(rt);
+        let ahead = turned.len().saturating_sub(MAX_AHEAD) as u64;
+        if ahead == 0 || self.is_held_up.load(Ordering::SeqCst) {
+            return;
+        }
+        let longest = Duration::from_millis(ahead.saturating_mul(PACE));
+        let _turned = self
+            .taken
+            .wait_timeout_while(rt, turned, longest, |turned| turned.len() > MAX_AHEAD);
+    }
+
+    /// Says whether the thread that claims can't go on.
+    pub(crate) fn hold_up(&self, is_held_up: bool) {
+        self.is_held_up.store(is_held_up, Ordering::SeqCst);
+    }
+
     /// Takes the next page out that was turned, if there is one.
     pub(crate) fn take_next<R: Wait>(&self, rt: &R) -> Option<Turned> {
-        self.turned.lock(rt).pop_front()
+        let next = self.turned.lock(rt).pop_front();
+        self.taken.notify_all();
+        next
     }
 
     /// Takes the receipts out that were handed over since the last time.

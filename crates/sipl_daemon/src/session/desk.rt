@@ -254,6 +254,9 @@ impl<'a, R: Wait + Clock> Desk for SessionDesk<'a, R> {
 
     fn pause(&mut self) {
         let _ = self.daemon.pages.hand_over(self.rt, &mut self.pass);
+        if !self.is_restoring {
+            self.daemon.pages.keep_pace(self.rt);
+        }
     }
 
     fn write_fault(fault: DeskFault, out: &mut Vec<u8>) {
