@@ -1,5 +1,6 @@
-ghost use Rattle.std.specs.Prelude.{◌≡◌, ◌≤◌, ℕ, List, length, IfNone};
+ghost use Rattle.std.specs.Prelude.{◌≡◌, ◌≢◌, ◌⊎◌, ◌≤◌, ◌<◌, ℕ, List, Some, length, IfNone, IfSome};
 ghost use Rattle.httparse.specs.Grammar.{HasNoRequest, ReadsRequest, RequestHead};
+ghost use Rattle.httparse.specs.Spans.{RequestOverflows};
 ghost use Rattle.sipl_metrics.specs.Requests.{IsAskedBy, asked_of, by_method, is_path};
 
 use httparse::Status;
@@ -33,7 +34,11 @@ pub enum Asked {
 pub fn read_request(octets: &[u8]) -> Option<Asked>
     ensures found { (head : RequestHead) (rest : List ℕ) → ReadsRequest octets.now head rest
         → length head.fields ≤ 64 → IsAskedBy octets.now result }
+    ensures asked { IfSome result (λ asked. asked ≢ Asked.Bad → IsAskedBy octets.now (Some asked)) }
+    ensures bad { IfSome result (λ asked. asked ≡ Asked.Bad
+        → (8192 ≤ length octets.now) ⊎ RequestOverflows 64 octets.now) }
     ensures more { IfNone result (HasNoRequest octets.now) }
+    ensures short { IfNone result (length octets.now < 8192) }
 {
     let mut fields = [EMPTY_HEADER_SPAN; MAX_FIELDS];
     match parse_request(octets, &mut fields) {
