@@ -83,16 +83,25 @@ func Connect(ctx context.Context, address string, timeout time.Duration) (*Sessi
 			}
 		}
 		if err == nil {
-			session := &Session{stream: stream, reader: bufio.NewReaderSize(stream, 1<<16), turn: make(chan struct{}, 1)}
-			session.timeout.Store(int64(timeout))
-			session.turn <- struct{}{}
-			return session, nil
+			return New(stream, timeout), nil
 		}
 		if first == nil {
 			first = err
 		}
 	}
 	return nil, &NotConnectedError{Address: address, Cause: first}
+}
+
+// New opens a session over a connection that is there, such as an end of a socket pair. The timeout is how long a call
+// waits without progress. Where it is 0, it is DefaultTimeout.
+func New(stream net.Conn, timeout time.Duration) *Session {
+	if timeout == 0 {
+		timeout = DefaultTimeout
+	}
+	session := &Session{stream: stream, reader: bufio.NewReaderSize(stream, 1<<16), turn: make(chan struct{}, 1)}
+	session.timeout.Store(int64(timeout))
+	session.turn <- struct{}{}
+	return session
 }
 
 // placesOf returns the network and the places of an address, in the order in which they are tried.

@@ -27,11 +27,7 @@ pub(crate) fn run_lines(
 }
 
 // Serves a session on octets at a book. Returns how it ended, and the replies.
-fn replies_to(
-    alloc: Global,
-    lines: &[u8],
-    book: &mut Book,
-) -> (Result<Ended, ServeFault>, Vec<u8>)
+fn replies_to(alloc: Global, lines: &[u8], book: &mut Book) -> (Result<Ended, ServeFault>, Vec<u8>)
     ensures { HasReplies (plain_of book.old) (plain_of book.new) lines.now result.0 result.1.items }
 {
     let mut reader = Tapped::new(lines);
