@@ -1,12 +1,13 @@
 -- What serving a session between octets and a vector gives.
-use Rattle.std.proofs.Common.{◌≡◌, [], ◌++◌, Option, Some, Result, Ok, Err, OnOk, OnErr, sym, subst}
+use Rattle.std.specs.Prelude.{◌≡◌, ◌^◌, [], Option, Some, Result, Ok, Err, OnOk, OnErr}
+use Rattle.std.proofs.Common.{sym, subst}
 use Rattle.sipl_names.specs.Labels.{Octets}
 use Rattle.sipl_lines.specs.Items.{items_of}
 use Rattle.sipl_lines.specs.PlainDesk.{PlainState, plain_rules}
 use Rattle.sipl_lines.specs.Replies.{Serves}
 use Rattle.sipl_lines.specs.Serving.{ServesDesk}
 use Rattle.sipl_lines.specs.Session.{SessionState, new_session, session_protocol}
-use Rattle.sipl_lines.specs.Streams.{ServesAll, ServesPrefix, ServesFirst}
+use Rattle.sipl_lines.specs.Streams.{ServesAll, ServesPrefix}
 use Rattle.sipl_lines.specs.Tapped.{tapped_inner}
 use Rattle.sipl_lines.specs.declared.server.Ended.{Ended}
 use Rattle.sipl_lines.specs.declared.server.ServeFault.{ServeFault}
