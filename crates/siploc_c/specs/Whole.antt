@@ -21,7 +21,7 @@ use Rattle.siploc_c.specs.declared.status.Status.TheVariants as status
 abbrev pub RefusesSettings : Octets → Status → Type 0
 RefusesSettings text refusal =
     ((refusal ≡ status.Settings)
-    × ((¬ IsUtf8 text) ⊎ (fault : Fault) × (settings_of text ≡ Err fault)))
+    × ((¬ IsUtf8 text) ⊎ ((fault : Fault) × (settings_of text ≡ Err fault))))
     ⊎ (refusal ≡ status.Memory)
 
 -- From the first state the plain machine gives this text for an input: all replies where the session has
@@ -67,6 +67,6 @@ pub record RunsNothing (text room : Octets) (number : ℕ) (written : Octets) (c
 -- the lines are served at a new book with the settings of the text, or these are refused
 abbrev pub RunsLines : Octets → Octets → Octets → ℕ → Octets → ℕ → Type 0
 RunsLines text input room number written count =
-    (settings : Settings) × (settings_of text ≡ Ok settings)
-    × RunsWith settings input room number written count
+    ((settings : Settings) × (settings_of text ≡ Ok settings)
+    × RunsWith settings input room number written count)
     ⊎ RunsNothing text room number written count
