@@ -18,7 +18,9 @@ use Rattle.siploc_c.specs.Whole.{HasReplies}
 known : (P : Option Octets → Option Octets → Option Octets → Type 0) {a b c : Option Octets}
     {input old text : Octets} → a ≡ Some input → b ≡ Some old → c ≡ Some text → P a b c
     → P (Some input) (Some old) (Some text)
-known P e f g = subst (λ (x : Option Octets × Option Octets × Option Octets). P x.0 x.1.0 x.1.1) (λ j. (e j, (f j, g j)))
+known P {b = b} {c = c} {input = input} {old = old} e f g fact =
+    subst (λ (z : Option Octets). P (Some input) (Some old) z) g
+    (subst (λ (y : Option Octets). P (Some input) y c) f (subst (λ (x : Option Octets). P x b c) e fact))
 
 all_served : (before session : SessionState PlainState) (input text : Octets)
     → ServesAll (session_protocol plain_rules) before (Some input) (Some []) session (Some text)
