@@ -9,6 +9,7 @@
  * What a session replies is written on standard output, once. The status is that of the call, or 100 where something
  * is not as it should be, which is told on standard error.
  */
+#include <errno.h>
 #include <pthread.h>
 #include <stdint.h>
 #include <stdio.h>
@@ -71,10 +72,11 @@ static text read_all(int descriptor) {
         if (all.len == room && (all.octets = __real_realloc(all.octets, room = 2 * room + 4096)) == NULL)
             stop("out of memory");
         ssize_t count = read(descriptor, all.octets + all.len, room - all.len);
+        /* The other end may be closed before it has read all: where settings are refused, or after `quit`. */
+        if (count == 0 || (count < 0 && errno == ECONNRESET))
+            return all;
         if (count < 0)
             stop("a read failed");
-        if (count == 0)
-            return all;
         all.len += (size_t)count;
     }
 }
