@@ -1,12 +1,12 @@
 -- Lemmas on the cutting of an input into lines, in one piece and in many.
 use Rattle.std.proofs.Common.{◌≡◌, ℕ, ◌+◌, ◌-◌, ◌<◌, ◌≤◌, List, [], ◌∷◌, ◌++◌, true, false, if◌then◌else◌, ◌==◌, length, get_or, take, drop, refl, sym, ap, subst, ◌∙◌, inl, inr, append_assoc, append-nil, zero, suc, eq-eqb, ne_eqb, arith}
-use Rattle.std.proofs.lemmas.List.{drop_more, take_more, take_all, take-take, take-append-drop, drop_all, take_at, take-append-le, length-take-le, length-append}
+use Rattle.std.proofs.lemmas.List.{drop_more, take_more, take_all, take-take, take-append-drop, drop_all, take_at, take-append-le, length-take-le, get_or-take}
 use Rattle.std.proofs.lemmas.Bool.{cases_lt}
-use Rattle.std.proofs.Math.Seq.{take-append-add}
+use Rattle.std.proofs.Math.Seq.{take-append-add, take-append_seam}
 use Rattle.sipl_records.specs.Parts.{parts, prepend_to_first}
 use Rattle.sipl_lines.specs.Lines.{without_cr, lines_among, complete_among}
 use Rattle.sipl_lines.specs.Items.{Item, line, end_of_input, line_items, items_of, complete_items}
-use Rattle.sipl_lines.specs.Machine.{items_from, pending_after, kept_prefix, last_items, EndsNoLine, EndsLine}
+use Rattle.sipl_lines.specs.Machine.{items_from, pending_after, kept_prefix, last_items, read_items, EndsNoLine, EndsLine}
 
 -- ---- an input in two pieces
 
@@ -119,9 +119,6 @@ passed_none octets pending = (ap (λ p. items_from p octets) (sym (append-nil pe
 at_other : (c : ℕ) (A : Type 0) (x y : A) → (c == 10) ≡ false → (if c == 10 then x else y) ≡ y
 at_other c A x y e = ap (λ v. if v then x else y) e
 
-at_end : (c : ℕ) (A : Type 0) (x y : A) → (c == 10) ≡ true → (if c == 10 then x else y) ≡ x
-at_end c A x y e = ap (λ v. if v then x else y) e
-
 pub passed_more : (octets : List ℕ) (i : ℕ) → i < length octets → (get_or octets i 0 ≡ 10 → ⊥) → PassedTo octets i → PassedTo octets (i + 1)
 passed_more octets i below other passed pending =
     let c = get_or octets i 0 in
@@ -144,19 +141,6 @@ passed_to octets (suc n) within none =
     subst (PassedTo octets) next
     (passed_more octets n (omega arith) (none n (omega arith)) (passed_to octets n (omega arith) (λ i below. none i (omega arith))))
 
-pub passed_found : (octets : List ℕ) (i : ℕ) → i < length octets → get_or octets i 0 ≡ 10 → PassedTo octets i → EndsLine octets (take i octets) (drop (i + 1) octets)
-passed_found octets i below end passed =
-    let c = get_or octets i 0 in
-    let split : drop i octets ≡ c ∷ drop (i + 1) octets = drop_more octets i 0 below in (
-      λ pending. (
-        (passed pending).0 ∙ ap (λ rest. items_from (pending ++ take i octets) rest) split
-            ∙ at_end c (List Item) (line (without_cr (pending ++ take i octets)) ∷ items_from [] (drop (i + 1) octets)) (items_from ((pending ++ take i octets) ++ c ∷ []) (drop (i + 1) octets)) (eq-eqb c 10 end),
-        (passed pending).1 ∙ ap (λ rest. pending_after (pending ++ take i octets) rest) split
-            ∙ at_end c (List ℕ) (pending_after [] (drop (i + 1) octets)) (pending_after ((pending ++ take i octets) ++ c ∷ []) (drop (i + 1) octets)) (eq-eqb c 10 end),
-      ),
-      omega (arith, ap length (take-append-drop (i + 1) octets), length-append (take (i + 1) octets) (drop (i + 1) octets), length-take-le (i + 1) octets (omega arith)),
-    )
-
 pub passed_all : (octets : List ℕ) (i : ℕ) → length octets ≤ i → PassedTo octets i → EndsNoLine octets
 passed_all octets i all passed pending =
     let front : take i octets ≡ octets = take_all i octets all in
@@ -164,6 +148,25 @@ passed_all octets i all passed pending =
       (passed pending).0 ∙ ap (λ rest. items_from (pending ++ take i octets) rest) behind,
       (passed pending).1 ∙ ap (λ rest. pending_after (pending ++ take i octets) rest) behind ∙ ap (λ text. pending ++ text) front,
     )
+
+-- no line ends before the first LF
+pub passed_before : (octets : List ℕ) (i : ℕ) → i ≤ length octets → ((k : ℕ) → k < i → get_or octets k 0 ≡ 10 → ⊥) → EndsNoLine (take i octets)
+passed_before octets i within none =
+    let front = take i octets in
+    let count : length front ≡ i = length-take-le i octets within in
+    passed_all front i (omega arith) (passed_to front i (omega arith) (λ k below lf. none k below (sym (get_or-take i octets k 0 below) ∙ lf)))
+
+pub passed_found : (octets : List ℕ) (i : ℕ) → i < length octets → get_or octets i 0 ≡ 10 → EndsNoLine (take i octets) → EndsLine octets (take i octets) (drop (i + 1) octets)
+passed_found octets i below end none =
+    let split : drop i octets ≡ 10 ∷ drop (i + 1) octets = drop_more octets i 0 below ∙ ap (λ c. c ∷ drop (i + 1) octets) end in
+    (sym (take-append-drop i octets) ∙ ap (λ rest. take i octets ++ rest) split, none)
+
+-- the first line that ends, and the items of the rest
+pub items_first : (pending octets piece rest : List ℕ) → EndsLine octets piece rest → items_from pending octets ≡ line (without_cr (pending ++ piece)) ∷ items_from [] rest
+items_first pending octets piece rest ends =
+    ap (items_from pending) ends.0 ∙ items_from-append piece (10 ∷ rest) pending
+    ∙ ap (λ items. items ++ items_from (pending_after pending piece) (10 ∷ rest)) (ends.1 pending).0
+    ∙ ap (λ p. items_from p (10 ∷ rest)) (ends.1 pending).1
 
 -- ---- what is kept of a pending line
 
@@ -183,6 +186,10 @@ take-kept n p x =
 pub kept-kept : (p : List ℕ) → kept_prefix (kept_prefix p) ≡ kept_prefix p
 kept-kept p = take-take 65538 65538 p (omega arith)
 
+-- what was kept before more was
+pub kept-take : (p x : List ℕ) → length p ≤ 65538 → take (length p) (kept_prefix (p ++ x)) ≡ p
+kept-take p x short = take-take (length p) 65538 (p ++ x) short ∙ take-append_seam p x
+
 pub kept-append : (p q x : List ℕ) → kept_prefix p ≡ kept_prefix q → kept_prefix (p ++ x) ≡ kept_prefix (q ++ x)
 kept-append p q x like = sym (take-kept 65538 p x) ∙ ap (λ front. take 65538 (front ++ x)) like ∙ take-kept 65538 q x
 
@@ -191,6 +198,12 @@ kept-pending_after [] p q like = like
 kept-pending_after (c ∷ octets) p q like =
     elim (c == 10) as (λ v. kept_prefix (if v then pending_after [] octets else pending_after (p ++ c ∷ []) octets) ≡ kept_prefix (if v then pending_after [] octets else pending_after (q ++ c ∷ []) octets))
     [ true ↦ refl | false ↦ kept-pending_after octets (p ++ c ∷ []) (q ++ c ∷ []) (kept-append p q (c ∷ []) like) ]
+
+-- ---- the items of a read
+
+pub read_items-some : (pending octets : List ℕ) → (length octets ≡ 0 → ⊥) → items_from pending octets ≡ read_items pending octets
+read_items-some pending [] some = absurd (some refl)
+read_items-some pending (c ∷ octets) some = refl
 
 -- ---- a line without the CR at its end
 

@@ -1,14 +1,16 @@
 -- Lemmas on the replies to items, for any protocol.
-use Rattle.std.proofs.Common.{◌≡◌, ◌⊎◌, ℕ, ◌<◌, ◌≤◌, List, [], ◌∷◌, ◌++◌, true, false, if◌then◌else◌, ◌==◌, length, take, refl, sym, ap, ◌∙◌, subst, inl, inr, append_assoc, append-nil, zero, suc, lit<, arith}
-use Rattle.std.proofs.lemmas.List.{take_all, length-take}
+use Rattle.std.proofs.Common.{◌≡◌, ◌⊎◌, ℕ, ◌+◌, ◌-◌, ◌<◌, ◌≤◌, List, [], ◌∷◌, ◌++◌, true, false, if◌then◌else◌, ◌==◌, length, take, drop, refl, sym, ap, ◌∙◌, subst, inl, inr, append_assoc, append-nil, zero, suc, lit<, arith}
+use Rattle.std.proofs.Math.Seq.{take-append_seam, drop-append_seam}
+use Rattle.std.proofs.lemmas.List.{take_all, length-take, length-append, take-append-drop}
 use Rattle.std.proofs.lemmas.Bool.{cases_lt}
 use Rattle.sipl_names.specs.Labels.{Octets}
 use Rattle.sipl_lines.specs.Lines.{without_cr}
 use Rattle.sipl_lines.specs.Items.{Item, line, end_of_input}
 use Rattle.sipl_lines.specs.Protocol.{IsLineProtocol, Protocol}
 use Rattle.sipl_lines.specs.Replies.{Pauses, Waits, Serves, AppendsReply, AppendsReplies, AppendsFirstReplies}
+use Rattle.sipl_lines.specs.Takes.{Takes, TakesFirst, EndAtLine}
 use Rattle.sipl_lines.specs.Machine.{items_from, pending_after, kept_prefix, last_items, read_items, EndsNoLine, EndsLine}
-use Rattle.sipl_lines.proofs.Cutting.{kept-append, kept-kept, without_cr-length}
+use Rattle.sipl_lines.proofs.Cutting.{items_from-append, items_first, pending_after-append, kept-append, kept-kept, without_cr-length}
 
 -- ---- pauses between items
 
@@ -246,55 +248,103 @@ first_line p s (c ∷ kept) old u mid v new some reply same same_out =
 
 -- ---- a chunk that is fed
 
--- of the items of a chunk so many are served that those of its rest are left
+-- so much of a chunk is taken, up to the end of a line, and the rest is left
 pub record FedTo (p : Protocol) (before : p.State) (first chunk old : Octets) (now : p.State) (pending rest new : Octets) : Type 0 where
-  pub done : List Item
-  pub split : items_from first chunk ≡ done ++ items_from pending rest
-  pub replies : AppendsReplies p before done old now new
-  pub left : pending_after first chunk ≡ pending_after pending rest
-
-pub fed_waiting : {p : Protocol} {before : p.State} {first chunk old : Octets} {now : p.State} {pending rest new : Octets} (later : p.State)
-    → FedTo p before first chunk old now pending rest new → Waits p now later → FedTo p before first chunk old later pending rest new
-fed_waiting {p} {before} {first} {chunk} {old} {now} {pending} {rest} {new} later fed waits =
-    let replies = fed.replies in
-    record {
-      done = fed.done;
-      split = fed.split;
-      replies = (replies.0, serves_waiting p fed.done before replies.0 now later replies.1 waits, replies.2);
-      left = fed.left;
-    }
+  pub taken : Octets
+  pub joined : chunk ≡ taken ++ rest
+  pub left : pending_after first taken ≡ pending
+  pub ends : EndAtLine taken
+  pub replies : AppendsReplies p before (items_from first taken) old now new
+  pub same_state : items_from first taken ≡ [] → now ≡ before
 
 pub fed_none : (p : Protocol) (before : p.State) (first chunk old : Octets) → FedTo p before first chunk old before first chunk old
-fed_none p before first chunk old = record { done = []; split = refl; replies = replies_none p before old; left = refl }
+fed_none p before first chunk old =
+    record { taken = []; joined = refl; left = refl; ends = inl refl; replies = replies_none p before old; same_state = λ _. refl }
 
-pub fed_more : {p : Protocol} {before : p.State} {first chunk old : Octets} {now : p.State} {pending rest new : Octets} (piece tail : Octets) (later : p.State) (newer : Octets)
+no_item : (item : Item) (items : List Item) → item ∷ items ≡ [] → ⊥
+no_item item items none = cc
+
+some_item : (items : List Item) (item : Item) → items ++ item ∷ [] ≡ [] → ⊥
+some_item [] item none = cc
+some_item (other ∷ items) item none = cc
+
+pub fed_more : {p : Protocol} {before : p.State} {first chunk old : Octets} {now : p.State} {pending rest new : Octets} (piece tail : Octets) (next later : p.State) (newer : Octets)
     → FedTo p before first chunk old now pending rest new → EndsLine rest piece tail
-    → AppendsReplies p now (line (without_cr (pending ++ piece)) ∷ []) new later newer → FedTo p before first chunk old later [] tail newer
-fed_more {p} {before} {first} {chunk} {old} {now} {pending} {rest} {new} piece tail later newer fed ends replies =
+    → AppendsReplies p now (line (without_cr (pending ++ piece)) ∷ []) new next newer → Waits p next later → FedTo p before first chunk old later [] tail newer
+fed_more {p} {before} {first} {chunk} {old} {now} {pending} {rest} {new} piece tail next later newer fed ends replies waits =
     let item = line (without_cr (pending ++ piece)) in
+    let more : Octets = piece ++ 10 ∷ [] in
+    let done : items_from first (fed.taken ++ more) ≡ items_from first fed.taken ++ item ∷ [] =
+    items_from-append fed.taken more first ∙ ap (λ q. items_from first fed.taken ++ items_from q more) fed.left
+    ∙ ap (λ items. items_from first fed.taken ++ items) (items_first pending more piece [] (refl, ends.1)) in
     record {
-      done = fed.done ++ item ∷ [];
-      split = fed.split ∙ ap (λ items. fed.done ++ items) (ends.0 pending).0 ∙ sym (append_assoc fed.done (item ∷ []) (items_from [] tail));
-      replies = replies_more p fed.done (item ∷ []) before now later old new newer fed.replies replies;
-      left = fed.left ∙ (ends.0 pending).1;
+      taken = fed.taken ++ more;
+      joined = fed.joined ∙ ap (λ r. fed.taken ++ r) (ends.0 ∙ sym (append_assoc piece (10 ∷ []) tail)) ∙ sym (append_assoc fed.taken more tail);
+      left = pending_after-append fed.taken more first ∙ pending_after-append piece (10 ∷ []) (pending_after first fed.taken);
+      ends = inr (fed.taken ++ piece, sym (append_assoc fed.taken piece (10 ∷ [])));
+      replies = subst (λ items. AppendsReplies p before items old later newer) (sym done)
+          (replies_more p (items_from first fed.taken) (item ∷ []) before now later old new newer fed.replies
+          (replies.0, serves_waiting p (item ∷ []) now replies.0 next later replies.1 waits, replies.2));
+      same_state = λ none. absurd (some_item (items_from first fed.taken) item (sym done ∙ none));
     }
 
-pub fed_items : {p : Protocol} {before : p.State} {first chunk old : Octets} {now : p.State} {pending rest new : Octets}
-    → FedTo p before first chunk old now pending rest new → EndsNoLine rest → AppendsReplies p before (items_from first chunk) old now new
-fed_items {p} {before} {first} {chunk} {old} {now} {pending} {rest} {new} fed none =
-    let P : List Item → Type 0 = λ items. AppendsReplies p before items old now new in
-    subst P (sym (append-nil fed.done) ∙ ap (λ items. fed.done ++ items) (sym (none pending).0) ∙ sym fed.split) fed.replies
-
-pub fed_rest : {p : Protocol} {before : p.State} {first chunk old : Octets} {now : p.State} {pending rest new : Octets}
-    → FedTo p before first chunk old now pending rest new → EndsNoLine rest → kept_prefix (pending ++ rest) ≡ kept_prefix (pending_after first chunk)
-fed_rest {p} {before} {first} {chunk} {old} {now} {pending} fed none = ap kept_prefix (sym (fed.left ∙ (none pending).1))
-
-pub fed_first : {p : Protocol} {before : p.State} {first chunk old : Octets} {now : p.State} {pending rest new : Octets} (later : p.State) (newer : Octets)
-    → FedTo p before first chunk old now pending rest new → later ≡ now → newer ≡ new → AppendsFirstReplies p before (items_from first chunk) old later newer
-fed_first {p} {before} {first} {chunk} {old} {now} {pending} {rest} {new} later newer fed same same_out =
+-- no line ends in the rest: all is taken
+pub fed_all : {p : Protocol} {before : p.State} {first chunk old : Octets} {now : p.State} {pending rest new : Octets} (kept : Octets)
+    → FedTo p before first chunk old now pending rest new → EndsNoLine rest → kept ≡ kept_prefix (pending ++ rest) → length pending ≤ 65538
+    → Takes p before first chunk old now kept new
+fed_all {p} {before} {first} {chunk} {old} {now} {pending} {rest} {new} kept fed none is_kept short =
+    let items : items_from first chunk ≡ items_from first fed.taken =
+    ap (items_from first) fed.joined ∙ items_from-append fed.taken rest first
+    ∙ ap (λ more. items_from first fed.taken ++ more) (none (pending_after first fed.taken)).0 ∙ append-nil (items_from first fed.taken) in
+    let after : pending_after first chunk ≡ pending ++ rest =
+    ap (pending_after first) fed.joined ∙ pending_after-append fed.taken rest first ∙ (none (pending_after first fed.taken)).1 ∙ ap (λ q. q ++ rest) fed.left in
     record {
-      done = fed.done;
-      rest = items_from pending rest;
-      split = fed.split;
-      replies = subst (λ s. AppendsReplies p before fed.done old s newer) (sym same) (subst (λ o. AppendsReplies p before fed.done old now o) (sym same_out) fed.replies);
+      replies = subst (λ all. AppendsReplies p before all old now new) (sym items) fed.replies;
+      pending_is = is_kept ∙ ap kept_prefix (sym after);
+      same_state = λ empty. fed.same_state (sym items ∙ empty);
+      same_pending = λ empty.
+          let same : pending ++ rest ≡ first = sym after ∙ ap (pending_after first) empty in
+          let no_more : length rest ≡ 0 = omega (arith, length-append fed.taken rest, ap length (sym fed.joined ∙ empty)) in
+          is_kept ∙ ap kept_prefix same ∙ take_all 65538 first (omega (arith, length-append pending rest, ap length same, short, no_more));
+    }
+
+-- the line that ends next is not served: what was taken before is all
+pub fed_before : {p : Protocol} {before : p.State} {first chunk old : Octets} {now : p.State} {pending rest new : Octets} (piece tail : Octets) (later : p.State) (kept newer : Octets)
+    → FedTo p before first chunk old now pending rest new → EndsLine rest piece tail → later ≡ now → kept ≡ pending → newer ≡ new → length pending ≤ 65538
+    → TakesFirst p (length chunk - length rest) before first chunk old later kept newer
+fed_before {p} {before} {first} {chunk} {old} {now} {pending} {rest} {new} piece tail later kept newer fed ends same same_kept same_out short =
+    let count : ℕ = length chunk - length rest in
+    let whole : length chunk ≡ length fed.taken + length rest = ap length fed.joined ∙ length-append fed.taken rest in
+    let counts : count ≡ length fed.taken = omega (arith, whole) in
+    let front : take count chunk ≡ fed.taken =
+    ap (λ n. take n chunk) counts ∙ ap (take (length fed.taken)) fed.joined ∙ take-append_seam fed.taken rest in
+    let behind : drop count chunk ≡ rest =
+    ap (λ n. drop n chunk) counts ∙ ap (drop (length fed.taken)) fed.joined ∙ drop-append_seam fed.taken rest in
+    let replies : AppendsReplies p before (items_from first fed.taken) old later newer =
+    subst (λ s. AppendsReplies p before (items_from first fed.taken) old s newer) (sym same)
+    (subst (λ o. AppendsReplies p before (items_from first fed.taken) old now o) (sym same_out) fed.replies) in
+    let takes : Takes p before first fed.taken old later kept newer =
+    record {
+      replies = replies;
+      pending_is = same_kept ∙ sym (take_all 65538 pending short) ∙ ap kept_prefix (sym fed.left);
+      same_state = λ none. same ∙ fed.same_state none;
+      same_pending = λ empty. same_kept ∙ sym fed.left ∙ ap (pending_after first) empty;
+    } in
+    let some : items_from [] rest ≡ line (without_cr piece) ∷ items_from [] tail = items_first [] rest piece tail ends in
+    record {
+      takes = subst (λ octets. Takes p before first octets old later kept newer) (sym front) takes;
+      ends = subst EndAtLine (sym front) fed.ends;
+      line = λ none. no_item (line (without_cr piece)) (items_from [] tail) (sym some ∙ ap (items_from []) (sym behind) ∙ none);
+      within = omega (arith, whole, ap length ends.0, length-append piece (10 ∷ tail));
+    }
+
+-- the items that are taken before a fault are the first ones of the chunk
+pub first_taken : (p : Protocol) (count : ℕ) (before : p.State) (pending chunk old : Octets) (after : p.State) (kept new : Octets)
+    → TakesFirst p count before pending chunk old after kept new → AppendsFirstReplies p before (items_from pending chunk) old after new
+first_taken p count before pending chunk old after kept new first =
+    record {
+      done = items_from pending (take count chunk);
+      rest = items_from (pending_after pending (take count chunk)) (drop count chunk);
+      split = ap (items_from pending) (sym (take-append-drop count chunk)) ∙ items_from-append (take count chunk) (drop count chunk) pending;
+      replies = first.takes.replies;
     }

@@ -1,10 +1,15 @@
--- What holds where a call fails.
-use Rattle.std.proofs.Common.{◌≡◌, true, is_err, Result, Ok, Err, OnErr}
+-- What holds where a call fails, or does not.
+use Rattle.std.proofs.Common.{◌≡◌, true, false, is_err, Result, Ok, Err, OnOk, OnErr}
 
 -- what is said of an error holds where there is one
 pub at_error : {T E : Type 0} (r : Result T E) (P : Type 0) → is_err r ≡ true → OnErr r P → P
 at_error (Ok x) P failed fact = cc
 at_error (Err e) P failed fact = fact
+
+-- what is said of a success holds where there is one
+pub at_success : {T E : Type 0} (r : Result T E) (P : Type 0) → is_err r ≡ false → OnOk r P → P
+at_success (Ok x) P fine fact = fact
+at_success (Err e) P fine fact = cc
 
 -- two facts of an error give a third
 pub on_err_both : {T E P Q R : Type 0} (r : Result T E) → (P → Q → R) → OnErr r P → OnErr r Q → OnErr r R

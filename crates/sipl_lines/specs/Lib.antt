@@ -21,6 +21,8 @@ pub mod PlainDesk
 pub mod Commands
 pub mod Calls
 pub mod Session
+pub mod Takes
+pub mod Talk
 pub mod SessionLaws
 pub mod OneReply
 pub mod ScriptLines

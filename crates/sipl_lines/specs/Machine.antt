@@ -1,5 +1,5 @@
 -- The machine that the code follows: what is pending of a line, and the items of each octet.
-use Rattle.std.specs.Prelude.{◌≡◌, List, [], ◌∷◌, ◌++◌, if◌then◌else◌, ◌==◌, ◌<◌, length, take}
+use Rattle.std.specs.Prelude.{◌≡◌, List, [], ◌∷◌, ◌++◌, if◌then◌else◌, ◌==◌, take}
 use Rattle.sipl_names.specs.Labels.{Octets}
 use Rattle.sipl_lines.specs.Lines.{without_cr}
 use Rattle.sipl_lines.specs.Items.{Item, line, end_of_input}
@@ -37,10 +37,6 @@ EndsNoLine octets =
     (pending : Octets) → (items_from pending octets ≡ [])
     × (pending_after pending octets ≡ pending ++ octets)
 
--- the first line that ends in the octets ends after this piece, and the rest is shorter
+-- the first line that ends in the octets ends after this piece, and this is the rest
 abbrev pub EndsLine : Octets → Octets → Octets → Type 0
-EndsLine octets piece rest =
-    ((pending : Octets)
-    → (items_from pending octets ≡ line (without_cr (pending ++ piece)) ∷ items_from [] rest)
-    × (pending_after pending octets ≡ pending_after [] rest))
-    × (length rest < length octets)
+EndsLine octets piece rest = (octets ≡ piece ++ 10 ∷ rest) × EndsNoLine piece

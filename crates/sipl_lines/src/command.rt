@@ -1,5 +1,5 @@
 // What a line of a session asks for.
-ghost use Rattle.std.specs.Prelude.{◌≡◌};
+ghost use Rattle.std.specs.Prelude.{◌≡◌, ◌≢◌, codes};
 ghost use Rattle.sipl_records.specs.Fields.{fields_of, trim_start};
 ghost use Rattle.sipl_records.specs.Numbers.{number_of};
 ghost use Rattle.sipl_choice.specs.Transports.{transport_named};
@@ -76,9 +76,6 @@ pub(crate) fn read_command(line: &[u8]) -> Command<'_>
     let Some((word, rest)) = next_field(line) else {
         return Command::Nothing;
     };
-    let Ok(word) = str::from_utf8(word) else {
-        return Command::Unknown;
-    };
     match read_fields(word, rest) {
         Some(command) => command,
         None => Command::Unknown,
@@ -104,8 +101,24 @@ pub(crate) fn read_shared_line(line: &[u8]) -> ScriptLine<'_>
     }
 }
 
-// The command of a word, if there is one and the rest of its line is as the command takes it.
-fn read_fields<'a>(word: &str, rest: &'a [u8]) -> Option<Command<'a>>
+// The command of a word, if there is one and the rest of its line is as the command takes it. `find`,
+// which most lines are, is tried first.
+fn read_fields<'a>(word: &[u8], rest: &'a [u8]) -> Option<Command<'a>>
+    ensures { meaning_if_read result
+        ≡ command_request word.now (fields_of rest.now) (trim_start rest.now) }
+{
+    if word == b"find".as_slice() {
+        return read_find(rest);
+    }
+    let Ok(word) = str::from_utf8(word) else {
+        return None;
+    };
+    read_other_fields(word, rest)
+}
+
+// The same for each word but `find`.
+fn read_other_fields<'a>(word: &str, rest: &'a [u8]) -> Option<Command<'a>>
+    requires { word.now ≢ codes "find" }
     ensures { meaning_if_read result
         ≡ command_request word.now (fields_of rest.now) (trim_start rest.now) }
 {
@@ -114,7 +127,6 @@ fn read_fields<'a>(word: &str, rest: &'a [u8]) -> Option<Command<'a>>
         "drop" => read_drop(rest),
         "add" => read_add(trim_start(rest)),
         "del" => read_del(trim_start(rest)),
-        "find" => read_find(rest),
         "deps" => read_deps(rest),
         "repair" => read_repair(rest),
         "page" => read_page(rest),

@@ -24,14 +24,17 @@ mod service_desk;
 mod session;
 mod settings;
 mod step_lines;
+mod talk;
 mod tapped;
 
 pub use book::{serve_book, serve_book_within};
 pub use check::check_zone;
 pub use command::{MAX_LINE_LEN, MAX_ZONE_LINES};
 pub use desk::{Desk, MAX_REFUSAL_LEN};
+pub use lines::OutOfMemory;
 pub use script::{play_script, play_script_within};
 pub use server::{Ended, MAX_READS, ServeFault, serve, serve_within};
 pub use service_desk::ServiceDesk;
 pub use settings::{Settings, SettingsFault};
+pub use talk::Talk;
 pub use tapped::Tapped;

@@ -1,7 +1,8 @@
-ghost use Rattle.std.specs.Prelude.{◌≡◌, ◌≢◌, ℕ, ◌<◌, ◌≤◌, List, [], ◌∷◌, ◌++◌, length, take, drop, MatchOption, IfOk, OnOk, OnErr};
+ghost use Rattle.std.specs.Prelude.{◌≡◌, ◌≢◌, ℕ, ◌<◌, ◌≤◌, List, [], ◌∷◌, ◌++◌, length, take, drop, MatchOption, IfOk, IfErr, OnOk, OnErr};
 ghost use Rattle.sipl_lines.specs.Lines.{without_cr};
 ghost use Rattle.sipl_lines.specs.Items.{Item};
 ghost use Rattle.sipl_lines.specs.Replies.{AppendsReplies, AppendsFirstReplies, Waits};
+ghost use Rattle.sipl_lines.specs.Takes.{Takes, TakesFirst};
 ghost use Rattle.sipl_lines.specs.Machine.{items_from, pending_after, kept_prefix, last_items, read_items, EndsNoLine, EndsLine};
 
 use crate::command::MAX_LINE_LEN;
@@ -9,6 +10,15 @@ use crate::conversation::Conversation;
 use memchr::memchr;
 use std::alloc::{AllocError, Global};
 use std::marker::Model;
+use thiserror::Error;
+
+/// An allocation failed while octets were taken.
+#[derive(Clone, Copy, Debug, PartialEq, Eq, Error)]
+#[error("out of memory")]
+pub struct OutOfMemory {
+    /// How many of the octets were taken before, up to the end of a line.
+    pub taken: usize,
+}
 
 // The maximum number of octets that are kept of a line. A line of so many is too long, with a CR at
 // its end too.
@@ -47,14 +57,15 @@ impl Pending {
 impl Pending {
     // Keeps a piece of the line after what is kept.
     fn keep(&mut self, piece: &[u8])
-        ensures { self.new ≡ kept_prefix (self.old ++ piece.now) }
+        ensures kept { self.new ≡ kept_prefix (self.old ++ piece.now) }
+        ensures limit { length self.old ≤ 65538 }
     {
         let space = MAX_KEPT_LEN - self.kept.len();
         let count = space.min(piece.len());
         self.kept.extend_from_slice(&piece[..count]).unwrap();
     }
 
-    // Processes the line that ends after the piece.
+    // Processes the line that ends after the piece. An error leaves all as it was.
     fn end_line<D, C: Conversation<D>>(
         &mut self,
         alloc: Global,
@@ -71,12 +82,18 @@ impl Pending {
         ensures err { OnErr result
             (C.state desk.new conversation.new ≡ C.state desk.old conversation.old) }
         ensures err_out { OnErr result (out.new.items ≡ out.old.items) }
+        ensures err_kept { OnErr result (self.new ≡ self.old) }
+        ensures limit { length self.old ≤ 65538 }
     {
         if self.kept.is_empty() {
             return conversation.process_line(alloc, desk, trim_cr(piece), out);
         }
+        let before = self.kept.len();
         self.keep(piece);
-        conversation.process_line(alloc, desk, trim_cr(&self.kept), out)?;
+        if let Err(fault) = conversation.process_line(alloc, desk, trim_cr(&self.kept), out) {
+            self.kept.truncate(before);
+            return Err(fault);
+        }
         self.kept.clear();
         Ok(())
     }
@@ -105,30 +122,39 @@ impl Pending {
         if octets.is_empty() {
             return self.finish(alloc, desk, conversation, out);
         }
-        self.feed(alloc, desk, octets, conversation, out)
+        match self.feed(alloc, desk, octets, conversation, out) {
+            Ok(()) => Ok(()),
+            Err(_) => Err(AllocError),
+        }
     }
 
-    // Processes each line that ends in a chunk, and keeps the octets after the last.
-    fn feed<D, C: Conversation<D>>(
+    // Processes each line that ends in a chunk, and keeps the octets after the last. An error says how
+    // many octets were taken, up to the end of a line: nothing of the next line has been done.
+    pub(crate) fn feed<D, C: Conversation<D>>(
         &mut self,
         alloc: Global,
         desk: &mut D,
         chunk: &[u8],
         conversation: &mut C,
         out: &mut Vec<u8>,
-    ) -> Result<(), AllocError>
-        ensures ok { OnOk result (AppendsReplies C.protocol
-            (C.state desk.old conversation.old) (items_from self.old chunk.now)
-            out.old.items (C.state desk.new conversation.new) out.new.items) }
-        ensures rest { OnOk result (self.new ≡ kept_prefix (pending_after self.old chunk.now)) }
-        ensures err { OnErr result (AppendsFirstReplies C.protocol
-            (C.state desk.old conversation.old) (items_from self.old chunk.now)
-            out.old.items (C.state desk.new conversation.new) out.new.items) }
+    ) -> Result<(), OutOfMemory>
+        ensures ok { OnOk result (Takes C.protocol (C.state desk.old conversation.old)
+            self.old chunk.now out.old.items
+            (C.state desk.new conversation.new) self.new out.new.items) }
+        ensures err { IfErr result (λ fault. TakesFirst C.protocol fault.taken
+            (C.state desk.old conversation.old) self.old chunk.now out.old.items
+            (C.state desk.new conversation.new) self.new out.new.items) }
     {
         let mut rest = chunk;
         let mut lines = 0;
         while let Some((piece, tail)) = split_line(rest) {
-            self.end_line(alloc, desk, piece, conversation, out)?;
+            if self
+                .end_line(alloc, desk, piece, conversation, out)
+                .is_err()
+            {
+                let taken = chunk.len() - rest.len();
+                return Err(OutOfMemory { taken });
+            }
             rest = tail;
             lines = count_line(lines, desk, conversation);
         }

@@ -2,7 +2,7 @@ use Rattle.std.proofs.Common.{◌+◌, ◌<◌, take, length, get_or, sym, subst
 use Rattle.std.proofs.lemmas.List.{take_rest}
 use Rattle.std.proofs.lemmas.Bool.{eqb-true}
 use Rattle.sipl_lines.specs.Machine.{EndsLine}
-use Rattle.sipl_lines.proofs.Cutting.{passed_to, passed_found, passed_all}
+use Rattle.sipl_lines.proofs.Cutting.{passed_to, passed_before, passed_found, passed_all}
 use Rattle.sipl_lines.proofs.lines.split_line.Goals as goal
 
 pub returns-in_err-end : goal.returns-in_err-end
@@ -20,4 +20,4 @@ returns c =
     let within : end < length chunk = first.0.high in
     subst (λ tail. EndsLine chunk (take end chunk) tail) (sym (take_rest chunk (end + 1)))
     (passed_found chunk end within (eqb-true (get_or chunk end 0) 10 first.1)
-    (passed_to chunk end (omega arith) (λ i below lf. first.0.before i (omega arith) below (eq-eqb (get_or chunk i 0) 10 lf))))
+    (passed_before chunk end (omega arith) (λ i below lf. first.0.before i (omega arith) below (eq-eqb (get_or chunk i 0) 10 lf))))

@@ -4,8 +4,8 @@ use Rattle.sipl_lines.specs.Machine.{kept_prefix}
 use Rattle.sipl_lines.proofs.Cutting.{take-append_rest}
 use Rattle.sipl_lines.proofs.lines.Pending.keep.Goals as goal
 
-pub returns : goal.returns
-returns c =
+pub returns-clause-kept : goal.returns-clause-kept
+returns-clause-kept c =
     let kept : List ℕ = c.self.inside.kept.items in
     let piece : List ℕ = c.args.piece.now in
     let short : length kept ≤ 65538 = omega (arith, c.self.inside.kept.ok.0) in
