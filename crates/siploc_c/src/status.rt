@@ -3,11 +3,11 @@ ghost use Rattle.siploc_c.specs.Status.{number_of, status_of};
 
 use sipl_lines::{Ended, ServeFault};
 
-/// How a call from C ends. Its number is that of `siploc.h`.
+/// How a call from C ends. Its number is that of `siploc_embedded.h`.
 #[derive(Clone, Copy, Debug, PartialEq, Eq)]
 pub(crate) enum Status {
-    // The session has ended.
-    Ended,
+    // All that was asked for is done; of a whole session, it has ended.
+    Done,
     // A read of the socket failed.
     Read,
     // A write to the socket failed.
@@ -23,12 +23,12 @@ pub(crate) enum Status {
 }
 
 impl Status {
-    /// The number in `siploc.h`.
+    /// The number in `siploc_embedded.h`.
     pub(crate) fn number(self) -> u32
         ensures { result ≡ number_of self }
     {
         match self {
-            Status::Ended => 0,
+            Status::Done => 0,
             Status::Read => 1,
             Status::Write => 2,
             Status::TooManyTurns => 3,
@@ -43,7 +43,7 @@ impl Status {
         ensures { result ≡ status_of ending.now }
     {
         match ending {
-            Ok(_) => Status::Ended,
+            Ok(_) => Status::Done,
             Err(ServeFault::Read) => Status::Read,
             Err(ServeFault::Write) => Status::Write,
             Err(ServeFault::TooManyTurns) => Status::TooManyTurns,
