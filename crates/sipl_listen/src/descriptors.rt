@@ -1,3 +1,5 @@
+ghost use Rattle.std.specs.Prelude.{◌≤◌, ◌<◌};
+
 use std::alloc::Global;
 use std::fs;
 use std::rt::Files;
@@ -10,7 +12,10 @@ const OTHERS: usize = 20;
 
 /// How many clients there may be at a time, of so many that are wanted, beside listeners with so many descriptors:
 /// 32 fewer than the system's limit of descriptors, or 20 and those of the listeners, where these are more.
-pub fn max_clients<R: Files>(rt: &R, alloc: Global, wanted: usize, listeners: usize) -> usize {
+pub fn max_clients<R: Files>(rt: &R, alloc: Global, wanted: usize, listeners: usize) -> usize
+    ensures no_more { result ≤ wanted }
+    ensures some { 0 < wanted → 0 < result }
+{
     let kept = OTHERS.saturating_add(listeners).max(MIN_KEPT);
     match max_open(rt, alloc) {
         Some(limit) => wanted.min(limit.saturating_sub(kept).max(1)),
