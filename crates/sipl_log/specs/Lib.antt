@@ -1,2 +1,3 @@
 pub mod Levels
+pub mod Lines
 pub mod Verbosities

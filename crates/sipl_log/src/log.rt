@@ -1,3 +1,7 @@
+//! The log of a program.
+ghost use Rattle.std.specs.Prelude.{◌≡◌, IfSome};
+ghost use Rattle.sipl_log.specs.Lines.{event_text, level_of, line_text};
+
 use crate::level::{Level, Verbosity};
 use crate::line::Line;
 use crate::queue::Queue;
@@ -43,7 +47,10 @@ impl Log {
     }
 
     /// The beginning of a line of an event.
-    pub fn line(&self, level: Level, event: &str) -> Line {
+    pub fn line(&self, level: Level, event: &str) -> Line
+        ensures level { level_of result ≡ level }
+        ensures text { IfSome (line_text result) (λ text. text ≡ event_text level event.now) }
+    {
         Line::new(self.alloc, level, event)
     }
 
