@@ -1,17 +1,25 @@
 //! What each setting may be, in words.
+ghost use Rattle.std.specs.Prelude.{◌≡◌, is_some};
+ghost use Rattle.sipl_config.specs.Keys.{daemon_key_list, in_words, is_among, service_key_list};
 
 /// The keys of `run`, `world` and `serve`.
-pub fn service_keys() -> &'static str {
+pub fn service_keys() -> &'static str
+    ensures { result.now ≡ in_words service_key_list }
+{
     "entries, families, held, holds, journal, listen, records, sessions, transports, tries and workers"
 }
 
 /// The keys of the daemon.
-pub fn daemon_keys() -> &'static str {
+pub fn daemon_keys() -> &'static str
+    ensures { result.now ≡ in_words daemon_key_list }
+{
     "archive, clients, clock, control, entries, families, find, held, holds, idle, journal, listen, log, metrics, mode, on_failure, page_octets, records, state, stdin, transports, tries, workers and zone_octets"
 }
 
-/// What the value of a key of `run`, `world` and `serve` may be.
-pub fn service_value(key: &str) -> Option<&'static str> {
+/// What the value of a key of `run`, `world` and `serve` may be. `None` where it is none of them.
+pub fn service_value(key: &str) -> Option<&'static str>
+    ensures { is_some result ≡ is_among service_key_list key.now }
+{
     Some(match key {
         "entries" => "0 to 65536",
         "families" => "\"v4\", \"v6\", \"v4v6\" or \"v6v4\"",
@@ -30,8 +38,10 @@ pub fn service_value(key: &str) -> Option<&'static str> {
     })
 }
 
-/// What the value of a key of the daemon may be.
-pub fn daemon_value(key: &str) -> Option<&'static str> {
+/// What the value of a key of the daemon may be. `None` where it is none of them.
+pub fn daemon_value(key: &str) -> Option<&'static str>
+    ensures { is_some result ≡ is_among daemon_key_list key.now }
+{
     Some(match key {
         "archive" => "the path of a folder",
         "clients" => "1 to 65536",
