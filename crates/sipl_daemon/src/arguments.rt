@@ -101,20 +101,28 @@ fn owned(alloc: Global, words: &ArgMatches<'_>, name: &str) -> Result<String, Al
 
 // The arguments of the program, and its commands.
 fn command<'a>(alloc: Global) -> Result<Command<'a>, AllocError> {
-    let text = Arg::new(alloc, "SETTINGS").help("The text of the settings, a TOML document");
-    Command::new(alloc, "siplocd")
-        .bin_name("siplocd")?
+    let config = config(alloc).conflicts_with("SETTINGS")?;
+    let program = Command::new(alloc, "siplocd")
         .version(VERSION)
         .about(ABOUT)
         .after_help(AFTER)
         .args_conflicts_with_subcommands(true)
         .disable_help_subcommand(true)
-        .arg(config(alloc).conflicts_with("SETTINGS")?)?
-        .arg(text)?
-        .subcommand(check(alloc)?)?
-        .subcommand(tell(alloc)?)?
-        .subcommand(replay(alloc)?)?
-        .subcommand(check_state(alloc)?)
+        .arg(config)?
+        .bin_name("siplocd")?
+        .arg(text(alloc))?;
+    let program = with_command(program, check(alloc))?;
+    let program = with_command(program, tell(alloc))?;
+    let program = with_command(program, replay(alloc))?;
+    with_command(program, check_state(alloc))
+}
+
+// The program with a command more, if that could be made.
+fn with_command<'a>(
+    program: Command<'a>,
+    made: Result<Command<'a>, AllocError>,
+) -> Result<Command<'a>, AllocError> {
+    program.subcommand(made?)
 }
 
 fn config<'a>(alloc: Global) -> Arg<'a> {
@@ -124,6 +132,10 @@ fn config<'a>(alloc: Global) -> Arg<'a> {
         .help("Reads the settings from this file")
 }
 
+fn text<'a>(alloc: Global) -> Arg<'a> {
+    Arg::new(alloc, "SETTINGS").help("The text of the settings, a TOML document")
+}
+
 fn check<'a>(alloc: Global) -> Result<Command<'a>, AllocError> {
     Command::new(alloc, "check")
         .about("Checks the settings of a file: prints `ok`, or what is wrong at which line")
@@ -131,33 +143,34 @@ fn check<'a>(alloc: Global) -> Result<Command<'a>, AllocError> {
 }
 
 fn tell<'a>(alloc: Global) -> Result<Command<'a>, AllocError> {
-    let address = Arg::new(alloc, "ADDRESS")
-        .required(true)
-        .help("The daemon's `control`");
-    let line = Arg::new(alloc, "LINE")
-        .required(true)
-        .allow_hyphen_values(true)
-        .help("Such as `stats`, `zones`, `holds`, `now`, `page` or `stop`");
     Command::new(alloc, "tell")
         .about("Sends a line to the daemon's control address, and prints the reply")
-        .arg(address)?
-        .arg(line)
+        .arg(required(alloc, "ADDRESS", "The daemon's `control`"))?
+        .arg(line(alloc))
+}
+
+fn line<'a>(alloc: Global) -> Arg<'a> {
+    required(
+        alloc,
+        "LINE",
+        "Such as `stats`, `zones`, `holds`, `now`, `page` or `stop`",
+    )
+    .allow_hyphen_values(true)
 }
 
 fn replay<'a>(alloc: Global) -> Result<Command<'a>, AllocError> {
-    let folder = Arg::new(alloc, "FOLDER")
-        .required(true)
-        .help("The daemon's `archive`");
     Command::new(alloc, "replay")
         .about("Checks the pages of an archive, and prints how many events they have")
-        .arg(folder)
+        .arg(required(alloc, "FOLDER", "The daemon's `archive`"))
 }
 
 fn check_state<'a>(alloc: Global) -> Result<Command<'a>, AllocError> {
-    let file = Arg::new(alloc, "FILE")
-        .required(true)
-        .help("The daemon's `state`");
     Command::new(alloc, "check-state")
         .about("Reads the files of a state as a start does, and prints what they have")
-        .arg(file)
+        .arg(required(alloc, "FILE", "The daemon's `state`"))
+}
+
+// An argument that is to be given.
+fn required<'a>(alloc: Global, name: &'a str, help: &'a str) -> Arg<'a> {
+    Arg::new(alloc, name).required(true).help(help)
 }

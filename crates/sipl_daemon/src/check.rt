@@ -28,7 +28,7 @@ where
     let alloc = rt.alloc();
     let settings = Box::new(alloc, DaemonSettings::from_toml(alloc, "")?)?;
     let stop = Arc::new(alloc, Stop::new())?;
-    let daemon = Daemon::new(host, alloc, &settings, stop, Arc::try_clone(log)?)?;
+    let daemon = Daemon::new(host, alloc, &settings, &stop, log)?;
     let mut claims = Claims::new(alloc);
     let checked = check_with(rt, host, &daemon, &mut claims, path);
     drop(claims);

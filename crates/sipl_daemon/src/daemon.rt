@@ -17,7 +17,7 @@ use sipl_service::{OpenGate, Pass, Service, ServiceFault, Told};
 use sipl_srv::Draws;
 use sipl_state::{Changes, HostTime, Source};
 use sipl_uri::Question;
-use std::alloc::Global;
+use std::alloc::{AllocError, Global};
 use std::io;
 use std::rt::Files;
 use std::sync::atomic::AtomicU64;
@@ -65,33 +65,68 @@ struct Places {
     scrapers: Clients,
 }
 
+impl Places {
+    // Those of a daemon with these settings.
+    fn new<R: Files>(
+        rt: &R,
+        alloc: Global,
+        settings: &DaemonSettings,
+    ) -> Result<Places, AllocError> {
+        let max = max_clients(rt, alloc, settings.clients, settings.descriptors());
+        let clients = Clients::new(alloc, max)?;
+        let controls = Clients::new(alloc, MAX_CONTROLS)?;
+        let scrapers = Clients::new(alloc, settings.max_scrapers())?;
+        Ok(Places {
+            clients,
+            controls,
+            scrapers,
+        })
+    }
+}
+
+// What a daemon has beside its service: its time, the places of all who connect, and what is told of it.
+#[derive(Drop)]
+struct Surroundings {
+    time: Option<HostTime>,
+    places: Places,
+    observed: Observed,
+}
+
+impl Surroundings {
+    // Those of a daemon with these settings.
+    fn new<R: Clock + Files>(
+        rt: &R,
+        alloc: Global,
+        settings: &DaemonSettings,
+        log: &Arc<Log, Global>,
+    ) -> io::Result<Surroundings> {
+        let time = match settings.clock {
+            Clocks::Host => Some(HostTime::new(rt, 0)?),
+            Clocks::Lines => None,
+        };
+        let places = Places::new(rt, alloc, settings)?;
+        let observed = Observed::new(alloc, settings, log)?;
+        Ok(Surroundings {
+            time,
+            places,
+            observed,
+        })
+    }
+}
+
 impl Daemon {
     // A daemon with these settings, over a service without zones, holds or events.
     pub(crate) fn new<R: Clock + Files>(
         rt: &R,
         alloc: Global,
         settings: &DaemonSettings,
-        stop: Arc<Stop, Global>,
-        log: Arc<Log, Global>,
+        stop: &Arc<Stop, Global>,
+        log: &Arc<Log, Global>,
     ) -> io::Result<Box<Daemon>> {
-        let time = match settings.clock {
-            Clocks::Host => Some(HostTime::new(rt, 0)?),
-            Clocks::Lines => None,
-        };
-        let clients = Clients::new(
-            alloc,
-            max_clients(rt, alloc, settings.clients, settings.descriptors()),
-        )?;
-        let controls = Clients::new(alloc, MAX_CONTROLS)?;
-        let observed = Observed::new(alloc, settings, log)?;
-        let scrapers = Clients::new(alloc, settings.max_scrapers())?;
+        let surroundings = Surroundings::new(rt, alloc, settings, log)?;
         let service = new_service(alloc, &settings.service)?;
-        let places = Places {
-            clients,
-            controls,
-            scrapers,
-        };
-        let daemon = Daemon::over(service, alloc, settings, stop, time, places, observed);
+        let stop = Arc::try_clone(stop)?;
+        let daemon = Daemon::over(service, alloc, settings, stop, surroundings);
         Ok(Box::new(alloc, daemon)?)
     }
 
@@ -101,10 +136,13 @@ impl Daemon {
         alloc: Global,
         settings: &DaemonSettings,
         stop: Arc<Stop, Global>,
-        time: Option<HostTime>,
-        places: Places,
-        observed: Observed,
+        surroundings: Surroundings,
     ) -> Daemon {
+        let Surroundings {
+            time,
+            places,
+            observed,
+        } = surroundings;
         let mover = Mutex::new(service.pass());
         Daemon {
             alloc,

@@ -95,16 +95,17 @@ impl Observed {
     pub(crate) fn new(
         alloc: Global,
         settings: &DaemonSettings,
-        log: Arc<Log, Global>,
+        log: &Arc<Log, Global>,
     ) -> Result<Observed, AllocError> {
-        let batches = match &settings.metrics {
-            Some(_) => Some(Histogram::new(alloc)?),
-            None => None,
-        };
         let state = match &settings.state {
             Some(path) => Some(String::from_str(alloc, path.as_str())?),
             None => None,
         };
+        let batches = match &settings.metrics {
+            Some(_) => Some(Histogram::new(alloc)?),
+            None => None,
+        };
+        let log = Arc::try_clone(log)?;
         Ok(Observed {
             alloc,
             log,

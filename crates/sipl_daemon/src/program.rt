@@ -182,8 +182,7 @@ where
     H: Host,
 {
     let stop = Arc::new(rt.alloc(), Stop::new())?;
-    let log = Arc::try_clone(log)?;
-    let mut daemon = Daemon::new(host, rt.alloc(), settings, Arc::try_clone(&stop)?, log)?;
+    let mut daemon = Daemon::new(host, rt.alloc(), settings, &stop, log)?;
     let mut claims = Claims::new(rt.alloc());
     match go_on_and_serve(rt, host, input, settings, &mut daemon, &mut claims, stop) {
         Ok(()) => close(host, daemon, claims),

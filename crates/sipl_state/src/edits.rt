@@ -4,8 +4,8 @@ ghost use Rattle.std.specs.Prelude.{◌≤◌, ◌^◌, OnOk};
 ghost use Rattle.sipl_book.specs.declared.event.Event.TheVariants.{Change, Hold, Release, Advance};
 ghost use Rattle.sipl_service.specs.Passes.{GetsReceipt};
 
+use crate::pending::Pending;
 use crate::source::Source;
-use crate::tally::Step;
 use sipl_archive::{clock_text, edit_text, hold_text, release_text};
 use sipl_book::{Done, Edit};
 use sipl_choice::Endpoint;
@@ -25,9 +25,8 @@ impl Source {
         ensures { GetsReceipt (λ done. done.number) (λ done. Change edit)
             pass.old pass.new result }
     {
-        let step = Step::of(self.alloc, &edit)?;
         let mut tally = self.tally.lock(rt);
-        tally.reserve()?;
+        let step = tally.step_of(self.alloc, &edit)?;
         let done = self.append_edit(rt, pass, edit, place)?;
         tally.follow(step);
         Ok(done)
@@ -114,9 +113,25 @@ impl Source {
         };
         let text = edit_text(self.alloc, &edit)?;
         let mut pending = changes.lock(rt);
+        self.push_edit(rt, pass, edit, &text, &mut pending, place)
+    }
+
+    // Makes an edit, and appends its text to the changes that are not in the file yet.
+    fn push_edit<R: Wait>(
+        &self,
+        rt: &R,
+        pass: &mut Pass,
+        edit: Edit,
+        text: &[u8],
+        pending: &mut Pending,
+        place: &AtomicU64,
+    ) -> Result<Done, ServiceFault>
+        ensures { GetsReceipt (λ done. done.number) (λ done. Change edit)
+            pass.old pass.new result }
+    {
         pending.reserve(text.len())?;
         let done = self.service.edit(rt, pass, edit)?;
-        place.fetch_max(pending.push(&text), Ordering::SeqCst);
+        place.fetch_max(pending.push(text), Ordering::SeqCst);
         Ok(done)
     }
 

@@ -58,6 +58,12 @@ impl Tally {
         self.holds.reserve()
     }
 
+    /// What an edit does once it is made, with space for it. The only error is an allocation failure.
+    pub(crate) fn step_of(&mut self, alloc: Global, edit: &Edit) -> Result<Step, AllocError> {
+        self.reserve()?;
+        Step::of(alloc, edit)
+    }
+
     /// An edit was made.
     pub(crate) fn follow(&mut self, step: Step) {
         let (before, after) = match step {

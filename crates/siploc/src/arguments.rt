@@ -116,34 +116,47 @@ fn read_apex(alloc: Global, text: &str) -> Result<Call, Unread> {
 
 // The commands of the program.
 fn command<'a>(alloc: Global) -> Result<Command<'a>, AllocError> {
-    let apex = Arg::new(alloc, "APEX")
-        .required(true)
-        .allow_hyphen_values(true)
-        .help("The zone's name");
-    let check = Command::new(alloc, "check")
-        .about("Checks the zone on standard input")
-        .arg(apex)?;
-    let run = with_settings(
-        alloc,
-        "run",
-        "Serves a session on standard input and output",
-    )?;
-    let world = with_settings(
-        alloc,
-        "world",
-        "Plays a script on standard input and output",
-    )?;
-    let serve = with_settings(alloc, "serve", "Serves sessions over TCP")?;
-    Command::new(alloc, "siploc")
+    let program = Command::new(alloc, "siploc")
         .bin_name("siploc")?
         .version(VERSION)
         .about(ABOUT)
         .subcommand_required(true)
-        .disable_help_subcommand(true)
-        .subcommand(run)?
-        .subcommand(check)?
-        .subcommand(world)?
-        .subcommand(serve)
+        .disable_help_subcommand(true);
+    let run = with_settings(
+        alloc,
+        "run",
+        "Serves a session on standard input and output",
+    );
+    let program = with_command(program, run)?;
+    let program = with_command(program, check(alloc))?;
+    let world = with_settings(
+        alloc,
+        "world",
+        "Plays a script on standard input and output",
+    );
+    let program = with_command(program, world)?;
+    with_command(
+        program,
+        with_settings(alloc, "serve", "Serves sessions over TCP"),
+    )
+}
+
+// The program with a command more, if that could be made.
+fn with_command<'a>(
+    program: Command<'a>,
+    made: Result<Command<'a>, AllocError>,
+) -> Result<Command<'a>, AllocError> {
+    program.subcommand(made?)
+}
+
+fn check<'a>(alloc: Global) -> Result<Command<'a>, AllocError> {
+    let apex = Arg::new(alloc, "APEX")
+        .required(true)
+        .allow_hyphen_values(true)
+        .help("The zone's name");
+    Command::new(alloc, "check")
+        .about("Checks the zone on standard input")
+        .arg(apex)
 }
 
 // A command that has settings.
@@ -152,16 +165,23 @@ fn with_settings<'a>(
     name: &'a str,
     about: &'a str,
 ) -> Result<Command<'a>, AllocError> {
-    let config = Arg::new(alloc, "FILE")
-        .long("config")
-        .value_name("FILE")
-        .help("Reads the settings from this file")
-        .conflicts_with("SETTINGS")?;
-    let text = Arg::new(alloc, "SETTINGS")
-        .allow_hyphen_values(true)
-        .help("The text of the settings, a TOML document");
+    let config = config(alloc)?;
     Command::new(alloc, name)
         .about(about)
         .arg(config)?
-        .arg(text)
+        .arg(text(alloc))
+}
+
+fn config<'a>(alloc: Global) -> Result<Arg<'a>, AllocError> {
+    Arg::new(alloc, "FILE")
+        .long("config")
+        .value_name("FILE")
+        .help("Reads the settings from this file")
+        .conflicts_with("SETTINGS")
+}
+
+fn text<'a>(alloc: Global) -> Arg<'a> {
+    Arg::new(alloc, "SETTINGS")
+        .allow_hyphen_values(true)
+        .help("The text of the settings, a TOML document")
 }

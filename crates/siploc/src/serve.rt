@@ -30,15 +30,19 @@ impl From<AllocError> for ServerFault {
     }
 }
 
-// What is left of a session: its pass, and the pages that it turned.
-type Parts = (Pass, Vec<Page>);
+// What is left of the sessions that have ended: their passes, and the pages that each turned.
+#[derive(Drop)]
+struct Remains {
+    passes: Vec<Pass>,
+    turned: Vec<Vec<Page>>,
+}
 
 // What the threads of a server share: the service, and what is left of the sessions that have ended.
 #[derive(Drop)]
 struct Server {
     alloc: Global,
     service: Service,
-    ended: Mutex<Vec<Parts>>,
+    ended: Mutex<Remains>,
 }
 
 /// Serves as many connections as the settings say, beside the repair workers. When all sessions have
@@ -57,8 +61,7 @@ where
     let server = Server {
         alloc,
         service: Service::new(alloc, settings.abilities, &limits, tries, settings.held)?,
-        // Space for the passes and the pages of all sessions, so that none is lost.
-        ended: Mutex::new(Vec::with_capacity(alloc, sessions)?),
+        ended: Mutex::new(Remains::with_capacity(alloc, sessions)?),
     };
     let served = thread::scope(thread::scope_env(), host, |scope| {
         let _ = scope.spawn(|| server.service.run_workers(host, workers, &OpenGate));
@@ -68,6 +71,31 @@ where
     });
     served?;
     server.close()
+}
+
+impl Remains {
+    // Those of no session, with space for so many, so that none is lost.
+    fn with_capacity(alloc: Global, sessions: usize) -> Result<Remains, AllocError> {
+        let mut remains = Remains {
+            passes: Vec::new(alloc),
+            turned: Vec::new(alloc),
+        };
+        match remains.reserve(sessions) {
+            Ok(()) => Ok(remains),
+            Err(error) => Err(error),
+        }
+    }
+
+    fn reserve(&mut self, sessions: usize) -> Result<(), AllocError> {
+        self.passes.reserve(sessions)?;
+        self.turned.reserve(sessions)
+    }
+
+    // Keeps what is left of a session, for which there is space.
+    fn keep(&mut self, pass: Pass, pages: Vec<Page>) {
+        let _ = self.passes.push(pass);
+        let _ = self.turned.push(pages);
+    }
 }
 
 impl Server {
@@ -102,7 +130,8 @@ impl Server {
         let mut reader = Tapped::new(&stream);
         let mut writer = Tapped::new(&stream);
         let _ = serve(self.alloc, &mut reader, &mut writer, &mut desk);
-        let _ = self.ended.lock(host).push(desk.into_parts());
+        let (pass, pages) = desk.into_parts();
+        self.ended.lock(host).keep(pass, pages);
     }
 
     // Closes the service, and claims the events of all pages. Returns how many there were.
@@ -122,28 +151,32 @@ impl Server {
 }
 
 // Claims the events of the pages of all sessions, and of the last page, with the passes of all sessions.
-fn claim_all(alloc: Global, ended: Vec<Parts>, last: Page) -> Result<(), ClaimFault> {
-    match split(alloc, ended, last) {
-        Ok((passes, pages)) => claim(alloc, pages.as_slice(), passes.as_slice()),
+fn claim_all(alloc: Global, ended: Remains, last: Page) -> Result<(), ClaimFault> {
+    let Remains { passes, turned } = ended;
+    let mut pages = Vec::new(alloc);
+    match push_in_order(&mut pages, turned, last) {
+        Ok(()) => claim(alloc, pages.as_slice(), passes.as_slice()),
         Err(_) => Err(ClaimFault::Memory),
     }
 }
 
-// The passes of all sessions, and all pages in their order.
-fn split(
-    alloc: Global,
-    ended: Vec<Parts>,
+// Appends all pages in their order, and the last one.
+fn push_in_order(
+    pages: &mut Vec<Page>,
+    turned: Vec<Vec<Page>>,
     last: Page,
-) -> Result<(Vec<Pass>, Vec<Page>), AllocError> {
-    let mut passes = Vec::with_capacity(alloc, ended.len())?;
-    let mut pages = Vec::new(alloc);
-    for (pass, turned) in ended {
-        passes.push(pass)?;
-        pages.extend(turned)?;
-    }
+) -> Result<(), AllocError> {
+    push_all(pages, turned)?;
     pages.sort_unstable_by_key(|page| order_of(page));
     pages.push(last)?;
-    Ok((passes, pages))
+    Ok(())
+}
+
+fn push_all(pages: &mut Vec<Page>, turned: Vec<Vec<Page>>) -> Result<(), AllocError> {
+    for more in turned {
+        pages.extend(more)?;
+    }
+    Ok(())
 }
 
 // By what pages are sorted: a page without events has the first number of the page after it.
