@@ -10,6 +10,7 @@ from __future__ import annotations
 import collections
 import concurrent.futures
 import itertools
+import json
 import pathlib
 import random
 import runpy
@@ -20,7 +21,8 @@ from typing import Any, Iterable, Iterator, NamedTuple, Optional, Sequence
 TOP = pathlib.Path(__file__).resolve().parent.parent.parent
 plain = types.SimpleNamespace(**runpy.run_path(str(TOP / "tools/plain")))
 
-# Of each number of workers so many plays, and so many steps each; and the most events of a page, so that some are full.
+# Of each number of workers so many plays, and so many steps each; and the maximum of events of a page, so that some are
+# full.
 PLAYS, STEPS, JOURNAL = 250, 250, 48
 # So many sessions of 60 times ten lines and a repair, and so many over one zone each.
 SESSIONS, ZONES = 8, 300
@@ -38,7 +40,7 @@ URIS = [f"sip:{it}" for it in (
 CLIENTS = [('["udp", "tcp"]', "v4"), ('["tcp", "tls"]', "v6v4"), ('["sctp", "tls", "udp", "tcp"]', "v4v6"),
            ('["tcp", "udp"]', "v4")]
 TRANSPORTS = ['["udp", "tcp"]', '["tcp", "tls"]', '["sctp", "tls", "udp", "tcp"]', '["tls"]']
-FAMILIES = ["v4", "v6", "v4v6", "v6v4"]
+FAMILIES: list[str] = json.loads((TOP / "clients/lists.json").read_text())["families"]
 # What a zone of plays has at first.
 ZONE = ['a NAPTR 1 1 s SIP+D2U "" _sip._udp.a', "_sip._udp.a SRV 0 1 5060 b", "_sip._udp.a SRV 0 2 5060 c",
         "_sip._tcp.a SRV 1 0 5060 b", "b A 192.0.2.1", "c CNAME d", "d A 192.0.2.2", "* A 192.0.2.3"]
@@ -67,7 +69,8 @@ def shown(facts: dict[str, bool]) -> Part:
 
 
 class Chance:
-    """Records, endpoints and words by chance, and the lines of a conversation with their replies by the plain program."""
+    """Records, endpoints and words by chance, and the lines of a conversation with their replies by the plain
+    program."""
     NAMES, URIS = NAMES, URIS
 
     def __init__(self, seed: str, conversation: Any) -> None:
@@ -103,7 +106,8 @@ class Chance:
 
     def load(self, zone: Sequence[str]) -> None:
         if self.say("\n".join([f"zone {APEX} {len(zone)}", *zone]))[0].startswith("ok"):
-            self.records = [f"{owner}.{APEX} {self.absolute(rest)}" for owner, rest in (it.split(" ", 1) for it in zone)]
+            self.records = [f"{owner}.{APEX} {self.absolute(rest)}"
+                            for owner, rest in (it.split(" ", 1) for it in zone)]
 
     @staticmethod
     def absolute(rest: str) -> str:
@@ -133,7 +137,8 @@ class Chance:
             self.edit("del", self.one_of(self.records))
 
     def outage(self) -> None:
-        """A hold, a release, or a move of the clock, which may be to a time before. Half of the endpoints are of answers."""
+        """A hold, a release, or a move of the clock, which may be to a time before. Half of the endpoints are of
+        answers."""
         ms, act = self.random.randrange(4), self.random.randrange(4)
         endpoint = f"udp 192.0.2.{self.random.randrange(4)} {self.random.choice([5060, 5070])}"
         if self.target and self.random.randrange(2):
@@ -153,7 +158,8 @@ class Chance:
         if is_answer:
             endpoints = [it.split(" ", 2)[2] for it in reply[:-1]]
             self.target = endpoints[0] if endpoints else self.target
-            held = {f"{transport} {plain.print_address(address)} {port}" for transport, address, port in self.state.holds}
+            held = {f"{transport} {plain.print_address(address)} {port}"
+                    for transport, address, port in self.state.holds}
             self.counts["answers with targets"] += bool(endpoints)
             self.counts["answers without targets"] += not endpoints
             self.counts["answers with held targets"] += bool(held & {*endpoints})
@@ -315,7 +321,8 @@ def are_mixed(counts: Counts) -> Part:
     accepted, refused = counts["accepted commits"], counts["refused commits"]
     tenth = (accepted + refused) / 10
     least = {"answers from entries": 100, "leases": 100, "settlements": 50, "refused settlements": 50, "ended runs": 50,
-             "answers with held targets": 50, "pages": 1_000, "full pages": 50, "names that do not exist": accepted / 10,
+             "answers with held targets": 50, "pages": 1_000, "full pages": 50,
+             "names that do not exist": accepted / 10,
              "answers by wildcards": accepted / 10, "names that exist without the set": accepted / 10,
              "names that begin or cease to exist": 50, "accepted commits": tenth, "refused commits": tenth}
     return shown({name: counts[name] > it for name, it in least.items()} | {"commits": accepted + refused > 1_000})

@@ -1,4 +1,4 @@
-//! The README's example, and what a book shows to callers of the library alone. What it replies is in
+//! The README's example, and what a book shows to callers of the library only. What it replies is in
 //! `tests/sessions/workers`, and in `tests/campaigns/orders`.
 #![tactic(auto)]
 
@@ -12,5 +12,3 @@ mod page_states;
 mod readme;
 #[cfg(test)]
 mod values;
-#[cfg(test)]
-mod worlds;

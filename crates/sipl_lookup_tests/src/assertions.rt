@@ -33,10 +33,3 @@ pub(crate) fn expects_equal_at<T: PartialEq + Debug, P: Display>(
 ) {
     assert_eq!(rt; *found, *expected, "at {place}");
 }
-
-/// Ends the test where a code differs from the one beside it.
-pub(crate) fn expects_codes(rt: &impl Abort, codes: &[(&str, &str)]) {
-    for (found, expected) in codes {
-        expects_equal(rt, found, expected, "a code");
-    }
-}

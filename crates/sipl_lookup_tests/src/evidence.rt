@@ -234,13 +234,6 @@ fn reads_a_removed_set_again(rt: &impl Abort, alloc: Global, evidence: &mut Evid
     has_places(rt, alloc, evidence, NONE);
 }
 
-fn have_codes(rt: &impl Abort) {
-    let code = EvidenceFault::AlreadyRead.code();
-    expects_equal(rt, &code, &"E1", "the code");
-    let code = EvidenceFault::Memory.code();
-    expects_equal(rt, &code, &"Memory", "the code");
-}
-
 fn reads_and_removes(rt: &impl Abort, alloc: Global, evidence: &mut Evidence) {
     has_what_was_read(rt, alloc, evidence);
     reads_a_removed_set_again(rt, alloc, evidence);
@@ -251,7 +244,6 @@ fn evidence_has_each_set_once_until_it_is_removed(rt: HostRuntime) {
     let mut evidence = Evidence::new(rt.alloc());
     reads_and_removes(&rt, rt.alloc(), &mut evidence);
     drop(evidence);
-    have_codes(&rt);
 }
 
 // The evidence of a look-up, and the walk that it is read for, with the name and the kind that it

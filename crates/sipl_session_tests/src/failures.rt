@@ -1,8 +1,8 @@
 // Sessions and scripts that are read and written octet by octet, and whose streams fail at each read and at
 // each write.
-use super::assertions::{expects, expects_at, expects_equal};
+use super::assertions::{expects_at, expects_equal};
 use super::rows::{Row, Texts, rows_before, rows_within};
-use super::streams::{Failing, Paper, Pieces, Served, has_replies_at, new_book, serve_at};
+use super::streams::{Failing, Paper, Pieces, Served, new_book, serve_at};
 use sipl_book::{Book, Limits};
 use sipl_lines::{Ended, MAX_READS, ServeFault, Settings, Tapped, play_script_within};
 use std::alloc::Global;
@@ -340,69 +340,6 @@ fn failed_streams_of_a_script_leave_a_prefix_of_its_replies(rt: HostRuntime) -> 
     ends_on(&rt, rt.alloc(), SCRIPT_ROWS, None)
 }
 
-// ---- a session after one whose read failed
-
-// Whether two sessions at a book write this, one after the other, where a read of the first one failed.
-fn has_replies_after_fault(
-    alloc: Global,
-    book: &mut Book,
-    reader: Pieces<'_>,
-    input: &[u8],
-    want: &[u8],
-) -> Result<bool, Fail> {
-    let first = serve_at(alloc, reader, Paper::blank(alloc), book, MAX_READS);
-    let rest = rest_after_fault(&first, want);
-    drop(first);
-    match rest {
-        Some(rest) => has_replies_at(alloc, book, input, rest),
-        None => Ok(false),
-    }
-}
-
-// What follows the replies of a session whose read failed, if the wanted ones begin so.
-fn rest_after_fault<'a>(first: &Served, want: &'a [u8]) -> Option<&'a [u8]> {
-    if first.ended != Err(ServeFault::Read) {
-        return None;
-    }
-    want.strip_prefix(first.text.as_slice())
-}
-
-// The same at a new book.
-fn keeps(alloc: Global, reader: Pieces<'_>, input: &[u8], want: &[u8]) -> Result<bool, Fail> {
-    let mut book = new_book(alloc, &Limits::greatest())?;
-    let is_kept = has_replies_after_fault(alloc, &mut book, reader, input, want);
-    drop(book);
-    is_kept
-}
-
-const THREE_LINES: &[u8] = b"zone e. 0\nadd a.e. A 1.2.3.4\nfind sip:a.e:7\n";
-
-fn keeps_until(alloc: Global, fails_at: u64, want: &[u8]) -> Result<bool, Fail> {
-    keeps(
-        alloc,
-        Pieces::new(THREE_LINES, 1, fails_at),
-        b"find sip:a.e:7",
-        want,
-    )
-}
-
-#[test]
-fn session_keeps_accepted_commands_after_a_fault(rt: HostRuntime) -> Result<(), Fail> {
-    let none = b"ok zone 0 0 0 0\nnone NoAddress\n";
-    let one = b"ok zone 0 0 0 0\nok add 1\ntarget 1 udp 1.2.3.4 7\nok find 1\n";
-    expects(&rt, keeps_until(rt.alloc(), 29, none)?, "until read 29");
-    expects(&rt, keeps_until(rt.alloc(), 30, one)?, "until read 30");
-    Ok(())
-}
-
-#[test]
-fn a_failing_read_loads_no_part_of_a_zone(rt: HostRuntime) -> Result<(), Fail> {
-    let reader = Pieces::new(b"zone e. 3\n@ A 192.0.2.1\n", 24, 2);
-    let is_so = keeps(rt.alloc(), reader, b"find sip:e:7\n", b"none NoAddress\n")?;
-    expects(&rt, is_so, "no part of the zone");
-    Ok(())
-}
-
 // ---- the end
 
 // How a session ends that quits before its input does, and after how many reads.
@@ -427,18 +364,4 @@ fn quit_reads_no_more(rt: HostRuntime) -> Result<(), Fail> {
     expects_equal(&rt, &ended, &(Ok(Ended::Quit), 1), "the end and the reads");
     expects_equal(&rt, &MAX_READS, &4_294_967_296, "the maximum of reads");
     Ok(())
-}
-
-const CODES: &[(ServeFault, &str)] = &[
-    (ServeFault::Read, "read"),
-    (ServeFault::Write, "write"),
-    (ServeFault::TooManyTurns, "turns"),
-    (ServeFault::Memory, "memory"),
-];
-
-#[test]
-fn faults_have_codes(rt: HostRuntime) {
-    for (fault, code) in CODES {
-        expects_equal(&rt, &fault.code(), code, "a code");
-    }
 }

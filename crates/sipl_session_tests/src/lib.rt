@@ -17,4 +17,4 @@ mod settings;
 #[cfg(test)]
 mod streams;
 #[cfg(test)]
-mod tapped;
+mod talks;

@@ -1,4 +1,4 @@
-// The settings of texts without a fault. Those with one are in `tests/sessions/settings`.
+// The settings of texts whose numbers and address no line shows. The others are in `tests/sessions/settings`.
 use super::assertions::expects_at;
 use sipl_choice::{Families, Transport};
 use sipl_lines::Settings;
@@ -32,10 +32,6 @@ const ROWS: &[Row] = &[
     // An empty text has the defaults.
     DEFAULTS,
     Row {
-        text: "\n",
-        ..DEFAULTS
-    },
-    Row {
         text: " # nothing\r\n",
         ..DEFAULTS
     },
@@ -49,53 +45,6 @@ const ROWS: &[Row] = &[
         held: Held::Last,
         numbers: [3, 7, 5, 6, 16, 0, 2],
         listen: ([127, 1, 2, 3], 4),
-    },
-    // Transports are listed once each.
-    Row {
-        text: "transports = [\"sctp\", \"tls\", \"tcp\", \"udp\",]",
-        transports: &[
-            Transport::Sctp,
-            Transport::Tls,
-            Transport::Tcp,
-            Transport::Udp,
-        ],
-        ..DEFAULTS
-    },
-    Row {
-        text: "transports = [\"udp\"]\nfamilies = \"v6v4\"",
-        transports: &[Transport::Udp],
-        families: Families::V6ThenV4,
-        ..DEFAULTS
-    },
-    // Families are four words.
-    Row {
-        text: "families = \"v4\"",
-        ..DEFAULTS
-    },
-    Row {
-        text: "families = 'v6'",
-        families: Families::V6,
-        ..DEFAULTS
-    },
-    Row {
-        text: "families = \"v4v6\"",
-        families: Families::V4ThenV6,
-        ..DEFAULTS
-    },
-    Row {
-        text: "families = \"v6v4\"",
-        families: Families::V6ThenV4,
-        ..DEFAULTS
-    },
-    // `held` is two words.
-    Row {
-        text: "held = \"out\"",
-        ..DEFAULTS
-    },
-    Row {
-        text: "held = 'last'",
-        held: Held::Last,
-        ..DEFAULTS
     },
     // `listen` is a loopback address and a port.
     Row {

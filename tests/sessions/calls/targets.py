@@ -1,4 +1,5 @@
-"""Prints a session in which all targets of a call are tried, up to the 2,048 that an answer has at most (RFC 3263, 4.3)."""
+"""Prints a session in which all targets of a call are tried, up to the 2,048 that an answer has at most (RFC 3263,
+4.3)."""
 
 COUNT = 32
 TARGETS = [

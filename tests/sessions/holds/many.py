@@ -1,4 +1,4 @@
-"""Prints a session in which 4,096 endpoints are held, which are the most (RFC 3263, 4.3)."""
+"""Prints a session in which 4,096 endpoints are held, which are the maximum (RFC 3263, 4.3)."""
 
 MOST = 4_096
 RELEASED = MOST - 1
