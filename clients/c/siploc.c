@@ -112,6 +112,7 @@ static const struct {
     {"L1", "a record set changed in each of the tries: ask again"},
     {"Memory", "an allocation failed"},
     {"D1", "the time is the host's: holds end by themselves"},
+    {"D2", "changes can't be kept at present: the daemon can't write to its state"},
     {"D3", "the address is for questions only"},
     {"Busy", "there are as many clients as the settings allow"}};
 

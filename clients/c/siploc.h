@@ -147,7 +147,7 @@ siploc_status siploc_drop(siploc *session, const char *apex, const siploc_reply 
 siploc_status siploc_add(siploc *session, const char *record, const siploc_reply **reply);
 siploc_status siploc_remove(siploc *session, const char *record, const siploc_reply **reply);
 siploc_status siploc_repair(siploc *session, const siploc_reply **reply);
-/* Hands out the journal as a page, which the server keeps, and begins an empty one: no longer B3. */
+/* Returns the journal as a page, which the server keeps, and begins an empty one: no longer B3. */
 siploc_status siploc_page(siploc *session, const siploc_reply **reply);
 
 siploc_status siploc_hold(siploc *session, const siploc_target *target, uint64_t milliseconds,

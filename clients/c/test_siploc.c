@@ -436,8 +436,7 @@ static void keep_refusal(void *context, size_t place, const siploc_reply *reply)
     }
 }
 
-/* Each code once, by a batch: 47 of the 57 of docs/use/CODES.md; K2, L1, S8, B6, Memory, X1, F1 and the daemon's D1, D3
- * and Busy are not in the file. */
+/* Each code once, by a batch: 47 of the 58 of a session (clients/lists.json). The others are named at the file's head. */
 static void each_refusal(void)
 {
     static char input[1 << 16], want[1 << 16], replies[1 << 16], settings[512];
@@ -759,6 +758,89 @@ static void replies(void)
     CHECK(rows == 125);
 }
 
+/* A reply to some lines, and where it is cut in how many connections: at each octet of it, in their order. */
+typedef struct cut {
+    const char *reply;
+    size_t lines, size;
+    bool is_reset, is_silent;
+} cut;
+
+static siploc *connect_to_cuts(const cut *cut, int *port)
+{
+    char address[32];
+    if (*port == 0) {
+        int listener = listen_somewhere(false, port);
+        if (start_child() == 0) {
+            signal(SIGPIPE, SIG_IGN);
+            for (size_t at = 0; at < cut->size; at++) {
+                int stream = accept(listener, NULL, NULL);
+                struct linger linger = {.l_onoff = cut->is_reset, .l_linger = 0};
+                setsockopt(stream, SOL_SOCKET, SO_LINGER, &linger, sizeof linger);
+                take_lines(stream, cut->lines);
+                put(stream, cut->reply, at);
+                if (!cut->is_silent)
+                    close(stream);
+            }
+            pause_for(cut->is_silent ? 20000 : 0);
+            _exit(0);
+        }
+        close(listener);
+    }
+    snprintf(address, sizeof address, "127.0.0.1:%d", *port);
+    return connect_to(address, cut->is_silent ? 20 : 10000);
+}
+
+/* Whether a reply that is cut at any octet is told as half a reply, or as none; where no more comes the time runs out. */
+static bool is_told(const char *command, const cut *cut)
+{
+    const char *const commands[] = {command};
+    int port = 0;
+    for (size_t at = 0; at < cut->size; at++) {
+        siploc *session = connect_to_cuts(cut, &port);
+        if (session == NULL)
+            return false;
+        siploc_status status = siploc_batch(session, commands, 1, NULL, NULL);
+        bool is_right = siploc_broken(session).may_be_done && siploc_repair(session, NULL) == SIPLOC_NOT_CONNECTED;
+        siploc_close(session);
+        if (cut->is_silent)
+            is_right &= status == SIPLOC_TIMED_OUT;
+        else if (at == 0)
+            is_right &= status == SIPLOC_LOST;
+        else /* What came before a reset may be lost with it. */
+            is_right &= status == SIPLOC_HALF_REPLY || (cut->is_reset && status == SIPLOC_LOST);
+        if (!is_right)
+            printf("%s, cut at %zu: %s\n", cut->reply, at, siploc_status_text(status));
+        if (!is_right)
+            return false;
+    }
+    return true;
+}
+
+/* Each good row of replies.txt, cut at each octet as the connection ends, is reset, or stays silent. */
+static void cut_at_each_octet(void)
+{
+    char *text = read_file("clients/tests/replies.txt"), *rest = text;
+    for (char *line; (line = strtok_r(rest, "\n", &rest)) != NULL;) {
+        if (strncmp(line, "good\t", 5) != 0)
+            continue;
+        char *command = line + 5, *reply = strchr(command, '\t') + 1;
+        reply[-1] = '\0';
+        unescape(command);
+        cut cut = {.reply = reply, .lines = 1, .size = unescape(reply)};
+        for (const char *at = command; (at = strchr(at, '\n')) != NULL; at++)
+            cut.lines++;
+        for (int turn = 0; turn < 3; turn++) {
+            cut.is_reset = turn == 1;
+            cut.is_silent = turn == 2;
+            if (cut.is_silent && strncmp(reply, "target 1 udp", 12) != 0)
+                continue;
+            CHECK(is_told(command, &cut));
+            end_children();
+        }
+    }
+    free(text);
+}
+
 static void keep_set(void *context, size_t place, const siploc_reply *reply)
 {
     if (place == 0)
@@ -959,8 +1041,8 @@ int main(int count, char **words)
 #define TEST(name) {#name, name}
         TEST(readme_session_in_a_batch), TEST(readme_session_by_calls), TEST(other_calls), TEST(pages), TEST(each_refusal),
         TEST(refusals_by_calls), TEST(finds_in_batches), TEST(batch_of_more_than_the_sockets_hold),
-        TEST(server_that_ends_in_the_midst), TEST(client_that_is_killed_in_a_zone), TEST(example_program), TEST(replies), TEST(what_a_refused_find_names),
-        TEST(garbage_without_end), TEST(invalid_commands_are_not_sent), TEST(lost_before_and_after), TEST(timeouts),
+        TEST(server_that_ends_in_the_midst), TEST(client_that_is_killed_in_a_zone), TEST(example_program), TEST(replies),
+        TEST(cut_at_each_octet), TEST(what_a_refused_find_names), TEST(garbage_without_end), TEST(invalid_commands_are_not_sent), TEST(lost_before_and_after), TEST(timeouts),
         TEST(addresses)};
     int passed = 0, failed = 0;
     program = getenv("SIPLOC");

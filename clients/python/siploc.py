@@ -21,7 +21,8 @@ what its reply says; `batch` sends many. These errors are raised, all of them an
 
 After a `SessionBroken` the connection is closed. To connect again is up to the caller.
 
-It needs Python 3.9 and its standard library, and is this file alone. `siploc_asyncio` has the same calls for asyncio.
+It needs Python 3.9 and its standard library, and is this file alone. `siploc_asyncio` has the same calls for asyncio, and
+`siploc_embedded` in this process.
 """
 
 from __future__ import annotations
@@ -35,12 +36,12 @@ import socket
 import struct
 import time
 from dataclasses import dataclass
-from typing import Dict, Iterable, Iterator, List, NamedTuple, Optional, Pattern, Sequence, Tuple, Union
+from typing import Dict, Iterable, Iterator, List, NamedTuple, Optional, Pattern, Sequence, Tuple, TypeVar, Union
 
 __all__ = [
-    "Ack", "Answer", "BadReply", "ConnectionLost", "Deliver", "Dependency", "Error", "Exhausted", "HalfReply", "Hold",
-    "InvalidCommand", "Loaded", "MEANINGS", "NotConnected", "Opened", "Page", "Refused", "Reply", "Resend", "Send",
-    "Session", "SessionBroken", "SiplocError", "Step", "Target", "TimedOut", "connect", "line", "zone",
+    "Ack", "Answer", "BadReply", "BaseSession", "ConnectionLost", "Deliver", "Dependency", "Error", "Exhausted",
+    "HalfReply", "Hold", "InvalidCommand", "Loaded", "MEANINGS", "NotConnected", "Opened", "Page", "Refused", "Reply",
+    "Resend", "Send", "Session", "SessionBroken", "SiplocError", "Step", "Target", "TimedOut", "connect", "line", "zone",
 ]
 
 #: What each code of a refusal means.
@@ -100,9 +101,12 @@ MEANINGS: Dict[str, str] = {
     "L1": "a record set changed in each of the tries: ask again",
     "Memory": "an allocation failed",
     "D1": "the time is the host's: holds end by themselves",
+    "D2": "changes can't be kept at present: the daemon can't write to its state",
     "D3": "the address is for questions only",
     "Busy": "there are as many clients as the settings allow",
 }
+
+_Self = TypeVar("_Self", bound="BaseSession")
 
 _MAX_LINE = 65_536
 _MAX_ZONE_LINES = 1_048_576
@@ -596,22 +600,11 @@ def _prepare(stream: socket.socket) -> None:
         stream.setsockopt(socket.SOL_SOCKET, socket.SO_LINGER, struct.pack("ii", 1, 0))
 
 
-class Session:
-    """A connection to a server. `with` closes it at the end."""
+class BaseSession:
+    """What each session has: one over a connection, and one in this process (`siploc_embedded.Session`). `with` closes
+    it at the end."""
 
-    #: How many seconds a call waits without progress: without a complete reply, and without the server taking
-    #: further octets. It may be changed between calls.
-    timeout: float
-
-    def __init__(self, stream: socket.socket, timeout: float) -> None:
-        """A session over a connected socket."""
-        stream.setblocking(False)
-        self.timeout = timeout
-        self._stream: Optional[socket.socket] = stream
-        self._poll = select.poll()
-        self._poll.register(stream, select.POLLIN)
-
-    def __enter__(self) -> Session:
+    def __enter__(self: _Self) -> _Self:
         return self
 
     def __exit__(self, *_: object) -> None:
@@ -620,17 +613,11 @@ class Session:
     @property
     def is_open(self) -> bool:
         """Whether the session has neither ended nor been closed, as far as is known."""
-        return self._stream is not None
+        raise NotImplementedError
 
     def close(self) -> None:
-        """Ends the session by `quit`, and closes the connection. Nothing is raised."""
-        if self._stream is not None:
-            self.timeout = min(self.timeout, 1.0)
-            try:
-                self._exchange([_Command("quit", b"quit\n", _FORMS["quit"])])
-            except Error:
-                pass
-            self._end()
+        """Ends the session. Nothing is raised."""
+        raise NotImplementedError
 
     # Questions.
 
@@ -669,7 +656,7 @@ class Session:
         self._ask("repair")
 
     def page(self) -> Page:
-        """Hands out the journal as a page, which the server keeps, and begins an empty one: no longer B3."""
+        """Returns the journal as a page, which the server keeps, and begins an empty one: no longer B3."""
         return Page(*self._ask("page").counts)
 
     # Holds and the clock.
@@ -720,6 +707,40 @@ class Session:
     def _ask(self, command: str) -> Reply:
         return self._exchange([_prepared(command)])[0].check()
 
+    def _exchange(self, commands: Sequence[_Command]) -> List[Reply]:
+        """Sends commands and reads their replies. Where this raises a `SessionBroken` the session ends."""
+        raise NotImplementedError
+
+
+class Session(BaseSession):
+    """A connection to a server."""
+
+    #: How many seconds a call waits without progress: without a complete reply, and without the server taking
+    #: further octets. It may be changed between calls.
+    timeout: float
+
+    def __init__(self, stream: socket.socket, timeout: float) -> None:
+        """A session over a connected socket."""
+        stream.setblocking(False)
+        self.timeout = timeout
+        self._stream: Optional[socket.socket] = stream
+        self._poll = select.poll()
+        self._poll.register(stream, select.POLLIN)
+
+    @property
+    def is_open(self) -> bool:
+        return self._stream is not None
+
+    def close(self) -> None:
+        """Ends the session by `quit`, and closes the connection. Nothing is raised."""
+        if self._stream is not None:
+            self.timeout = min(self.timeout, 1.0)
+            try:
+                self._exchange([_Command("quit", b"quit\n", _FORMS["quit"])])
+            except Error:
+                pass
+            self._end()
+
     def _end(self) -> None:
         if self._stream is not None:
             self._stream.close()
@@ -741,16 +762,13 @@ class Session:
         return exchange.replies
 
 
-class _Exchange:
-    """Commands on their way, and the replies that have come."""
+class _Replies:
+    """The replies that have come to commands."""
 
-    def __init__(self, stream: socket.socket, poll: Optional[select.poll], commands: Sequence[_Command]) -> None:
-        self.stream, self.commands = stream, commands
-        self.poll = poll or select.poll()
-        self.output = memoryview(b"".join(command.octets for command in commands))
+    def __init__(self, commands: Sequence[_Command]) -> None:
+        self.commands = commands
+        # How many octets of the commands were sent.
         self.sent = 0
-        self.is_cut = False
-        self.events = select.POLLIN
         self.replies: List[Reply] = []
         # The lines of the reply that is coming, and the octets of its line that is.
         self.lines: List[str] = []
@@ -771,6 +789,44 @@ class _Exchange:
     def bad(self, text: str) -> SessionBroken:
         """The error for a line that is not one of the reply that is due."""
         return self.broken(BadReply, f"not a reply: {text[:200]!r}")
+
+    def feed(self, octets: bytes) -> bool:
+        """Takes what has come, nothing at the end of the connection; whether a reply is complete."""
+        if not octets:
+            raise self.lost("the server has closed the connection")
+        count = len(self.replies)
+        *lines, self.rest = (self.rest + octets.decode("latin-1")).split("\n")
+        for text in lines:
+            self.take(text)
+        if len(self.rest) > _MAX_REPLY_LINE or self.rest and len(self.replies) == len(self.commands):
+            raise self.bad(self.rest)
+        return len(self.replies) > count
+
+    def take(self, text: str) -> None:
+        """Takes a line of a reply."""
+        if len(self.replies) == len(self.commands):
+            raise self.bad(text)
+        command = self.commands[len(self.replies)]
+        self.lines.append(text)
+        if text.startswith(("ok", "none", "err")):
+            if not command.form.ends(self.lines):
+                raise self.bad(text)
+            self.replies.append(Reply(command.text, self.lines))
+            self.lines = []
+        elif not command.form.has(len(self.lines), text) or len(self.lines) > _MAX_REPLY_LINES:
+            raise self.bad(text)
+
+
+class _Exchange(_Replies):
+    """Commands on their way over a connection, and the replies that have come."""
+
+    def __init__(self, stream: socket.socket, poll: Optional[select.poll], commands: Sequence[_Command]) -> None:
+        super().__init__(commands)
+        self.stream = stream
+        self.poll = poll or select.poll()
+        self.output = memoryview(b"".join(command.octets for command in commands))
+        self.is_cut = False
+        self.events = select.POLLIN
 
     def run(self, timeout: float) -> None:
         """Sends all commands, and reads all replies."""
@@ -820,32 +876,6 @@ class _Exchange:
         except BlockingIOError:
             return False
         return self.feed(octets)
-
-    def feed(self, octets: bytes) -> bool:
-        """Takes what has come, nothing at the end of the connection; whether a reply is complete."""
-        if not octets:
-            raise self.lost("the server has closed the connection")
-        count = len(self.replies)
-        *lines, self.rest = (self.rest + octets.decode("latin-1")).split("\n")
-        for text in lines:
-            self.take(text)
-        if len(self.rest) > _MAX_REPLY_LINE or self.rest and len(self.replies) == len(self.commands):
-            raise self.bad(self.rest)
-        return len(self.replies) > count
-
-    def take(self, text: str) -> None:
-        """Takes a line of a reply."""
-        if len(self.replies) == len(self.commands):
-            raise self.bad(text)
-        command = self.commands[len(self.replies)]
-        self.lines.append(text)
-        if text.startswith(("ok", "none", "err")):
-            if not command.form.ends(self.lines):
-                raise self.bad(text)
-            self.replies.append(Reply(command.text, self.lines))
-            self.lines = []
-        elif not command.form.has(len(self.lines), text) or len(self.lines) > _MAX_REPLY_LINES:
-            raise self.bad(text)
 
     def read_before(self) -> None:
         """What came before any command was sent."""

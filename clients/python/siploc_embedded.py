@@ -1,4 +1,4 @@
-"""siploc in this process: sessions as those of the module siploc, without a server.
+"""siploc in this process: sessions with the calls of the module siploc, without a server.
 
     import siploc_embedded
 
@@ -7,50 +7,126 @@
         for target in session.find("sip:server1.example.com:5070"):
             print(target.transport, target.address, target.port)
 
-A session is a `siploc.Session`, with the same calls and errors. It has a book of its own, which ends with it, and is
-served by a thread of its own, over a socket pair. The library is that of clients/c/embedded.
+A session has the calls and the errors of a `siploc.Session`, and a book of its own, which ends with it. Threads may
+share it: their calls are made one after another. It is opened after a fork, in the process that uses it. The journal is
+full after 1,048,576 answers, changes and holds (B3): `page` drops it.
+
+It needs the library of clients/c/embedded, and siploc.py.
 """
 
 from __future__ import annotations
 
 import ctypes
 import functools
-import socket
 import threading
+import weakref
+from typing import List, Sequence
 
 import siploc
 
-__all__ = ["BadSettings", "open"]
+__all__ = ["BadSettings", "Session", "open"]
 
-_SETTINGS = 5
+_OK, _SETTINGS = 0, 5
+# How many octets of replies are taken at once, and how many of commands are put before.
+_ROOM = _PIECE = 1 << 16
 
 
 class BadSettings(siploc.Error, ValueError):
     """The settings are refused."""
 
 
+class _Handle(ctypes.Structure):
+    """A `siploc_embedded_session`."""
+
+    _fields_ = [("at", ctypes.c_void_p)]
+
+
 @functools.lru_cache(maxsize=None)
 def _library(path: str) -> ctypes.CDLL:
     library = ctypes.CDLL(path)
-    text = [ctypes.c_char_p, ctypes.c_size_t]
-    library.siploc_embedded_run.argtypes = [*text, *text, *text, ctypes.POINTER(ctypes.c_size_t)]
-    library.siploc_embedded_serve.argtypes = [ctypes.c_int, *text]
+    handle, octets = ctypes.POINTER(_Handle), [ctypes.c_char_p, ctypes.c_size_t]
+    library.siploc_embedded_open.argtypes = [*octets, handle]
+    library.siploc_embedded_put.argtypes = [handle, *octets, ctypes.POINTER(ctypes.c_size_t)]
+    library.siploc_embedded_take.argtypes = [handle, *octets]
+    library.siploc_embedded_take.restype = ctypes.c_size_t
+    library.siploc_embedded_close.argtypes = [handle]
+    library.siploc_embedded_close.restype = None
     return library
 
 
-def open(settings: str = "", *, timeout: float = 30.0, library: str = "libsiploc_embedded.so") -> siploc.Session:
+def open(settings: str = "", *, library: str = "libsiploc_embedded.so") -> Session:
     """A session with these settings, which are those of `siploc run`.
 
-    `timeout` is that of `siploc.Session`, in seconds; `library` is the path of the library, or its name where the
-    system's loader finds it. Raises `BadSettings` where the settings are refused, and `OSError` where the library is
-    not found, or there is no socket pair.
+    `library` is the path of the library, or its name where the system's loader finds it. Raises `BadSettings` where the
+    settings are refused, `MemoryError` where an allocation fails, and `OSError` where the library is not found.
     """
-    loaded, octets = _library(library), settings.encode()
-    count = ctypes.c_size_t()
-    if loaded.siploc_embedded_run(octets, len(octets), b"", 0, None, 0, ctypes.byref(count)) == _SETTINGS:
-        raise BadSettings(f"the settings are refused: {settings[:200]!r}")
-    ours, theirs = socket.socketpair()
-    served = (theirs.detach(), octets, len(octets))
-    threading.Thread(target=loaded.siploc_embedded_serve, args=served, daemon=True).start()
-    ours.settimeout(timeout)
-    return siploc.Session(ours, timeout)
+    return Session(_library(library), settings)
+
+
+class Session(siploc.BaseSession):
+    """A session in this process."""
+
+    def __init__(self, library: ctypes.CDLL, settings: str) -> None:
+        """A session of a library that is loaded."""
+        octets, handle = settings.encode("utf-8", "surrogateescape"), _Handle()
+        status = library.siploc_embedded_open(octets, len(octets), handle)
+        if status == _SETTINGS:
+            raise BadSettings(f"the settings are refused: {settings[:200]!r}")
+        if status != _OK:
+            raise MemoryError
+        self._put, self._take = library.siploc_embedded_put, library.siploc_embedded_take
+        self._handle, self._room, self._turn = handle, ctypes.create_string_buffer(_ROOM), threading.Lock()
+        # Also where the session is dropped.
+        self._close = weakref.finalize(self, library.siploc_embedded_close, handle)
+        self._close.atexit = False
+
+    @property
+    def is_open(self) -> bool:
+        return self._close.alive
+
+    def close(self) -> None:
+        """Ends the session, and frees what it has; a call that is being made comes to its end before."""
+        with self._turn:
+            self._close()
+
+    def _exchange(self, commands: Sequence[siploc._Command]) -> List[siploc.Reply]:
+        """Carries out commands, and reads their replies."""
+        with self._turn:
+            if not self._close.alive:
+                raise siploc.NotConnected("the session has ended")
+            come = siploc._Replies(commands)
+            try:
+                while len(come.replies) < len(commands):
+                    self._run(come)
+            except BaseException:
+                self._close()
+                raise
+        return come.replies
+
+    def _run(self, come: siploc._Replies) -> None:
+        """Puts some commands, and takes their replies. One for which memory ran out is refused, as others are for which
+        it does later."""
+        done = end = len(come.replies)
+        size = 0
+        while end < len(come.commands) and size < _PIECE:
+            size += len(come.commands[end].octets)
+            end += 1
+        octets = b"".join([command.octets for command in come.commands[done:end]])
+        taken = ctypes.c_size_t()
+        status = self._put(self._handle, octets, size, taken)
+        come.sent += taken.value
+        while count := self._take(self._handle, self._room, _ROOM):
+            come.feed(ctypes.string_at(self._room, count))
+        if status != _OK:
+            self._refuse(come)
+        elif len(come.replies) != end:
+            raise come.lost("the session has ended")
+
+    @staticmethod
+    def _refuse(come: siploc._Replies) -> None:
+        """Leaves out the next command, unless some of its lines were taken: of a zone."""
+        done = len(come.replies)
+        if come.sent != sum(len(command.octets) for command in come.commands[:done]):
+            raise come.lost("out of memory")
+        come.sent += len(come.commands[done].octets)
+        come.take("err Memory")

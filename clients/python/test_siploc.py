@@ -1,12 +1,13 @@
 #!/usr/bin/env python3
 """Tests of the client against servers that they start: the program SIPLOC, and some that do what no server should.
 
-    SIPLOC=crates/siploc/out/siploc clients/python/test_siploc.py [Sessions.test_draws ..]
+    SIPLOC=PROGRAM clients/python/test_siploc.py [TEST..]      such as Sessions.test_draws
 
 Replies are those of docs/use/FORMATS.md, and of the README's session. The last line is `N passed, M failed`.
 """
 
 import contextlib
+import json
 import os
 import pathlib
 import random
@@ -14,6 +15,7 @@ import re
 import select
 import signal
 import socket
+import struct
 import subprocess
 import sys
 import tempfile
@@ -148,6 +150,11 @@ def unescape(text):
     return re.sub(r"\\(n|r|\\|x[0-9a-f]{2})", octet, text).encode("latin-1")
 
 
+def rows_of_replies():
+    """The rows of replies.txt: what the reply to a command is, the command and the reply."""
+    return [text.split("\t") for text in (TESTS / "replies.txt").read_text().splitlines() if text[0] != "#"]
+
+
 def commands_of(lines):
     """The commands of a session's lines: each a line, or a `zone` line with its text."""
     lines = iter(lines)
@@ -277,7 +284,8 @@ class Sessions(unittest.TestCase):
         refusals = [reply.refusal for reply in replies if reply.refusal]
         codes = [refusal.code for refusal in refusals]
         self.assertEqual(len(codes), len(set(codes)))
-        self.assertEqual(set(siploc.MEANINGS) - set(codes), {"K2", "L1", "S8", "B6", "Memory", "X1", "F1", "D1", "D3", "Busy"})
+        left_out = re.findall(r"\b(?:[A-Z][0-9]|Memory|Busy)\b", "\n".join(lines[:start]))
+        self.assertEqual(set(siploc.MEANINGS) - set(codes), set(left_out))
         for refusal in refusals:
             self.assertEqual(refusal.meaning, siploc.MEANINGS[refusal.code])
         self.assertEqual({refusal.code: refusal.line for refusal in refusals if refusal.line},
@@ -368,7 +376,8 @@ class Sessions(unittest.TestCase):
         with tempfile.TemporaryDirectory() as folder, Server(sessions=4) as server:
             port = free_port()
             place = f"unix:{folder}/socket"
-            for listens, address in ((place, place), (f"[::1]:{port}", f"[::1]:{port}"), (f"[::1]:{port}", f"localhost:{port}"),
+            for listens, address in ((place, place), (f"[::1]:{port}", f"[::1]:{port}"),
+                                     (f"[::1]:{port}", f"localhost:{port}"),
                                      (None, f"localhost:{server.port}")):
                 listener = relay(server.port, listens) if listens else contextlib.nullcontext()
                 with listener, server.connect(address) as session:
@@ -410,8 +419,7 @@ class Faults(unittest.TestCase):
 
     def test_replies(self):
         """replies.txt: what is a reply of the protocol, and what is not."""
-        rows = [text.split("\t") for text in (TESTS / "replies.txt").read_text().splitlines() if text[0] != "#"]
-        for kind, command, reply in rows:
+        for kind, command, reply in rows_of_replies():
             octets = unescape(reply)
 
             def serve(stream):
@@ -429,12 +437,58 @@ class Faults(unittest.TestCase):
                     self.assertEqual("".join(f"{text}\n" for text in got.lines).encode(), octets)
                     self.assertTrue(session.is_open)
                 except siploc.SessionBroken as error:
-                    seen = {siploc.ConnectionLost: "lost", siploc.HalfReply: "half", siploc.BadReply: "bad"}[type(error)]
+                    seen = {siploc.ConnectionLost: "lost", siploc.HalfReply: "half",
+                            siploc.BadReply: "bad"}[type(error)]
                     self.assertFalse(session.is_open)
                     self.assertTrue(error.may_be_done or error.replies)
                 finally:
                     session.close()
                 self.assertEqual(seen, kind)
+
+    def test_cut_at_each_octet(self):
+        """A reply that is cut at any octet, as the connection ends or is reset, is told as half a reply, or as none."""
+        for kind, command, reply in rows_of_replies():
+            octets = unescape(reply)
+            cuts = [(at, is_reset) for at in range(len(octets)) for is_reset in (False, True)] if kind == "good" else []
+            served = iter(cuts)
+
+            def serve(stream):
+                at, is_reset = next(served)
+                read_lines(stream, 1 + command.count("\\n"))
+                if is_reset:
+                    stream.setsockopt(socket.SOL_SOCKET, socket.SO_LINGER, struct.pack("ii", 1, 0))
+                stream.sendall(octets[:at])
+
+            with fake(serve, len(cuts)) as (address, _):
+                for at, is_reset in cuts:
+                    session = siploc.connect(address, timeout=10)
+                    start = time.monotonic()
+                    with self.subTest(reply=reply, at=at), self.assertRaises(siploc.SessionBroken) as caught:
+                        session.batch([unescape(command).decode()])
+                    self.assertLess(time.monotonic() - start, 5)
+                    # (what came before a reset may be lost with it)
+                    halves = [siploc.HalfReply] if at and not is_reset else [siploc.ConnectionLost,
+                                                                             siploc.HalfReply][:1 + at]
+                    self.assertIn(type(caught.exception), halves)
+                    self.assertEqual((session.is_open, caught.exception.may_be_done), (False, True))
+
+    def test_silent_after_each_octet(self):
+        """A server that sends no more after any octet of a reply: the time runs out."""
+        octets, ended = b"target 1 udp 192.0.2.1 5060\nok find 1\n", threading.Event()
+
+        def serve(stream):
+            read_lines(stream)
+            stream.sendall(octets[:next(served)])
+            ended.wait(20)
+            ended.clear()
+
+        served = iter(range(len(octets)))
+        with fake(serve, len(octets)) as (address, _):
+            for at in range(len(octets)):
+                session = siploc.connect(address, timeout=0.05)
+                with self.subTest(at=at), self.assertRaises(siploc.TimedOut):
+                    session.find("sip:a")
+                ended.set()
 
     def test_what_a_refused_find_names(self):
         """L1 names the set that changed; a code that is not known is a refusal all the same."""
@@ -497,7 +551,8 @@ class Faults(unittest.TestCase):
         def serve(stream):
             for reply in (b"ok zone 2 0 0 1\n", b"ok drop 1\n", b"ok hold\n", b"ok release\n", b"ok add 1\n",
                           b"ok del 1\n", b"none NoAddress\n", b"none NoAddress\n", b"none NoAddress\n", b"ok deps 0\n",
-                          b"ok repair\n", b"ok page 3 0\n", b"ok clock 7\n", b"none NoAddress\n", b"ok got\n", b"ok got\n",
+                          b"ok repair\n", b"ok page 3 0\n", b"ok clock 7\n", b"none NoAddress\n", b"ok got\n",
+                          b"ok got\n",
                           b"ok broke\n"):
                 received.append(read_lines(stream, 3 if b"zone" in reply else 1))
                 stream.sendall(reply)
@@ -598,7 +653,8 @@ class Faults(unittest.TestCase):
 
     def test_addresses(self):
         """What is no address, and one that nobody listens at."""
-        for address in ("", "127.0.0.1", "localhost", "localhost:0", "localhosts:5099", "192.0.2.1:5099", "[2001:db8::1]:5099", "127.0.0.1:0",
+        for address in ("", "127.0.0.1", "localhost", "localhost:0", "localhosts:5099", "192.0.2.1:5099",
+                        "[2001:db8::1]:5099", "127.0.0.1:0",
                         "127.0.0.1:65536", "127.0.0.1:x", "::1:5099", "unix:", "unix:" + "x" * 108, "[127.0.0.1]:",
                         "300.0.0.1:1"):
             with self.subTest(address), self.assertRaises(siploc.InvalidCommand):
@@ -622,12 +678,9 @@ class Faults(unittest.TestCase):
             self.assertEqual(caught.exception.code, "U7")
 
     def test_all_codes_are_known(self):
-        """Each code of docs/use/CODES.md that a session may have has a meaning, and no other."""
-        text = (TOP / "docs/use/CODES.md").read_text()
-        text = text[:text.index("\n## Workers of a script")]
-        codes = set(re.findall(r"^\| `([A-Z][0-9]+|Memory)` \|", text, re.MULTILINE))
-        of_scripts_and_libraries = {"B1", "B2", "B4", "B5", "Q1", "X3"}
-        self.assertEqual(set(siploc.MEANINGS), codes - of_scripts_and_libraries | {"L1", "D1", "D3", "Busy"})
+        """Each code that a session may have has a meaning, and no other."""
+        known = json.loads((TOP / "clients/lists.json").read_text())["refusals"]["session"]
+        self.assertEqual(set(siploc.MEANINGS), set(known))
 
 
 class Counting(unittest.TextTestResult):
@@ -638,9 +691,12 @@ class Counting(unittest.TextTestResult):
 
 
 if __name__ == "__main__":
+    sys.path.insert(0, str(TOP / "tools"))
+    import usage
+    names = usage.words()
     runner = unittest.TextTestRunner(stream=sys.stdout, resultclass=Counting, verbosity=1)
     module, loader = sys.modules["__main__"], unittest.defaultTestLoader
-    result = runner.run(loader.loadTestsFromNames(sys.argv[1:], module) if sys.argv[1:] else loader.loadTestsFromModule(module))
+    result = runner.run(loader.loadTestsFromNames(names, module) if names else loader.loadTestsFromModule(module))
     failed = len(result.failed_tests())
     print(f"{result.testsRun - failed} passed, {failed} failed")
     sys.exit(1 if failed else 0)

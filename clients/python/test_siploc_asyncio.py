@@ -1,7 +1,7 @@
 #!/usr/bin/env python3
 """Tests of the client for asyncio, against the program that SIPLOC names and servers that do what none should.
 
-    SIPLOC=crates/siploc/out/siploc clients/python/test_siploc_asyncio.py
+    SIPLOC=PROGRAM clients/python/test_siploc_asyncio.py
 
 The last line is `N passed, M failed`.
 """
@@ -16,7 +16,7 @@ import unittest
 import siploc
 import siploc_asyncio
 from siploc import Target
-from test_siploc import FIRST, SECOND, ZONE, Server
+from test_siploc import FIRST, SECOND, TOP, ZONE, Server
 
 
 @contextlib.asynccontextmanager
@@ -52,12 +52,13 @@ class Asyncio(unittest.IsolatedAsyncioTestCase):
 
     async def test_the_same_calls(self):
         """Each call of the other client, with the same parameters."""
-        public = [name for name, it in vars(siploc.Session).items() if inspect.isfunction(it) and not name.startswith("_")]
+        public = [name for name, _ in inspect.getmembers(siploc.Session, inspect.isfunction) if not name.startswith("_")]
         self.assertGreater(len(public), 12)
         for name in public:
             ours = getattr(siploc_asyncio.Session, name)
             self.assertTrue(inspect.iscoroutinefunction(ours), name)
-            self.assertEqual(inspect.signature(ours).parameters, inspect.signature(getattr(siploc.Session, name)).parameters, name)
+            self.assertEqual(inspect.signature(ours).parameters,
+                             inspect.signature(getattr(siploc.Session, name)).parameters, name)
 
     async def test_session(self):
         with Server(1, 'transports = ["tcp", "udp"]') as server:
@@ -130,6 +131,32 @@ class Asyncio(unittest.IsolatedAsyncioTestCase):
         await says(b"ok find 1\n", siploc.BadReply)
         await says(b"none NoAddress\nnone NoAddress\n", siploc.BadReply, False)
 
+    async def test_cut_at_each_octet(self):
+        """A reply that is cut at any octet is told as half a reply, or as none; where no more comes, the time runs out."""
+        octets, cuts = b"target 1 udp 192.0.2.1 5060\nok find 1\n", []
+
+        async def serve(reader, writer):
+            await reader.readline()
+            at, is_closed = cuts[-1]
+            writer.write(octets[:at])
+            if is_closed:
+                writer.close()
+            else:
+                await asyncio.sleep(30)
+
+        async with fake(serve) as address:
+            for at in range(len(octets)):
+                for is_closed in (True, False):
+                    cuts.append((at, is_closed))
+                    error = siploc.TimedOut if not is_closed else siploc.HalfReply if at else siploc.ConnectionLost
+                    session = await siploc_asyncio.connect(address, 10 if is_closed else 0.05)
+                    start = time.monotonic()
+                    with self.subTest(at=at, is_closed=is_closed), self.assertRaises(error) as caught:
+                        await session.find("sip:a")
+                    self.assertIs(type(caught.exception), error)
+                    self.assertLess(time.monotonic() - start, 5)
+                    self.assertFalse(session.is_open)
+
     async def test_lost_and_refused_before(self):
         served = asyncio.Event()
 
@@ -185,6 +212,9 @@ class Asyncio(unittest.IsolatedAsyncioTestCase):
 
 
 def main():
+    sys.path.insert(0, str(TOP / "tools"))
+    import usage
+    usage.words(0)
     result = unittest.TextTestRunner(verbosity=0).run(unittest.defaultTestLoader.loadTestsFromTestCase(Asyncio))
     failed = len(result.failures) + len(result.errors)
     print(f"{result.testsRun - failed} passed, {failed} failed", flush=True)

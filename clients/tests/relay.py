@@ -1,12 +1,18 @@
 #!/usr/bin/env python3
-"""Passes connections on: relay.py TO FROM, where FROM is `unix:PATH` or `[::1]:PORT`, and TO a port of 127.0.0.1.
+"""Passes connections on to a port of 127.0.0.1.
+
+    clients/tests/relay.py PORT ADDRESS      ADDRESS is `unix:PATH` or `[::1]:PORT`
 
 It prints `ready` when it listens, and ends with its standard input.
 """
 import os
+import pathlib
 import socket
 import sys
 import threading
+
+sys.path.insert(0, str(pathlib.Path(__file__).resolve().parent.parent.parent / "tools"))
+import usage  # noqa: E402
 
 
 def pump(source, target):
@@ -43,4 +49,4 @@ def main(port, address):
 
 
 if __name__ == "__main__":
-    main(*sys.argv[1:])
+    main(*usage.words(2, least=2))

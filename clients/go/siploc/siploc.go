@@ -4,8 +4,9 @@
 //	..
 //	answer, err := session.Find(ctx, "sip:bob@example.com", siploc.Draws{})
 //
-// A session is one connection. Each method sends one command and returns what its reply says; Batch sends many.
-// Methods may be called by several goroutines: their commands go one after another.
+// A session is one connection, or one in this process (package embedded). Each method sends one command and returns
+// what its reply says; Batch sends many. Methods may be called by several goroutines: their commands go one after
+// another.
 //
 // An error is one of these. After a BrokenError the session has ended; to connect again is up to the caller.
 //
@@ -21,15 +22,11 @@ import (
 	"context"
 	"errors"
 	"fmt"
-	"io"
 	"net"
-	"net/netip"
 	"os"
 	"strconv"
 	"strings"
-	"sync"
 	"sync/atomic"
-	"syscall"
 	"time"
 )
 
@@ -46,93 +43,41 @@ const (
 // DefaultTimeout is how long a call waits without progress where no other time is given.
 const DefaultTimeout = 30 * time.Second
 
-// A Session is a connection to a server. Goroutines may share it: their calls are made one after another.
+// A Session is a connection to a server, or a session in this process. Goroutines may share it: their calls are made
+// one after another.
 //
 // Each call takes a context. Where it ends before the call, the session ends with it, since the reply that was due
 // would be taken for that of the next command; a call that was still waiting for its turn ends alone.
 type Session struct {
 	timeout atomic.Int64
-	stream  net.Conn
-	reader  *bufio.Reader
+	carrier carrier
 	turn    chan struct{} // has one element while no call is made
-	ended   atomic.Bool
 }
 
-// Connect opens a session with the server at an address: `127.0.0.1:5099`, `[::1]:5099`, `localhost:5099`, which is
-// one of these, or `unix:/run/siplocd.sock`.
-//
-// The timeout is that of the connection, and later how long a call waits without progress: without a complete
-// reply, and without the server taking further octets. Where it is 0, it is DefaultTimeout.
-func Connect(ctx context.Context, address string, timeout time.Duration) (*Session, error) {
-	network, places, err := placesOf(address)
-	if err != nil {
-		return nil, err
-	}
-	if timeout == 0 {
-		timeout = DefaultTimeout
-	}
-	dialer := net.Dialer{Timeout: timeout}
-	var first error
-	for _, place := range places {
-		stream, err := dialer.DialContext(ctx, network, place)
-		if connection, isTCP := stream.(*net.TCPConn); err == nil && isTCP {
-			// A connection that ends before its time is reset, also where this process is killed. Else the server
-			// would see the end of the input, and take half a line as a line, and half a zone as a zone.
-			if err = connection.SetLinger(0); err != nil {
-				stream.Close()
-			}
-		}
-		if err == nil {
-			return New(stream, timeout), nil
-		}
-		if first == nil {
-			first = err
-		}
-	}
-	return nil, &NotConnectedError{Address: address, Cause: first}
+// A carrier takes commands to a session, and brings their replies.
+type carrier interface {
+	exchange(ctx context.Context, commands []command, timeout time.Duration) ([]Reply, error)
+	end() // ends a call that is being made, or waits for it
+	hasEnded() bool
 }
 
-// New opens a session over a connection that is there, such as an end of a socket pair. The timeout is how long a call
-// waits without progress. Where it is 0, it is DefaultTimeout.
-func New(stream net.Conn, timeout time.Duration) *Session {
-	if timeout == 0 {
-		timeout = DefaultTimeout
-	}
-	session := &Session{stream: stream, reader: bufio.NewReaderSize(stream, 1<<16), turn: make(chan struct{}, 1)}
+func newSession(carrier carrier, timeout time.Duration) *Session {
+	session := &Session{carrier: carrier, turn: make(chan struct{}, 1)}
 	session.timeout.Store(int64(timeout))
 	session.turn <- struct{}{}
 	return session
-}
-
-// placesOf returns the network and the places of an address, in the order in which they are tried.
-func placesOf(address string) (string, []string, error) {
-	if place := strings.TrimPrefix(address, "unix:"); place != address {
-		if place == "" || len(place) > 107 {
-			return "", nil, invalid("the path of a Unix socket has 1 to 107 octets: %.200q", address)
-		}
-		return "unix", []string{place}, nil
-	}
-	places := []string{address}
-	if port := strings.TrimPrefix(address, "localhost:"); port != address {
-		places = []string{"127.0.0.1:" + port, "[::1]:" + port}
-	}
-	port, err := netip.ParseAddrPort(places[0])
-	if err != nil || !port.Addr().IsLoopback() || port.Port() == 0 || port.Addr().Is4In6() {
-		return "", nil, invalid("neither a loopback address with a port nor `unix:` and a path: %.200q", address)
-	}
-	return "tcp", places, nil
 }
 
 // SetTimeout changes how long a call waits without progress.
 func (s *Session) SetTimeout(timeout time.Duration) { s.timeout.Store(int64(timeout)) }
 
 // Close ends the session by `quit`, within a second, and closes the connection. A call that is being made ends at once,
-// with an error. It returns nil, as an io.Closer whose connection may have been lost before.
+// with an error; in this process Close waits for it. It returns nil, as an io.Closer whose connection may have been lost before.
 func (s *Session) Close() error {
 	select {
 	case <-s.turn:
 		defer func() { s.turn <- struct{}{} }()
-		if !s.ended.Load() {
+		if !s.carrier.hasEnded() {
 			if s.timeout.Load() > int64(time.Second) {
 				s.SetTimeout(time.Second)
 			}
@@ -140,7 +85,7 @@ func (s *Session) Close() error {
 		}
 	default:
 	}
-	s.end()
+	s.carrier.end()
 	return nil
 }
 
@@ -212,7 +157,7 @@ func (s *Session) Remove(ctx context.Context, record string) (uint64, error) {
 // Repair looks up again all kept answers that edits outdated, before anyone asks.
 func (s *Session) Repair(ctx context.Context) error { return only(s.ask(ctx, "repair", "")) }
 
-// Page hands out the journal as a page, which the server keeps, and begins an empty one: no longer B3.
+// Page returns the journal as a page, which the server keeps, and begins an empty one: no longer B3.
 func (s *Session) Page(ctx context.Context) (Page, error) {
 	reply, err := s.ask(ctx, "page", "")
 	if err != nil {
@@ -388,119 +333,54 @@ func zoneLines(fields []string) int {
 	return int(count)
 }
 
-// end closes the connection, which ends a call that is being made.
-func (s *Session) end() {
-	s.ended.Store(true)
-	s.stream.Close()
-}
-
-// watch ends the session where a context ends before the function that it returns is called.
-func (s *Session) watch(ctx context.Context) func() {
-	if ctx.Done() == nil {
-		return func() {}
-	}
-	stop, stopped := make(chan struct{}), make(chan struct{})
-	go func() {
-		defer close(stopped)
-		select {
-		case <-ctx.Done():
-			s.end()
-		case <-stop:
-		}
-	}()
-	return func() { close(stop); <-stopped }
-}
-
-// An exchange is commands on their way.
-type exchange struct {
-	stream  net.Conn
-	reader  *bufio.Reader
-	timeout time.Duration
-	output  string
-	sent    int // how many octets of the output were sent; the writer's until it is done
-}
-
 // exchange sends commands and reads their replies. The session ends where it returns an error.
 func (s *Session) exchange(ctx context.Context, commands []command) ([]Reply, error) {
-	if s.ended.Load() {
+	if s.carrier.hasEnded() {
 		return nil, &NotConnectedError{Cause: net.ErrClosed}
 	}
 	if len(commands) == 0 {
 		return []Reply{}, nil
 	}
-	var output strings.Builder
-	for _, command := range commands {
-		output.WriteString(command.octets)
-	}
-	defer s.watch(ctx)()
-	exchange := &exchange{s.stream, s.reader, time.Duration(s.timeout.Load()), output.String(), 0}
-	exchange.progress()
-	if err := exchange.readBefore(); err != nil {
-		s.end()
-		return nil, err
-	}
-	var writer sync.WaitGroup
-	if len(exchange.output) <= maxInline {
-		exchange.write()
-	} else {
-		writer.Add(1)
-		go func() {
-			defer writer.Done()
-			exchange.write()
-		}()
-	}
-	replies, broken := exchange.read(commands)
-	if broken == nil {
-		writer.Wait()
-		return replies, nil
-	}
-	s.end() // The writer ends at once when the connection is closed.
-	writer.Wait()
-	if err := ctx.Err(); err != nil {
-		broken.Kind, broken.Cause = ErrConnectionLost, err
-		if err == context.DeadlineExceeded {
-			broken.Kind = ErrTimedOut
-		}
-	}
-	broken.Replies = replies
-	for start := 0; broken.Sent < len(commands) && start < exchange.sent; broken.Sent++ {
-		start += len(commands[broken.Sent].octets)
-	}
-	return nil, broken
+	return s.carrier.exchange(ctx, commands, time.Duration(s.timeout.Load()))
 }
 
-// progress begins the time anew after which the session ends. Where it fails, so does the next read.
-func (e *exchange) progress() { _ = e.stream.SetDeadline(time.Now().Add(e.timeout)) }
-
-// write sends all octets. When the connection fails it ends, and what was replied before is still read.
-func (e *exchange) write() {
-	for e.sent < len(e.output) {
-		end := e.sent + chunk
-		if end > len(e.output) {
-			end = len(e.output)
-		}
-		count, err := io.WriteString(e.stream, e.output[e.sent:end])
-		e.sent += count
-		if err != nil {
-			return
-		}
-		e.progress()
+// octetsOf returns the octets of commands.
+func octetsOf(commands []command) string {
+	var octets strings.Builder
+	for _, command := range commands {
+		octets.WriteString(command.octets)
 	}
+	return octets.String()
+}
+
+// sentOf returns how many commands begin before so many octets of theirs.
+func sentOf(commands []command, octets int) int {
+	count := 0
+	for start := 0; count < len(commands) && start < octets; count++ {
+		start += len(commands[count].octets)
+	}
+	return count
+}
+
+// Replies that come.
+type incoming struct {
+	reader   *bufio.Reader
+	progress func() // what is called after each of them
 }
 
 // read reads the replies to commands, and returns those that came.
-func (e *exchange) read(commands []command) ([]Reply, *BrokenError) {
+func (i incoming) read(commands []command) ([]Reply, *BrokenError) {
 	replies := make([]Reply, 0, len(commands))
 	for _, command := range commands {
-		lines, broken := e.readReply(command.word)
+		lines, broken := i.readReply(command.word)
 		if broken != nil {
 			return replies, broken
 		}
 		replies = append(replies, Reply{command.text, lines})
-		e.progress()
+		i.progress()
 	}
-	if rest := e.reader.Buffered(); rest > 0 {
-		octets, _ := e.reader.Peek(rest)
+	if rest := i.reader.Buffered(); rest > 0 {
+		octets, _ := i.reader.Peek(rest)
 		return replies, bad(string(octets))
 	}
 	return replies, nil
@@ -511,10 +391,10 @@ func bad(line string) *BrokenError {
 }
 
 // readReply reads the reply to a command.
-func (e *exchange) readReply(word string) ([]string, *BrokenError) {
+func (i incoming) readReply(word string) ([]string, *BrokenError) {
 	lines := make([]string, 0, 2)
 	for {
-		octets, err := e.reader.ReadSlice('\n')
+		octets, err := i.reader.ReadSlice('\n')
 		switch {
 		case err == bufio.ErrBufferFull || len(octets) > maxReplyLine:
 			return nil, bad(string(octets))
@@ -537,34 +417,4 @@ func (e *exchange) readReply(word string) ([]string, *BrokenError) {
 			return nil, bad(line)
 		}
 	}
-}
-
-// readBefore looks, without waiting, for what came before any command was sent: the end of the connection, or a
-// refusal of the session.
-func (e *exchange) readBefore() error {
-	raw, err := e.stream.(syscall.Conn).SyscallConn()
-	if err != nil {
-		return &BrokenError{Kind: ErrConnectionLost, Cause: err}
-	}
-	octets, count := make([]byte, 64), 0
-	var fault error
-	err = raw.Read(func(descriptor uintptr) bool {
-		count, _, fault = syscall.Recvfrom(int(descriptor), octets, syscall.MSG_PEEK)
-		return true
-	})
-	switch {
-	case err == nil && (fault == syscall.EAGAIN || fault == syscall.EINTR):
-		return nil
-	case err != nil:
-		return &BrokenError{Kind: ErrConnectionLost, Cause: err}
-	case fault != nil:
-		return &BrokenError{Kind: ErrConnectionLost, Cause: fault}
-	case count == 0:
-		return &BrokenError{Kind: ErrConnectionLost, Cause: io.EOF}
-	}
-	line := strings.TrimSuffix(string(octets[:count]), "\n")
-	if code := strings.TrimPrefix(line, "err "); len(line) < count && code != line && isCode(code) {
-		return &RefusedError{Code: code, Command: "(the session)"}
-	}
-	return bad(line)
 }

@@ -14,6 +14,7 @@ import (
 	"os/exec"
 	"path/filepath"
 	"reflect"
+	"regexp"
 	"strings"
 	"sync"
 	"syscall"
@@ -24,6 +25,8 @@ import (
 const top = "../../.."
 
 var ctx = context.Background()
+
+func streamOf(session *Session) net.Conn { return session.carrier.(*connection).stream }
 
 func read(t *testing.T, path string) string {
 	t.Helper()
@@ -287,7 +290,7 @@ func TestOtherMethods(t *testing.T) {
 
 // Each code once, by a batch; and each has its meaning.
 func TestEachRefusal(t *testing.T) {
-	_, rest, _ := strings.Cut(read(t, "clients/tests/refusals.txt"), "$ siploc serve '")
+	head, rest, _ := strings.Cut(read(t, "clients/tests/refusals.txt"), "$ siploc serve '")
 	settings, rest, _ := strings.Cut(rest, "'\n")
 	var inputs, want []string
 	for _, line := range textLines(rest) {
@@ -302,8 +305,10 @@ func TestEachRefusal(t *testing.T) {
 	session := connect(t, server.address, 30*time.Second)
 	replies := must[[]Reply](t)(session.Batch(ctx, commands(inputs)))
 	equal(t, allLines(replies), want)
-	codes := map[string]bool{"K2": true, "L1": true, "S8": true, "B6": true, "Memory": true, "X1": true, "F1": true,
-		"D1": true, "D3": true, "Busy": true}
+	codes := map[string]bool{}
+	for _, code := range regexp.MustCompile(`\b(?:[A-Z][0-9]|Memory|Busy)\b`).FindAllString(head, -1) {
+		codes[code] = true
+	}
 	for _, reply := range replies {
 		var refused *RefusedError
 		if errors.As(reply.Err(), &refused) {
@@ -452,7 +457,7 @@ func TestClientThatIsKilledInAZone(t *testing.T) {
 	const address, half = "SIPLOC_TEST_ADDRESS", "SIPLOC_TEST_HALF"
 	if os.Getenv(address) != "" {
 		session := connect(t, os.Getenv(address), 30*time.Second)
-		_, _ = io.WriteString(session.stream, os.Getenv(half))
+		_, _ = io.WriteString(streamOf(session), os.Getenv(half))
 		time.Sleep(100 * time.Millisecond)
 		_ = syscall.Kill(os.Getpid(), syscall.SIGKILL)
 	}
@@ -542,6 +547,72 @@ func TestReplies(t *testing.T) {
 	}
 }
 
+// cutServer sends a part of a reply to the first line of each connection: the octets before the next cut. Then the
+// connection ends, is reset, or stays silent until the test has ended.
+func cutServer(t *testing.T, octets string, lines int, how string) string {
+	t.Helper()
+	listener := must[net.Listener](t)(net.Listen("tcp", "127.0.0.1:0"))
+	t.Cleanup(func() { listener.Close() })
+	go func() {
+		for at := 0; at < len(octets); at++ {
+			stream, err := listener.Accept()
+			if err != nil {
+				return
+			}
+			reader := bufio.NewReader(stream)
+			for line := 0; line < lines; line++ {
+				_, _ = reader.ReadString('\n')
+			}
+			_, _ = io.WriteString(stream, octets[:at])
+			switch how {
+			case "reset":
+				_ = stream.(*net.TCPConn).SetLinger(0)
+				stream.Close()
+			case "end":
+				stream.Close()
+			default:
+				t.Cleanup(func() { stream.Close() })
+			}
+		}
+	}()
+	return listener.Addr().String()
+}
+
+// A reply that is cut at any octet, as the connection ends or is reset, is told as half a reply, or as none; where no
+// more comes, the time runs out.
+func TestCutAtEachOctet(t *testing.T) {
+	for _, line := range textLines(read(t, "clients/tests/replies.txt")) {
+		fields := strings.Split(line, "\t")
+		if fields[0] != "good" {
+			continue
+		}
+		command, octets := unescape(fields[1]), unescape(fields[2])
+		for _, how := range []string{"end", "reset", "silence"} {
+			timeout := 10 * time.Second
+			if how == "silence" {
+				timeout = 5 * time.Millisecond
+			}
+			address := cutServer(t, octets, strings.Count(command, "\n")+1, how)
+			for at := 0; at < len(octets); at++ {
+				begin := time.Now()
+				_, err := connect(t, address, timeout).Batch(ctx, []string{command})
+				isRight := errors.Is(err, ErrHalfReply)
+				switch {
+				case how == "silence":
+					isRight = errors.Is(err, ErrTimedOut)
+				case at == 0:
+					isRight = errors.Is(err, ErrConnectionLost) && !errors.Is(err, ErrTimedOut)
+				case how == "reset": // What came before may be lost with the connection.
+					isRight = isRight || errors.Is(err, ErrConnectionLost)
+				}
+				if !isRight || time.Since(begin) > 5*time.Second {
+					t.Errorf("%q, %s after %d: %v", octets, how, at, err)
+				}
+			}
+		}
+	}
+}
+
 func TestGarbageWithoutEnd(t *testing.T) {
 	for _, octets := range []string{strings.Repeat("x", 1_000_000), strings.Repeat("dep a. A 1\n", 100_000)} {
 		session := connect(t, fake(t, func(stream net.Conn) {
@@ -591,7 +662,7 @@ func TestInvalidCommandsAreNotSent(t *testing.T) {
 	is(session.Release(ctx, Target{"udp", "", 1}))
 	_, err = session.Call(ctx, "invite x", 1, "sip:a", Draws{})
 	is(err)
-	equal(t, session.stream.(*net.TCPConn).CloseWrite(), nil)
+	equal(t, streamOf(session).(*net.TCPConn).CloseWrite(), nil)
 	equal(t, <-received, "")
 }
 
@@ -688,7 +759,7 @@ func TestAddresses(t *testing.T) {
 	for _, host := range []string{"127.0.0.1", "[::1]"} {
 		listener := must[net.Listener](t)(net.Listen("tcp", host+":0"))
 		_, port, _ := net.SplitHostPort(listener.Addr().String())
-		equal(t, must[*Session](t)(Connect(ctx, "localhost:"+port, time.Second)).ended.Load(), false)
+		equal(t, must[*Session](t)(Connect(ctx, "localhost:"+port, time.Second)).carrier.hasEnded(), false)
 		listener.Close()
 	}
 }
@@ -722,7 +793,7 @@ func TestContexts(t *testing.T) {
 	// One that has ended before: nothing is sent, and the session goes on.
 	_, err := session.Find(done, "sip:a.e", Draws{})
 	equal(t, err, context.Canceled)
-	_, err = Connect(done, session.stream.RemoteAddr().String(), time.Second)
+	_, err = Connect(done, streamOf(session).RemoteAddr().String(), time.Second)
 	equal(t, errors.Is(err, ErrNotConnected), true)
 	within, cancel := context.WithCancel(ctx)
 	equal(t, session.Repair(within), nil)

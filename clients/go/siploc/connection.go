@@ -1,0 +1,201 @@
+package siploc
+
+import (
+	"bufio"
+	"context"
+	"io"
+	"net"
+	"net/netip"
+	"strings"
+	"sync"
+	"sync/atomic"
+	"syscall"
+	"time"
+)
+
+// Connect opens a session with the server at an address: `127.0.0.1:5099`, `[::1]:5099`, `localhost:5099`, which is
+// one of these, or `unix:/run/siplocd.sock`.
+//
+// The timeout is that of the connection, and later how long a call waits without progress: without a complete
+// reply, and without the server taking further octets. Where it is 0, it is DefaultTimeout.
+func Connect(ctx context.Context, address string, timeout time.Duration) (*Session, error) {
+	network, places, err := placesOf(address)
+	if err != nil {
+		return nil, err
+	}
+	if timeout == 0 {
+		timeout = DefaultTimeout
+	}
+	dialer := net.Dialer{Timeout: timeout}
+	var first error
+	for _, place := range places {
+		stream, err := dialer.DialContext(ctx, network, place)
+		if connection, isTCP := stream.(*net.TCPConn); err == nil && isTCP {
+			// A connection that ends before its time is reset, also where this process is killed. Else the server
+			// would see the end of the input, and take half a line as a line, and half a zone as a zone.
+			if err = connection.SetLinger(0); err != nil {
+				stream.Close()
+			}
+		}
+		if err == nil {
+			return New(stream, timeout), nil
+		}
+		if first == nil {
+			first = err
+		}
+	}
+	return nil, &NotConnectedError{Address: address, Cause: first}
+}
+
+// New opens a session over a connection that is there, such as an end of a socket pair. The timeout is how long a call
+// waits without progress. Where it is 0, it is DefaultTimeout.
+func New(stream net.Conn, timeout time.Duration) *Session {
+	if timeout == 0 {
+		timeout = DefaultTimeout
+	}
+	return newSession(&connection{stream: stream, reader: bufio.NewReaderSize(stream, 1<<16)}, timeout)
+}
+
+// placesOf returns the network and the places of an address, in the order in which they are tried.
+func placesOf(address string) (string, []string, error) {
+	if place := strings.TrimPrefix(address, "unix:"); place != address {
+		if place == "" || len(place) > 107 {
+			return "", nil, invalid("the path of a Unix socket has 1 to 107 octets: %.200q", address)
+		}
+		return "unix", []string{place}, nil
+	}
+	places := []string{address}
+	if port := strings.TrimPrefix(address, "localhost:"); port != address {
+		places = []string{"127.0.0.1:" + port, "[::1]:" + port}
+	}
+	port, err := netip.ParseAddrPort(places[0])
+	if err != nil || !port.Addr().IsLoopback() || port.Port() == 0 || port.Addr().Is4In6() {
+		return "", nil, invalid("neither a loopback address with a port nor `unix:` and a path: %.200q", address)
+	}
+	return "tcp", places, nil
+}
+
+// A connection to a server.
+type connection struct {
+	stream net.Conn
+	reader *bufio.Reader
+	ended  atomic.Bool
+}
+
+// end closes the connection, which ends a call that is being made.
+func (c *connection) end() {
+	c.ended.Store(true)
+	c.stream.Close()
+}
+
+func (c *connection) hasEnded() bool { return c.ended.Load() }
+
+// watch ends the connection where a context ends before the function that it returns is called.
+func (c *connection) watch(ctx context.Context) func() {
+	if ctx.Done() == nil {
+		return func() {}
+	}
+	stop, stopped := make(chan struct{}), make(chan struct{})
+	go func() {
+		defer close(stopped)
+		select {
+		case <-ctx.Done():
+			c.end()
+		case <-stop:
+		}
+	}()
+	return func() { close(stop); <-stopped }
+}
+
+// An exchange is commands on their way.
+type exchange struct {
+	stream  net.Conn
+	timeout time.Duration
+	output  string
+	sent    int // how many octets of the output were sent; the writer's until it is done
+}
+
+// exchange sends commands and reads their replies. The connection ends where it returns an error.
+func (c *connection) exchange(ctx context.Context, commands []command, timeout time.Duration) ([]Reply, error) {
+	defer c.watch(ctx)()
+	exchange := &exchange{c.stream, timeout, octetsOf(commands), 0}
+	exchange.progress()
+	if err := exchange.readBefore(); err != nil {
+		c.end()
+		return nil, err
+	}
+	var writer sync.WaitGroup
+	if len(exchange.output) <= maxInline {
+		exchange.write()
+	} else {
+		writer.Add(1)
+		go func() {
+			defer writer.Done()
+			exchange.write()
+		}()
+	}
+	replies, broken := incoming{c.reader, exchange.progress}.read(commands)
+	if broken == nil {
+		writer.Wait()
+		return replies, nil
+	}
+	c.end() // The writer ends at once when the connection is closed.
+	writer.Wait()
+	if err := ctx.Err(); err != nil {
+		broken.Kind, broken.Cause = ErrConnectionLost, err
+		if err == context.DeadlineExceeded {
+			broken.Kind = ErrTimedOut
+		}
+	}
+	broken.Replies, broken.Sent = replies, sentOf(commands, exchange.sent)
+	return nil, broken
+}
+
+// progress begins the time anew after which the session ends. Where it fails, so does the next read.
+func (e *exchange) progress() { _ = e.stream.SetDeadline(time.Now().Add(e.timeout)) }
+
+// write sends all octets. When the connection fails it ends, and what was replied before is still read.
+func (e *exchange) write() {
+	for e.sent < len(e.output) {
+		end := e.sent + chunk
+		if end > len(e.output) {
+			end = len(e.output)
+		}
+		count, err := io.WriteString(e.stream, e.output[e.sent:end])
+		e.sent += count
+		if err != nil {
+			return
+		}
+		e.progress()
+	}
+}
+
+// readBefore looks, without waiting, for what came before any command was sent: the end of the connection, or a
+// refusal of the session.
+func (e *exchange) readBefore() error {
+	raw, err := e.stream.(syscall.Conn).SyscallConn()
+	if err != nil {
+		return &BrokenError{Kind: ErrConnectionLost, Cause: err}
+	}
+	octets, count := make([]byte, 64), 0
+	var fault error
+	err = raw.Read(func(descriptor uintptr) bool {
+		count, _, fault = syscall.Recvfrom(int(descriptor), octets, syscall.MSG_PEEK)
+		return true
+	})
+	switch {
+	case err == nil && (fault == syscall.EAGAIN || fault == syscall.EINTR):
+		return nil
+	case err != nil:
+		return &BrokenError{Kind: ErrConnectionLost, Cause: err}
+	case fault != nil:
+		return &BrokenError{Kind: ErrConnectionLost, Cause: fault}
+	case count == 0:
+		return &BrokenError{Kind: ErrConnectionLost, Cause: io.EOF}
+	}
+	line := strings.TrimSuffix(string(octets[:count]), "\n")
+	if code := strings.TrimPrefix(line, "err "); len(line) < count && code != line && isCode(code) {
+		return &RefusedError{Code: code, Command: "(the session)"}
+	}
+	return bad(line)
+}
