@@ -1,36 +1,33 @@
-/* Tries siploc_embedded.h. tests/embedded/run compiles it, with --wrap of the calls that take and give memory.
+/* Tries siploc_embedded.h. tests/embedded/run compiles it and handles.c, with --wrap of the calls that take and give
+ * memory.
  *
  *     driver run SETTINGS      a session on standard input, as a whole
  *     driver serve SETTINGS    the same on a socket, served by another thread
  *     driver refuse SETTINGS   the same as a whole, with each allocation failing in turn, and again without
- *     driver nulls             null addresses, and lengths of 0
  *     driver threads SETTINGS  the same as a whole, 64 times in 8 threads
+ *     driver put SETTINGS      the same through a handle, as a whole, by octets, and, if it is short, cut in two
+ *     driver retry SETTINGS    through a handle by commands: with each allocation failing in turn, and then put again
+ *     driver handles SETTINGS  through 64 handles in 8 threads, side by side, and one that goes from thread to thread
+ *     driver nulls             null addresses, and lengths of 0
  *
  * What a session replies is written on standard output, once. The status is that of the call, or 100 where something
  * is not as it should be, which is told on standard error.
  */
+#include "driver.h"
+
 #include <errno.h>
 #include <pthread.h>
-#include <stdint.h>
 #include <stdio.h>
 #include <stdlib.h>
 #include <string.h>
 #include <sys/socket.h>
 #include <unistd.h>
 
-#include "siploc_embedded.h"
-
-#define WRONG 100
-
-void *__real_malloc(size_t size);
-void *__real_realloc(void *block, size_t size);
-void __real_free(void *block);
 void *__wrap_malloc(size_t size);
 void *__wrap_realloc(void *block, size_t size);
 void __wrap_free(void *block);
 
-/* Of how many allocations from now on the last one fails, or 0; and how many blocks are not given back. */
-static _Thread_local long left, held;
+_Thread_local long left, held;
 
 static int fails(void) {
     return left > 0 && --left == 0;
@@ -55,12 +52,7 @@ void __wrap_free(void *block) {
     __real_free(block);
 }
 
-typedef struct text {
-    char *octets;
-    size_t len;
-} text;
-
-static _Noreturn void stop(const char *why) {
+_Noreturn void stop(const char *why) {
     fprintf(stderr, "driver: %s\n", why);
     exit(WRONG);
 }
@@ -217,6 +209,7 @@ static int nulls(void) {
     close(ends[0]);
     if (siploc_embedded_serve(ends[1], NULL, 0) != SIPLOC_EMBEDDED_WRITE)
         stop("a socket that nobody reads");
+    null_handles();
     if (held != 0)
         stop("memory is left");
     return 0;
@@ -266,6 +259,9 @@ int main(int count, char **words) {
                                       : strcmp(words[1], "serve") == 0   ? serve
                                       : strcmp(words[1], "refuse") == 0  ? refuse
                                       : strcmp(words[1], "threads") == 0 ? threads
+                                      : strcmp(words[1], "put") == 0     ? put_in_pieces
+                                      : strcmp(words[1], "retry") == 0   ? retry
+                                      : strcmp(words[1], "handles") == 0 ? handles
                                                                          : NULL;
     if (play == NULL)
         stop("wrong arguments");

@@ -7,6 +7,17 @@ uint32_t siploc_c_run(const uint8_t *settings, size_t settings_len, const uint8_
                       uint8_t *replies, size_t room, size_t *count);
 uint32_t siploc_c_serve(int32_t descriptor, const uint8_t *settings, size_t settings_len);
 
+/* The address of a session, as crates/siploc_c has it. */
+struct handle {
+    uint8_t *at;
+};
+
+uint32_t siploc_c_open(const uint8_t *settings, size_t settings_len, struct handle *room);
+uint32_t siploc_c_put(struct handle *session, const uint8_t *octets, size_t len, size_t *taken);
+size_t siploc_c_take(struct handle *session, uint8_t *room, size_t room_len);
+bool siploc_c_has_ended(struct handle *session);
+void siploc_c_close(struct handle session);
+
 /* The address of no octets. */
 static uint8_t none;
 
@@ -32,4 +43,55 @@ siploc_embedded_status siploc_embedded_serve(int descriptor, const void *setting
     if (!is_given(settings, settings_len))
         return SIPLOC_EMBEDDED_NULL;
     return (siploc_embedded_status)siploc_c_serve(descriptor, at(settings), settings_len);
+}
+
+/* Whether a session is open. */
+static bool is_open(const siploc_embedded_session *session) {
+    return session != NULL && session->at != NULL;
+}
+
+siploc_embedded_status siploc_embedded_open(const void *settings, size_t settings_len,
+                                            siploc_embedded_session *session) {
+    if (session == NULL)
+        return SIPLOC_EMBEDDED_NULL;
+    session->at = NULL;
+    if (!is_given(settings, settings_len))
+        return SIPLOC_EMBEDDED_NULL;
+    struct handle handle = {NULL};
+    uint32_t status = siploc_c_open(at(settings), settings_len, &handle);
+    session->at = handle.at;
+    return (siploc_embedded_status)status;
+}
+
+siploc_embedded_status siploc_embedded_put(siploc_embedded_session *session, const void *octets, size_t len,
+                                           size_t *taken) {
+    if (taken == NULL)
+        return SIPLOC_EMBEDDED_NULL;
+    *taken = 0;
+    if (!is_open(session) || !is_given(octets, len))
+        return SIPLOC_EMBEDDED_NULL;
+    struct handle handle = {session->at};
+    return (siploc_embedded_status)siploc_c_put(&handle, at(octets), len, taken);
+}
+
+size_t siploc_embedded_take(siploc_embedded_session *session, void *replies, size_t room) {
+    if (!is_open(session) || replies == NULL || room == 0)
+        return 0;
+    struct handle handle = {session->at};
+    return siploc_c_take(&handle, replies, room);
+}
+
+bool siploc_embedded_has_ended(siploc_embedded_session *session) {
+    if (!is_open(session))
+        return true;
+    struct handle handle = {session->at};
+    return siploc_c_has_ended(&handle);
+}
+
+void siploc_embedded_close(siploc_embedded_session *session) {
+    if (!is_open(session))
+        return;
+    struct handle handle = {session->at};
+    session->at = NULL;
+    siploc_c_close(handle);
 }
