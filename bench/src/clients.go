@@ -1,5 +1,5 @@
-// The part of bench/rows/clients in Go: clients ADDRESS SINGLE BATCHED prints the seconds of so many finds one at a time,
-// the client's processor microseconds for each, and the same of finds in batches of 1,000.
+// The part of bench/rows/clients in Go: clients ADDRESS SINGLE BATCHED prints the seconds of so many finds one at a
+// time, the client's processor microseconds for each, and the same of finds in batches of 1,000.
 package main
 
 import (
