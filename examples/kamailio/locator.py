@@ -1,8 +1,8 @@
 """What kamailio.cfg asks a locator for: `locate` and `failed`, for python_exec of the module app_python3.
 
-Each process of Kamailio has a session of its own with the locator at SIPLOC_ADDRESS. Where it is away, `locate`
-says so at once, and each process tries a new connection once a second. With SIPLOC_STREAM, a Redis stream, and
-SIPLOC_REDIS, what has failed is published there for all locators (examples/cluster/README.md), and not held beside the stream.
+Each process of Kamailio has a session of its own with the locator at SIPLOC_ADDRESS. Where it is away, `locate` says so
+at once, and each process tries a new connection once a second. With SIPLOC_STREAM, a Redis stream, and SIPLOC_REDIS,
+what has failed is published there for all locators (examples/cluster/README.md), and not held beside the stream.
 """
 
 from __future__ import annotations
@@ -16,7 +16,8 @@ from typing import Callable, List, Optional, TypeVar
 
 import KSR
 
-sys.path[:0] = [os.path.join(os.path.dirname(os.path.abspath(__file__)), "../..", it) for it in ("clients/python", "tools")]
+sys.path[:0] = [os.path.join(os.path.dirname(os.path.abspath(__file__)), "../..", it)
+                for it in ("clients/python", "tools")]
 import changelog  # noqa: E402
 import siploc  # noqa: E402
 
@@ -71,7 +72,7 @@ class Locator:
     """The locator as one process of Kamailio sees it."""
 
     def __init__(self) -> None:
-        self.session: Optional[siploc.Session] = None
+        self.session: Optional[siploc.BaseSession] = None
         self.next_try = 0.0
         self.stream = Stream()
         self.chance = random.SystemRandom()
@@ -79,7 +80,11 @@ class Locator:
     def child_init(self, _rank: int) -> int:
         return 0
 
-    def ask(self, question: Callable[[siploc.Session], Reply]) -> Reply:
+    def open(self) -> siploc.BaseSession:
+        """A session with the locator."""
+        return siploc.connect(ADDRESS, timeout=PATIENCE)
+
+    def ask(self, question: Callable[[siploc.BaseSession], Reply]) -> Reply:
         """What the locator says, over a new connection where the old one has ended since."""
         if self.session is not None and self.session.is_open:
             try:
@@ -91,7 +96,7 @@ class Locator:
         if time.monotonic() < self.next_try:
             raise Away
         self.next_try = time.monotonic() + 1
-        self.session = siploc.connect(ADDRESS, timeout=PATIENCE)
+        self.session = self.open()
         return question(self.session)
 
     def hold(self, target: siploc.Target, milliseconds: int) -> None:
