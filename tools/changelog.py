@@ -1,14 +1,13 @@
 """Changes of a locator in a Redis stream: what tools/publish appends, and tools/apply takes from it.
 
 An entry of the stream has a field `change`: a line of a session that changes zones, holds or the time, or a `zone` line
-with its lines; and maybe `by`, by which its publisher knows that it was appended. Redis is spoken to directly (RESP 2),
-over loopback or a Unix socket.
+with its lines. It may have a field `by`, by which its publisher knows that it was appended. Redis is spoken to directly
+(RESP 2), over loopback or a Unix socket.
 """
 
 from __future__ import annotations
 
 import hashlib
-import ipaddress
 import re
 import secrets
 import socket
@@ -41,6 +40,10 @@ _FIELDS = {b"zone": (3, 3), b"drop": (2, 2), b"add": (2, 65_536), b"del": (2, 65
            b"release": (4, 4), b"clock": (2, 2)}
 _MAX_LINE = 65_536
 _MAX_ZONE_LINES = 1_048_576
+#: Changes that may make or take space for one another.
+_OPPOSITES = {"add": "del", "del": "add", "hold": "release", "release": "hold"}
+#: The octets of a string that Redis replies, or the elements of an array, and how deep arrays are in others.
+_MAX_BULK, _MAX_DEPTH = 1 << 29, 8
 
 
 class Fault(Exception):
@@ -48,16 +51,20 @@ class Fault(Exception):
 
 
 class Change(NamedTuple):
-    """A change, its command word, and what it touches: an owner or an endpoint; None where it may touch all."""
+    """A change, and its command word."""
 
     octets: bytes
     word: str
-    touches: Optional[Tuple[str, ...]]
 
     @property
     def command(self) -> str:
         """The change as a command of clients/python/siploc.py."""
         return self.octets.decode("utf-8", "surrogateescape")
+
+    @property
+    def lines(self) -> int:
+        """How many lines it has after the first."""
+        return self.octets.count(b"\n")
 
 
 def change_of(octets: bytes) -> Change:
@@ -72,7 +79,7 @@ def change_of(octets: bytes) -> Change:
         raise Fault(f"its fields do not fit: {shown!r}")
     if len(rest) != (zone_lines(fields) or 0):
         raise Fault(f"it has {len(rest)} lines after the first: {shown!r}")
-    return Change(octets, fields[0].decode(), touched(fields))
+    return Change(octets, fields[0].decode())
 
 
 def zone_lines(fields: Sequence[bytes]) -> Optional[int]:
@@ -83,19 +90,6 @@ def zone_lines(fields: Sequence[bytes]) -> Optional[int]:
     if not fields[2].isdigit() or len(digits) > 7 or int(digits) > _MAX_ZONE_LINES:
         raise Fault(f"the count of a zone's lines is not a number up to {_MAX_ZONE_LINES}: {fields[2][:20]!r}")
     return int(digits)
-
-
-def touched(fields: Sequence[bytes]) -> Optional[Tuple[str, ...]]:
-    """What a change touches, in a form that is the same wherever it is the same owner or endpoint."""
-    word, *texts = (it.decode("latin-1") for it in fields)
-    if word in ("add", "del") and re.fullmatch(r"[A-Za-z0-9_*.-]+", texts[0]):
-        return ("owner", texts[0].lower().rstrip("."))
-    if word in ("hold", "release") and texts[2].isdigit():
-        try:
-            return ("endpoint", texts[0], str(ipaddress.ip_address(texts[1])), str(int(texts[2])))
-        except ValueError:
-            return None
-    return None
 
 
 def changes_in(lines: Iterable[bytes]) -> Iterator[Tuple[int, Change]]:
@@ -172,22 +166,21 @@ def marks_of(session: Session) -> List[Mark]:
 
 
 def batches(entries: Iterable[Entry]) -> Iterator[List[Entry]]:
-    """Entries in order, in runs in which no owner has both additions and deletions, and no endpoint both holds and
-    releases; any other change is a run of its own. A run that is sent again from its beginning, after a first part
-    of it was done, leaves all as if it had been sent once."""
+    """Entries in order, in runs without both additions and deletions, or both holds and releases; any other change is a
+    run of its own. A run that is sent again from its beginning, after a first part of it was done, leaves all as if it
+    had been sent once: what was refused, for want of space too, is refused again."""
     batch: List[Entry] = []
-    words: Dict[Tuple[str, ...], str] = {}
+    words = set()
     for entry in entries:
-        _, word, touches = entry.change
-        if batch and (touches is None or words.get(touches, word) != word or len(batch) == WINDOW):
+        opposite = _OPPOSITES.get(entry.change.word)
+        if batch and (opposite is None or opposite in words or len(batch) == WINDOW):
             yield batch
-            batch, words = [], {}
+            batch, words = [], set()
         batch.append(entry)
-        if touches is None:
+        words.add(entry.change.word)
+        if opposite is None:
             yield batch
-            batch = []
-        else:
-            words[touches] = word
+            batch, words = [], set()
     if batch:
         yield batch
 
@@ -216,7 +209,7 @@ class Refusal(NamedTuple):
 
 class Extent(NamedTuple):
     """Which entries a stream has: the first, the last that there ever was, the last that was deleted by its id, and how
-    many were taken out in all: Redis 7.0 does not say of one that was trimmed which it was."""
+    many were taken out in all. Redis 7.0 does not say of one that was trimmed which it was."""
 
     first: Place
     last: Place
@@ -245,8 +238,8 @@ class Stream:
         self.reader: BinaryIO = self.socket.makefile("rb")
 
     def append(self, changes: Sequence[Change], token: str = "", first: int = 0) -> Place:
-        """Appends changes in order; the place of the last one. They are numbered, where that is wanted, by a publisher's
-        token and the numbers from the first one on."""
+        """Appends changes in order; the place of the last one. They are numbered, where that is wanted, by a
+        publisher's token and the numbers from the first one on."""
         replies = self.ask([[b"XADD", self.key.encode(), b"*", b"change", it.octets,
                              *([b"by", f"{token}-{first + number}".encode()] if token else [])]
                             for number, it in enumerate(changes)])
@@ -314,7 +307,8 @@ class Stream:
         """What `XINFO STREAM` says."""
         facts = dict(zip(info[::2], info[1::2]))  # type: ignore[arg-type]
         names = (b"recorded-first-entry-id", b"last-generated-id", b"max-deleted-entry-id")
-        places, counts = [facts.get(name) for name in names], [facts.get(name) for name in (b"entries-added", b"length")]
+        places, counts = [facts.get(name) for name in names], [facts.get(name)
+                                                               for name in (b"entries-added", b"length")]
         if None in places or not all(isinstance(it, int) for it in counts):
             raise Fault(f"Redis at {self.address} does not tell what was deleted of a stream: it needs Redis 7")
         return Extent(*(place_of(bytes_of(it)) for it in places), counts[0] - counts[1])  # type: ignore[operator]
@@ -334,9 +328,9 @@ class Stream:
                 raise (Away if it.text.startswith("LOADING") else Fault)(f"Redis at {self.address}: {it.text}")
         return replies
 
-    def reply(self) -> Value:
-        """The next reply."""
-        line = self.reader.readline()
+    def reply(self, depth: int = 0) -> Value:
+        """The next reply, which may be an array of others."""
+        line = self.reader.readline(_MAX_LINE)
         kind, text = line[:1], line[1:-2]
         if not line.endswith(b"\r\n"):
             raise OSError("the connection was closed")
@@ -344,13 +338,14 @@ class Stream:
             return text
         if kind == b"-":
             return Refusal(text.decode("utf-8", "replace"))
-        if kind not in (b":", b"$", b"*") or not text.lstrip(b"-").isdigit() or len(text) > 20:
+        is_number = kind in (b":", b"$", b"*") and re.fullmatch(rb"-?[0-9]{1,19}", text)
+        if not is_number or kind != b":" and int(text) > _MAX_BULK or depth > _MAX_DEPTH:
             raise OSError(f"not a reply of Redis: {line[:60]!r}")
         number = int(text)
         if kind == b":" or number < 0:
             return number if kind == b":" else None
         if kind == b"*":
-            return [self.reply() for _ in range(number)]
+            return [self.reply(depth + 1) for _ in range(number)]
         octets = self.reader.read(number + 2)
         if len(octets) != number + 2:
             raise OSError("the connection was closed")
@@ -386,7 +381,8 @@ class Publisher:
                                 "changes were appended")
                 last, self.place = self.stream.numbered(self.token, self.place) or (first - 1, self.place)
                 if last + 1 < self.count:
-                    self.place = self.stream.append(changes[max(last + 1 - first, 0):], self.token, max(last + 1, first))
+                    self.place = self.stream.append(changes[max(last + 1 - first, 0):], self.token,
+                                                    max(last + 1, first))
                 return
             except Away:
                 if time.monotonic() >= end:

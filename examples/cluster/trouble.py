@@ -1,10 +1,10 @@
 """The cluster of `run` while its parts are ended at random: `examples/cluster/run --trouble`.
 
 Two writers publish 4,800 changes. Meanwhile tools/apply, locators and Redis are killed, and the stream is trimmed up to
-a snapshot of the one locator that keeps a state, a `siplocd`. What says that its locator is to be started without state is
-obeyed. At the end a fourth machine begins with the snapshot. `passed` is printed only if each change was published once
-(a writer that can't learn whether its last ones were, since the stream was trimmed meanwhile, says so and ends), none was
-refused but those that a locator refuses that is given all by a plain session, and all give its answers.
+a snapshot of the one locator that keeps a state, a `siplocd`. What says that its locator is to be started without state
+is obeyed. At the end a fourth machine begins with the snapshot. `passed` is printed only if each change was published
+once (a writer that can't learn whether its last ones were, since the stream was trimmed meanwhile, says so and ends),
+none was refused but those that a locator refuses that is given all by a plain session, and all give its answers.
 """
 
 from __future__ import annotations
@@ -61,7 +61,8 @@ class Redis:
 
     def start(self) -> None:
         self.server = Started(self.folder, "redis", [
-            "redis-server", "--port", str(self.port), "--bind", "127.0.0.1", "--dir", str(self.folder), "--appendonly", "yes",
+            "redis-server", "--port", str(self.port), "--bind", "127.0.0.1", "--dir", str(self.folder), "--appendonly",
+            "yes",
             "--appendfsync", "always", "--save", ""])
         self.started.append(self.server)
         wait_for("redis-server", lambda: self.server.is_up() and cluster.is_there(self.address))
@@ -114,14 +115,16 @@ class Archive(threading.Thread):
 class Trouble:
     """What goes wrong, at random."""
 
-    def __init__(self, redis: Redis, members: List[Machine], keeper: Machine, archive: Archive, chance: random.Random) -> None:
+    def __init__(self, redis: Redis, members: List[Machine], keeper: Machine, archive: Archive,
+                 chance: random.Random) -> None:
         self.redis, self.members, self.keeper, self.archive, self.chance = redis, members, keeper, archive, chance
         self.done: List[str] = []
 
     def plan(self, watch: Watch) -> None:
         """Does what is planned, each at its share of the changes."""
         for share, what in sorted((self.chance.uniform(0.05, 0.95), what) for what in PLAN):
-            wait_for("the writers", lambda: watch.published() > share * CHANGES or not any(it.is_alive() for it in watch.writers), 240)
+            wait_for("the writers",
+                     lambda: watch.published() > share * CHANGES or not any(it.is_alive() for it in watch.writers), 240)
             member = self.chance.choice(self.members)
             if what == "apply" and member.apply is not None:
                 member.apply.kill()
@@ -137,14 +140,16 @@ class Trouble:
         """Publishes a snapshot, and trims the stream up to it; what was said."""
         daemon = self.keeper.locator
         assert isinstance(daemon, Daemon)
-        done = subprocess.run([str(TOOLS / "snapshot"), KEY, "--state", str(daemon.state), "--redis", self.redis.address],
+        done = subprocess.run([str(TOOLS / "snapshot"), KEY, "--state", str(daemon.state), "--redis",
+                               self.redis.address],
                               capture_output=True, text=True, timeout=60, check=False)
         if done.returncode:
             return f"({done.stderr.strip()[:100]})"
         place = done.stdout.split()[2]
         try:
             self.archive.read()
-            count = changelog.Stream(self.redis.address, KEY).ask([[b"XTRIM", KEY.encode(), b"MINID", place.encode()]])[0]
+            count = changelog.Stream(self.redis.address,
+                                     KEY).ask([[b"XTRIM", KEY.encode(), b"MINID", place.encode()]])[0]
         except changelog.Fault as fault:
             return f"({fault})"
         return f"{count} entries"
@@ -173,7 +178,8 @@ def judges(steps: Steps, members: List[Machine], archive: Archive, refused: Set[
     for member in members:
         assert member.apply is not None
         passed = set(re.findall(r"entry ([0-9-]+): .*: passed over", member.apply.log.read_text()))
-        steps.see(f"refused by {member.name}", f"{len(passed):,} of the {len(refused):,} that are refused by a plain session, and "
+        steps.see(f"refused by {member.name}",
+                  f"{len(passed):,} of the {len(refused):,} that are refused by a plain session, and "
                   f"{len(passed - refused)} others; tools/apply was started {member.starts} times, the locator as it was told "
                   f"{member.fresh} times", passed <= refused)
 
@@ -207,7 +213,8 @@ def play(path: str, seed: int, folder: Path, started: List[Started]) -> int:
         faults = [f"a writer ended: {it.fault}" for it in writers if it.fault]
         steps.see("what happened", ", ".join([*trouble.done, *faults]), not any(it.is_alive() for it in writers))
         arrive(members, redis.address)
-        steps.see("the stream is trimmed", trims_at_last(trouble), changelog.Stream(redis.address, KEY).extent().removed > CHANGES / 10)
+        steps.see("the stream is trimmed", trims_at_last(trouble),
+                  changelog.Stream(redis.address, KEY).extent().removed > CHANGES / 10)
         members.append(Machine(path, folder, "late", redis.address, started))
         arrive(members, redis.address)
         for asker in askers:
