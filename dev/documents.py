@@ -5,10 +5,11 @@ A table is between the lines `<!-- table NAME WORD.. -->` and `<!-- end -->`:
 
     settings NAME     the settings of docs/tables/settings.txt, whose keys are those of the crates
     lines NAME        a table of docs/tables/lines.txt, whose words are those of the crates
-    crates            what each crate is, and on which it stands, by crates.txt
+    crates            what each crate is, and on which it depends, by crates.txt
     proved            the clauses of docs/tables/proved.txt, which the crates have, and all laws with their comments
     performance       the figures of docs/tables/performance.txt, which bench/run measures
     harms             the wrong bodies of docs/tables/harms.txt
+    places            the files of docs/tables/places.txt that one touches for what is added
     programs PATH..   these programs, and those of these folders, each by the first sentence at its head
 
 A file of docs/tables has comments after `#`, begins a table by `== NAME`, maybe with the heads of its columns, and has
@@ -86,7 +87,8 @@ WORDS = {
     "session": ("sipl_lines/specs/Requests.antt", r'codes "(\w+)"\) then \w+_request'),
     "script": ("sipl_lines/specs/ScriptLines.antt", r'codes "(\w+)"\) then \w+_request'),
     "control": ("sipl_daemon/src/control.rt", r'^ +"(\w+)" =>'),
-    "program": ("siploc/src", r'(?:^ +|Command::new\(alloc, |with_settings\(\s*alloc,\s*)"(?!siploc")(\w+)"(?= =>|\)|,)'),
+    "program": ("siploc/src",
+                r'(?:^ +|Command::new\(alloc, |with_settings\(\s*alloc,\s*)"(?!siploc")(\w+)"(?= =>|\)|,)'),
 }
 
 
@@ -107,7 +109,7 @@ def lines(name: str) -> list[str]:
 
 
 def crates() -> list[str]:
-    """What each crate is, and on which it stands."""
+    """What each crate is, and on which it depends."""
     below = uses()
     rows = [[f"`{name}`", text, ", ".join(f"`{it}`" for it in below[name])] for name, text in about().items()]
     return markdown(["Crate", "What it has", "Depends on"], rows)
@@ -148,6 +150,33 @@ def harms() -> list[str]:
     return markdown(["Harm", "Refused"], cells)
 
 
+def places() -> list[str]:
+    """Which files one touches for what is added."""
+    heads, *rows = rows_of("places")["places"]
+    for what, text in rows:
+        files = files_in(text)
+        for file in files:
+            if not (TOP / file).exists():
+                raise SystemExit(f"places.txt, {what}: there is no {file}")
+        known = {word for file in files if (TOP / file).is_file() for word in WORD.findall((TOP / file).read_text())}
+        for word in re.findall(r"`(\w+)`", text):
+            if word not in known and not word.startswith("sipl_"):
+                raise SystemExit(f"places.txt, {what}: no file of the row has {word}")
+    return markdown(heads, rows)
+
+
+def files_in(text: str) -> list[str]:
+    """The files that a text names in backticks. One of src, specs or proofs is of the crate that was named last."""
+    crate, found = "", []
+    for name, file in re.findall(r"`(sipl_\w+)?/?([^`]*)`", text):
+        crate = name or crate
+        if re.match("(src|specs|proofs)/", file):
+            found.append(f"crates/{crate}/{file}")
+        elif "/" in file:
+            found.append(file)
+    return found
+
+
 def first_sentence(path: pathlib.Path) -> str:
     """The first sentence at the head of a script."""
     found = re.search(r'^"""(.*?)"""', path.read_text(), re.S | re.M)
@@ -157,15 +186,15 @@ def first_sentence(path: pathlib.Path) -> str:
 
 def programs(*names: str) -> list[str]:
     """Some programs, and those of some folders."""
-    paths = [it for name in names for it in (sorted((TOP / name).iterdir()) if (TOP / name).is_dir() else [TOP / name])]
+    places = [TOP / name for name in names]
+    paths = [it for at in places for it in (sorted(at.iterdir()) if at.is_dir() else [at])]
     files = [it for it in paths if it.is_file() and not it.suffix]
     return markdown(["Program", "What it does"], [[f"`{it.relative_to(TOP)}`", first_sentence(it)] for it in files])
 
 
 TABLE: dict[str, Callable[..., list[str]]] = {
     "settings": settings, "lines": lines, "crates": crates, "proved": proved, "harms": harms,
-    "performance": performance,
-    "programs": programs,
+    "performance": performance, "places": places, "programs": programs,
 }
 
 
@@ -189,7 +218,7 @@ def with_tables(text: str) -> str:
 # ---- words
 
 
-BLOCK = r"^```(?:antt|rust|text|python) \S.*?^```$"
+BLOCK = r"^```(?:antt|rust|text|python|c) \S.*?^```$"
 
 
 def by_hand(text: str) -> str:
@@ -218,8 +247,9 @@ def broken_links(path: pathlib.Path, text: str) -> Iterator[str]:
             yield f"{path.relative_to(TOP)} has a link that leads nowhere: {link}"
 
 
-# A path of the repository in a text; in the code of a crate that of a document.
+# A path of the repository in a text; in the code of a crate that of a document, and in a document that of a crate.
 PATH = re.compile(r"(?<![\w/.\"}$*-])(?:docs|tools|dev|tests|bench|clients|examples)/(?!FILE)[A-Za-z][\w/.-]*\w")
+OF_CRATE = re.compile(r"`(?:crates/)?((?:sipl\w+/)?(?:src|specs|proofs|wrong-bodies|must-fail)/(?!FILE)[\w/-]+\.\w+)")
 DOCUMENT = re.compile(r"\bdocs/[\w/-]+\.md\b")
 TEXTS = ("", ".py", ".txt", ".sh", ".c", ".go", ".md", ".rattle", ".rt")
 
@@ -227,12 +257,17 @@ TEXTS = ("", ".py", ".txt", ".sh", ".c", ".go", ".md", ".rattle", ".rt")
 def lost_paths() -> Iterator[str]:
     """The paths of the repository that documents, tools, tests, examples and crates name, and that are not there."""
     folders = ("tools", "dev", "tests", "bench", "clients", "examples", "docs", ".ci", "crates")
-    files = (it for folder in folders for it in sorted((TOP / folder).rglob("*")) if it.suffix in TEXTS and it.is_file())
+    files = (it for folder in folders for it in sorted((TOP / folder).rglob("*")) if it.suffix in TEXTS
+             and it.is_file())
     for path in (*sorted(TOP.glob("*.md")), *files):
         if "out" not in path.relative_to(TOP).parts:
-            for name in (DOCUMENT if path.suffix == ".rt" else PATH).findall(path.read_text(errors="replace")):
-                if not (TOP / name).exists():
-                    yield f"{path.relative_to(TOP)} names {name}, which is not there"
+            text = path.read_text(errors="replace")
+            lost = [it for it in (DOCUMENT if path.suffix == ".rt" else PATH).findall(text) if not (TOP / it).exists()]
+            if path.suffix == ".md":
+                paths = [it if it.startswith("sipl") else f"*/{it}" for it in OF_CRATE.findall(text)]
+                lost += [it for it in paths if not any(CRATES.glob(it))]
+            for name in lost:
+                yield f"{path.relative_to(TOP)} names {name}, which is not there"
 
 
 def units(text: str) -> Iterator[str]:

@@ -31,7 +31,7 @@ p { margin: .3rem 0; } .pale { color: var(--pale); font-size: .9rem; } ol li { m
 ul { margin: .3rem 0; padding-left: 1.2rem; } code { font: .9em ui-monospace, monospace; }
 @media (max-width: 32rem) { pre { font-size: .75rem; padding: .4rem; } ol { padding-left: 1.8rem; } }
 """
-ABOUT = """The sentences below are the headlines. Each leads to its clause as it stands in the code, each clause to the
+ABOUT = """The sentences below are the headlines. Each leads to its clause as it is in the code, each clause to the
 definitions that it cites, and each definition to what it rests on, down to lists and numbers. Beside them are the
 wrong bodies that are refused there: changes of a right body that the prover has to refuse, each named by what it does.
 Written from the crates by <code>dev/definitions --page</code>."""
