@@ -117,12 +117,13 @@ class Locator(Started):
 
 
 class Daemon(Locator):
-    """The daemon without zones, with a state, whose time is that of `clock` lines. Its program is SIPLOCD, or beside that
-    of the locator, or the one that was built here."""
+    """The daemon without zones, with a state, whose time is that of `clock` lines. Its program is SIPLOCD, or beside
+    that of the locator, or the one that was built here."""
 
     def __init__(self, path: str, folder: Path, name: str, port: int, settings: str = "") -> None:
         beside = Path(path).with_name(Path(path).name.replace("siploc", "siplocd", 1))
-        there = [it for it in (os.environ.get("SIPLOCD"), beside, TOP / "crates/siplocd/out/siplocd") if it and os.access(it, os.X_OK)]
+        there = [it for it in (os.environ.get("SIPLOCD"), beside, TOP / "crates/siplocd/out/siplocd") if it
+                 and os.access(it, os.X_OK)]
         if not there:
             raise Failed("there is no siplocd; SIPLOCD names one")
         self.address, self.state = f"127.0.0.1:{port}", folder / f"{name}.state"

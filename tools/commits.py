@@ -65,7 +65,8 @@ def body_of(state: bytes) -> bytes:
 
 
 def lines_of(state: bytes, log: bytes) -> Optional[bytes]:
-    """The lines of a state, and those of the whole commits after it; None where these octets are no state and its log."""
+    """The lines of a state, and those of the whole commits after it; None where these octets are no state and its
+    log."""
     if state != state_of(body_of(state)) or not log.startswith(log_of(state, [])):
         return None
     return body_of(state) + b"".join(bodies_of(log))

@@ -1,5 +1,5 @@
-"""What `tools/fetch-zone` and `tools/follow` load: a zone, and the zones below it in the same load, since siploc refuses
-a zone below a loaded one (S1)."""
+"""What `tools/fetch-zone` and `tools/follow` load: a zone, and the zones below it in the same load, since siploc
+refuses a zone below a loaded one (S1)."""
 
 from __future__ import annotations
 
@@ -55,7 +55,8 @@ def add_words(parser: argparse.ArgumentParser) -> None:
                         help="leave out the names of a child zone, CHILD and below, which is loaded elsewhere")
     parser.add_argument("--truncate", action="store_true",
                         help=f"keep the first {zones.MAX_SET} records of a set that has more; without it, they are refused")
-    parser.add_argument("--skip-refused", action="store_true", help="leave a name as it was that siploc would refuse, for a "
+    parser.add_argument("--skip-refused", action="store_true",
+                        help="leave a name as it was that siploc would refuse, for a "
                         "set that is too large or an alias beside other data; without it, the zone stays as it is")
     parser.add_argument("--timeout", metavar="SECONDS", type=int, default=10,
                         help="for how long the server may be silent (10); a whole transfer may take 60 times as long")

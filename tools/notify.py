@@ -158,4 +158,5 @@ def answer_plain(octets: bytes, apexes: set[str]) -> tuple[bytes, str]:
     if flags >> 11 & 15 != 4 or questions != 1 or asked is None or asked[1][-4:] != b"\0\6\0\1":
         return struct.pack(">6H", number, 0x8000 | flags & 0x7900 | (4 if flags >> 11 & 15 != 4 else 1), 0, 0, 0, 0), ""
     is_ours = asked[0] in apexes
-    return struct.pack(">6H", number, 0xA400 | (0 if is_ours else 9), 1, 0, 0, 0) + asked[1], asked[0] if is_ours else ""
+    return struct.pack(">6H", number, 0xA400 | (0 if is_ours else 9), 1, 0, 0,
+                       0) + asked[1], asked[0] if is_ours else ""

@@ -1,8 +1,8 @@
 """Snapshots of a locator that is given a Redis stream: what tools/snapshot publishes, and tools/apply begins with where
 the stream's beginning was taken out.
 
-A snapshot is a text at the key STREAM:snapshot: a comment with the locator's mark, and the changes that lead to its zones,
-holds and time.
+A snapshot is a text at the key STREAM:snapshot: a comment with the locator's mark, and the changes that lead to its
+zones, holds and time.
 """
 
 from __future__ import annotations
@@ -45,6 +45,8 @@ def of_state(path: Path) -> Snapshot:
 
 def state_lines(path: Path) -> List[bytes]:
     """The lines of a state, and of the changes after it (docs/use/OPERATING.md)."""
+    if path.exists() and not path.is_file():
+        raise changelog.Fault(f"{path}: not a file")
     for _ in range(100):
         state, log = (it.read_bytes() if it.exists() else b"" for it in (path, Path(f"{path}.log")))
         lines = commits.lines_of(state, log)

@@ -70,7 +70,8 @@ class Signature(NamedTuple):
 def mac_of(key: Key, octets: bytes, seconds: int, fudge: int, error: int, other: bytes) -> bytes:
     """The signature of octets and of the variables of a TSIG record (RFC 8945, 4.3)."""
     variables = key.name + struct.pack(">HI", 255, 0) + key.algorithm + seconds.to_bytes(6, "big")
-    return hmac.new(key.secret, octets + variables + struct.pack(">3H", fudge, error, len(other)) + other, key.digest).digest()
+    return hmac.new(key.secret, octets + variables + struct.pack(">3H", fudge, error, len(other)) + other,
+                    key.digest).digest()
 
 
 def name_at(octets: bytes, at: int) -> int:
@@ -126,4 +127,5 @@ def signed(reply: bytes, asked: Signature, key: Optional[Key], error: int) -> by
     data = asked.algorithm + seconds.to_bytes(6, "big") + struct.pack(">2H", FUDGE, len(mac)) + mac + reply[:2] + \
         struct.pack(">2H", error, len(other)) + other
     count, = struct.unpack(">H", reply[10:12])
-    return reply[:10] + struct.pack(">H", count + 1) + reply[12:] + asked.key + TYPE + struct.pack(">H", len(data)) + data
+    return reply[:10] + struct.pack(">H", count + 1) + reply[12:] + asked.key + TYPE + struct.pack(">H",
+                                                                                                   len(data)) + data

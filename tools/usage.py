@@ -12,6 +12,7 @@ from __future__ import annotations
 import os
 import pathlib
 import re
+import signal
 import sys
 from typing import NoReturn, Optional, Sequence
 
@@ -34,6 +35,8 @@ class Head:
     def check(self, words: Sequence[str]) -> None:
         """Ends the program with its comment where that is asked for."""
         if any(it in ("-h", "--help") for it in words):
+            # (a pipe to a reader that has read enough ends it, as it does other programs)
+            signal.signal(signal.SIGPIPE, signal.SIG_DFL)
             print(self.comment)
             sys.exit(0)
 
@@ -53,7 +56,7 @@ def wrong(cause: str) -> NoReturn:
 
 
 def words(most: Optional[int] = None, options: Sequence[str] = (), least: int = 0) -> list[str]:
-    """The program's words: at least and at most so many, where options are not counted. Others end it."""
+    """The program's words: at least `least` and at most `most` of them, without the options. Others end it."""
     found, head = sys.argv[1:], main_head()
     head.check(found)
     for word in found:

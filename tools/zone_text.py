@@ -1,11 +1,12 @@
-"""What `tools/explain` and `tools/lint` share: the text of a zone, read as docs/use/FORMATS.md has it, and what its records
-mean for a route. The reading is that of `tools/plain`."""
+"""What `tools/explain` and `tools/lint` share: the text of a zone, read as docs/use/FORMATS.md has it, and what its
+records mean for a route. The reading is that of `tools/plain`."""
 
 from __future__ import annotations
 
 import argparse
 import fractions
 import importlib.util
+import os
 import pathlib
 import re
 import runpy
@@ -52,7 +53,7 @@ def meaning(code: str) -> str:
 
 def read_apex(text: str) -> Name:
     try:
-        name: Name = plain.read_name(text.encode())
+        name: Name = plain.read_name(text.encode(errors="surrogateescape"))
         return name
     except plain.Refused as fault:
         raise Fault(f"{text} is not a name: {fault.code}: {meaning(fault.code)}") from None
@@ -92,6 +93,8 @@ def print_data(kind: str, data: tuple[Any, ...]) -> str:
         return str(plain.print_name(data))
     if kind == "SRV":
         return f"{data[0]} {data[1]} {data[2]} {plain.print_name(data[3])}"
+    if kind != "NAPTR":
+        raise ValueError(f"records of type {kind} are not printed")
     strings = " ".join(f'"{text}"' for text in map(print_string, data[2:5]))
     return f"{data[0]} {data[1]} {strings} {plain.print_name(data[5])}"
 
@@ -129,7 +132,7 @@ def why_not(data: tuple[Any, ...], transports: Sequence[str], is_secure: bool = 
 
 
 def shares(weights: Sequence[int]) -> list[fractions.Fraction]:
-    """How often each server of one priority is chosen first, by RFC 2782 to the letter: the weights of 0 come first,
+    """How often each server of one priority is chosen first, by RFC 2782 to the letter. The weights of 0 come first,
     the numbers go from 0 to the sum, and the first server of the list has one number more."""
     order = sorted(range(len(weights)), key=lambda it: weights[it] != 0)
     total = sum(weights) + 1
@@ -140,6 +143,22 @@ def shares(weights: Sequence[int]) -> list[fractions.Fraction]:
 
 def percent(share: fractions.Fraction) -> str:
     return f"{float(share * 100):.1f} %"
+
+
+# ---- what is printed
+
+
+def print_lines(lines: Iterable[str]) -> bool:
+    """Prints lines, and returns whether there was a reader for all of them."""
+    try:
+        for line in lines:
+            print(line)
+        sys.stdout.flush()
+    except BrokenPipeError:
+        # What is still to be written is not tried again at the end.
+        os.dup2(os.open(os.devnull, os.O_WRONLY), sys.stdout.fileno())
+        return False
+    return True
 
 
 # ---- words of the commands

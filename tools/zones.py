@@ -25,7 +25,8 @@ MAX_LINES, MAX_LINE, MAX_SET = 1 << 20, 65_536, 32
 # No name has more records that are read: a set fits in a message, and a record takes 16 octets.
 MAX_NAME = 5 * 65_536 // 16
 
-OPTIONS = ["+noall", "+answer", "+comments", "+additional", "+norecurse", "+noedns", "+noidnin", "+noidnout", "+tries=1",
+OPTIONS = ["+noall", "+answer", "+comments", "+additional", "+norecurse", "+noedns", "+noidnin", "+noidnout",
+           "+tries=1",
            "+retry=0"]
 # What `dig` prints about a message that is in order, beside its status.
 USUAL = re.compile(r";; (Got answer:|(ANSWER|AUTHORITY|ADDITIONAL) SECTION:|(OPT|TSIG) PSEUDOSECTION:)|; (EDNS|COOKIE|EDE):")
@@ -178,7 +179,8 @@ class Reply:
 
 def ask(server: Server, address: str, apex: str, question: list[str]) -> Iterator[Record]:
     """The records of the answer to a question. They are to be used only when all of them have come."""
-    command = ["dig", "-r", f"@{address}", "-p", str(server.port), "-c", "IN", *(["-k", server.key] if server.key else []),
+    command = ["dig", "-r", f"@{address}", "-p", str(server.port), "-c", "IN",
+               *(["-k", server.key] if server.key else []),
                *OPTIONS, f"+time={server.seconds}", "-q", apex, *question]
     reply = Reply(server)
     with tempfile.TemporaryFile() as errors:
@@ -316,7 +318,8 @@ class Zone:
             return f"of the types {', '.join(PROOFS)}, by which no name exists"
         if not is_within(record.owner, self.apex):
             return f"outside {self.apex}"
-        return next((f"of {it} and below, which is loaded apart" for it in self.apart if is_within(record.owner, it)), None)
+        return next((f"of {it} and below, which is loaded apart" for it in self.apart if is_within(record.owner, it)),
+                    None)
 
     def add(self, record: Record) -> None:
         """Takes a record in; one that is there already is counted."""
@@ -406,7 +409,8 @@ class Zone:
         beyond = collections.Counter((owner, text.partition(" ")[0]) for owner, it in self.read.items()
                                      if len(it) > MAX_SET and owner not in self.refused for text in it)
         marks = sum(1 for it in self.others if "" in self.kept(it))
-        counts = {**self.left_out, **{f"as it was: {why}": len(self.read[owner]) for owner, why in self.refused.items()},
+        counts = {**self.left_out,
+                  **{f"as it was: {why}": len(self.read[owner]) for owner, why in self.refused.items()},
                   "of types that are not read, whose names exist by others": sum(self.others.values()) - marks,
                   **{f"of type {kind} of {owner}, beyond the {MAX_SET} of a set": count - MAX_SET
                      for (owner, kind), count in beyond.items()}}

@@ -72,7 +72,8 @@ class Process:
 
 def serial_at(port: int, apex: str) -> int:
     """The serial of a zone that is served, or -1."""
-    done = subprocess.run(["dig", "-r", "@127.0.0.1", "-p", str(port), "+short", "+time=1", "+tries=1", "+tcp", apex, "SOA"],
+    done = subprocess.run(["dig", "-r", "@127.0.0.1", "-p", str(port), "+short", "+time=1", "+tries=1", "+tcp", apex,
+                           "SOA"],
                           stdout=subprocess.PIPE, check=False)
     fields = done.stdout.split()
     return int(fields[2]) if len(fields) == 7 and fields[2].isdigit() else -1
@@ -80,7 +81,8 @@ def serial_at(port: int, apex: str) -> int:
 
 def is_signed_at(port: int, apex: str) -> bool:
     """Whether a zone's SOA record comes with its signature."""
-    done = subprocess.run(["dig", "-r", "@127.0.0.1", "-p", str(port), "+noall", "+answer", "+dnssec", "+time=1", "+tries=1",
+    done = subprocess.run(["dig", "-r", "@127.0.0.1", "-p", str(port), "+noall", "+answer", "+dnssec", "+time=1",
+                           "+tries=1",
                            "+tcp", apex, "SOA"], stdout=subprocess.PIPE, check=False)
     return b"RRSIG\tSOA" in done.stdout
 
@@ -230,7 +232,8 @@ def record(owner: str, kind: int, data: bytes, ttl: int = 300, group: int = 1) -
 
 
 def soa(apex: str, serial: int = 1, refresh: int = 3_600, retry: int = 2, expire: int = 86_400) -> bytes:
-    return record(apex, 6, name(f"ns.{apex}") + name(f"host.{apex}") + struct.pack(">5I", serial, refresh, retry, expire, 60))
+    return record(apex, 6,
+                  name(f"ns.{apex}") + name(f"host.{apex}") + struct.pack(">5I", serial, refresh, retry, expire, 60))
 
 
 def a(owner: str, text: str, ttl: int = 300, group: int = 1) -> bytes:
@@ -248,7 +251,8 @@ class Asked:
 
     def message(self, answers: Sequence[bytes], flags: int = 0x8400, number: int = 0) -> bytes:
         """A message with its length. The flags are those of an authoritative answer without a fault."""
-        octets = struct.pack(">6H", self.number ^ number, flags, 1, len(answers), 0, 0) + self.question + b"".join(answers)
+        octets = struct.pack(">6H", self.number ^ number, flags, 1, len(answers), 0,
+                             0) + self.question + b"".join(answers)
         return struct.pack(">H", len(octets)) + octets
 
 

@@ -34,7 +34,8 @@ def no_services() -> Iterator[None]:
 def install(packages: Mapping[str, str]) -> None:
     """Installs the packages of the programs, or of the files, that are missing."""
     os.environ["PATH"] = f"{os.environ.get('PATH', '')}:/usr/sbin:/sbin"
-    missing = sorted({package for it, package in packages.items() if not (glob.glob(it) if "/" in it else shutil.which(it))})
+    missing = sorted({package for it, package in packages.items()
+                      if not (glob.glob(it) if "/" in it else shutil.which(it))})
     if not missing:
         return
     print(f"apt-get installs {' '.join(missing)}", flush=True)
@@ -69,11 +70,13 @@ class Count:
     def refuses(self, words: Sequence[str], cause: str, octets: bytes = b"") -> None:
         """A program that ends with status 1, its cause on standard error, and nothing on standard output."""
         with tempfile.TemporaryFile() as out, tempfile.TemporaryFile() as errors:
-            status = subprocess.run([*words], input=octets, stdout=out, stderr=errors, timeout=120, check=False).returncode
+            status = subprocess.run([*words], input=octets, stdout=out, stderr=errors, timeout=120,
+                                    check=False).returncode
             out.seek(0), errors.seek(0)
             printed, said = out.read().decode(), errors.read().decode()
         is_so = status == 1 and not printed and cause in said and "Traceback" not in said
-        self.expect(is_so, f"{' '.join(words)}: status {status}, {printed[-300:]!r}, {said[-600:]!r}, and not {cause!r}")
+        self.expect(is_so,
+                    f"{' '.join(words)}: status {status}, {printed[-300:]!r}, {said[-600:]!r}, and not {cause!r}")
 
     def example(self, words: Sequence[str], seconds: float) -> None:
         """An example that prints `ok` or `NOT` at each step, and at last `passed`."""

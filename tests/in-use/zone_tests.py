@@ -66,7 +66,8 @@ def expect(is_so: object, text: str) -> None:
 
 def run(words: Sequence[str], octets: bytes = b"", seconds: float = 120, **rest: Any) -> tuple[int, str, str]:
     """The status of a process, and what it prints."""
-    done = subprocess.run([*words], input=octets, stdout=subprocess.PIPE, stderr=subprocess.PIPE, timeout=seconds, check=False,
+    done = subprocess.run([*words], input=octets, stdout=subprocess.PIPE, stderr=subprocess.PIPE, timeout=seconds,
+                          check=False,
                           **rest)
     return done.returncode, done.stdout.decode(), done.stderr.decode()
 

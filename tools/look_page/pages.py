@@ -48,7 +48,7 @@ class Site(NamedTuple):
 
 
 class Found(NamedTuple):
-    """What a URI has come to."""
+    """The result of a URI."""
     told: Any
     held: list[Held]
     state: Optional[Any]
@@ -68,7 +68,8 @@ def server(site: Site, port: int) -> werkzeug.serving.BaseWSGIServer:
 
 def made_app(site: Site) -> flask.Flask:
     app = flask.Flask("look", root_path=str(zone_text.TOP / "tools/look_page"), static_url_path="/static")
-    app.jinja_env.filters.update(count=lambda it: f"{it:,}", octets=print_octets, seconds=print_seconds, clock=print_clock)
+    app.jinja_env.filters.update(count=lambda it: f"{it:,}", octets=print_octets, seconds=print_seconds,
+                                 clock=print_clock)
 
     @app.before_request
     def is_for_this_machine() -> None:
@@ -131,7 +132,7 @@ def asked(site: Site, uri: str, seed: str) -> Any:
         images, gap = [], str(fault)
     return flask.render_template(
         "why.html", site=site, uri=uri, seed=seed, next=int(seed or 0) + 1, found=found, images=images, gap=gap,
-        targets=[(it, left(found.held, it), story.behind(it) if found.state else []) for it in found.told.targets],
+        targets=[(it, left(found.held, it), story.sets_of(it) if found.state else []) for it in found.told.targets],
         keys=[KEYS[kind] for kind in KEYS if found.state and any(it[1] == kind and it[2] for it in found.told.reads)],
         reason=explain.REASONS.get(found.told.reason, ""), lines=list(story.lines()) if found.state else [],
         reads=[(plain.print_name(name), kind, count) for name, kind, count in found.told.reads])

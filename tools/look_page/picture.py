@@ -110,7 +110,8 @@ class Drawing:
     def end(self, node: str, target: Sequence[str], mark: str) -> str:
         transport, address, port = target
         left = self.left(target)
-        rows = [cell(f'<FONT COLOR="{PALE}">{mark}</FONT>&#160; {label(transport)} {label(address)} : {label(port)}', bold=True)]
+        rows = [cell(f'<FONT COLOR="{PALE}">{mark}</FONT>&#160; {label(transport)} {label(address)} : {label(port)}',
+                     bold=True)]
         if left is not None:
             rows.append(cell(f"held for {left / 1000:.1f} s", colour="#7a5200"))
         colours = ("#fdf1d8", "#c9922b") if left is not None else ("#e7f2ea", "#4c8a5f")

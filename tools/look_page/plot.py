@@ -25,7 +25,8 @@ class Plot(NamedTuple):
     times: list[str]
 
 
-CURVES = [Curve("found", "answers with targets"), Curve("empty", "answers without a target"), Curve("changes", "changes")]
+CURVES = [Curve("found", "answers with targets"), Curve("empty", "answers without a target"),
+          Curve("changes", "changes")]
 
 
 def ceiling(value: float) -> float:

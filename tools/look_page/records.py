@@ -62,7 +62,12 @@ class Records:
     """What the files of a state have, read again when they have changed: of a log that grew, what is new."""
 
     def __init__(self, settings: dict[str, Any]) -> None:
+        for key in ("transports", "families"):
+            if key in settings and not plain.ALLOWED[key](settings[key]):
+                raise Fault(f"the settings: {key} has a value that is not allowed (G3)")
         self.settings, self.path = settings, settings.get("state")
+        if not isinstance(self.path, (str, type(None))):
+            raise Fault("the settings: state is not a path (G3)")
         self.transports = settings.get("transports", ["udp", "tcp"])
         self.kinds = plain.FAMILIES[settings.get("families", "v4")]
         self.has_host_clock = settings.get("clock", "host") == "host"
@@ -74,7 +79,8 @@ class Records:
         self.reader = plain.Lines({})
 
     def state(self) -> Any:
-        """The records as they are, for one user; None where the settings name no state. Fault where it can't be read."""
+        """The records as they are, for one user; None where the settings name no state. Fault where it can't be
+        read."""
         if not self.path:
             return None
         with self.lock:
@@ -106,7 +112,8 @@ class Records:
             base, log = octets_of(self.path), octets_of(f"{self.path}.log")
             is_new = not base and not log
             if is_new or commits.lines_of(base, log) is not None:
-                self.reader.state = State({"transports": self.transports, "families": self.settings.get("families", "v4")})
+                self.reader.state = State({"transports": self.transports,
+                                           "families": self.settings.get("families", "v4")})
                 self.head, self.taken = b"" if is_new else commits.log_of(base, []), 0
                 self.take(commits.body_of(base))
                 self.take_commits(log)

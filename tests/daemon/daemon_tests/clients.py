@@ -20,8 +20,8 @@ from typing import Any, Iterator
 import siploc
 from daemon_tests.support import PATIENCE, SEED, TOP, Checks, Client, Daemon, polled, started, stopped, test, until
 
-# Sessions of `siploc` that a daemon must serve as well: by arguments and lines, without those whose reply depends on the
-# time, on a full journal, or on what one more session would see, and without those that end within a zone.
+# Sessions of `siploc` that a daemon must serve as well: by arguments and lines, without those whose reply depends on
+# the time, on a full journal, or on what one more session would see, and without those that end within a zone.
 def older_sessions() -> Iterator[tuple[str, str, list[str]]]:
     sessions = types.SimpleNamespace(**runpy.run_path(str(TOP / "tests/sessions/run")))
     plain = types.SimpleNamespace(**runpy.run_path(str(TOP / "tools/plain")))
@@ -35,7 +35,8 @@ def older_sessions() -> Iterator[tuple[str, str, list[str]]]:
             if is_plain and words[1] == "run" and "journal" not in settings:
                 text = "".join(f"{it[2:]}\n" for it in rest if it.startswith(">"))
                 replies = [it for it in rest if it and it[0] not in "#>?"]
-                if not any(it.startswith("err B3") for it in replies) and len(words) <= 3 and not ends_within_a_zone(text):
+                if not any(it.startswith("err B3")
+                           for it in replies) and len(words) <= 3 and not ends_within_a_zone(text):
                     yield settings, text, replies
 
 
@@ -72,9 +73,12 @@ def serves_the_sessions_of_siploc(checks: Checks, folder: pathlib.Path) -> None:
 def a_client_at_find_may_only_ask(checks: Checks, folder: pathlib.Path) -> None:
     target = ["target 1 udp 192.0.2.1 5060", "ok find 1"]
     refused = [
-        "zone example.com. 3\na A 192.0.2.1\nquit\ndrop example.com.", "zone example.com. 0", "zone other.example. 1\na A 192.0.2.1",
-        "zone", "drop example.com.", "add b.example.com. A 192.0.2.2", "del a.example.com. A 192.0.2.1", "del", "repair", "page",
-        "hold udp 192.0.2.1 5060 1000000", " \thold udp 192.0.2.1 5060 1\r", "hold x", "release udp 192.0.2.9 5060", "clock 1000",
+        "zone example.com. 3\na A 192.0.2.1\nquit\ndrop example.com.", "zone example.com. 0",
+        "zone other.example. 1\na A 192.0.2.1",
+        "zone", "drop example.com.", "add b.example.com. A 192.0.2.2", "del a.example.com. A 192.0.2.1", "del",
+        "repair", "page",
+        "hold udp 192.0.2.1 5060 1000000", " \thold udp 192.0.2.1 5060 1\r", "hold x", "release udp 192.0.2.9 5060",
+        "clock 1000",
     ]
     with started(checks, folder, 'clock = "lines"', find=["127.0.0.1:0", f"unix:{folder}/ask"]) as daemon, \
             Client(daemon.address) as editor:
@@ -89,9 +93,11 @@ def a_client_at_find_may_only_ask(checks: Checks, folder: pathlib.Path) -> None:
                 client.send("".join(f"{line}\nfind sip:a.example.com:5060\n" for line in refused))
                 for line in refused:
                     checks.equal((client.reply(), client.reply()), (["err D3"], target), (address, line))
-                for line, reply in ("holding", ["err K1"]), ("find", ["err K1"]), ("# hold\n\nfind sip:192.0.2.9:5060", ["none AllHeld"]):
+                for line, reply in ("holding", ["err K1"]), ("find", ["err K1"]), ("# hold\n\nfind sip:192.0.2.9:5060",
+                                                                                   ["none AllHeld"]):
                     checks.equal(client.ask(line), reply, (address, line))
-                checks.equal((client.ask("deps sip:a.example.com:1") or [""])[-1].split(" ")[:2], ["ok", "deps"], "deps")
+                checks.equal((client.ask("deps sip:a.example.com:1") or [""])[-1].split(" ")[:2], ["ok", "deps"],
+                             "deps")
                 checks.equal(client.ask("find " + "x" * 65_600), ["err K2"], "a line that is too long")
                 after = daemon.tell("zones"), daemon.tell("holds")
                 checks.equal(after, before[:2], "what there is")
@@ -122,7 +128,8 @@ def a_web_page_has_no_session(checks: Checks, folder: pathlib.Path) -> None:
                         checks.equal(client.line(), None, (address, request[:8], places))
             with Client(address) as client:
                 client.send("\nPOSTING / x\nPOST / HTTP/1.1\n")
-                checks.equal((client.reply(), client.reply()), (["err K1"], ["err K1"]), f"{address}: of other first lines")
+                checks.equal((client.reply(), client.reply()), (["err K1"], ["err K1"]),
+                             f"{address}: of other first lines")
         checks.equal(daemon.tell("zones"), ["ok zones 0"], "zones")
         stopped(checks, daemon, 0)
 
@@ -176,7 +183,8 @@ def bounds_its_descriptors(checks: Checks, folder: pathlib.Path) -> None:
 @test
 def counts_the_descriptors_of_its_sockets(checks: Checks, folder: pathlib.Path) -> None:
     listen = [f"unix:{folder}/s{n}" for n in range(8)]
-    with started(checks, folder, f'state = "{folder}/state"', listen=listen, limit=80) as daemon, contextlib.ExitStack() as stack:
+    with started(checks, folder, f'state = "{folder}/state"', listen=listen,
+                 limit=80) as daemon, contextlib.ExitStack() as stack:
         clients = [stack.enter_context(Client(listen[n % 8])) for n in range(60)]
         for client in clients:
             with contextlib.suppress(OSError):
@@ -249,8 +257,10 @@ def serves_200_at_once(checks: Checks, folder: pathlib.Path) -> None:
             apex, address = f"c{place}.example.", f"10.0.1.{place}"
             for line, wanted in [
                 (f"zone {apex} 1\ns A {address}", ["ok zone 1 0 0 1"]),
-                *[(f"find sip:s.{apex}:{5000 + n}", [f"target 1 udp {address} {5000 + n}", "ok find 1"]) for n in range(4)],
-                (f"add t.{apex} A {address}", ["ok add 1"]), (f"find sip:t.{apex}:1", [f"target 1 udp {address} 1", "ok find 1"]),
+                *[(f"find sip:s.{apex}:{5000 + n}", [f"target 1 udp {address} {5000 + n}", "ok find 1"])
+                  for n in range(4)],
+                (f"add t.{apex} A {address}", ["ok add 1"]),
+                (f"find sip:t.{apex}:1", [f"target 1 udp {address} 1", "ok find 1"]),
                 (f"drop {apex}", ["ok drop 2"]), ("quit", ["ok quit"]),
             ]:
                 got = client.ask(line)
@@ -271,10 +281,12 @@ def outlives_clients_that_hang_up(checks: Checks, folder: pathlib.Path) -> None:
     with started(checks, folder, unix=unix) as daemon:
         for turn in range(30):
             client = Client((daemon.address, unix)[turn % 2])
-            client.send(("find sip:192.0", "zone example.com. 5\na A 192", "find sip:192.0.2.1\n" * 500, "x" * 70_000)[turn % 4])
+            client.send(("find sip:192.0", "zone example.com. 5\na A 192", "find sip:192.0.2.1\n" * 500,
+                         "x" * 70_000)[turn % 4])
             client.reset() if turn % 3 else client.stream.close()
         with Client(daemon.address) as client:
-            checks.equal(client.ask("find sip:192.0.2.1:9"), ["target 1 udp 192.0.2.1 9", "ok find 1"], "after 30 that hung up")
+            checks.equal(client.ask("find sip:192.0.2.1:9"), ["target 1 udp 192.0.2.1 9", "ok find 1"],
+                         "after 30 that hung up")
         checks.expect(until(lambda: daemon.stats()["clients"] == 0), "places of those that hung up")
         stopped(checks, daemon)
 
@@ -315,7 +327,8 @@ def outlives_a_client_that_never_reads(checks: Checks, folder: pathlib.Path) -> 
     with started(checks, folder, "journal = 10000") as daemon, never_reading(checks, daemon, daemon.address):
         with Client(daemon.address) as client:
             for n in range(100):
-                checks.equal(client.ask(f"find sip:192.0.2.1:{n + 1}"), [f"target 1 udp 192.0.2.1 {n + 1}", "ok find 1"], n)
+                checks.equal(client.ask(f"find sip:192.0.2.1:{n + 1}"),
+                             [f"target 1 udp 192.0.2.1 {n + 1}", "ok find 1"], n)
         checks.expect(daemon.resident() < 200 << 20, f"{daemon.resident()} octets of memory")
         stopped(checks, daemon)
 
@@ -394,7 +407,8 @@ def a_process_that_is_stopped_and_goes_on_ends_no_session(checks: Checks, folder
 
 @test
 def closes_clients_that_send_nothing(checks: Checks, folder: pathlib.Path) -> None:
-    with started(checks, folder, "idle = 5") as daemon, Client(daemon.address) as silent, Client(daemon.address) as lively:
+    with started(checks, folder,
+                 "idle = 5") as daemon, Client(daemon.address) as silent, Client(daemon.address) as lively:
         begin = time.monotonic()
         for _ in range(14):
             checks.equal(lively.ask("repair"), ["ok repair"], "of one that sends")
@@ -412,11 +426,13 @@ def a_zone_that_never_ends(checks: Checks, folder: pathlib.Path) -> None:
         client.send(f"zone kept.example. {count}\n")
         for _ in range(count - 1):
             client.send(line + "\n")
-        checks.expect(daemon.resident() < before + (16 << 20), f"{before} and then {daemon.resident()} octets of memory")
+        checks.expect(daemon.resident() < before + (16 << 20),
+                      f"{before} and then {daemon.resident()} octets of memory")
         checks.equal(client.ask(line), ["err K2"], "reply")
         checks.equal(client.ask("zone kept.example. 0"), ["ok zone 0 0 0 1"], "emptied")
         # A limit that is just met, and one octet more, with a line end in the middle of a read and at its end.
-        for octets, reply in (1_000_000, ["ok zone 0 0 0 1"]), (1_000_001, ["err K2"]), (1_000_000, ["ok zone 0 0 0 1"]):
+        for octets, reply in (1_000_000, ["ok zone 0 0 0 1"]), (1_000_001, ["err K2"]), (1_000_000,
+                                                                                         ["ok zone 0 0 0 1"]):
             checks.equal(client.ask("zone kept.example. 1\na A 192.0.2.1"), ["ok zone 1 0 0 1"], "again")
             text = [";" * 50_000] * 20
             text[-1] += ";" * (octets - 1_000_000)

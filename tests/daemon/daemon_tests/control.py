@@ -19,7 +19,8 @@ def control_lines(checks: Checks, folder: pathlib.Path) -> None:
         for question in "a.example.com:1", "b.example.com:1", "192.0.2.1", "none.example.com:1":
             client.ask(f"find sip:{question}")
         stats = daemon.stats()
-        for name, value in ("targets", 2), ("NoAddress", 1), ("AllHeld", 1), ("NotAvailable", 0), ("NoTransport", 0), ("clients", 1):
+        for name, value in ("targets", 2), ("NoAddress", 1), ("AllHeld", 1), ("NotAvailable", 0), ("NoTransport",
+                                                                                                   0), ("clients", 1):
             checks.equal(stats.get(name), value, f"{name} of {stats}")
         # A load, a hold and four answers; the others are moves of the clock.
         checks.expect(stats["events"] >= 6 and stats["resident"] > 1 << 20, stats)
@@ -36,12 +37,17 @@ def control_lines(checks: Checks, folder: pathlib.Path) -> None:
             other.send("x" * 100_000)
             other.reply()
         checks.equal(daemon.tell("stats")[-1:], ["ok stats"], "after a control line that is too long")
-        ran = subprocess.run([PROGRAM, "tell", daemon.control, "now"], capture_output=True, text=True, timeout=PATIENCE, check=False)
-        checks.expect(ran.returncode == 0 and re.search(r"^ok now \d+$", ran.stdout, re.M), (ran.returncode, ran.stdout, ran.stderr))
-        ran = subprocess.run([PROGRAM, "tell", f"unix:{folder}/nobody", "now"], capture_output=True, text=True, timeout=PATIENCE,
+        ran = subprocess.run([PROGRAM, "tell", daemon.control, "now"], capture_output=True, text=True, timeout=PATIENCE,
                              check=False)
-        checks.expect(ran.returncode == 1 and ran.stderr.startswith("siplocd:") and not ran.stdout, (ran.returncode, ran.stderr))
-        ran = subprocess.run([PROGRAM, "tell", daemon.control, "stop"], capture_output=True, text=True, timeout=PATIENCE, check=False)
+        checks.expect(ran.returncode == 0 and re.search(r"^ok now \d+$", ran.stdout, re.M),
+                      (ran.returncode, ran.stdout, ran.stderr))
+        ran = subprocess.run([PROGRAM, "tell", f"unix:{folder}/nobody", "now"], capture_output=True, text=True,
+                             timeout=PATIENCE,
+                             check=False)
+        checks.expect(ran.returncode == 1 and ran.stderr.startswith("siplocd:") and not ran.stdout,
+                      (ran.returncode, ran.stderr))
+        ran = subprocess.run([PROGRAM, "tell", daemon.control, "stop"], capture_output=True, text=True,
+                             timeout=PATIENCE, check=False)
         checks.equal(ran.returncode, 0, (ran.stdout, ran.stderr))
         status, last = daemon.end()
         checks.expect(status == 0 and re.fullmatch(r"closed \d+", last), (status, last, daemon.said()))
@@ -111,5 +117,6 @@ def stops_however_clients_behave(checks: Checks, folder: pathlib.Path) -> None:
         for place, client in enumerate(clients):
             client.stream.settimeout(0.5)
             with contextlib.suppress(OSError):
-                client.send(("", "find sip:192", "zone example.com. 9\na A 192.0.2.1\n", "find sip:192.0.2.1\n" * 30_000)[place % 4])
+                client.send(("", "find sip:192", "zone example.com. 9\na A 192.0.2.1\n",
+                             "find sip:192.0.2.1\n" * 30_000)[place % 4])
         stopped(checks, daemon)

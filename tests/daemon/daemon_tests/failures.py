@@ -15,7 +15,8 @@ REFUSED = ["err D2"]
 TOLD = "siplocd: state: {}: changes are refused\nsiplocd: state: written again, changes are accepted\n"
 # (more than a megabyte, so that a state is written)
 LONG = "x" * 255
-LONG_ZONE = "zone example.com. 1401\na A 192.0.2.1" + "".join(f'\nn{n} NAPTR 1 1 "{LONG}" "{LONG}" "{LONG}" .' for n in range(1_400))
+LONG_ZONE = "zone example.com. 1401\na A 192.0.2.1" + "".join(f'\nn{n} NAPTR 1 1 "{LONG}" "{LONG}" "{LONG}" .'
+                                                              for n in range(1_400))
 
 
 def target(number: int) -> list[str]:
@@ -51,7 +52,8 @@ def answers_while_no_change_can_be_written(checks: Checks, folder: pathlib.Path)
         with started(checks, inner, settings) as daemon, Client(daemon.address) as client:
             # (that of b was not replied to, and was made)
             for host, number in ("a", 1), ("b", 2), ("c", 3):
-                checks.equal(client.ask(f"find sip:{host}.example.com:1"), target(number), f"{host} after a failed {name}")
+                checks.equal(client.ask(f"find sip:{host}.example.com:1"), target(number),
+                             f"{host} after a failed {name}")
             checks.equal(client.ask("find sip:a.example.net:1"), ["none NoAddress"], "a zone that was refused")
             stopped(checks, daemon)
 
@@ -62,7 +64,8 @@ def goes_on_after_a_trim_that_failed(checks: Checks, folder: pathlib.Path) -> No
         inner = folder / f"{place}"
         inner.mkdir()
         syncs, settings = Syncs(inner), f'state = "{inner}/state"\non_failure = "read"'
-        with started(checks, inner, settings, environment=syncs.environment) as daemon, Client(daemon.address) as client:
+        with started(checks, inner, settings,
+                     environment=syncs.environment) as daemon, Client(daemon.address) as client:
             if place:
                 syncs.watch_folder(place, error)
                 syncs.go_on()
@@ -111,7 +114,8 @@ def a_page_has_so_many_octets(checks: Checks, folder: pathlib.Path) -> None:
 @test
 def checks_a_state(checks: Checks, folder: pathlib.Path) -> None:
     def checked() -> tuple[int, str, str]:
-        ran = subprocess.run([PROGRAM, "check-state", str(state)], capture_output=True, text=True, timeout=60, check=False)
+        ran = subprocess.run([PROGRAM, "check-state", str(state)], capture_output=True, text=True, timeout=60,
+                             check=False)
         return ran.returncode, ran.stdout, ran.stderr
 
     def files() -> dict[str, tuple[bytes, int]]:
@@ -130,7 +134,8 @@ def checks_a_state(checks: Checks, folder: pathlib.Path) -> None:
     checks.equal(files(), before, "the files that were checked")
     log.write_bytes(whole + b"torn")
     before = files()
-    checks.equal(checked(), (0, counts, f"siplocd: state {log}: a write did not end at octet {len(whole)}\n"), "a torn tail")
+    checks.equal(checked(), (0, counts, f"siplocd: state {log}: a write did not end at octet {len(whole)}\n"),
+                 "a torn tail")
     checks.equal(files(), before, "the files with a torn tail")
     (folder / "state.log.new").write_bytes(whole)
     log.write_bytes(log_of(state_of(b"# page 2\n"), []))
@@ -146,7 +151,8 @@ def checks_a_state(checks: Checks, folder: pathlib.Path) -> None:
     state.write_bytes(b"# page 3\nzone example.com. 1\na.example.com. A 192.0.2.1\n")
     log.write_bytes(b"# page 3\nadd b.example.com. A 192.0.2.2\n")
     before = files()
-    checks.equal(checked(), (0, counts.replace("format 2\nzones 2\nrecords 3\nheld 1\ncommits 2", "format 1\nzones 1\nrecords 2\nheld 0\n"
+    checks.equal(checked(), (0, counts.replace("format 2\nzones 2\nrecords 3\nheld 1\ncommits 2",
+                                               "format 1\nzones 1\nrecords 2\nheld 0\n"
                                                "commits 0"), ""), "the first format")
     checks.equal(files(), before, "files of the first format")
 
@@ -155,7 +161,8 @@ def checks_a_state(checks: Checks, folder: pathlib.Path) -> None:
 def claims_its_pages_while_it_starts(checks: Checks, folder: pathlib.Path) -> None:
     # Pages of 200 events, each with all records: without claims they would take several times the records.
     state, lines = folder / "state", [f"n{number} A 192.0.2.{number % 250}" for number in range(10_000)]
-    body = f"# page 0\nzone example.com. {len(lines)}\n" + "".join(line.replace(" ", ".example.com. ", 1) + "\n" for line in lines)
+    body = f"# page 0\nzone example.com. {len(lines)}\n" + "".join(line.replace(" ", ".example.com. ", 1) + "\n"
+                                                                   for line in lines)
     state.write_bytes(state_of(body.encode()))
     adds = [f"add m{number}.example.com. A 192.0.2.1\n".encode() for number in range(4_000)]
     sizes = []
@@ -163,7 +170,8 @@ def claims_its_pages_while_it_starts(checks: Checks, folder: pathlib.Path) -> No
         (folder / "state.log").write_bytes(log_of(state.read_bytes(), [b"".join(adds)]))
         begin = time.monotonic()
         with started(checks, folder, f'state = "{state}"\njournal = {journal}') as daemon:
-            checks.equal(daemon.tell("zones"), ["zone example.com. 14000", "ok zones 1"], f"after {time.monotonic() - begin:.1f} seconds")
+            checks.equal(daemon.tell("zones"), ["zone example.com. 14000", "ok zones 1"],
+                         f"after {time.monotonic() - begin:.1f} seconds")
             sizes.append(daemon.peak())
             daemon.kill()
     checks.expect(sizes[1] < 2 * sizes[0], f"{sizes[1]} octets at most, and {sizes[0]} where no page is turned")
@@ -196,5 +204,6 @@ def pages_wait_until_they_are_archived(checks: Checks, folder: pathlib.Path) -> 
                 break
             daemon.tell("page")
         checks.equal(daemon.end()[0], 1, "its status")
-        checks.expect(daemon.said().endswith("siplocd: archive: No space left on device (os error 28)\n"), daemon.said())
+        checks.expect(daemon.said().endswith("siplocd: archive: No space left on device (os error 28)\n"),
+                      daemon.said())
     syncs.fail("write", 0)

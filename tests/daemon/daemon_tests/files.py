@@ -26,15 +26,19 @@ def reads_its_log(checks: Checks, folder: pathlib.Path) -> None:
     for torn in commit[:-1], commit[:100], b"\t", commit[:190] + bytes(20), bytes(4096), b"nonsense\n\xff":
         log.write_bytes(octets + torn)
         with started(checks, folder, state) as daemon, Client(daemon.address) as client:
-            checks.equal(client.ask("find sip:b.example.com:1"), ["target 1 udp 192.0.2.2 1", "ok find 1"], ("torn", torn))
+            checks.equal(client.ask("find sip:b.example.com:1"), ["target 1 udp 192.0.2.2 1", "ok find 1"],
+                         ("torn", torn))
             checks.equal(client.ask("find sip:c.example.com:1"), ["none NoAddress"], ("torn", torn))
             # (it is told by a thread of its own)
             until(daemon.said)
             daemon.kill()
-        checks.equal(daemon.said(), f"siplocd: state {folder}/state.log: a write did not end at octet {len(octets)}\n", ("torn", torn))
-        checks.equal((log.read_bytes(), (folder / "state.log.torn").read_bytes()), (octets, torn), "what is left, and what is kept")
+        checks.equal(daemon.said(), f"siplocd: state {folder}/state.log: a write did not end at octet {len(octets)}\n",
+                     ("torn", torn))
+        checks.equal((log.read_bytes(), (folder / "state.log.torn").read_bytes()), (octets, torn),
+                     "what is left, and what is kept")
     # A mark whose state was not written, since the daemon was killed then: the changes after it follow those before it.
-    more = [b"clock 5000\nhold tcp 192.0.2.9 5060 1000000\n", b"# page 1\nclock 6000\n", b"add e.example.com. A 192.0.2.5\n"]
+    more = [b"clock 5000\nhold tcp 192.0.2.9 5060 1000000\n", b"# page 1\nclock 6000\n",
+            b"add e.example.com. A 192.0.2.5\n"]
     log.write_bytes(log_of(whole, [*bodies_of(octets), *more]))
     with started(checks, folder, state) as daemon, Client(daemon.address) as client:
         checks.equal(client.ask("find sip:e.example.com:1"), ["target 1 udp 192.0.2.5 1", "ok find 1"], "after a mark")
@@ -76,7 +80,8 @@ def refuses_a_state_that_was_changed(checks: Checks, folder: pathlib.Path) -> No
                 path.write_bytes(text)
         status, said = ended_start(folder, settings)
         checks.equal((status, said), (1, f"siplocd: state {folder}/{what}\n"), name)
-        checks.equal(tuple(it.read_bytes() if it.exists() else None for it in (state, log)), files, f"{name}: the files")
+        checks.equal(tuple(it.read_bytes() if it.exists() else None for it in (state, log)), files,
+                     f"{name}: the files")
 
     for at in range(16, len(octets[0]), 41):
         refused((flipped(octets[0], at), octets[1]), "state: not as it was written", f"a state that is changed at {at}")
@@ -138,7 +143,8 @@ def reads_the_first_format_once(checks: Checks, folder: pathlib.Path) -> None:
     state, log, settings = folder / "state", folder / "state.log", f'state = "{folder}/state"'
     lines = b"# page 3\nclock 5000\nzone example.com. 1\na.example.com. A 192.0.2.1\n"
     changes = b"# page 2\ndrop none.example.\n# page 3\nadd b.example.com. A 192.0.2.2\nadd c.example.com. A 192.0"
-    for name, before, zones in ("both", (lines, changes), 2), ("no state", (None, changes.replace(b"# page 2", b"# page 0").replace(
+    for name, before, zones in ("both", (lines, changes), 2), ("no state",
+                                                               (None, changes.replace(b"# page 2", b"# page 0").replace(
             b"drop none.example.", b"zone example.com. 0")), 1), ("no log", (lines, None), 1):
         for path, text in zip((state, log), before):
             path.unlink(missing_ok=True)
@@ -149,7 +155,8 @@ def reads_the_first_format_once(checks: Checks, folder: pathlib.Path) -> None:
                 checks.equal(daemon.tell("zones"), [f"zone example.com. {zones}", "ok zones 1"], name)
                 daemon.kill()
             octets = state.read_bytes()
-            checks.equal((octets, log.read_bytes()), (state_of(body_of(octets)), log_of(octets, [])), f"{name}: the files after it")
+            checks.equal((octets, log.read_bytes()), (state_of(body_of(octets)), log_of(octets, [])),
+                         f"{name}: the files after it")
     for what, files in ("state: line 3", (lines.replace(b"192.0.2.1", b"192.0.2"), changes)), \
             ("state.log: line 2", (lines.replace(b"page 3", b"page 2"), changes)), \
             ("state.log: not of this state", (lines.replace(b"page 3", b"page 4"), changes)):

@@ -56,7 +56,8 @@ def logs_its_start_and_its_end(checks: Checks, folder: pathlib.Path) -> None:
         stopped(checks, daemon, 1)
         wait_for(checks, daemon, "stopping")
         wait_for(checks, daemon, "end", events="1")
-        checks.equal([Line(it).of["event"] for it in (daemon.log()[0], daemon.log()[-1])], ["start", "end"], "the first and the last")
+        checks.equal([Line(it).of["event"] for it in (daemon.log()[0], daemon.log()[-1])], ["start", "end"],
+                     "the first and the last")
         checks.equal(daemon.said(), "", "messages")
 
 
@@ -90,10 +91,13 @@ def logs_edits_and_states(checks: Checks, folder: pathlib.Path) -> None:
             checks.equal(client.ask("drop example.com."), ["ok drop 2"], "drop")
             code = (client.ask("drop example.com.") or [""])[0].removeprefix("err ")
             checks.equal(client.ask("zone a\\032b\\\". 0"), ["ok zone 0 0 0 0"], "a name to be quoted")
-        for event, level, name, records in (("loaded", "info", "example.com.", "2"), ("added", "debug", "x.example.com.", "1"),
-                                            ("removed", "debug", "x.example.com.", "1"), ("dropped", "info", "example.com.", "2")):
+        for event, level, name, records in (("loaded", "info", "example.com.", "2"),
+                                            ("added", "debug", "x.example.com.", "1"),
+                                            ("removed", "debug", "x.example.com.", "1"),
+                                            ("dropped", "info", "example.com.", "2")):
             line = wait_for(checks, daemon, event, name=name, records=records)
-            checks.expect(line and line.level == level and re.fullmatch(r"\d+\.\d{3}", line.of["ms"]), line and line.text)
+            checks.expect(line and line.level == level and re.fullmatch(r"\d+\.\d{3}", line.of["ms"]),
+                          line and line.text)
         failed = wait_for(checks, daemon, "failed", what="dropped", name="example.com.", code=code)
         checks.equal(failed and failed.level, "warn", "a change that failed")
         wait_for(checks, daemon, "loaded", name='a\\032b\\".')
@@ -178,7 +182,8 @@ def a_log_that_no_one_reads_stops_no_session(checks: Checks, folder: pathlib.Pat
         with Client(f"127.0.0.1:{port}") as client:
             checks.equal(client.ask("zone example.com. 0"), ["ok zone 0 0 0 0"], "zone")
             for begin in range(0, 5_000, 500):
-                client.send("".join(f"add n{number}.example.com. A 192.0.2.3\n" for number in range(begin, begin + 500)))
+                client.send("".join(f"add n{number}.example.com. A 192.0.2.3\n"
+                                    for number in range(begin, begin + 500)))
                 replies = [client.reply() for _ in range(500)]
                 checks.equal(replies, 500 * [["ok add 1"]], begin)
             page = Page(f"127.0.0.1:{metrics}")
@@ -199,7 +204,8 @@ def a_log_that_no_one_reads_stops_no_session(checks: Checks, folder: pathlib.Pat
         checks.expect(found and int(found[1]) >= dropped, text[-300:])
         # The rest is not read, and it ends all the same.
         begin = time.monotonic()
-        subprocess.run([PROGRAM, "tell", f"unix:{folder}/c", "stop"], stdout=subprocess.DEVNULL, timeout=PATIENCE, check=False)
+        subprocess.run([PROGRAM, "tell", f"unix:{folder}/c", "stop"], stdout=subprocess.DEVNULL, timeout=PATIENCE,
+                       check=False)
         checks.equal(process.wait(PATIENCE), 0, "its status")
         checks.expect(time.monotonic() - begin < PATIENCE / 2, "it ends in time")
     finally:

@@ -65,12 +65,14 @@ def shows_its_metrics(checks: Checks, folder: pathlib.Path) -> None:
             checks.equal(page.fields.get("content-length"), str(len(page.text)), "length")
             checks.expect(all(page.samples), page.text)
             for name, of in (("records", "records"), ("held_endpoints", "held"), ("clients", "clients"),
-                             ("kept_answers", "kept"), ("current_answers", "current"), ("pages_claimed_total", "pages")):
+                             ("kept_answers", "kept"), ("current_answers", "current"),
+                             ("pages_claimed_total", "pages")):
                 checks.equal(page.value(f"siploc_{name}"), stats[of], name)
             for end, of in (("targets", "targets"), ("no_address", "NoAddress"), ("not_available", "NotAvailable"),
                             ("no_transport", "NoTransport"), ("all_held", "AllHeld")):
                 checks.equal(page.value("siploc_finds_total", f'end="{end}"'), stats[of], end)
-            checks.equal(sum(stats[it] for it in ("targets", "NoAddress", "NotAvailable", "NoTransport", "AllHeld")), 4, "answers")
+            checks.equal(sum(stats[it] for it in ("targets", "NoAddress", "NotAvailable", "NoTransport", "AllHeld")), 4,
+                         "answers")
             checks.equal(page.value("siploc_zones"), 1, "zones")
             checks.expect(page.value("siploc_resident_bytes") > 1 << 20, "resident")
             checks.expect(page.value("siploc_events_total") >= 6, "events")
@@ -101,7 +103,8 @@ def counts_clients_by_cause(checks: Checks, folder: pathlib.Path) -> None:
             checks.expect(client.is_ended(), "idle")
         checks.expect(until(lambda: Page(address).value("siploc_clients") == 0), "it has left")
         page = Page(address)
-        for name, label, wanted in (("accepted", "", 1), ("refused", 'cause="busy"', 1), ("refused", 'cause="threads"', 0),
+        for name, label, wanted in (("accepted", "", 1), ("refused", 'cause="busy"', 1),
+                                    ("refused", 'cause="threads"', 0),
                                     ("closed", 'cause="idle"', 1), ("closed", 'cause="slow"', 0)):
             checks.equal(page.value(f"siploc_{name}_clients_total", label), wanted, (name, label))
         stopped(checks, daemon)
@@ -113,7 +116,8 @@ def refuses_other_requests(checks: Checks, folder: pathlib.Path) -> None:
         address = metrics_of(daemon)
         for request, status in [
             ("GET /metrics HTTP/1.1", 200), ("GET /metrics HTTP/1.0", 200), ("GET /metrics?name[]=up HTTP/1.1", 200),
-            ("GET /healthz HTTP/1.1", 200), ("GET / HTTP/1.1", 404), ("GET /metrics/ HTTP/1.1", 404), ("POST /x HTTP/1.1", 404),
+            ("GET /healthz HTTP/1.1", 200), ("GET / HTTP/1.1", 404), ("GET /metrics/ HTTP/1.1", 404),
+            ("POST /x HTTP/1.1", 404),
             ("POST /metrics HTTP/1.1", 405), ("HEAD /healthz HTTP/1.1", 405), ("get /metrics HTTP/1.1", 405),
             ("GET /metrics", 400), ("stats", 400), ("GET  /metrics HTTP/1.1", 400), ("GET /metrics HTTP/2.0", 400),
             (f"GET /metrics HTTP/1.1\r\nX: {'x' * 8_192}", 400), ("GET /metrics HTTP/1.1\r\nno field", 400),
@@ -137,7 +141,8 @@ def refuses_other_requests(checks: Checks, folder: pathlib.Path) -> None:
             own.mkdir()
             second = Daemon(own, f'metrics = "127.0.0.1:{taken}"', waits=False)
             status, _ = second.end()
-            checks.expect(status == 1 and f"siplocd: listen 127.0.0.1:{taken}: " in second.said(), (status, second.said()))
+            checks.expect(status == 1 and f"siplocd: listen 127.0.0.1:{taken}: " in second.said(),
+                          (status, second.said()))
         stopped(checks, daemon, 0)
 
 
@@ -155,7 +160,8 @@ def closes_a_slow_scraper(checks: Checks, folder: pathlib.Path) -> None:
                         ended = 0.0 if dripping.recv(1) else time.monotonic() - begin
                     except ConnectionError:
                         ended = time.monotonic() - begin
-            checks.expect(9 < ended < 10 + PATIENCE / 2, f"one that sends an octet now and then ended after {ended:.1f} seconds")
+            checks.expect(9 < ended < 10 + PATIENCE / 2,
+                          f"one that sends an octet now and then ended after {ended:.1f} seconds")
             silent.settimeout(PATIENCE)
             checks.equal(silent.recv(1), b"", "one that sends nothing")
         checks.equal(get(address, "/healthz")[0], "HTTP/1.1 200 OK", "others")

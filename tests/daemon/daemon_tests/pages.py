@@ -73,7 +73,8 @@ def the_archive_is_replayed(checks: Checks, folder: pathlib.Path) -> None:
 
 @test
 def sessions_wait_for_pages_that_wait(checks: Checks, folder: pathlib.Path) -> None:
-    """While a page can't be archived, eight clients send all that they are answered: that makes few pages, not all memory."""
+    """While a page can't be archived, eight clients send all that they are answered: that makes few pages, not all
+    memory."""
     archive, syncs = folder / "archive", Syncs(folder)
     archive.mkdir()
     with started(checks, folder, f'journal = 100\narchive = "{archive}"', environment=syncs.environment) as daemon:
@@ -220,7 +221,7 @@ def replays_what_goes_on_from_a_state(checks: Checks, folder: pathlib.Path) -> N
         checks.equal(client.ask("page")[0].split(" ")[:3], ["ok", "page", "0"], "page")
         client.ask("repair")
         # (a page that is claimed is not in its file yet)
-        checks.expect(until(lambda: len([it for it in archive.iterdir() if it.name != "new"]) == 2), "no page so far")
+        checks.expect(until(lambda: len([it for it in archive.iterdir() if it.name != "new"]) == 2), "no page yet")
         checks.equal((daemon.stats()["pages"], daemon.stats()["waiting"]), (1, 0), "pages")
         answers = use(client, ("release udp 192.0.2.9 5060", "ok release"), ("hold udp 192.0.2.2 1 3600000", "ok hold"))
         daemon.kill()

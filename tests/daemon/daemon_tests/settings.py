@@ -24,7 +24,8 @@ def reads_its_settings_from_a_file(checks: Checks, folder: pathlib.Path) -> None
         stopped(checks, daemon, 1)
     for words in (["check", f"--config={path}"], ["check", "--config", path.name]):
         checks.equal(run(*words, folder=folder), (0, "ok\n", ""), words)
-    checks.equal(run("check", "--config", str(TOP / "examples/siplocd.toml"), folder=folder), (0, "ok\n", ""), "the example")
+    checks.equal(run("check", "--config", str(TOP / "examples/siplocd.toml"), folder=folder), (0, "ok\n", ""),
+                 "the example")
     (folder / "empty").write_text("")
     checks.equal(run("check", "--config", "empty", folder=folder), (0, "ok\n", ""), "no settings")
 
@@ -35,7 +36,8 @@ def says_what_is_wrong_in_a_file(checks: Checks, folder: pathlib.Path) -> None:
     for text, place, word in [
         ("# one\n\nlisten = []\n", "3: listen: G3: ", "not empty"),
         ('listen = [\n  "127.0.0.1:1",\n]\nclients = 0', "4: clients: G3: ", "1 to 65536"),
-        ('listen = ["127.0.0.1:1"]\nfind = [\n  "127.0.0.1:2",\n  "192.0.2.1:3",\n]\nidle = 1\n', "2: find: G3: ", "addresses"),
+        ('listen = ["127.0.0.1:1"]\nfind = [\n  "127.0.0.1:2",\n  "192.0.2.1:3",\n]\nidle = 1\n', "2: find: G3: ",
+         "addresses"),
         ('state = """\nidle = 0\n"""\nidle = 0\n', "4: idle: G3: ", "1 to 86400"),
         ('"idle" = 0\n', "1: idle: G3: ", "1 to 86400"),
         ('clients = 1\n\n[control]\nat = "unix:c"\nmode = 512\n', "3: control: G3: ", "address"),
@@ -53,17 +55,20 @@ def says_what_is_wrong_in_a_file(checks: Checks, folder: pathlib.Path) -> None:
         for words in (["check", "--config", str(path)], ["--config", str(path)]):
             status, printed, said = run(*words, folder=folder)
             checks.expect(status == 1 and not printed and said.startswith(f"{path}:{place}") and said.count("\n") == 1
-                          and word in said and len(said) > len(f"{path}:{place}") + 1, (text, words, status, printed, said))
+                          and word in said and len(said) > len(f"{path}:{place}") + 1,
+                          (text, words, status, printed, said))
     # Each key that the documents have is one of those that are named.
     path.write_text("unknown = 1\n")
-    named = set(re.findall(r"[a-z_]+", run("check", "--config", str(path), folder=folder)[2].partition("there are ")[2]))
+    named = set(re.findall(r"[a-z_]+",
+                           run("check", "--config", str(path), folder=folder)[2].partition("there are ")[2]))
     tables = re.findall(r"<!-- table settings .*?<!-- end -->", (TOP / "docs/use/FORMATS.md").read_text(), re.S)
     told = {key for table in tables for key in re.findall(r"^\| `([a-z_]+)` \|", table, re.M)} - {"sessions"}
     checks.expect(len(told) > 15 and told <= named, f"keys that are not named: {told - named}")
     path.write_bytes(b"state = \"\xff\"\n")
     for words in (["check", "--config", str(path)], ["check", "--config", f"{folder}/none"], ["--config", str(folder)]):
         status, printed, said = run(*words, folder=folder)
-        checks.expect(status == 1 and not printed and re.fullmatch(rf"siplocd: settings {re.escape(words[-1])}: .+\n", said),
+        checks.expect(status == 1 and not printed
+                      and re.fullmatch(rf"siplocd: settings {re.escape(words[-1])}: .+\n", said),
                       (words, status, printed, said))
 
 
@@ -72,16 +77,21 @@ def names_what_is_wrong_in_its_arguments(checks: Checks, folder: pathlib.Path) -
     for words, word in [
         (["--unknown"], "--unknown"), (["", "more"], "more"), (["tell"], "ADDRESS"), (["tell", "unix:c"], "LINE"),
         (["tell", "a", "b", "c"], "'c'"), (["replay"], "FOLDER"), (["check"], "--config"), (["--config"], "--config"),
-        (["--config", "a", "--config", "b"], "--config"), (["--config", "a", ""], "--config"), (["check", "--config"], "--config"),
+        (["--config", "a", "--config", "b"], "--config"), (["--config", "a", ""], "--config"),
+        (["check", "--config"], "--config"),
         (["check", "--config", "a", "b"], "'b'"), (["replay", "a", "--config", "b"], "--config"),
     ]:
         status, printed, said = run(*words, folder=folder)
-        checks.expect(status == 2 and not printed and word in said and "Usage: siplocd" in said, (words, status, printed, said))
+        checks.expect(status == 2 and not printed and word in said and "Usage: siplocd" in said,
+                      (words, status, printed, said))
     ran = subprocess.run([PROGRAM.encode(), b"\xff"], cwd=folder, capture_output=True, timeout=PATIENCE, check=False)
-    checks.expect(ran.returncode == 2 and not ran.stdout and b"UTF-8" in ran.stderr and b"Usage: siplocd" in ran.stderr, ran)
+    checks.expect(ran.returncode == 2 and not ran.stdout and b"UTF-8" in ran.stderr and b"Usage: siplocd" in ran.stderr,
+                  ran)
     for words, word in ([], "--config"), (["check"], "--config"), (["tell"], "LINE"), (["replay"], "FOLDER"):
         for option in "--help", "-h":
             status, printed, said = run(*words, option, folder=folder)
-            checks.expect(status == 0 and "Usage: siplocd" in printed and word in printed and not said, (words, printed, said))
+            checks.expect(status == 0 and "Usage: siplocd" in printed and word in printed and not said,
+                          (words, printed, said))
     status, printed, said = run("--version", folder=folder)
-    checks.expect(status == 0 and re.fullmatch(r"siplocd \d+\.\d+(\+\w+)*\n", printed) and not said, (status, printed, said))
+    checks.expect(status == 0 and re.fullmatch(r"siplocd \d+\.\d+(\+\w+)*\n", printed) and not said,
+                  (status, printed, said))

@@ -90,8 +90,10 @@ def prints_where_it_listens(checks: Checks, folder: pathlib.Path) -> None:
 
 @test
 def prints_help_version_and_usage(checks: Checks, folder: pathlib.Path) -> None:
-    for words, status in (["--help"], 0), (["--version"], 0), (["--unknown", "x"], 2), (["a", "b", "c"], 2), (["tell"], 2):
-        ran = subprocess.run([PROGRAM, *words], cwd=folder, capture_output=True, text=True, timeout=PATIENCE, check=False)
+    for words, status in (["--help"], 0), (["--version"], 0), (["--unknown", "x"], 2), (["a", "b", "c"], 2), (["tell"],
+                                                                                                              2):
+        ran = subprocess.run([PROGRAM, *words], cwd=folder, capture_output=True, text=True, timeout=PATIENCE,
+                             check=False)
         checks.equal(ran.returncode, status, words)
         text, other = (ran.stdout, ran.stderr) if status == 0 else (ran.stderr, ran.stdout)
         checks.expect("siplocd" in text and not other, (words, ran.stdout, ran.stderr))
@@ -102,15 +104,21 @@ def refuses_wrong_settings(checks: Checks, folder: pathlib.Path) -> None:
     with socket.create_server(("127.0.0.1", 0)) as listener:
         taken = listener.getsockname()[1]
         for settings, cause in [
-            ("clients = 0", "clients"), ("clock = 1", "clock"), ('clock = "sun"', "clock"), ("sessions = 1", "sessions"),
-            ("unknown = 1", "unknown"), ("mode = 512", "mode"), ("listen = []", "listen"), ("idle = 0", "idle"), ("find = 1", "find"),
+            ("clients = 0", "clients"), ("clock = 1", "clock"), ('clock = "sun"', "clock"),
+            ("sessions = 1", "sessions"),
+            ("unknown = 1", "unknown"), ("mode = 512", "mode"), ("listen = []", "listen"), ("idle = 0", "idle"),
+            ("find = 1", "find"),
             ('listen = ["192.0.2.1:5099"]', "listen"), (f'listen = ["unix:{"x" * 108}"]', "listen"), ("= 1", "G1"),
-            (f'listen = ["127.0.0.1:{taken}"]', f"127.0.0.1:{taken}"), (f'find = ["127.0.0.1:{taken}"]', f"127.0.0.1:{taken}"),
-            ('listen = [{ at = "127.0.0.1:0", mode = 384 }]', "listen"), (f'find = [{{ at = "unix:{folder}/f" }}]', "find"),
+            (f'listen = ["127.0.0.1:{taken}"]', f"127.0.0.1:{taken}"),
+            (f'find = ["127.0.0.1:{taken}"]', f"127.0.0.1:{taken}"),
+            ('listen = [{ at = "127.0.0.1:0", mode = 384 }]', "listen"),
+            (f'find = [{{ at = "unix:{folder}/f" }}]', "find"),
             (f'control = {{ at = "unix:{folder}/c", mode = 512 }}', "control"), ("find = [{ mode = 384 }]", "find"),
-            (f'control = {{ at = "unix:{folder}/c", mode = 384, x = 1 }}', "control"), ('find = ["example.com:1"]', "find"),
+            (f'control = {{ at = "unix:{folder}/c", mode = 384, x = 1 }}', "control"),
+            ('find = ["example.com:1"]', "find"),
             (f'listen = ["unix:{folder}/none/s"]', f"{folder}/none/s"),
-            ('state = ""', "state"), (f'state = "{folder}/none/state"', f"{folder}/none/state"), ("zone_octets = -1", "zone_octets"),
+            ('state = ""', "state"), (f'state = "{folder}/none/state"', f"{folder}/none/state"),
+            ("zone_octets = -1", "zone_octets"),
         ]:
             status, said = ended_start(folder, settings)
             checks.expect(status == 1 and said.startswith("siplocd:") and said.count("\n") == 1 and cause in said,
@@ -154,7 +162,8 @@ listen = ["unix:{paths[0]}", {{ at = "unix:{paths[1]}", mode = 384 }}]
 find = [{{ at = "unix:{paths[2]}", mode = 438 }}]
 control = {{ at = "unix:{paths[3]}", mode = 256 }}'''
     addresses = [f"unix:{path}" for path in paths]
-    with started(checks, folder, settings, listen=addresses[:2], find=addresses[2:3], control=addresses[3], umask=0) as daemon:
+    with started(checks, folder, settings, listen=addresses[:2], find=addresses[2:3], control=addresses[3],
+                 umask=0) as daemon:
         modes = [oct(stat.S_IMODE(path.stat().st_mode)) for path in paths]
         checks.equal(modes, ["0o660", "0o600", "0o666", "0o400"], "modes")
         for address, reply in zip(addresses, (["ok repair"], ["ok repair"], ["err D3"])):

@@ -33,7 +33,8 @@ def stands_again_after_a_stop(checks: Checks, folder: pathlib.Path) -> None:
     state = f'state = "{folder}/state"'
     zone = 'zone example.com. 5\n@ NAPTR 50 50 "s" "SIP+D2T" "" _sip._tcp\n_sip._tcp SRV 0 1 5060 \\"odd\\".a\n\\"odd\\".a A 192.0.2.1\n' \
            "* A 192.0.2.7\nt TXT x"
-    asked = ["find sip:example.com words 1", "find sip:no.example.com:1", "find sip:t.example.com:1", "deps sip:x.t.example.com:1",
+    asked = ["find sip:example.com words 1", "find sip:no.example.com:1", "find sip:t.example.com:1",
+             "deps sip:x.t.example.com:1",
              "find sip:other.example:9"]
     with started(checks, folder, state) as daemon, Client(daemon.address) as client:
         checks.equal(client.ask(zone), ["ok zone 5 0 0 4"], "zone")
@@ -53,7 +54,8 @@ def stands_again_after_a_stop(checks: Checks, folder: pathlib.Path) -> None:
         held = ["none AllHeld"]
         checks.equal(client.ask("find sip:192.0.2.1;transport=tcp"), held, "a hold")
         checks.expect(until(lambda: client.ask("find sip:192.0.2.2;transport=tcp") != held), "a hold whose rest ends")
-        checks.expect(time.monotonic() - begin >= 1.4, f"a hold of 1.5 seconds ended after {time.monotonic() - begin:.2f}")
+        checks.expect(time.monotonic() - begin >= 1.4,
+                      f"a hold of 1.5 seconds ended after {time.monotonic() - begin:.2f}")
         stopped(checks, daemon)
 
 
@@ -73,7 +75,8 @@ def a_link_to_a_state_is_that_state(checks: Checks, folder: pathlib.Path) -> Non
             status, said = ended_start(folder, f'state = "{path}"')
             checks.expect(status == 1 and str(path) in said, ("a state that another has", path, status, said))
         stopped(checks, daemon)
-    checks.expect(link.is_symlink() and not state.is_symlink() and (other / "state").is_symlink(), "links that are links")
+    checks.expect(link.is_symlink() and not state.is_symlink() and (other / "state").is_symlink(),
+                  "links that are links")
     checks.equal(sorted(it.name for it in other.iterdir()), ["state"], "files beside a link")
     with started(checks, folder, f'state = "{state}"') as daemon:
         checks.equal(daemon.tell("zones"), ["zone example.com. 2", "ok zones 1"], "by its own name")
@@ -93,7 +96,8 @@ def carries_out_no_line_that_a_stop_cuts(checks: Checks, folder: pathlib.Path) -
         time.sleep(0.2)
         stopped(checks, daemon)
     with started(checks, folder, state) as daemon, Client(daemon.address) as client:
-        for host, reply in ("a", ["target 1 udp 192.0.2.1 1", "ok find 1"]), ("b", ["none NoAddress"]), ("c", ["none NoAddress"]):
+        for host, reply in ("a", ["target 1 udp 192.0.2.1 1",
+                                  "ok find 1"]), ("b", ["none NoAddress"]), ("c", ["none NoAddress"]):
             checks.equal(client.ask(f"find sip:{host}.example.com:1"), reply, host)
         stopped(checks, daemon)
 
@@ -101,8 +105,10 @@ def carries_out_no_line_that_a_stop_cuts(checks: Checks, folder: pathlib.Path) -
 @test
 def carries_out_no_line_that_its_client_cuts(checks: Checks, folder: pathlib.Path) -> None:
     state, unix = f'state = "{folder}/state"', f"unix:{folder}/s"
-    cut = ["zone example.com. 3\na A 192.0.2.1\nb A 192.0.2.2", "zone example.com. 2\na A 192.0.2.1\n", "zone example.com. 1",
-           "add c.kept.example. A 192.0.2.2", "hold udp 192.0.2.1 5060 1000000", "drop kept.example.", "zone kept.example. 0"]
+    cut = ["zone example.com. 3\na A 192.0.2.1\nb A 192.0.2.2", "zone example.com. 2\na A 192.0.2.1\n",
+           "zone example.com. 1",
+           "add c.kept.example. A 192.0.2.2", "hold udp 192.0.2.1 5060 1000000", "drop kept.example.",
+           "zone kept.example. 0"]
     with started(checks, folder, state, unix=unix) as daemon, Client(daemon.address) as asking:
         checks.equal(asking.ask("zone kept.example. 1\na A 192.0.2.1"), ["ok zone 1 0 0 1"], "zone")
         for address in daemon.addresses[:-1]:
@@ -209,7 +215,8 @@ def writes_a_state_at_a_page(checks: Checks, folder: pathlib.Path) -> None:
         while body_of(state.read_bytes()) == b"# page 0\n" and log.stat().st_size < 4 << 20 and steps.make(client):
             pass
         checks.expect(until(lambda: body_of(state.read_bytes()).startswith(b"# page 1\n")), "no state at a page")
-        checks.expect(until(lambda: log.stat().st_size < 1 << 20), f"{log.stat().st_size} octets of a log after a state")
+        checks.expect(until(lambda: log.stat().st_size < 1 << 20),
+                      f"{log.stat().st_size} octets of a log after a state")
         octets = log.read_bytes()
         checks.equal(octets, log_of(state.read_bytes(), bodies_of(octets)), "the changes after it alone")
         checks.expect(steps.make(client) and log.stat().st_size > HEAD_LEN, "a change after a state")
@@ -305,7 +312,8 @@ def ends_where_a_change_is_not_written(checks: Checks, folder: pathlib.Path) -> 
 def reports_no_change_as_kept_after_a_trim_that_failed(checks: Checks, folder: pathlib.Path) -> None:
     # (more than a megabyte, so that a state is written at the next page)
     text = "x" * 255
-    zone = "zone example.com. 1401\na A 192.0.2.1" + "".join(f'\nn{n} NAPTR 1 1 "{text}" "{text}" "{text}" .' for n in range(1_400))
+    zone = "zone example.com. 1401\na A 192.0.2.1" + "".join(f'\nn{n} NAPTR 1 1 "{text}" "{text}" "{text}" .'
+                                                             for n in range(1_400))
     for name, error in ("folder", errno.EIO), ("open", errno.EMFILE):
         inner = folder / name
         inner.mkdir()
@@ -321,7 +329,8 @@ def reports_no_change_as_kept_after_a_trim_that_failed(checks: Checks, folder: p
             client.send("add late.example.com. A 192.0.2.3\n")
             other.send("hold udp 192.0.2.9 5060 1000000\n")
             time.sleep(0.3)
-            checks.equal((client.has_reply(), other.has_reply()), (False, False), f"{name}: replies while the trim is made")
+            checks.equal((client.has_reply(), other.has_reply()), (False, False),
+                         f"{name}: replies while the trim is made")
             if name == "open":
                 syncs.fail(name, error)
             syncs.go_on()
@@ -345,14 +354,17 @@ def starts_where_no_space_is_left(checks: Checks, folder: pathlib.Path) -> None:
     for torn in b"", b"add b.example.com. A 192.0", b"zone example.com. 2\nc A 192.0.2.3\n":
         log.write_bytes(octets + torn)
         syncs.fail("write", errno.ENOSPC)
-        with started(checks, folder, settings, environment=syncs.environment) as daemon, Client(daemon.address) as client:
+        with started(checks, folder, settings,
+                     environment=syncs.environment) as daemon, Client(daemon.address) as client:
             checks.equal(client.ask("find sip:a.example.com:1"), ["target 1 udp 192.0.2.1 1", "ok find 1"], torn)
             checks.equal((log.read_bytes(), log.stat().st_ino), (octets, place), "the changes, where they were")
             syncs.fail("write", 0)
-            checks.equal(client.ask("add b.example.com. A 192.0.2.2"), ["ok add 1"], "a change where there is space again")
+            checks.equal(client.ask("add b.example.com. A 192.0.2.2"), ["ok add 1"],
+                         "a change where there is space again")
             daemon.kill()
         wanted = [*bodies_of(octets), b"add b.example.com. A 192.0.2.2\n"]
-        checks.equal(log.read_bytes(), log_of((folder / "state").read_bytes(), wanted), "a change after those before it")
+        checks.equal(log.read_bytes(), log_of((folder / "state").read_bytes(), wanted),
+                     "a change after those before it")
 
 
 # The addresses of each host of a zone by their last octets, in the order of addition: None where it is not loaded.
@@ -400,8 +412,10 @@ class Edits:
         return f"zone {self.apex} {len(text)}{''.join(text)}", f"ok zone {len(text)} 0 0 {changed}", (hosts, self.held)
 
     def seen(self, client: Client) -> Any:
-        """What there is, by questions. A zone that is not loaded is told from an empty one by an edit that is refused."""
-        lines = [f"find sip:h{host}.{self.apex[:-1]}:1" for host in range(6)] + [f"find sip:10.{self.place}.1.{n}" for n in range(4)]
+        """What there is, by questions. A zone that is not loaded is told from an empty one by an edit that is
+        refused."""
+        lines = [f"find sip:h{host}.{self.apex[:-1]}:1" for host in range(6)] + [f"find sip:10.{self.place}.1.{n}"
+                                                                                 for n in range(4)]
         client.send("".join(f"{line}\n" for line in lines) + f"del none.{self.apex} A 192.0.2.1\n")
         replies = [client.reply() or [] for _ in range(11)]
         hosts = {host: tuple(int(line.split(" ")[3].split(".")[3]) for line in replies[host][:-1]) for host in range(6)}

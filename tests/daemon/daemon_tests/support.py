@@ -154,8 +154,10 @@ class Client:
 class Daemon:
     """A daemon that a test has started: `address` is where its clients go."""
 
-    def __init__(self, folder: pathlib.Path, settings: str = "", unix: str = "", limit: int = 0, has_input: bool = False,
-                 waits: bool = True, listen: Sequence[str] = (), find: Sequence[str] = (), control: str = "", umask: int = -1,
+    def __init__(self, folder: pathlib.Path, settings: str = "", unix: str = "", limit: int = 0,
+                 has_input: bool = False,
+                 waits: bool = True, listen: Sequence[str] = (), find: Sequence[str] = (), control: str = "",
+                 umask: int = -1,
                  environment: Optional[dict[str, str]] = None, file: Optional[pathlib.Path] = None) -> None:
         self.folder = folder
         # (the system chooses the ports, and the daemon prints them)
@@ -174,7 +176,8 @@ class Daemon:
         self.errors = folder / f"errors-{next(NUMBERS)}"
         with self.errors.open("wb") as errors:
             limited = ["sh", "-c", f'ulimit -n {limit}; exec "$0" "$@"'] if limit else []
-            self.process = subprocess.Popen([*limited, PROGRAM, *words], cwd=folder, stdout=subprocess.PIPE, stderr=errors,
+            self.process = subprocess.Popen([*limited, PROGRAM, *words], cwd=folder, stdout=subprocess.PIPE,
+                                            stderr=errors,
                                             stdin=subprocess.PIPE if has_input else subprocess.DEVNULL, umask=umask,
                                             env={**os.environ, **(environment or {})})
         self.lines: list[str] = []

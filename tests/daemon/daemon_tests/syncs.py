@@ -11,7 +11,8 @@ from daemon_tests.support import TOP
 
 
 class Syncs:
-    """What a preloaded library (tests/daemon/slow_sync.c) does to a daemon's syncs of files, and to its writes into them."""
+    """What a preloaded library (tests/daemon/slow_sync.c) does to a daemon's syncs of files, and to its writes into
+    them."""
 
     def __init__(self, folder: pathlib.Path) -> None:
         shared, library = folder / "syncs", folder / "slow_sync.so"

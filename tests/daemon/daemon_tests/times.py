@@ -59,7 +59,8 @@ def a_call_goes_on_by_the_time_of_the_host(checks: Checks, folder: pathlib.Path)
         checks.equal(client.ask("call other 1 sip:192.0.2.1"),
                      ["send 1 udp 192.0.2.1 5060 z9hG4bK0000000000000001.1", "ok call"], "call")
         time.sleep(0.1)
-        checks.equal(client.ask("got 1 503 retry 100"), ["hold udp 192.0.2.1 5060 100000", "deliver 500", "exhausted", "ok got"], "503")
+        checks.equal(client.ask("got 1 503 retry 100"),
+                     ["hold udp 192.0.2.1 5060 100000", "deliver 500", "exhausted", "ok got"], "503")
         checks.equal(client.ask("find sip:192.0.2.1"), ["none AllHeld"], "held")
         stopped(checks, daemon)
 
@@ -68,7 +69,8 @@ def a_call_goes_on_by_the_time_of_the_host(checks: Checks, folder: pathlib.Path)
 def the_time_is_that_of_lines(checks: Checks, folder: pathlib.Path) -> None:
     with started(checks, folder, 'clock = "lines"') as daemon, Client(daemon.address) as client:
         for line, wanted in [
-            ("hold udp 192.0.2.1 5060 500", ["ok hold"]), ("find sip:192.0.2.1", ["none AllHeld"]), ("clock 499", ["ok clock 499"]),
+            ("hold udp 192.0.2.1 5060 500", ["ok hold"]), ("find sip:192.0.2.1", ["none AllHeld"]),
+            ("clock 499", ["ok clock 499"]),
             ("find sip:192.0.2.1", ["none AllHeld"]), ("clock 500", ["ok clock 500"]), ("clock 499", ["err O1"]),
             ("find sip:192.0.2.1", ["target 1 udp 192.0.2.1 5060", "ok find 1"]),
         ]:

@@ -46,10 +46,12 @@ def the_unit_lets_the_proxy_in(checks: Checks, folder: pathlib.Path) -> None:
     text = (TOP / "examples/siplocd.toml").read_text().replace("127.0.0.1:5099", "127.0.0.1:0")
     text = text.replace("/run/siplocd/", f"{run}/").replace("/var/lib/siplocd/", f"{state}/")
     stop = unit["Service"]["ExecStop"].replace("/run/siplocd/", f"{run}/").replace("/var/lib/siplocd/", f"{state}/")
-    process = subprocess.Popen([PROGRAM, text], user=DAEMON, group=group, extra_groups=[], stdout=subprocess.DEVNULL, cwd="/")
+    process = subprocess.Popen([PROGRAM, text], user=DAEMON, group=group, extra_groups=[], stdout=subprocess.DEVNULL,
+                               cwd="/")
     try:
         lines, control = run / "lines.sock", pathlib.Path(stop.split("unix:")[1].split(" ")[0])
-        checks.expect(until(lambda: lines.exists() and control.exists()), f"it does not listen at {lines} and {control}")
+        checks.expect(until(lambda: lines.exists() and control.exists()),
+                      f"it does not listen at {lines} and {control}")
         members = [group] if group == NAMED else []
         checks.expect(may_connect(lines, PROXY, members), "the proxy can't connect")
         checks.expect(not may_connect(lines, OTHER, []), "another program can connect")
