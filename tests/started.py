@@ -120,7 +120,8 @@ class Daemon(Locator):
     """The daemon without zones, with a state, whose time is that of `clock` lines. Its program is SIPLOCD, or beside
     that of the locator, or the one that was built here."""
 
-    def __init__(self, path: str, folder: Path, name: str, port: int, settings: str = "") -> None:
+    def __init__(self, path: str, folder: Path, name: str, port: int, settings: str = "",
+                 environment: Optional[Dict[str, str]] = None) -> None:
         beside = Path(path).with_name(Path(path).name.replace("siploc", "siplocd", 1))
         there = [it for it in (os.environ.get("SIPLOCD"), beside, TOP / "crates/siplocd/out/siplocd") if it
                  and os.access(it, os.X_OK)]
@@ -128,7 +129,7 @@ class Daemon(Locator):
             raise Failed("there is no siplocd; SIPLOCD names one")
         self.address, self.state = f"127.0.0.1:{port}", folder / f"{name}.state"
         text = f'listen = ["{self.address}"]\nclock = "lines"\nstate = "{self.state}"\nworkers = 0\n{settings}'
-        Started.__init__(self, folder, name, [str(there[0]), text])
+        Started.__init__(self, folder, name, [str(there[0]), text], environment)
         wait_for(f"{name} at {self.address}", self.listens, 60)
 
 

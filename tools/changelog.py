@@ -24,7 +24,8 @@ MARKS = "applied.invalid."
 
 Place = Tuple[int, int]
 
-#: What `XINFO STREAM` says of a stream, without the entries in it, and some entries after a place, at the same time.
+#: What `XINFO STREAM` says of a stream, without the entries in it, whether there is an entry at a place, and some entries
+#: after it, at the same time: as many as have 4 MB, or one. So neither Redis nor a tool has many large zones at once.
 _WINDOW = b"""if redis.call('EXISTS', KEYS[1]) == 0 then return {} end
 local info, facts = redis.call('XINFO', 'STREAM', KEYS[1]), {}
 for i = 1, #info, 2 do
@@ -33,7 +34,14 @@ for i = 1, #info, 2 do
         facts[#facts + 1] = info[i + 1]
     end
 end
-return {facts, redis.call('XRANGE', KEYS[1], ARGV[1], '+', 'COUNT', 1024)}"""
+local found, octets, last = {}, 0, ARGV[1]
+while #found < 1024 and octets < 4194304 do
+    local entry = redis.call('XRANGE', KEYS[1], '(' .. last, '+', 'COUNT', 1)[1]
+    if not entry then break end
+    found[#found + 1], last = entry, entry[1]
+    for _, text in ipairs(entry[2]) do octets = octets + #text end
+end
+return {facts, #redis.call('XRANGE', KEYS[1], ARGV[1], ARGV[1]), found}"""
 
 #: The number of fields of each change, its word among them: at least, and at most.
 _FIELDS = {b"zone": (3, 3), b"drop": (2, 2), b"add": (2, 65_536), b"del": (2, 65_536), b"hold": (5, 5),
@@ -44,6 +52,9 @@ _MAX_ZONE_LINES = 1_048_576
 _OPPOSITES = {"add": "del", "del": "add", "hold": "release", "release": "hold"}
 #: The octets of a string that Redis replies, or the elements of an array, and how deep arrays are in others.
 _MAX_BULK, _MAX_DEPTH = 1 << 29, 8
+#: The apex of a change, and the owner of one, which may be in parentheses or in quotes as in a master file.
+_APEX = re.compile(rb"[ \t]*(?:zone|drop)[ \t]+([^ \t\n]+)")
+_OWNER = re.compile(rb'[ \t]*(?:add|del)[ \t(]+(?:"((?:[^"\\\n]|\\.)*)"|((?:[^ \t\n()";\\]|\\.)+))')
 
 
 class Fault(Exception):
@@ -65,6 +76,20 @@ class Change(NamedTuple):
     def lines(self) -> int:
         """How many lines it has after the first."""
         return self.octets.count(b"\n")
+
+    def check(self) -> None:
+        """Whether it may be in a stream. Raises `Fault` where it is of the zone of the marks, by which a locator knows
+        what it was given."""
+        match = _APEX.match(self.octets) or _OWNER.match(self.octets)
+        if match and labels_of(match[match.lastindex or 0])[-2:] == [b"applied", b"invalid"]:
+            raise Fault(f"a change of {MARKS[:-1]}, which is of tools/apply alone: "
+                        f"{self.octets[:100].decode('utf-8', 'backslashreplace')!r}")
+
+
+def labels_of(name: bytes) -> List[bytes]:
+    """The labels of a name, in lower case and without escapes. A final dot may be left out."""
+    labels = re.findall(rb"((?:[^.\\]|\\[0-9]{3}|\\.)+)", name)
+    return [re.sub(rb"\\([0-9]{3})|\\(.)", lambda it: it[2] or bytes([int(it[1]) % 256]), it).lower() for it in labels]
 
 
 def change_of(octets: bytes) -> Change:
@@ -208,13 +233,15 @@ class Refusal(NamedTuple):
 
 
 class Extent(NamedTuple):
-    """Which entries a stream has: the first, the last that there ever was, the last that was deleted by its id, and how
-    many were taken out in all. Redis 7.0 does not say of one that was trimmed which it was."""
+    """Which entries a stream has: the first, the last that there ever was, the last that was deleted by its id, how many
+    were taken out in all, and whether there is one at the place that was asked for. Redis 7.0 does not say of one that
+    was trimmed which it was."""
 
     first: Place
     last: Place
     deleted: Place
     removed: int
+    has: bool
 
     def begins(self) -> Place:
         """The first entry, or the one that there will be at the earliest."""
@@ -223,6 +250,12 @@ class Extent(NamedTuple):
     def lacks(self, place: Place) -> bool:
         """Whether entries after a place may have been taken out."""
         return self.removed > 0 and place < self.last and self.begins() > place
+
+    def has_lost(self, place: Place) -> bool:
+        """Whether the entry at the place that was asked for is not there, though nobody took it out: Redis has lost it, as
+        it does with what it had not written."""
+        is_taken_out = self.deleted >= place or self.removed > 0 and self.begins() > place
+        return place > (0, 0) and not self.has and (self.last < place or not is_taken_out)
 
 
 class Stream:
@@ -238,12 +271,23 @@ class Stream:
         self.reader: BinaryIO = self.socket.makefile("rb")
 
     def append(self, changes: Sequence[Change], token: str = "", first: int = 0) -> Place:
-        """Appends changes in order; the place of the last one. They are numbered, where that is wanted, by a
+        """Appends changes in order, all or none; the place of the last one. They are numbered, where that is wanted, by a
         publisher's token and the numbers from the first one on."""
-        replies = self.ask([[b"XADD", self.key.encode(), b"*", b"change", it.octets,
-                             *([b"by", f"{token}-{first + number}".encode()] if token else [])]
-                            for number, it in enumerate(changes)])
+        replies = self.transact([[b"XADD", self.key.encode(), b"*", b"change", it.octets,
+                                  *([b"by", f"{token}-{first + number}".encode()] if token else [])]
+                                 for number, it in enumerate(changes)])
         return place_of(bytes_of(replies[-1]))
+
+    def transact(self, commands: Sequence[Sequence[bytes]]) -> List[Value]:
+        """The replies to commands of which all are done, or none. Where a key that was watched has changed, none is, and
+        there is no reply."""
+        done = self.ask([[b"MULTI"], *commands, [b"EXEC"]])[-1]
+        if done is not None and (not isinstance(done, list) or len(done) != len(commands)):
+            raise Fault(f"not a reply of Redis: {done!r}")
+        for it in done or []:
+            if isinstance(it, Refusal):
+                raise Fault(f"Redis at {self.address}: {it.text}")
+        return done or []
 
     def numbered(self, token: str, since: Place) -> Optional[Tuple[int, Place]]:
         """The greatest number with a token after a place, and the place of its entry."""
@@ -264,12 +308,12 @@ class Stream:
 
     def window(self, place: Place) -> Tuple[Extent, List[Value]]:
         """Which entries there are, and at the same time some of them after a place, in order."""
-        reply = self.ask([[b"EVAL", _WINDOW, b"1", self.key.encode(), f"({id_of(place)}".encode()]])[0]
-        if not isinstance(reply, list) or len(reply) not in (0, 2) or not all(isinstance(it, list) for it in reply):
+        reply = self.ask([[b"EVAL", _WINDOW, b"1", self.key.encode(), id_of(place).encode()]])[0]
+        if not isinstance(reply, list) or [*map(type, reply)] not in ([], [list, int, list]):
             raise Fault(f"not a reply of Redis: {reply!r}")
         if not reply:
-            return Extent((0, 0), (0, 0), (0, 0), 0), []
-        return self.extent_of(reply[0]), reply[1]  # type: ignore[arg-type, return-value]
+            return Extent((0, 0), (0, 0), (0, 0), 0, False), []
+        return self.extent_of(reply[0], reply[1] == 1), reply[2]  # type: ignore[arg-type, return-value]
 
     def after(self, place: Place) -> List[Entry]:
         """Some entries after a place, in order."""
@@ -295,7 +339,9 @@ class Stream:
         try:
             if not isinstance(fields, list) or fields[::2] not in ([b"change"], [b"change", b"by"]):
                 raise Fault("it does not have the field `change`, and at most `by`")
-            return Entry(place, change_of(bytes_of(fields[1])))
+            change = change_of(bytes_of(fields[1]))
+            change.check()
+            return Entry(place, change)
         except Fault as fault:
             raise Garbage(place, f"entry {id_of(place)} of {self.key}: {fault}") from fault
 
@@ -303,29 +349,39 @@ class Stream:
         """Which entries there are."""
         return self.window((1 << 63, 0))[0]
 
-    def extent_of(self, info: List[Value]) -> Extent:
-        """What `XINFO STREAM` says."""
+    def extent_of(self, info: List[Value], has: bool) -> Extent:
+        """What `XINFO STREAM` says, and whether there is the entry that was asked for."""
         facts = dict(zip(info[::2], info[1::2]))  # type: ignore[arg-type]
         names = (b"recorded-first-entry-id", b"last-generated-id", b"max-deleted-entry-id")
         places, counts = [facts.get(name) for name in names], [facts.get(name)
                                                                for name in (b"entries-added", b"length")]
         if None in places or not all(isinstance(it, int) for it in counts):
             raise Fault(f"Redis at {self.address} does not tell what was deleted of a stream: it needs Redis 7")
-        return Extent(*(place_of(bytes_of(it)) for it in places), counts[0] - counts[1])  # type: ignore[operator]
+        first, last, deleted = (place_of(bytes_of(it)) for it in places)
+        return Extent(first, last, deleted, counts[0] - counts[1], has)  # type: ignore[operator]
 
     def ask(self, commands: Sequence[Sequence[bytes]]) -> List[Value]:
         """Sends commands at once; their replies."""
+        fault: Optional[OSError] = None
+        replies: List[Value] = []
         try:
             self.socket.sendall(b"".join(
                 b"*%d\r\n%s" % (len(words), b"".join(b"$%d\r\n%s\r\n" % (len(it), it) for it in words))
                 for words in commands))
-            replies = [self.reply() for _ in commands]
-        except OSError as fault:
-            raise Away(f"Redis at {self.address}: {fault}") from fault
-        for it in replies:
-            if isinstance(it, Refusal):
+        except OSError as it:
+            fault = it
+        try:
+            # Where it took no more, it may have said why.
+            while len(replies) < len(commands) and not isinstance(fault, socket.timeout):
+                replies.append(self.reply())
+        except OSError as it:
+            fault = fault or it
+        for reply in replies:
+            if isinstance(reply, Refusal):
                 # (it reads its files at the start)
-                raise (Away if it.text.startswith("LOADING") else Fault)(f"Redis at {self.address}: {it.text}")
+                raise (Away if reply.text.startswith("LOADING") else Fault)(f"Redis at {self.address}: {reply.text}")
+        if fault:
+            raise Away(f"Redis at {self.address}: {fault}") from fault
         return replies
 
     def reply(self, depth: int = 0) -> Value:
@@ -371,23 +427,31 @@ class Publisher:
             self.append_again(changes, first)
 
     def append_again(self, changes: Sequence[Change], first: int) -> None:
-        """Appends changes of which it is not known how many were appended."""
+        """Appends changes of which it is not known whether they were appended."""
         end = time.monotonic() + self.seconds
         while True:
             try:
                 self.stream = Stream(self.address, self.key)
-                if self.stream.extent().lacks(self.place):
-                    raise Fault(f"{self.key}: entries after {id_of(self.place)} were trimmed, so it can't be said which "
-                                "changes were appended")
-                last, self.place = self.stream.numbered(self.token, self.place) or (first - 1, self.place)
-                if last + 1 < self.count:
-                    self.place = self.stream.append(changes[max(last + 1 - first, 0):], self.token,
-                                                    max(last + 1, first))
+                self.check()
+                last, place = self.stream.numbered(self.token, self.place) or (first - 1, self.place)
+                if last < first:
+                    place = self.stream.append(changes, self.token, first)
+                self.place = place
                 return
             except Away:
                 if time.monotonic() >= end:
                     raise
             time.sleep(0.2)
+
+    def check(self) -> None:
+        """Whether all is there that was appended before. Else it raises `Fault`."""
+        extent, _ = self.stream.window(self.place)
+        if extent.lacks(self.place):
+            raise Fault(f"{self.key}: entries after {id_of(self.place)} were trimmed, so it can't be said which changes "
+                        "were appended")
+        if extent.has_lost(self.place):
+            raise Fault(f"{self.key}: Redis has lost the entry {id_of(self.place)}, and maybe changes that were appended "
+                        "before it: publish them again")
 
 
 class Away(Fault):

@@ -85,11 +85,25 @@ def record_mark(record: str) -> Optional[changelog.Mark]:
     return changelog.mark_of(data[0], int(turn)) if is_mark else None
 
 
+def key_of(stream: changelog.Stream) -> bytes:
+    return f"{stream.key}:snapshot".encode()
+
+
 def published(stream: changelog.Stream) -> Optional[Snapshot]:
     """The snapshot that was published, if there is one."""
-    octets = stream.ask([[b"GET", f"{stream.key}:snapshot".encode()]])[0]
+    octets = stream.ask([[b"GET", key_of(stream)]])[0]
     return read(octets) if isinstance(octets, bytes) else None
 
 
-def publish(stream: changelog.Stream, snapshot: Snapshot) -> None:
-    stream.ask([[b"SET", f"{stream.key}:snapshot".encode(), snapshot.octets()]])
+def watch(stream: changelog.Stream) -> None:
+    """From now on `publish` takes the place of no snapshot but the one that is there."""
+    stream.ask([[b"WATCH", key_of(stream)]])
+
+
+def publish(stream: changelog.Stream, snapshot: Snapshot, trims: bool) -> int:
+    """Publishes a snapshot, and takes out all entries before it where that is wanted: how many there were."""
+    trim = [[b"XTRIM", stream.key.encode(), b"MINID", changelog.id_of(snapshot.mark.place).encode()]] if trims else []
+    done = stream.transact([[b"SET", key_of(stream), snapshot.octets()], *trim])
+    if not done:
+        raise changelog.Fault("another snapshot was published meanwhile")
+    return done[-1] if isinstance(done[-1], int) else 0

@@ -5,15 +5,18 @@ from __future__ import annotations
 
 import contextlib
 import glob
+import importlib.util
 import os
 import shutil
 import subprocess
 import sys
 import tempfile
 import traceback
+from importlib.machinery import SourceFileLoader
 from pathlib import Path
-from typing import Callable, Iterator, Mapping, Sequence
+from typing import Any, Callable, Iterator, Mapping, Sequence
 
+HERE = Path(__file__).resolve().parent
 POLICY = Path("/usr/sbin/policy-rc.d")
 
 
@@ -46,6 +49,18 @@ def install(packages: Mapping[str, str]) -> None:
                                   stderr=subprocess.STDOUT, check=False)
             if done.returncode and words != ["update"]:
                 sys.exit(f"apt-get {' '.join(words)}: {done.stdout.decode()[-500:].strip()}")
+
+
+def module_of(name: str) -> Any:
+    """Another part of tests/in-use/run as a module."""
+    loader = SourceFileLoader(name, str(HERE / name))
+    spec = importlib.util.spec_from_loader(name, loader)
+    assert spec is not None
+    module = importlib.util.module_from_spec(spec)
+    # (a dataclass looks its module up)
+    sys.modules[name] = module
+    loader.exec_module(module)
+    return module
 
 
 class Count:
