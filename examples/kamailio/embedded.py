@@ -83,6 +83,7 @@ class Embedded(locator.Locator):
         super().__init__()
         self.holds = Holds()
         self.loaded: Dict[str, int] = {}
+        self.told = ""
         self.next_tick = self.next_look = 0
 
     def child_init(self, rank: int) -> int:
@@ -90,7 +91,7 @@ class Embedded(locator.Locator):
         if rank > 0:
             try:
                 self.session = self.open()
-            except (OSError, MemoryError, siploc.Error) as fault:
+            except (MemoryError, siploc.Error) as fault:
                 KSR.err(f"siploc: {fault}\n")
                 return -1
         return 0
@@ -98,7 +99,11 @@ class Embedded(locator.Locator):
     def open(self) -> siploc.BaseSession:
         """A session with all zones."""
         session = siploc_embedded.open('held = "last"', library=LIBRARY)
-        self.loaded, self.next_tick, self.next_look, self.holds.seen = {}, 0, 0, 0
+        self.loaded, self.next_tick, self.next_look, self.holds.seen = {}, 0, milliseconds() + LOOK, 0
+        try:
+            self.load(session)
+        except OSError as fault:
+            raise siploc.NotConnected(str(fault)) from fault
         self.follow(session)
         return session
 
@@ -120,30 +125,49 @@ class Embedded(locator.Locator):
             self.next_tick = now + TICK
         if now >= self.next_look:
             self.next_look = now + LOOK
-            self.load(session)
+            try:
+                self.load(session)
+            except OSError as fault:
+                self.fault(f"{fault}: zones are as they were")
         for text in self.holds.unseen():
             transport, address, port, end = text.split(" ")
             if int(end) > now:
                 target = siploc.Target(transport, address, int(port))
-                in_journal(session, lambda: session.hold(target, int(end) - now))
+                try:
+                    in_journal(session, lambda: session.hold(target, int(end) - now))
+                except siploc.Refused as fault:
+                    KSR.warn(f"siploc: {fault}: it is not held\n")
+
+    def fault(self, text: str) -> None:
+        """Says what is wrong with files, once; nothing where all is well."""
+        if text and text != self.told:
+            KSR.err(f"siploc: {text}\n")
+        self.told = text
 
     def load(self, session: siploc.BaseSession) -> None:
-        """Loads the files that are new or have changed, and drops the zones of those that have gone."""
+        """Loads the files that are new or have changed, and drops the zones of those that have gone. What can't
+        be read is tried again. Where the folder can't be, it raises an OSError."""
         found = {it.name: it for it in os.scandir(ZONES) if it.is_file()}
         for name in [it for it in self.loaded if it not in found]:
             del self.loaded[name]
-            in_journal(session, lambda: session.drop(f"{name}."))
+            # (one that was refused is not there)
+            with contextlib.suppress(siploc.Refused, siploc.InvalidCommand):
+                in_journal(session, lambda: session.drop(f"{name}."))
+        unread = ""
         for name, entry in found.items():
-            changed = entry.stat().st_mtime_ns
-            if self.loaded.get(name) == changed:
-                continue
-            self.loaded[name] = changed
             try:
+                changed = entry.stat().st_mtime_ns
+                if self.loaded.get(name) == changed:
+                    continue
                 with open(entry.path, encoding="utf-8", errors="surrogateescape") as text:
                     lines = list(text)
+                self.loaded[name] = changed
                 in_journal(session, lambda: session.load(f"{name}.", lines))
-            except (OSError, siploc.Refused, siploc.InvalidCommand) as fault:
+            except OSError as fault:
+                unread = str(fault)
+            except (siploc.Refused, siploc.InvalidCommand) as fault:
                 KSR.err(f"siploc: {entry.path}: {fault}\n")
+        self.fault(unread)
 
 
 def in_journal(session: siploc.BaseSession, step: Callable[[], Reply]) -> Reply:

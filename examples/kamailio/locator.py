@@ -108,7 +108,11 @@ class Locator:
 
     def locate(self, _message: object) -> int:
         """Sets $du to the first target of the next hop, and keeps the others for `failed`."""
-        uri = KSR.pv.get("$nh(u)")
+        try:
+            uri = KSR.pv.get("$nh(u)")
+        except UnicodeError:
+            # (it may be an address all the same)
+            return NUMERIC
         if is_numeric(uri):
             return NUMERIC
         try:
@@ -132,8 +136,8 @@ class Locator:
             return FAILED
         first, *others = targets.split(",")
         transport, address, port = first.split(" ")
-        digits = retry_after.split(";")[0].split("(")[0].strip()
-        wait = int(digits) * 1000 if digits.isdigit() and int(digits) else HOLD
+        match = re.match(r"\s*([0-9]{1,9})\s*(?:[;(]|$)", retry_after, re.ASCII)
+        wait = match and int(match[1]) * 1000 or HOLD
         try:
             self.hold(siploc.Target(transport, address, int(port)), wait)
         except (Away, changelog.Fault, siploc.Error) as fault:
@@ -145,10 +149,12 @@ class Locator:
 
 
 def is_numeric(uri: str) -> bool:
-    """Whether a URI has an address in the place of a name: its `maddr`, or else its host."""
+    """Whether a URI has an address in the place of a name: its `maddr`, or else its host. Where it has more than one, or
+    one without a name, the locator refuses it, and nobody knows what Kamailio takes: then any of them counts."""
     host, *parameters = uri.partition(":")[2].rpartition("@")[2].partition("?")[0].split(";")
     given = [it[len("maddr="):] for it in parameters if it.lower().startswith("maddr=")]
-    return bool(re.match(r"\[|[0-9.]+(:|$)", (given or [host])[0]))
+    places = given if len(given) == 1 and given[0] else [host, *given]
+    return any(re.match(r"\[|[0-9.]+(:|$)", it) for it in places)
 
 
 def go_to(targets: List[str]) -> None:

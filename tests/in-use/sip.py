@@ -20,7 +20,7 @@ def reply_to(request: bytes, status: int, more: str = "") -> bytes:
     copied = b"".join(COPIED.findall(request))
     if status > 100:
         copied = re.sub(rb"(?im)^(to:[^\r]*?)(;tag=[^\r]*)?\r\n", rb"\1;tag=t\r\n", copied)
-    return b"SIP/2.0 %d Test\r\n%s%sContent-Length: 0\r\n\r\n" % (status, copied, more.encode())
+    return b"SIP/2.0 %d Test\r\n%s%sContent-Length: 0\r\n\r\n" % (status, copied, more.encode(errors="surrogateescape"))
 
 
 class Server:
@@ -101,7 +101,7 @@ def ask(port: int, uri: str = "sip:bob@example.com", method: str = "INVITE", sec
             f"Via: SIP/2.0/UDP {here};branch=z9hG4bKt{number}", f"From: <sip:alice@example.net>;tag={number}",
             "To: <sip:bob@example.com>", f"Call-ID: {number}@{here}", f"Contact: <sip:alice@{here}>",
             "Max-Forwards: 70", "Content-Length: 0", f"CSeq: 1 {{}}\r\n\r\n"])
-        client.sendto(f"{method} {uri} SIP/2.0\r\n{head.format(method)}".encode(), ("127.0.0.1", port))
+        client.sendto(f"{method} {uri} SIP/2.0\r\n{head.format(method)}".encode(errors="surrogateescape"), ("127.0.0.1", port))
         status = 0
         while status < 200:
             client.settimeout(max(0.01, start + seconds - time.monotonic()))
@@ -111,5 +111,5 @@ def ask(port: int, uri: str = "sip:bob@example.com", method: str = "INVITE", sec
                 return 0, time.monotonic() - start
         took = time.monotonic() - start
         if method == "INVITE":
-            client.sendto(f"ACK {uri} SIP/2.0\r\n{head.format('ACK')}".encode(), ("127.0.0.1", port))
+            client.sendto(f"ACK {uri} SIP/2.0\r\n{head.format('ACK')}".encode(errors="surrogateescape"), ("127.0.0.1", port))
         return status, took
