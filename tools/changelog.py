@@ -480,7 +480,10 @@ def connected(address: str, seconds: float) -> socket.socket:
         stream.settimeout(seconds)
         stream.connect(address[len("unix:"):])
         return stream
-    host, colon, port = address.rpartition(":")
-    if not colon or not port.isdigit():
+    match = re.fullmatch(r"(.*):([0-9]{1,5})", address)
+    if not match or int(match[2]) > 65_535:
         raise OSError("not an address such as 127.0.0.1:6379")
-    return socket.create_connection((host.strip("[]"), int(port)), timeout=seconds)
+    try:
+        return socket.create_connection((match[1].strip("[]"), int(match[2])), timeout=seconds)
+    except UnicodeError as fault:
+        raise OSError(fault) from fault

@@ -99,20 +99,25 @@ class Bell:
 
     def serve_streams(self) -> None:
         while True:
-            with contextlib.suppress(OSError):
+            try:
                 stream, sender = self.streams.accept()
+            except OSError:
+                # (without a descriptor it would fail at once, again and again)
+                time.sleep(0.1)
+                continue
+            with contextlib.suppress(OSError):
                 if self.primary.has(sender[0]) and self.free.acquire(blocking=False):
                     threading.Thread(target=self.serve_stream, args=(stream,), daemon=True).start()
                 else:
                     stream.close()
 
     def serve_stream(self, stream: socket.socket) -> None:
-        """One message of a connection, which may be silent for two seconds."""
+        """One message of a connection, which may take two seconds."""
         try:
             with contextlib.suppress(OSError, struct.error), stream:
-                stream.settimeout(2)
-                length, = struct.unpack(">H", stream.recv(2, socket.MSG_WAITALL))
-                reply = self.hear(stream.recv(min(length, 4_096), socket.MSG_WAITALL))
+                end = time.monotonic() + 2
+                length, = struct.unpack(">H", read_octets(stream, 2, end))
+                reply = self.hear(read_octets(stream, min(length, 4_096), end))
                 stream.sendall(struct.pack(">H", len(reply)) + reply)
         finally:
             self.free.release()
@@ -124,6 +129,18 @@ class Bell:
                 self.rung.wait(max(seconds, 0.0))
             changed, self.changed = self.changed, set()
         return changed
+
+
+def read_octets(stream: socket.socket, count: int, end: float) -> bytes:
+    """So many octets of a connection, which may come in pieces until a time."""
+    octets = b""
+    while len(octets) < count:
+        stream.settimeout(max(end - time.monotonic(), 0.001))
+        more = stream.recv(count - len(octets))
+        if not more:
+            raise ConnectionError("it was closed")
+        octets += more
+    return octets
 
 
 def read_question(octets: bytes) -> Optional[tuple[str, bytes]]:

@@ -37,7 +37,11 @@ class Head:
         if any(it in ("-h", "--help") for it in words):
             # (a pipe to a reader that has read enough ends it, as it does other programs)
             signal.signal(signal.SIGPIPE, signal.SIG_DFL)
-            print(self.comment)
+            try:
+                print(self.comment, flush=True)
+            except OSError as fault:
+                os.dup2(os.open(os.devnull, os.O_WRONLY), sys.stdout.fileno())
+                sys.exit(f"{self.path}: standard output: {fault.strerror}")
             sys.exit(0)
 
     def wrong(self, cause: str) -> NoReturn:

@@ -149,14 +149,16 @@ def percent(share: fractions.Fraction) -> str:
 
 
 def print_lines(lines: Iterable[str]) -> bool:
-    """Prints lines, and returns whether there was a reader for all of them."""
+    """Prints lines, and returns whether all of them were taken."""
     try:
         for line in lines:
             print(line)
         sys.stdout.flush()
-    except BrokenPipeError:
+    except OSError as fault:
         # What is still to be written is not tried again at the end.
         os.dup2(os.open(os.devnull, os.O_WRONLY), sys.stdout.fileno())
+        if not isinstance(fault, BrokenPipeError):
+            print(f"standard output: {fault.strerror}", file=sys.stderr)
         return False
     return True
 

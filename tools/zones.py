@@ -105,8 +105,8 @@ class Server(NamedTuple):
     def addresses(self) -> list[str]:
         try:
             found = socket.getaddrinfo(self.host, self.port, type=socket.SOCK_STREAM)
-        except OSError as fault:
-            raise Fault(f"{self.host} has no address: {fault.strerror or fault}") from None
+        except (OSError, UnicodeError) as fault:
+            raise Fault(f"{self.host} has no address: {getattr(fault, 'strerror', None) or fault}") from None
         return [*dict.fromkeys(str(it[4][0]) for it in found)]
 
 
@@ -424,7 +424,10 @@ def name_the_soa(zone: Zone, soa: Record) -> None:
 
 
 def take(zone: Zone, soa: Record, records: Iterable[Record], before: Optional[Zone] = None) -> Zone:
-    """A zone with the records of a whole transfer; `before` is what there was of it."""
+    """A zone with the records of a whole transfer; `before` is what there was of it, which is older (a server may be
+    behind the one that was asked for the serial)."""
+    if before and not is_newer(serial_of(soa), before.serial):
+        raise Fault(f"the server sends serial {serial_of(soa)}, and serial {before.serial} is kept")
     zone.add(soa)
     for record in records:
         zone.add(record)
