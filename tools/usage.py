@@ -40,13 +40,18 @@ class Head:
             try:
                 print(self.comment, flush=True)
             except OSError as fault:
-                os.dup2(os.open(os.devnull, os.O_WRONLY), sys.stdout.fileno())
+                drop_output()
                 sys.exit(f"{self.path}: standard output: {fault.strerror}")
             sys.exit(0)
 
     def wrong(self, cause: str) -> NoReturn:
         print(f"{self.usage()}\n{self.path}: {cause}", file=sys.stderr)
         sys.exit(2)
+
+
+def drop_output() -> None:
+    """Drops what standard output could not be given: it is not tried again at the end."""
+    os.dup2(os.open(os.devnull, os.O_WRONLY), sys.stdout.fileno())
 
 
 def main_head() -> Head:

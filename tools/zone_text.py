@@ -6,13 +6,14 @@ from __future__ import annotations
 import argparse
 import fractions
 import importlib.util
-import os
 import pathlib
 import re
 import runpy
 import sys
 import types
 from typing import Any, Iterable, NamedTuple, Optional, Sequence
+
+import usage
 
 TOP = pathlib.Path(__file__).resolve().parent.parent
 sys.path.insert(0, str(TOP / "clients/python"))
@@ -155,8 +156,7 @@ def print_lines(lines: Iterable[str]) -> bool:
             print(line)
         sys.stdout.flush()
     except OSError as fault:
-        # What is still to be written is not tried again at the end.
-        os.dup2(os.open(os.devnull, os.O_WRONLY), sys.stdout.fileno())
+        usage.drop_output()
         if not isinstance(fault, BrokenPipeError):
             print(f"standard output: {fault.strerror}", file=sys.stderr)
         return False
