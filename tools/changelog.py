@@ -1,8 +1,8 @@
 """Changes of a locator in a Redis stream: what tools/publish appends, and tools/apply takes from it.
 
 An entry of the stream has a field `change`: a line of a session that changes zones, holds or the time, or a `zone` line
-with its lines. It may have a field `by`, by which its publisher knows that it was appended. Redis is spoken to directly
-(RESP 2), over loopback or a Unix socket.
+with its lines. It may have a field `by`, the token of its publisher and a number; how many of those there are is at the key
+STREAM:by:TOKEN for a day. Redis is spoken to directly (RESP 2), over loopback or a Unix socket.
 """
 
 from __future__ import annotations
@@ -42,6 +42,18 @@ while #found < 1024 and octets < 4194304 do
     for _, text in ipairs(entry[2]) do octets = octets + #text end
 end
 return {facts, #redis.call('XRANGE', KEYS[1], ARGV[1], ARGV[1]), found}"""
+
+#: Appends changes, unless a publisher has appended them before, by a count that stays for a day; the place of the last one,
+#: or nothing where the count is another one. So it does not matter how often it comes, and when.
+_APPEND = b"""local count, place = string.match(redis.call('GET', KEYS[2]) or '0 0-0', '(%d+) (.+)')
+local first, last = tonumber(ARGV[2]), ARGV[2] + #ARGV - 2
+if tonumber(count) == last then return place end
+if tonumber(count) ~= first then return nil end
+for i = 3, #ARGV do
+    place = redis.call('XADD', KEYS[1], '*', 'change', ARGV[i], 'by', ARGV[1] .. '-' .. first + i - 3)
+end
+redis.call('SET', KEYS[2], last .. ' ' .. place, 'EX', 86400)
+return place"""
 
 #: The number of fields of each change, its word among them: at least, and at most.
 _FIELDS = {b"zone": (3, 3), b"drop": (2, 2), b"add": (2, 65_536), b"del": (2, 65_536), b"hold": (5, 5),
@@ -270,13 +282,20 @@ class Stream:
             raise Away(f"Redis at {address}: {fault}") from fault
         self.reader: BinaryIO = self.socket.makefile("rb")
 
-    def append(self, changes: Sequence[Change], token: str = "", first: int = 0) -> Place:
-        """Appends changes in order, all or none; the place of the last one. They are numbered, where that is wanted, by a
-        publisher's token and the numbers from the first one on."""
-        replies = self.transact([[b"XADD", self.key.encode(), b"*", b"change", it.octets,
-                                  *([b"by", f"{token}-{first + number}".encode()] if token else [])]
-                                 for number, it in enumerate(changes)])
+    def append(self, changes: Sequence[Change]) -> Place:
+        """Appends changes in order, all or none; the place of the last one."""
+        replies = self.transact([[b"XADD", self.key.encode(), b"*", b"change", it.octets] for it in changes])
         return place_of(bytes_of(replies[-1]))
+
+    def append_once(self, changes: Sequence[Change], token: str, first: int) -> Place:
+        """Appends changes in order, all or none, if that was not done before; the place of the last one. A publisher's
+        changes are numbered by its token, these from the first number on."""
+        key = self.key.encode()
+        place = self.ask([[b"EVAL", _APPEND, b"2", key, b"%b:by:%b" % (key, token.encode()), token.encode(), b"%d" % first,
+                           *(it.octets for it in changes)]])[0]
+        if place is None:
+            raise Fault(f"{self.key}: Redis has lost changes that it had taken from here: publish them again")
+        return place_of(bytes_of(place))
 
     def transact(self, commands: Sequence[Sequence[bytes]]) -> List[Value]:
         """The replies to commands of which all are done, or none. Where a key that was watched has changed, none is, and
@@ -288,18 +307,6 @@ class Stream:
             if isinstance(it, Refusal):
                 raise Fault(f"Redis at {self.address}: {it.text}")
         return done or []
-
-    def numbered(self, token: str, since: Place) -> Optional[Tuple[int, Place]]:
-        """The greatest number with a token after a place, and the place of its entry."""
-        found, place = None, since
-        while values := self.window(place)[1]:
-            for value in values:
-                name, fields = value  # type: ignore[misc]
-                place = place_of(name)
-                text = bytes_of(fields[3]).decode("latin-1") if len(fields) == 4 else ""
-                if text.startswith(f"{token}-"):
-                    found = int(text[len(token) + 1:]), place
-        return found
 
     def wait(self, place: Place, milliseconds: int) -> None:
         """Waits until there is an entry after a place, or so long."""
@@ -419,39 +426,22 @@ class Publisher:
         self.place = self.stream.extent().last
 
     def append(self, changes: Sequence[Change]) -> None:
-        """Appends changes; `place` is that of the last one."""
-        first, self.count = self.count, self.count + len(changes)
+        """Appends changes, all or none; `place` is that of the last one."""
+        first, self.count, end = self.count, self.count + len(changes), time.monotonic() + self.seconds
         try:
-            self.place = self.stream.append(changes, self.token, first)
+            self.place = self.stream.append_once(changes, self.token, first)
+            return
         except Away:
-            self.append_again(changes, first)
-
-    def append_again(self, changes: Sequence[Change], first: int) -> None:
-        """Appends changes of which it is not known whether they were appended."""
-        end = time.monotonic() + self.seconds
+            pass
         while True:
             try:
                 self.stream = Stream(self.address, self.key)
-                self.check()
-                last, place = self.stream.numbered(self.token, self.place) or (first - 1, self.place)
-                if last < first:
-                    place = self.stream.append(changes, self.token, first)
-                self.place = place
+                self.place = self.stream.append_once(changes, self.token, first)
                 return
             except Away:
                 if time.monotonic() >= end:
                     raise
             time.sleep(0.2)
-
-    def check(self) -> None:
-        """Whether all is there that was appended before. Else it raises `Fault`."""
-        extent, _ = self.stream.window(self.place)
-        if extent.lacks(self.place):
-            raise Fault(f"{self.key}: entries after {id_of(self.place)} were trimmed, so it can't be said which changes "
-                        "were appended")
-        if extent.has_lost(self.place):
-            raise Fault(f"{self.key}: Redis has lost the entry {id_of(self.place)}, and maybe changes that were appended "
-                        "before it: publish them again")
 
 
 class Away(Fault):

@@ -7,6 +7,7 @@ zones, holds and time.
 
 from __future__ import annotations
 
+import os
 import time
 from pathlib import Path
 from typing import Dict, Iterable, List, NamedTuple, Optional, Tuple
@@ -44,7 +45,8 @@ def of_state(path: Path) -> Snapshot:
 
 
 def state_lines(path: Path) -> List[bytes]:
-    """The lines of a state, and of the changes after it (docs/use/OPERATING.md)."""
+    """The lines of a state, and of the changes after it (docs/use/OPERATING.md). It may be a link to the state."""
+    path = Path(os.path.realpath(path))
     if path.exists() and not path.is_file():
         raise changelog.Fault(f"{path}: not a file")
     for _ in range(100):

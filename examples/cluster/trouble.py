@@ -3,7 +3,7 @@
 Two writers publish 4,800 changes. Meanwhile tools/apply, locators and Redis are killed, and the stream is trimmed up to
 a snapshot of the one locator that keeps a state, a `siplocd`. What says that its locator is to be started without state
 is obeyed. At the end a fourth machine begins with the snapshot. `passed` is printed only if each change was published
-once (a writer that can't learn whether its last ones were, since the stream was trimmed meanwhile, says so and ends),
+once (a writer that can't learn whether its last ones were, since Redis was away for a minute, says so and ends),
 none was refused but those that a locator refuses that is given all by a plain session, and all give its answers.
 """
 
@@ -170,7 +170,7 @@ def fresh(path: str, folder: Path, archive: Archive, started: List[Started]) -> 
 
 def judges(steps: Steps, members: List[Machine], archive: Archive, refused: Set[str], writers: List[Writer]) -> None:
     """Whether each change was published once, and applied once by each member. A writer that could not learn whether
-    its last changes were appended, as the stream was trimmed meanwhile, has said so and ended: they may be there."""
+    its last changes were appended, as Redis was away for a minute, has said so and ended: they may be there."""
     least = ZONES + sum(it.published for it in writers)
     most = least + cluster.WINDOW * sum(it.fault is not None for it in writers)
     steps.see("published once each", f"{len(archive.entries):,} changes; {archive.fault or 'all were kept'}",

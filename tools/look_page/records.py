@@ -68,6 +68,8 @@ class Records:
         self.settings, self.path = settings, settings.get("state")
         if not isinstance(self.path, (str, type(None))):
             raise Fault("the settings: state is not a path (G3)")
+        # (its log is beside the file to which a link leads)
+        self.path = self.path and os.path.realpath(self.path)
         self.transports = settings.get("transports", ["udp", "tcp"])
         self.kinds = plain.FAMILIES[settings.get("families", "v4")]
         self.has_host_clock = settings.get("clock", "host") == "host"
