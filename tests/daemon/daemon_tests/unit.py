@@ -29,10 +29,24 @@ def may_connect(path: pathlib.Path, user: int, groups: list[int]) -> bool:
     return os.waitpid(child, 0)[1] == 0
 
 
-@test
-def the_unit_lets_the_proxy_in(checks: Checks, folder: pathlib.Path) -> None:
+def read_unit() -> configparser.ConfigParser:
     unit = configparser.ConfigParser(interpolation=None, strict=False)
     unit.read(TOP / "examples/siplocd.service")
+    return unit
+
+
+@test
+def the_unit_starts_it_again_for_as_long_as_it_takes(checks: Checks, _folder: pathlib.Path) -> None:
+    """By default systemd gives up after five starts within ten seconds, as when a disk is full for a minute."""
+    unit = read_unit()
+    checks.equal(unit["Service"].get("Restart"), "on-failure", "what is started again")
+    checks.equal(unit["Unit"].get("StartLimitIntervalSec"), "0", "the limit of starts")
+    checks.expect(int(unit["Service"].get("RestartSec", "0")) >= 1, "it is started again at once, and again")
+
+
+@test
+def the_unit_lets_the_proxy_in(checks: Checks, folder: pathlib.Path) -> None:
+    unit = read_unit()
     # A group that is made at the start can have no members.
     group = NAMED if unit["Service"].get("Group") else DAEMON
     checks.expect(group == NAMED, "the unit names no group that a proxy could join")
