@@ -152,7 +152,8 @@ class Entry(NamedTuple):
 
 class Mark(NamedTuple):
     """What a locator was given: all entries of a stream up to a place, and maybe a first part of the batch after it.
-    It is broken where the locator has refused one of its own accord: then it is not what the stream says.
+    It is broken where the locator has refused one of its own accord: then it is not what the stream says. It is half while
+    a snapshot is given.
 
     A locator has two, at two names. The older one is deleted before the next one is added in its place: so there is
     always one, and space for the next."""
@@ -162,6 +163,11 @@ class Mark(NamedTuple):
     first: Place = (0, 0)
     is_broken: bool = False
     turn: int = 0
+    is_half: bool = False
+
+    @property
+    def is_good(self) -> bool:
+        return not self.is_broken and not self.is_half
 
     def next(self, place: Place, first: Place) -> Mark:
         """The mark after this one, of a place. `first` is the first entry of the stream, where it had none before."""
@@ -170,14 +176,15 @@ class Mark(NamedTuple):
     @property
     def record(self) -> str:
         """The record that is the mark."""
-        state = "broken" if self.is_broken else "good"
+        state = "broken" if self.is_broken else "half" if self.is_half else "good"
         return f"at{self.turn}.{MARKS} CNAME {id_of(self.place)}.{id_of(self.first)}.{self.stream}.{state}.{MARKS}"
 
 
 def mark_of(name: str, turn: int) -> Optional[Mark]:
     """The mark that an alias leads to, if it is one."""
-    match = re.fullmatch(rf"([0-9-]+)\.([0-9-]+)\.([0-9a-f]+)\.(good|broken)\.{re.escape(MARKS)}", name)
-    return Mark(match[3], place_of(match[1]), place_of(match[2]), match[4] == "broken", turn) if match else None
+    match = re.fullmatch(rf"([0-9-]+)\.([0-9-]+)\.([0-9a-f]+)\.(good|half|broken)\.{re.escape(MARKS)}", name)
+    return Mark(match[3], place_of(match[1]), place_of(match[2]), match[4] == "broken", turn,
+                match[4] == "half") if match else None
 
 
 def stream_id(key: str) -> str:
