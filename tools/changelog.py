@@ -25,7 +25,7 @@ MARKS = "applied.invalid."
 Place = Tuple[int, int]
 
 #: What `XINFO STREAM` says of a stream, without the entries in it, whether there is an entry at a place, and some entries
-#: after it, at the same time: as many as have 4 MB, or one. So neither Redis nor a tool has many large zones at once.
+#: after it, at the same time: four by four, until they have 4 MB. So neither Redis nor a tool has many large zones at once.
 _WINDOW = b"""if redis.call('EXISTS', KEYS[1]) == 0 then return {} end
 local info, facts = redis.call('XINFO', 'STREAM', KEYS[1]), {}
 for i = 1, #info, 2 do
@@ -35,11 +35,13 @@ for i = 1, #info, 2 do
     end
 end
 local found, octets, last = {}, 0, ARGV[1]
-while #found < 1024 and octets < 4194304 do
-    local entry = redis.call('XRANGE', KEYS[1], '(' .. last, '+', 'COUNT', 1)[1]
-    if not entry then break end
-    found[#found + 1], last = entry, entry[1]
-    for _, text in ipairs(entry[2]) do octets = octets + #text end
+while last and #found < 1024 and octets < 4194304 do
+    local from = '(' .. last
+    last = nil
+    for _, entry in ipairs(redis.call('XRANGE', KEYS[1], from, '+', 'COUNT', 4)) do
+        found[#found + 1], last = entry, entry[1]
+        for _, text in ipairs(entry[2]) do octets = octets + #text end
+    end
 end
 return {facts, #redis.call('XRANGE', KEYS[1], ARGV[1], ARGV[1]), found}"""
 
