@@ -57,6 +57,9 @@ end
 redis.call('SET', KEYS[2], last .. ' ' .. place, 'EX', 86400)
 return place"""
 
+#: The seconds after which a publisher begins to count anew.
+_RESTED = 3_600
+
 #: The number of fields of each change, its word among them: at least, and at most.
 _FIELDS = {b"zone": (3, 3), b"drop": (2, 2), b"add": (2, 65_536), b"del": (2, 65_536), b"hold": (5, 5),
            b"release": (4, 4), b"clock": (2, 2)}
@@ -430,13 +433,17 @@ class Publisher:
     def __init__(self, address: str, key: str, seconds: float = 60) -> None:
         """Redis may be away for some seconds, but not at the start."""
         self.address, self.key, self.seconds = address, key, seconds
-        self.token, self.count = secrets.token_hex(8), 0
+        self.token, self.count, self.used = secrets.token_hex(8), 0, time.monotonic()
         self.stream = Stream(address, key)
         self.place = self.stream.extent().last
 
     def append(self, changes: Sequence[Change]) -> None:
         """Appends changes, all or none; `place` is that of the last one."""
-        first, self.count, end = self.count, self.count + len(changes), time.monotonic() + self.seconds
+        now = time.monotonic()
+        if now > self.used + _RESTED:
+            # (Redis counts no more what was appended)
+            self.token, self.count = secrets.token_hex(8), 0
+        first, self.count, self.used, end = self.count, self.count + len(changes), now, now + self.seconds
         try:
             self.place = self.stream.append_once(changes, self.token, first)
             return
