@@ -16,5 +16,6 @@ pub mod OneText
 pub mod Calling
 pub mod Scripts
 pub mod Reading
+pub mod Pieces
 pub mod Asking
 pub mod Askable

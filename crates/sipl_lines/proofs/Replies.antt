@@ -152,7 +152,7 @@ AreAlike-kept_cr p rules a b alike =
       | inr long ↦ AreAlike-long p rules (without_cr a) (without_cr b) (omega (arith, without_cr-length a)) (omega (arith, without_cr-length b))
     ]
 
-items_from-alike : (p : Protocol) → IsLineProtocol p → (octets a b : Octets) → kept_prefix a ≡ kept_prefix b → AreAllAlike p (items_from a octets) (items_from b octets)
+pub items_from-alike : (p : Protocol) → IsLineProtocol p → (octets a b : Octets) → kept_prefix a ≡ kept_prefix b → AreAllAlike p (items_from a octets) (items_from b octets)
 items_from-alike p rules [] a b alike = tt
 items_from-alike p rules (c ∷ octets) a b alike =
     elim (c == 10) as (λ v. AreAllAlike p (if v then line (without_cr a) ∷ items_from [] octets else items_from (a ++ c ∷ []) octets)
@@ -200,7 +200,7 @@ replies_whole p s text piece pending old u new is empty reply =
     let P : Octets → Type 0 = λ l. AppendsReplies p s (line l ∷ []) old u new in
     subst P whole (replies_one p s (line text) old u new reply)
 
-replies_alike : (p : Protocol) (items others : List Item) (s : p.State) (old : Octets) (u : p.State) (new : Octets) → AreAllAlike p items others
+pub replies_alike : (p : Protocol) (items others : List Item) (s : p.State) (old : Octets) (u : p.State) (new : Octets) → AreAllAlike p items others
     → AppendsReplies p s items old u new → AppendsReplies p s others old u new
 replies_alike p items others s old u new alike replies = (replies.0, Serves-alike p items others s replies.0 u alike replies.1, replies.2)
 

@@ -1,6 +1,6 @@
 -- A session at a desk whose states are seen as those of another desk: where each rule of the one
 -- implies that of the other, the same text is that of a session at the other.
-use Rattle.std.proofs.Common.{◌≡◌, ℕ, List, [], ◌∷◌, map, Bool, true, false, Option, None, Some, Result, Ok, Err, OnOk, OnErr, ◌==◌, ◌++◌, ap, ◌∙◌, inl, inr, codes}
+use Rattle.std.proofs.Common.{◌≡◌, ℕ, List, [], ◌∷◌, map, take, Bool, true, false, Option, None, Some, Result, Ok, Err, OnOk, OnErr, ◌==◌, ◌++◌, ap, ◌∙◌, inl, inr, codes}
 use Rattle.std.specs.Bool.{OnTrue, OnFalse}
 use Rattle.sipl_names.specs.Labels.{Octets, Labels}
 use Rattle.sipl_names.specs.NameText.{name_of}
@@ -45,13 +45,15 @@ use Rattle.sipl_lines.specs.Calls.{CallDesk, with_call, hold_in, MakesHold, Goes
 use Rattle.sipl_lines.specs.Desk.{DeskRules}
 use Rattle.sipl_lines.specs.Gathering.{gathering_of, after_line, at_end, lost}
 use Rattle.sipl_lines.specs.Items.{Item, line, end_of_input, items_of, complete_items}
-use Rattle.sipl_lines.specs.Replies.{Pauses, Serves, Waits}
+use Rattle.sipl_lines.specs.Machine.{items_from}
+use Rattle.sipl_lines.specs.Replies.{AppendsReplies, Pauses, Serves, Waits}
 use Rattle.sipl_lines.specs.ReplyText.{counts_line, refusal_line}
 use Rattle.sipl_lines.specs.Requests.{Request, nothing, unknown, too_long, zone, drop, add, del, find, deps, repair, page, hold, release, clock, call, got, broke, quit, request_of}
 use Rattle.sipl_lines.specs.Serving.{ServesWithin, ServesDesk}
 use Rattle.sipl_lines.specs.ServeFault.{OnReadFault, OnTooManyTurns}
 use Rattle.sipl_lines.specs.Session.{SessionState, with_gathering, AtCall, AtDesk, Gathers, GathersOrLoses, LoadsGathered, MayPause, MayReply, Obeys, Performs, TakesEnd, TakesItem, TakesLine, new_session, session_protocol}
 use Rattle.sipl_lines.specs.Streams.{ServesAll, ServesPrefix, ServesRead}
+use Rattle.sipl_lines.specs.Takes.{Takes, TakesFirst}
 
 -- each rule of a desk implies that of another, where the states are seen so, and the faults have the
 -- same texts
@@ -81,7 +83,7 @@ keeps : {D E : Type 0} (seen : D → E) (reply : Octets) → Carries seen (Keeps
 keeps seen reply before text after kept = (kept.0, ap seen kept.1)
 
 -- the session's state with its desk as it is seen; all else is the same
-abbrev session_seen : {D E : Type 0} → (D → E) → SessionState D → SessionState E
+abbrev pub session_seen : {D E : Type 0} → (D → E) → SessionState D → SessionState E
 session_seen seen state = record { desk = seen state.desk; gathering = state.gathering; call = state.call; ended = state.ended }
 
 on_desk : {D E : Type 0} (seen : D → E) (Acts : D → Octets → D → Type 0) (Acts' : E → Octets → E → Type 0) → Carries seen Acts Acts'
@@ -323,6 +325,30 @@ module _ {D E F : Type 0} (seen : D → E) (R : DeskRules D F) (R' : DeskRules E
         first = (session_seen seen done.first.0, waits before done.first.0 done.first.1, may_reply done.first.0 item done.reply done.between done.first.2);
         others = serves items done.between done.replies after done.others;
         joined = done.joined;
+      }
+
+  appends_replies : (items : List Item) (before : SessionState D) (old : Octets) (after : SessionState D) (new : Octets)
+      → AppendsReplies (session_protocol R) before items old after new → AppendsReplies (session_protocol R') (session_seen seen before) items old (session_seen seen after) new
+  appends_replies items before old after new done = (done.0, serves items before done.0 after done.1, done.2)
+
+  pub takes : (before after : SessionState D) (pending taken old pending' new : Octets)
+      → Takes (session_protocol R) before pending taken old after pending' new → Takes (session_protocol R') (session_seen seen before) pending taken old (session_seen seen after) pending' new
+  takes before after pending taken old pending' new t =
+      record {
+        replies = appends_replies (items_from pending taken) before old after new t.replies;
+        pending_is = t.pending_is;
+        same_state = λ none. ap (session_seen seen) (t.same_state none);
+        same_pending = t.same_pending;
+      }
+
+  pub takes_first : (count : ℕ) (before after : SessionState D) (pending octets old pending' new : Octets)
+      → TakesFirst (session_protocol R) count before pending octets old after pending' new → TakesFirst (session_protocol R') count (session_seen seen before) pending octets old (session_seen seen after) pending' new
+  takes_first count before after pending octets old pending' new t =
+      record {
+        takes = takes before after pending (take count octets) old pending' new t.takes;
+        ends = t.ends;
+        line = t.line;
+        within = t.within;
       }
 
   serves_all : (before : SessionState D) (unread old : Option Octets) (after : SessionState D) (new : Option Octets)

@@ -1,6 +1,7 @@
 -- What becomes of octets that come piece by piece.
 use Rattle.std.specs.Prelude.{◌≡◌, ◌≢◌, ◌⊎◌, ℕ, ◌<◌, [], ◌∷◌, ◌++◌, length, take, drop}
 use Rattle.sipl_names.specs.Labels.{Octets}
+use Rattle.sipl_lines.specs.Items.{complete_items}
 use Rattle.sipl_lines.specs.Machine.{items_from, pending_after, kept_prefix}
 use Rattle.sipl_lines.specs.Protocol.{Protocol}
 use Rattle.sipl_lines.specs.Replies.{AppendsReplies}
@@ -28,3 +29,10 @@ pub record TakesFirst (p : Protocol) (count : ℕ) (before : p.State) (pending o
   pub ends : EndAtLine (take count octets)
   pub line : items_from [] (drop count octets) ≢ []
   pub within : count < length octets
+
+-- All octets that came so far are taken, whatever pieces they came in: the replies to the complete lines
+-- among them follow the first octets, and what is after the last line end is pending.
+pub record HasTaken (p : Protocol) (first : p.State) (octets old : Octets) (now : p.State)
+    (pending new : Octets) : Type 0 where
+  pub replies : AppendsReplies p first (complete_items octets) old now new
+  pub pending_is : pending ≡ kept_prefix (pending_after [] octets)

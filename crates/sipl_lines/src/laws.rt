@@ -1,11 +1,12 @@
 //! Laws of a session's replies. The functions do nothing: their contracts are the laws.
-ghost use Rattle.std.specs.Prelude.{◌≡◌};
+ghost use Rattle.std.specs.Prelude.{◌≡◌, [], ◌++◌};
 ghost use Rattle.sipl_names.specs.Labels.{Octets};
 ghost use Rattle.sipl_lines.specs.Items.{Item, items_of};
 ghost use Rattle.sipl_lines.specs.OneReply.{AreEqualOrLost, EndsInMemory, TellsMemory};
 ghost use Rattle.sipl_lines.specs.PlainDesk.{PlainState, plain_rules};
 ghost use Rattle.sipl_lines.specs.Replies.{Serves};
 ghost use Rattle.sipl_lines.specs.Session.{MayReply, SessionState, new_session, session_protocol};
+ghost use Rattle.sipl_lines.specs.Takes.{HasTaken, Takes};
 
 /// At a book an item has one reply, and leaves one state: two replies to one item from one state,
 /// of which neither ends with `err Memory`, are equal. So are the states after them, but that one
@@ -30,4 +31,17 @@ pub fn sessions_have_one_text()
         → Serves (session_protocol plain_rules) (new_session before) (items_of input) t a
         → Serves (session_protocol plain_rules) (new_session before) (items_of input) u b
         → (TellsMemory t → ⊥) → (TellsMemory u → ⊥) → a ≡ b }
+{}
+
+/// At a book the octets of a talk may be cut anywhere into pieces: the replies are those to the complete
+/// lines of all its octets, which are what `serve` replies to whatever comes after them. That holds of no
+/// octets, and of each piece that is taken after octets of which it holds.
+pub fn pieces_have_the_replies_of_the_whole()
+    ensures none { (state : SessionState PlainState) (old : Octets)
+        → HasTaken (session_protocol plain_rules) state [] old state [] old }
+    ensures more { (first now later : SessionState PlainState)
+        (octets old pending new piece pending' newer : Octets)
+        → HasTaken (session_protocol plain_rules) first octets old now pending new
+        → Takes (session_protocol plain_rules) now pending piece new later pending' newer
+        → HasTaken (session_protocol plain_rules) first (octets ++ piece) old later pending' newer }
 {}

@@ -16,5 +16,3 @@ mod rows;
 mod settings;
 #[cfg(test)]
 mod streams;
-#[cfg(test)]
-mod talks;
