@@ -3,7 +3,7 @@ from docs/tables, and the length of each document and of its sentences.
 
 A table is between the lines `<!-- table NAME WORD.. -->` and `<!-- end -->`:
 
-    settings NAME     the settings of docs/tables/settings.txt, whose keys are those of the crates
+    settings NAME     the settings of a program, by the rows of crates/sipl_config/src/rows.rt
     lines NAME        a table of docs/tables/lines.txt, whose words are those of the crates
     crates            what each crate is, and on which it depends, by crates.txt
     proved            the clauses of docs/tables/proved.txt, which the crates have, and all laws with their comments
@@ -19,6 +19,8 @@ and marked blocks are not counted. A document with a tenth more, or with a sente
 
 from __future__ import annotations
 
+import dataclasses
+import functools
 import pathlib
 import re
 from typing import Callable, Iterator, Optional
@@ -66,20 +68,108 @@ def refuse(what: str, known: set[str], written: set[str]) -> None:
 # ---- tables
 
 
+@dataclasses.dataclass(frozen=True)
+class Setting:
+    """A row of sipl_config/src/rows.rt: the name of its constant, and cells of its table."""
+
+    const: str
+    key: str
+    values: str
+    default: str
+    does: str
+    know: str
+
+
+ROWS = "sipl_config/src/rows.rt"
+ROW = re.compile(r"^((?:///[^\n]*\n)+)pub const (\w+): Row = Row \{\n    key: \"(\w+)\",\n    values: Values::"
+                 r"(\w+)\((.*?)\),\n    default: DefaultValue::(\w+)(?:\((.*?)\))?,\n\};$", re.S | re.M)
+
+
+def words_of_values(kind: str, text: str) -> str:
+    """What a value may be, as a cell: of numbers the least and the greatest, else the words without an example."""
+    if kind == "Numbers":
+        return " to ".join("2^40" if it == 1 << 40 else f"{it:,}" for it in (int(it, 0) for it in text.split(",")))
+    words = re.sub(r'\\"(\w+)\\"', r'`"\1"`', re.findall(r'"((?:[^"\\]|\\.)*)"', text)[0])
+    return re.sub(r",? as (?:\[?\\\").*", "", words)
+
+
+def words_of_default(kind: str, text: str) -> str:
+    """A default, as a cell."""
+    if kind == "Number":
+        return text if text.startswith("0o") else f"{int(text.replace('_', '')):,}"
+    return {"Nothing": "none", "Text": f"`{text}`", "Texts": f"`{text[1:]}`"}[kind]
+
+
+def begun_small(sentence: str) -> str:
+    """A paragraph as the end of a cell: its first letter small, but that of a name, and no point at its end."""
+    first = sentence[:1].lower() if sentence[1:2].islower() or sentence[1:2] == " " else sentence[:1]
+    return first + sentence[1:].removesuffix(".")
+
+
+@functools.cache
+def setting_rows() -> dict[str, Setting]:
+    """The rows of the settings, by the names of their constants."""
+    found = {}
+    for comment, const, key, kind, values, default, value in ROW.findall(text_of(ROWS)):
+        texts = "\n".join(it[4:] for it in comment.splitlines()).split("\n\n")
+        does, know, *_ = [*(" ".join(it.split()) for it in texts), ""]
+        found[const] = Setting(const, key, words_of_values(kind, values), words_of_default(default, value),
+                               begun_small(does), begun_small(know))
+    refuse(ROWS, set(re.findall(r"^pub const (\w+): Row =", text_of(ROWS), re.M)), set(found))
+    return found
+
+
+def listed(name: str) -> list[Setting]:
+    """The rows of a list of settings, in its order."""
+    body = re.search(rf"^pub const {name}: \[Row; \d+\] = \[\n(.*?)^\];", text_of(ROWS), re.S | re.M)
+    return [setting_rows()[it] for it in re.findall(r"\w+", body[1] if body else "")]
+
+
+def settings_of(name: str) -> list[Setting]:
+    """The settings of `siploc`, and those of `siplocd` that `siploc` does not have."""
+    shared = listed("SERVICE")
+    return shared if name == "siploc" else [it for it in listed("DAEMON") if it not in shared]
+
+
+def check_settings() -> None:
+    """Refuses a setting that is in no list, that no program reads, or that is read with other limits."""
+    used = {it.const for it in listed("DAEMON") + listed("SERVICE")}
+    refuse(f"{ROWS}, DAEMON and SERVICE", set(setting_rows()), used)
+    read = re.findall(r"\(&rows::(\w+)\)\?", text_of("sipl_daemon/src/settings.rt"))
+    refuse("sipl_daemon/src/settings.rt", {it.const for it in settings_of("siplocd")}, set(read))
+    if read != [it.const for it in settings_of("siplocd")]:
+        raise SystemExit("sipl_daemon/src/settings.rt: the settings are not read in the order of their keys' octets")
+    rows = re.findall(r'\(codes "(\w+)", (?:numbers (\d+) (\d+)|\w+)\)', text_of("sipl_lines/specs/Settings.antt"))
+    limits = {key: f"{int(least):,} to {int(greatest):,}" if greatest else "" for key, least, greatest in rows}
+    refuse("sipl_lines/specs/Settings.antt", {it.key for it in listed("SERVICE")}, set(limits))
+    for it in listed("SERVICE"):
+        if limits[it.key] not in ("", it.values):
+            raise SystemExit(f"{ROWS}: {it.key} is {it.values}, and in sipl_lines/specs/Settings.antt {limits[it.key]}")
+
+
 def keys_of(name: str) -> set[str]:
-    """The keys of the settings of a program."""
-    if name == "siplocd":
-        own = re.search(r"const OWN_KEYS: .*?\[\n(.*?)\];", text_of("sipl_daemon/src/settings.rt"), re.S)
-        return set(re.findall(r'"(\w+)"', own[1] if own else ""))
-    body = re.search(r"^pub struct Settings \{(.*?)^\}", text_of("sipl_lines/src/settings.rt"), re.S | re.M)
-    fields = set(re.findall(r"^    pub (\w+):", body[1] if body else "", re.M))
-    return fields - {"abilities"} | {"transports", "families"}
+    """The keys of the settings of a program; of `siplocd` those of its own."""
+    return {it.key for it in settings_of(name)}
 
 
 def settings(name: str) -> list[str]:
-    heads, *rows = rows_of("settings")[name]
-    refuse(f"settings.txt, {name}", keys_of(name), {row[0].strip("`") for row in rows})
-    return markdown(heads, rows)
+    check_settings()
+    rows = [[f"`{it.key}`", f"{it.values}: {it.does}", it.default, it.know] for it in settings_of(name)]
+    return markdown(["Key", "Value", "Default", "What to know"], rows)
+
+
+EXAMPLE = TOP / "examples/siplocd.toml"
+REST = "# The others, with their defaults, or with what they may be where they have none (dev/definitions):\n"
+
+
+def example_settings() -> str:
+    """The text of examples/siplocd.toml, with the settings of the daemon that it does not have."""
+    own, _, _ = EXAMPLE.read_text().partition(f"\n{REST}")
+    used = set(re.findall(r"^(?:# )?([a-z_]+) *=", own, re.M))
+    left = [it for it in listed("DAEMON") if it.key not in used]
+    lines = [f"# {it.key}: {it.values}" if it.default == "none" else
+             f"# {it.key} = {it.default[1:-1] if it.default[0] == '`' else it.default.replace(',', '')}" for it in left]
+    return f"{own}\n{REST}" + "".join(f"{it}\n" for it in lines).replace("`", "")
 
 
 # By the name of a table the file, or the folder, that has its words, and what they are in it.
@@ -309,10 +399,12 @@ def excess(path: pathlib.Path, text: str, target: Optional[int]) -> Iterator[str
 
 
 def excess_of_tables() -> Iterator[str]:
-    """The sentences of docs/tables that are too long."""
+    """The sentences of docs/tables and of the rows of the settings that are too long."""
     for path in sorted(TABLES.glob("*.txt")):
         cells = [cell for rows in rows_of(path.stem).values() for row in rows for cell in row]
         yield from long_sentences(path, "\n\n".join(cells))
+    texts = [text for it in setting_rows().values() for text in (it.does, it.know)]
+    yield from long_sentences(CRATES / ROWS, "\n\n".join(texts))
 
 
 def targets() -> dict[str, int]:

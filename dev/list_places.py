@@ -34,7 +34,7 @@ SENT = r'(?:line\("|_ask\(f?"|_ask\((?=zone))(\w+)'
 MADE = r'[\[ (]f?"(\w+)\b'
 PYTHON, ASYNC, GO = "clients/python/siploc.py", "clients/python/siploc_asyncio.py", "clients/go/siploc/"
 C, HEADER = "clients/c/siploc.c", "clients/c/siploc.h"
-KEYS = "crates/sipl_config/src/keys.rt"
+KEYS = "crates/sipl_config/specs/Keys.antt"
 CLIENTS = [
     Place(PYTHON, "kinds", r'^_KIND = r"\((.*?)\)"'),
     Place(PYTHON, "kinds", r"    The kind is (.*?), and the number is 1", "`(\\w+)`"),
@@ -100,11 +100,8 @@ TOOLS = [
     Place("bench/rows/zones", "types", r"^def customer\((.*?)^def ", r"\b([A-Z]+)\b", True),
 ]
 CRATES = [
-    Place(KEYS, "settings", r"pub fn service_keys\(.*?\"(.*?)\""),
-    Place(KEYS, "settings of siplocd", r"pub fn daemon_keys\(.*?\"(.*?)\""),
-    Place(KEYS, "settings", r"pub fn service_value\((.*?)^}", r'^        "(\w+)" =>'),
-    Place(KEYS, "own settings", r"pub fn daemon_value\((.*?)^}", r'^        "(\w+)" =>'),
-    Place("crates/sipl_config/src/changed.rt", "defaults", r"^const DEFAULTS.*?= \[(.*?)^\]", r'\("(\w+)", "'),
+    Place(KEYS, "settings", r"^service_key_list =(.*?)\n\n", r'codes "(\w+)"'),
+    Place(KEYS, "settings of siplocd", r"^daemon_key_list =(.*?)\n\n", r'codes "(\w+)"'),
     Place("crates/sipl_daemon/src/control.rt", "control", r"(.*)", r'^ +"(\w+)" =>'),
 ]
 # By each row of docs/tables/places.txt the lists whose files it has.
@@ -112,8 +109,8 @@ ROWS = {"a record type": ["types", "kinds"], "a family of addresses": ["families
         "a reason for no targets": ["reasons", "ends of answers"], "a line of a script": ["script"],
         "a line of a session": ["session", "session but quit", "session in capitals", "changes", "not_asking"],
         "a line at a control address": ["control"], "a refusal": ["codes"],
-        "a setting of both programs": ["settings", "settings of siplocd", "defaults"],
-        "a setting of the daemon": ["settings of siplocd", "own settings", "defaults"]}
+        "a setting of both programs": ["settings", "settings of siplocd"],
+        "a setting of the daemon": ["settings of siplocd"]}
 # Each kind of list that a client or a tool may have, by how many of its words one after another are one.
 SORTS = {"types": 4, "families": 3, "reasons": 3, "session": 5, "script": 5, "settings": 4, "settings of siplocd": 6}
 
@@ -127,9 +124,8 @@ def wanted() -> dict[str, set[str]]:
             "session in capitals": {it.upper() for it in plain["session"]},
             "steps in capitals": {it.upper() for it in plain["steps"]},
             "codes": set(found["refusals"]["session"]), "settings": set(found["settings"]["siploc"]),
-            "settings of siplocd": set(found["settings"]["siplocd"]), "defaults": set(lists.defaults()),
-            "steps with fields": {it for it, form in found["steps"].items() if " " in form},
-            "own settings": {*documents.keys_of("siplocd"), "sessions"}}
+            "settings of siplocd": set(found["settings"]["siplocd"]),
+            "steps with fields": {it for it, form in found["steps"].items() if " " in form}}
 
 
 @functools.cache

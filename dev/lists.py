@@ -108,14 +108,6 @@ def refusals() -> dict[str, list[str]]:
     return {"session": [it for it in codes() if it in session], "script": [it for it in codes() if it in script]}
 
 
-def defaults() -> dict[str, str]:
-    """The settings of the daemon that have a default, with it, by docs/tables/settings.txt."""
-    tables = documents.rows_of("settings")
-    rows = {row[0].strip("`"): row[2].strip("`") for name in ("siploc", "siplocd") for row in tables[name][1:]}
-    return {key: it for key, it in rows.items()
-            if key == "find" or key != "sessions" and it not in ("none", "for ever")}
-
-
 @functools.cache
 def read() -> dict[str, Any]:
     """All lists."""
@@ -129,7 +121,7 @@ def read() -> dict[str, Any]:
         "reasons": words("sipl_plans/src/answer.rt", r'Reason::\w+ => "(\w+)"'),
         "session": commands("session"), "script": commands("script"), "control": commands("control"),
         "steps": {form.split(" ")[0]: form for it in documents.rows_of("lines")["steps"][1:] for form in forms(it[0])},
-        "changes": words("sipl_archive/src/items.rt", r'b"(\w+)"', r"fn is_change\((.*?)^}"),
+        "changes": words("sipl_archive/src/items.rt", r'b"(\w+)"', r"fn is_edit\((.*?^}.*?)^}"),
         "not_asking": words("sipl_daemon/src/session/asking.rt", r'b"(\w+)"', r"fn is_refused\((.*?)^}"),
         "settings": {"siploc": shared, "siplocd": sorted({*own, *shared} - {"sessions"})},
         "codes": codes(), "refusals": refusals(),

@@ -22,12 +22,13 @@ daemon_key_list = codes "archive" ∷ codes "clients" ∷ codes "clock" ∷ code
 abbrev pub is_among : List (List ℕ) → List ℕ → Bool
 is_among keys key = list_any (λ word. pointwise nat_eq key word) keys
 
+-- what is between a key and those that follow it: a comma, `and` before the last
+abbrev pub separator_before : List (List ℕ) → List ℕ
+separator_before [] = []
+separator_before (last ∷ []) = codes " and "
+separator_before (next ∷ after ∷ rest) = codes ", "
+
 -- keys in words: commas after all but the last two, which `and` separates
 abbrev pub in_words : List (List ℕ) → List ℕ
 in_words [] = []
-in_words (key ∷ rest) = key ++ words_after rest
-  where
-    words_after : List (List ℕ) → List ℕ
-    words_after [] = []
-    words_after (key ∷ []) = codes " and " ++ key
-    words_after (key ∷ next ∷ rest) = codes ", " ++ key ++ words_after (next ∷ rest)
+in_words (key ∷ rest) = key ++ (separator_before rest ++ in_words rest)

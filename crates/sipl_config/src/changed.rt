@@ -1,30 +1,8 @@
 //! Which settings differ from the defaults.
+use crate::keys::daemon_row;
 use std::alloc::{AllocError, Global};
 use std::fmt::Write as _;
 use toml::Value;
-
-// The settings of the daemon that have a default, as the texts of their values.
-const DEFAULTS: [(&str, &str); 19] = [
-    ("clients", "512"),
-    ("clock", "host"),
-    ("entries", "65536"),
-    ("families", "v4"),
-    ("find", ""),
-    ("held", "out"),
-    ("holds", "4096"),
-    ("journal", "1048576"),
-    ("listen", "127.0.0.1:5099"),
-    ("log", "info"),
-    ("mode", "384"),
-    ("on_failure", "end"),
-    ("page_octets", "67108864"),
-    ("records", "1048576"),
-    ("stdin", "ignore"),
-    ("transports", "udp,tcp"),
-    ("tries", "4"),
-    ("workers", "1"),
-    ("zone_octets", "268435456"),
-];
 
 /// The settings of the daemon in a TOML document that differ from the defaults: each key with the text of its value.
 pub fn changed_settings(alloc: Global, text: &str) -> Result<Vec<(String, String)>, AllocError> {
@@ -33,18 +11,22 @@ pub fn changed_settings(alloc: Global, text: &str) -> Result<Vec<(String, String
         return Ok(changed);
     };
     for (key, value) in table {
-        let text = value_text(alloc, &value)?;
-        if !is_default(key.as_str(), text.as_str()) {
-            changed.push((key, text))?;
+        if !is_default(alloc, key.as_str(), &value)? {
+            changed.push((key, value_text(alloc, &value)?))?;
         }
     }
     Ok(changed)
 }
 
-fn is_default(key: &str, text: &str) -> bool {
-    DEFAULTS
-        .iter()
-        .any(|(name, default)| *name == key && *default == text)
+fn is_default(alloc: Global, key: &str, value: &Value) -> Result<bool, AllocError> {
+    let default = match daemon_row(key) {
+        Some(row) => row.default_value(alloc)?,
+        None => None,
+    };
+    Ok(match default {
+        Some(default) => default == *value,
+        None => false,
+    })
 }
 
 // The text of a value, without quotes; those of a list with commas.

@@ -3,7 +3,7 @@ use crate::arguments::Given;
 use crate::host::Host;
 use crate::report::Fault;
 use crate::settings::DaemonSettings;
-use sipl_config::{daemon_keys, daemon_value, key_fault, text_fault};
+use sipl_config::{daemon_keys, daemon_row, key_fault, text_fault};
 use sipl_lines::SettingsFault;
 use std::alloc::{AllocError, Global};
 use std::fs;
@@ -49,7 +49,8 @@ fn told(
 ) -> Result<String, AllocError> {
     match fault {
         SettingsFault::UnknownKey(key) => {
-            let allowed = format!(in alloc; "no such key; there are {}", daemon_keys())?;
+            let keys = daemon_keys(alloc)?;
+            let allowed = format!(in alloc; "no such key; there are {keys}")?;
             key_fault(
                 alloc,
                 path,
@@ -60,8 +61,18 @@ fn told(
             )
         }
         SettingsFault::BadValue(key) => {
-            let allowed = daemon_value(key.as_str()).unwrap_or("");
-            key_fault(alloc, path, text, key.as_str(), fault.code(), allowed)
+            let allowed = match daemon_row(key.as_str()) {
+                Some(row) => row.allowed(alloc)?,
+                None => String::new(alloc),
+            };
+            key_fault(
+                alloc,
+                path,
+                text,
+                key.as_str(),
+                fault.code(),
+                allowed.as_str(),
+            )
         }
         _ => text_fault(alloc, path, text),
     }

@@ -18,7 +18,7 @@ use Rattle.sipl_lines.specs.declared.settings.Settings.{Settings}
 use Rattle.sipl_lines.specs.declared.settings.fault.Refusal.{Refusal}
 use Rattle.sipl_lines.specs.declared.settings.fault.Refusal.TheVariants.{UnknownKey, BadValue, Memory}
 use Rattle.sipl_lines.specs.SettingsFault.{Fault, key_fault}
-use Rattle.sipl_lines.specs.Settings.{earlier, first_fault, member_fault, settings_of, settings_over, value_at}
+use Rattle.sipl_lines.specs.Settings.{earlier, first_fault, member_fault, settings_over, value_at}
 use Rattle.sipl_lines.specs.Values.{number_in, transports_in, families_in, held_in, listen_in}
 
 -- what the members that are left give, over the settings so far
@@ -110,9 +110,9 @@ module _ (key : Octets) (d : Data) (es : List Entry) (after : AreAfter key es) w
       ∙ ap (λ o. option_map_or (λ f. Err f.1) o (Ok (settings_over (member key d (members_view es)) base))) (earlier-first key fault (first_fault (members_view es)) (IsAfter-first_fault key es after))
 
 -- the key and the value that come next, and the settings so far
-module _ (text key_text : Octets) (s rest : List Entry) (key : String Global) (value : Value) (base : Settings)
+module _ (whole : Result Settings Fault) (key_text : Octets) (s rest : List Entry) (key : String Global) (value : Value) (base : Settings)
     (first : s ≡ (key, value) ∷ rest) (same : key_text ≡ string_bytes key)
-    (in_order : IsStrictlySortedBy string_cmp (keys_of s)) (given : settings_of text ≡ settings_from (members_view s) base) where
+    (in_order : IsStrictlySortedBy string_cmp (keys_of s)) (given : whole ≡ settings_from (members_view s) base) where
   split_order : IsStrictlySortedBy string_cmp (keys_of ((key, value) ∷ rest)) → AreAfter (string_bytes key) rest × IsStrictlySortedBy string_cmp (keys_of rest)
   unfolding IsStrictlySortedBy
   split_order h = h
@@ -120,21 +120,21 @@ module _ (text key_text : Octets) (s rest : List Entry) (key : String Global) (v
   after : AreAfter (string_bytes key) rest × IsStrictlySortedBy string_cmp (keys_of rest)
   after = split_order (subst (λ (es : List Entry). IsStrictlySortedBy string_cmp (keys_of es)) first in_order)
 
-  begun : settings_of text ≡ settings_from (member (string_bytes key) (view value) (members_view rest)) base
+  begun : whole ≡ settings_from (member (string_bytes key) (view value) (members_view rest)) base
   begun = given ∙ ap (λ (es : List Entry). settings_from (members_view es) base) first
 
   pub rest_in_order : IsStrictlySortedBy string_cmp (keys_of rest)
   rest_in_order = after.1
 
   -- a key that is set
-  pub settings_of-allowed : (new : Settings) → member_fault key_text (view value) ≡ None → new ≡ settings_over (member key_text (view value) no_members) base → settings_of text ≡ settings_from (members_view rest) new
-  settings_of-allowed new allowed set =
+  pub whole-allowed : (new : Settings) → member_fault key_text (view value) ≡ None → new ≡ settings_over (member key_text (view value) no_members) base → whole ≡ settings_from (members_view rest) new
+  whole-allowed new allowed set =
       begun
       ∙ settings_from-allowed (string_bytes key) (view value) rest after.0 base (rw (← same) allowed)
       ∙ ap (λ s. settings_from (members_view rest) s) (sym (set ∙ ap (λ (k : Octets). settings_over (member k (view value) no_members) base) same))
 
   -- a key that is refused
-  pub settings_of-refused : (refusal : Refusal) → IfSome (key_fault refusal key_text) (λ fault. member_fault key_text (view value) ≡ Some fault) → IfSome (key_fault refusal (string_bytes key)) (λ fault. settings_of text ≡ Err fault)
-  settings_of-refused UnknownKey refused = begun ∙ settings_from-refused (string_bytes key) (view value) rest after.0 base _ (rw same at refused)
-  settings_of-refused BadValue refused = begun ∙ settings_from-refused (string_bytes key) (view value) rest after.0 base _ (rw same at refused)
-  settings_of-refused Memory refused = tt
+  pub whole-refused : (refusal : Refusal) → IfSome (key_fault refusal key_text) (λ fault. member_fault key_text (view value) ≡ Some fault) → IfSome (key_fault refusal (string_bytes key)) (λ fault. whole ≡ Err fault)
+  whole-refused UnknownKey refused = begun ∙ settings_from-refused (string_bytes key) (view value) rest after.0 base _ (rw same at refused)
+  whole-refused BadValue refused = begun ∙ settings_from-refused (string_bytes key) (view value) rest after.0 base _ (rw same at refused)
+  whole-refused Memory refused = tt

@@ -35,6 +35,6 @@ pub use lines::OutOfMemory;
 pub use script::{play_script, play_script_within};
 pub use server::{Ended, MAX_READS, ServeFault, serve, serve_within};
 pub use service_desk::ServiceDesk;
-pub use settings::{Settings, SettingsFault};
+pub use settings::{Settings, SettingsFault, read_table};
 pub use talk::Talk;
 pub use tapped::Tapped;

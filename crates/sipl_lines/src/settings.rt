@@ -3,7 +3,7 @@ ghost use Rattle.std.specs.Prelude.{◌≡◌, ◌≢◌, None, Some, Ok, Err, I
 ghost use Rattle.toml.specs.Parse.{parse_document};
 ghost use Rattle.toml.specs.View.{table_view, view};
 ghost use Rattle.sipl_lines.specs.SettingsFault.{fault_of};
-ghost use Rattle.sipl_lines.specs.Settings.{defaults, IsWithinLimits, limits_of, SetsKey, settings_of};
+ghost use Rattle.sipl_lines.specs.Settings.{defaults, IsWithinLimits, limits_of, SetsKey, settings_of, settings_of_members};
 
 mod fault;
 mod values;
@@ -63,7 +63,18 @@ impl Settings {
         ensures refused { IfErr result (λ fault. IfSome (fault_of fault)
             (λ fault. settings_of text.now ≡ Err fault)) }
     {
-        let table = read_table(alloc, text)?;
+        Settings::from_table(alloc, read_table(alloc, text)?)
+    }
+
+    /// Reads the program's settings from the table of a TOML document, as [`Settings::from_toml`] does from its text.
+    /// A fault is G2 or G3.
+    pub fn from_table(alloc: Global, table: Table) -> Result<Self, SettingsFault>
+        ensures read { IfOk result (λ settings.
+            settings_of_members (table_view table) ≡ Ok settings) }
+        ensures limits { IfOk result (λ settings. IsWithinLimits settings) }
+        ensures refused { IfErr result (λ fault. IfSome (fault_of fault)
+            (λ fault. settings_of_members (table_view table) ≡ Err fault)) }
+    {
         let mut settings = Settings::defaults(alloc)?;
         for (key, value) in table {
             if let Err(refusal) = settings.set(alloc, key.as_str(), &value) {
@@ -136,8 +147,8 @@ impl Settings {
     }
 }
 
-// The table of a TOML document.
-fn read_table(alloc: Global, text: &str) -> Result<Table, SettingsFault>
+/// The table of a TOML document. The fault is G1 where the text is not one.
+pub fn read_table(alloc: Global, text: &str) -> Result<Table, SettingsFault>
     ensures read { IfOk result (λ table. parse_document text.now ≡ Some (table_view table)) }
     ensures refused { IfErr result (λ fault. fault ≢ SettingsFault.Memory
         → (fault ≡ SettingsFault.NotToml) × (parse_document text.now ≡ None)) }

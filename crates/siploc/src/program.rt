@@ -5,7 +5,7 @@ ghost use Rattle.sipl_lines.specs.Settings.{IsWithinLimits};
 use crate::arguments::{Call, Given, Unread, read_arguments};
 use crate::serve::{ServerFault, serve_connections};
 use sipl_book::Book;
-use sipl_config::{key_fault, service_keys, service_value, text_fault};
+use sipl_config::{key_fault, service_keys, service_row, text_fault};
 use sipl_lines::{
     Ended, ServeFault, Settings, SettingsFault, Tapped, check_zone, play_script, serve_book,
 };
@@ -180,7 +180,8 @@ fn told(
 ) -> Result<String, AllocError> {
     match fault {
         SettingsFault::UnknownKey(key) => {
-            let allowed = format!(in alloc; "no such key; there are {}", service_keys())?;
+            let keys = service_keys(alloc)?;
+            let allowed = format!(in alloc; "no such key; there are {keys}")?;
             key_fault(
                 alloc,
                 path,
@@ -191,8 +192,18 @@ fn told(
             )
         }
         SettingsFault::BadValue(key) => {
-            let allowed = service_value(key.as_str()).unwrap_or("");
-            key_fault(alloc, path, text, key.as_str(), fault.code(), allowed)
+            let allowed = match service_row(key.as_str()) {
+                Some(row) => row.allowed(alloc)?,
+                None => String::new(alloc),
+            };
+            key_fault(
+                alloc,
+                path,
+                text,
+                key.as_str(),
+                fault.code(),
+                allowed.as_str(),
+            )
         }
         _ => text_fault(alloc, path, text),
     }
