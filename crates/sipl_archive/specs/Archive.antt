@@ -1,5 +1,6 @@
 -- The first and the last lines of an archived page.
-use Rattle.std.specs.Prelude.{◌≡◌, ℕ, ◌^◌, ◌-◌, List, [], ◌∷◌, ◌++◌, Option, None, Some, codes, flat_map}
+use Rattle.std.specs.Prelude.{◌≡◌, ℕ, ◌^◌, ◌-◌, ◌&&◌, false, decimal, fold, max, List, [], ◌∷◌, ◌++◌, length, get_or, take, drop, Option, None, Some, codes, flat_map, if◌then◌else◌, ◌==◌}
+use Rattle.std.specs.Fmt.{format_spec, padded_integral}
 use Rattle.std.specs.Io.KnownBytes.{Appends}
 use Rattle.sha2.specs.Hashers.{Holds256}
 use Rattle.sha2.specs.Sha256.{sha256}
@@ -15,6 +16,7 @@ use Rattle.sipl_choice.specs.declared.families.Families.TheVariants.{V4, V6, V4T
 use Rattle.sipl_choice.specs.declared.transport.Transport.{Transport}
 use Rattle.sipl_outages.specs.declared.held.Held.{Held}
 use Rattle.sipl_outages.specs.declared.held.Held.TheVariants.{Out, Last}
+use Rattle.sipl_book.specs.Pages.{PageState}
 use Rattle.sipl_book.specs.declared.event.Event.{Event}
 use Rattle.sipl_lines.specs.ReplyText.{number_field}
 use Rattle.sipl_archive.specs.Text.{event_lines}
@@ -90,6 +92,33 @@ abbrev pub extent_in : List Octets → Option (ℕ × ℕ)
 extent_in (first ∷ count ∷ []) =
     both (number_of first (2 ^ 64 - 1)) (number_of count (2 ^ 64 - 1))
 extent_in _ = None
+
+-- the run and the number of the first event in the name of a page: six digits, a dash and sixteen digits
+abbrev pub page_named : Octets → Option (ℕ × ℕ)
+page_named name =
+    if length name == 23 && get_or name 6 0 == 45
+    then both (number_of (take 6 name) (2 ^ 64 - 1)) (number_of (drop 7 name) (2 ^ 64 - 1)) else None
+
+-- a number with zeros before it, of so many digits at least
+abbrev pub padded : ℕ → ℕ → Octets
+padded width n = padded_integral (format_spec 32 0 4 width (2 ^ 64 - 1)) false [] (decimal n)
+
+-- the name of a page of a run, by the number of its first event
+abbrev pub page_name : ℕ → ℕ → Octets
+page_name run first = padded 6 run ++ 45 ∷ padded 16 first
+
+-- the run in the name of a file; 0 where it is not that of a page
+abbrev pub run_named : Octets → ℕ
+run_named name = elim (page_named name) [ Some named ↦ named.0 | None ↦ 0 ]
+
+-- the greatest run in names of files; 0 where none is that of a page
+abbrev pub greatest_run : List Octets → ℕ
+greatest_run names = fold (λ last name. max (run_named name) last) 0 names
+
+-- the file of a page of a client
+abbrev pub file_text : Octets → PageState → Octets
+file_text client page =
+    page_text (page_head page.first (length page.events) client) page.events
 
 -- a text begins with the head of a page: its first line, its client's settings up to an empty line; then there
 -- are its events

@@ -1,5 +1,5 @@
 -- The lines of a text: which of them are one command.
-use Rattle.std.specs.Prelude.{◌≡◌, ◌++◌, ℕ, zero, suc, Some, option_and_then, ◌==◌, ◌^◌, ◌-◌, List, [], ◌∷◌, length, drop, codes, nat_eq, nat_lt, Option, None, unwrap_or, if◌then◌else◌}
+use Rattle.std.specs.Prelude.{◌≡◌, ◌≤◌, ◌+◌, ◌++◌, ℕ, zero, suc, Bool, false, ◌||◌, Some, option_and_then, ◌==◌, ◌^◌, ◌-◌, List, [], ◌∷◌, length, drop, codes, nat_eq, nat_lt, Option, None, unwrap_or, if◌then◌else◌}
 use Rattle.std.specs.List.{starts_with}
 use lib.Pointwise.{pointwise}
 use Rattle.sipl_names.specs.Labels.{Octets}
@@ -42,6 +42,72 @@ taken_by line =
 -- what is after the first command of a text: its line, and those that it takes
 abbrev pub after_command : Octets → Option Octets
 after_command text = after_lines (suc (taken_by (first_line text))) text
+
+-- a text is one command, whole
+abbrev pub IsCommand : Octets → Type 0
+IsCommand text = after_command text ≡ Some []
+
+-- whether the first field of a line passes a test
+abbrev pub first_passes : (Octets → Bool) → List Octets → Bool
+first_passes test [] = false
+first_passes test (word ∷ others) = test word
+
+-- whether a word is that of an edit
+abbrev pub edits : Octets → Bool
+edits word =
+    pointwise nat_eq word (codes "zone") || pointwise nat_eq word (codes "drop")
+    || pointwise nat_eq word (codes "add") || pointwise nat_eq word (codes "del")
+
+-- whether a word is that of a hold, a release, or a move of the clock
+abbrev pub moves : Octets → Bool
+moves word =
+    pointwise nat_eq word (codes "hold") || pointwise nat_eq word (codes "release")
+    || pointwise nat_eq word (codes "clock")
+
+-- whether a word begins the line that ends a reply
+abbrev pub ends : Octets → Bool
+ends word =
+    pointwise nat_eq word (codes "ok") || pointwise nat_eq word (codes "none")
+    || pointwise nat_eq word (codes "err")
+
+-- whether a line is that of a change
+abbrev pub is_change : Octets → Bool
+is_change line = first_passes (λ word. edits word || moves word) (fields_of line)
+
+-- whether a line is that of a question
+abbrev pub is_find : Octets → Bool
+is_find line = first_passes (λ word. pointwise nat_eq word (codes "find")) (fields_of line)
+
+-- whether a line is the last one of a reply
+abbrev pub is_end : Octets → Bool
+is_end line = first_passes ends (fields_of line)
+
+-- what is after the first reply of a text, which ends within so many lines
+abbrev pub after_reply_within : ℕ → Octets → Option Octets
+after_reply_within zero text = None
+after_reply_within (suc n) text =
+    option_and_then (λ rest. if is_end (first_line text) then Some rest else after_reply_within n rest)
+    (after_line text)
+
+-- what is after the first reply of a text: its lines up to the one that ends it
+abbrev pub after_reply : Octets → Option Octets
+after_reply text = after_reply_within (length text) text
+
+-- what is after the reply that a page has to the command of a line: a change has none there, and a question has one
+abbrev pub after_kept_reply : Octets → Octets → Option Octets
+after_kept_reply line text =
+    if is_change line then Some text else (if is_find line then after_reply text else None)
+
+-- a text begins with an event: its command has so many octets, and its reply so many
+pub record HasEvent (text : Octets) (len reply_len : ℕ) : Type 0 where
+  pub within : len + reply_len ≤ length text
+  pub command : after_command text ≡ Some (drop len text)
+  pub reply : after_kept_reply (first_line text) (drop len text) ≡ Some (drop reply_len (drop len text))
+
+-- a text begins with no event
+abbrev pub HasNoEvent : Octets → Type 0
+HasNoEvent text =
+    (rest : Octets) → after_command text ≡ Some rest → after_kept_reply (first_line text) rest ≡ None
 
 -- the number of a mark, by its line: `# page NUMBER`
 abbrev pub mark_in : Octets → Option ℕ

@@ -1,19 +1,22 @@
 -- What the plain machine does, by which an archive is replayed: it keeps no results, and each answer is that
 -- of RFC 3263, 4, from scratch on the records and the holds as they are.
-use Rattle.std.specs.Prelude.{◌≡◌, ℕ, None, Result, IfOk, OnOk, OnErr}
+use Rattle.std.specs.Prelude.{◌≡◌, ◌≢◌, ℕ, [], None, Some, Result, option_map, IfOk, IfErr, OnOk, OnErr}
 use Rattle.sipl_choice.specs.Abilities.{Client}
 use Rattle.sipl_outages.specs.Board.{BoardState}
-use Rattle.sipl_outages.specs.Holds.{BoardEvent, refusal_of, after as after_event}
+use Rattle.sipl_outages.specs.Holds.{BoardEvent, no_holds, refusal_of, after as after_event}
 use Rattle.sipl_outages.specs.declared.held.Held.{Held}
 use Rattle.sipl_plans.specs.Plan.{plan}
 use Rattle.sipl_records.specs.Sets.{set_of}
-use Rattle.sipl_zonestore.specs.Edited.{store_refusal}
+use Rattle.sipl_zonestore.specs.Edited.{early_refusal, store_refusal}
 use Rattle.sipl_zonestore.specs.Edits.{after as after_edit}
-use Rattle.sipl_zonestore.specs.Store.{Store}
+use Rattle.sipl_zonestore.specs.Looks.{looked}
+use Rattle.sipl_zonestore.specs.Numbers.{next_after}
+use Rattle.sipl_zonestore.specs.Store.{Store, no_zones}
 use Rattle.sipl_book.specs.BookFault.{code_of}
 use Rattle.sipl_book.specs.Machine.{zone_edit}
 use Rattle.sipl_book.specs.declared.edit.Edit.{Edit}
 use Rattle.sipl_book.specs.declared.fault.BookFault.{BookFault}
+use Rattle.sipl_book.specs.declared.fault.BookFault.TheVariants.{Store as StoreFault, Board as BoardFault, Memory}
 use Rattle.sipl_lines.specs.Desk.{DeskRules}
 
 -- the zones and the holds, the client's abilities, and what becomes of held endpoints
@@ -23,28 +26,56 @@ pub record PlainState : Type 0 where
   pub client : Client
   pub held : Held
 
--- An edit is made where nothing refuses it; else the zones are as they were. All but the store stays.
+-- a machine without zones and holds, with the greatest limits, at time 0
+abbrev pub new_plain : Client → Held → PlainState
+new_plain client held = record {
+  store = record { zones = no_zones; max_records = 1048576; numbers = []; next = 1; looks = 0 };
+  board = record { holds = no_holds; max_holds = 4096 };
+  client = client;
+  held = held;
+}
+
+-- An edit of a store ends so: it is made where nothing refuses it, and else the store is as it was. The fault is that
+-- of the zones; an allocation fails only where none is found before.
+pub record EditsStore {A : Type 0} (edit : Edit) (old new : Store) (outcome : Result A BookFault) : Type 0 where
+  pub accepted : OnOk outcome (store_refusal (zone_edit edit) old ≡ None)
+  pub after : OnOk outcome (new.zones ≡ after_edit (zone_edit edit) old.zones)
+  pub next : OnOk outcome (new.next ≡ next_after old.zones.records new.zones.records old.next)
+  pub refused : IfErr outcome
+      (λ fault. fault ≢ Memory → option_map StoreFault (store_refusal (zone_edit edit) old) ≡ Some fault)
+  pub memory : IfErr outcome (λ fault. fault ≡ Memory → early_refusal (zone_edit edit) old ≡ None)
+  pub unchanged : OnErr outcome (new ≡ old)
+  pub limit : new.max_records ≡ old.max_records
+
+-- An edit is made at the store; all else stays.
 pub record MakesEdit {A : Type 0} (edit : Edit) (old new : PlainState) (outcome : Result A BookFault)
     : Type 0 where
-  pub accepted : OnOk outcome (store_refusal (zone_edit edit) old.store ≡ None)
-  pub after : OnOk outcome (new.store.zones ≡ after_edit (zone_edit edit) old.store.zones)
-  pub unchanged : OnErr outcome (new.store ≡ old.store)
+  pub store : EditsStore edit old.store new.store outcome
   pub others : new ≡ record old { store = new.store }
 
--- A hold, a release or a move of the clock is made where nothing refuses it; else the holds are as they
--- were. All but the board stays.
-pub record MakesMove (event : BoardEvent) (old new : PlainState) (outcome : Result ℕ BookFault) : Type 0 where
-  pub accepted : OnOk outcome (refusal_of old.board.max_holds event old.board.holds ≡ None)
-  pub after : OnOk outcome (new.board.holds ≡ after_event event old.board.holds)
-  pub unchanged : OnErr outcome (new.board.holds ≡ old.board.holds)
+-- A hold, a release or a move of the clock ends so: it is made where nothing refuses it, and else the holds are as
+-- they were. An allocation fails only where no fault applies.
+pub record MovesBoard {A : Type 0} (event : BoardEvent) (old new : BoardState) (outcome : Result A BookFault)
+    : Type 0 where
+  pub accepted : OnOk outcome (refusal_of old.max_holds event old.holds ≡ None)
+  pub after : OnOk outcome (new.holds ≡ after_event event old.holds)
+  pub refused : IfErr outcome
+      (λ fault. fault ≢ Memory → option_map BoardFault (refusal_of old.max_holds event old.holds) ≡ Some fault)
+  pub memory : IfErr outcome (λ fault. fault ≡ Memory → refusal_of old.max_holds event old.holds ≡ None)
+  pub unchanged : OnErr outcome (new.holds ≡ old.holds)
+  pub limit : new.max_holds ≡ old.max_holds
+
+-- A hold, a release or a move of the clock is made at the board; all else stays.
+pub record MakesMove {A : Type 0} (event : BoardEvent) (old new : PlainState) (outcome : Result A BookFault)
+    : Type 0 where
+  pub board : MovesBoard event old.board new.board outcome
   pub others : new ≡ record old { board = new.board }
 
 -- What the calls do. No page of an archive asks for record sets, a repair or a page.
 abbrev pub plain_rules : DeskRules PlainState BookFault
 plain_rules =
     record {
-      Finds = λ question words old outcome new. (new ≡ record old { store = new.store })
-          × (new.store.zones ≡ old.store.zones)
+      Finds = λ question words old outcome new. (new ≡ record old { store = looked old.store })
           × IfOk outcome (λ handed. handed.answer
           ≡ plan (set_of old.store.zones.records) old.board.holds question old.client words old.held);
       Changes = λ edit old outcome new. MakesEdit edit old new outcome;

@@ -1,16 +1,15 @@
 -- The events of an archived page, carried out again one after another.
-use Rattle.std.specs.Prelude.{◌≡◌, ℕ, Bool, ◌&&◌, not, List, [], ◌∷◌, ◌++◌, length, codes, flat_map, nat_eq, Ok, IsTrue}
+use Rattle.std.specs.Prelude.{◌≡◌, ℕ, Bool, ◌&&◌, not, List, [], ◌∷◌, ◌++◌, length, codes, flat_map, nat_eq, Ok, IsTrue, if◌then◌else◌, ◌==◌}
 use Rattle.std.specs.List.{starts_with}
 use lib.Pointwise.{pointwise}
 use Rattle.sipl_names.specs.Labels.{Octets}
-use Rattle.sipl_outages.specs.Holds.{no_holds}
-use Rattle.sipl_zonestore.specs.Store.{no_zones}
 use Rattle.sipl_lines.specs.Settings.{settings_of}
 use Rattle.sipl_lines.specs.declared.settings.Settings.{Settings}
-use Rattle.sipl_archive.specs.Plain.{PlainState, plain_rules}
+use Rattle.sipl_archive.specs.Commands.{IsCommand, first_line, is_change, is_find}
+use Rattle.sipl_archive.specs.Plain.{PlainState, new_plain, plain_rules}
 use Rattle.sipl_archive.specs.Replies.{AreReplies}
 
--- an event: its lines, the reply after them in the page, which only an answer has, and the reply to the
+-- an event: its lines, the reply after them in the page, which only a question has, and the reply to the
 -- lines when they are carried out again
 pub record Exchange : Type 0 where
   pub command : Octets
@@ -21,16 +20,18 @@ pub record Exchange : Type 0 where
 abbrev pub exchange_text : Exchange → Octets
 exchange_text exchange = exchange.command ++ exchange.reply
 
--- a change is accepted; an answer has the same reply, to the octet, and is not refused
-abbrev pub is_expected : Octets → Octets → Bool
-is_expected [] told = starts_with nat_eq told (codes "ok ")
-is_expected (c ∷ reply) told =
-    pointwise nat_eq (c ∷ reply) told && not (starts_with nat_eq told (codes "err"))
+-- by the command's line: a change, which has no reply in the page, is accepted; a question's reply is the same, to
+-- the octet, and is no refusal
+abbrev pub is_expected : Octets → Octets → Octets → Bool
+is_expected line reply told =
+    if is_change line then length reply == 0 && starts_with nat_eq told (codes "ok ")
+    else is_find line && pointwise nat_eq reply told && not (starts_with nat_eq told (codes "err"))
 
--- the plain machine replies to an event's lines as is expected
+-- the plain machine replies to an event's lines, which are one command, as is expected
 pub record Repeats (exchange : Exchange) (before after : PlainState) : Type 0 where
+  pub one : IsCommand exchange.command
   pub replies : AreReplies plain_rules exchange.command before after exchange.told
-  pub expected : IsTrue (is_expected exchange.reply exchange.told)
+  pub expected : IsTrue (is_expected (first_line exchange.command) exchange.reply exchange.told)
 
 -- it does so for one event after another
 abbrev pub RepeatsAll : List Exchange → PlainState → PlainState → Type 0
@@ -55,7 +56,4 @@ pub record RepeatsSome (text rest : Octets) (count : ℕ) (before after : PlainS
 pub record IsFresh (text : Octets) (plain : PlainState) : Type 0 where
   pub settings : Settings
   pub read : settings_of text ≡ Ok settings
-  pub zones : plain.store.zones ≡ no_zones
-  pub holds : plain.board.holds ≡ no_holds
-  pub client : plain.client ≡ settings.abilities
-  pub held : plain.held ≡ settings.held
+  pub new : plain ≡ new_plain settings.abilities settings.held

@@ -1,11 +1,11 @@
 //! The archive: each page of the journal in a file of its own, once it is claimed.
-ghost use Rattle.std.specs.Prelude.{◌≡◌, ◌++◌, IfOk, OnOk};
+ghost use Rattle.std.specs.Prelude.{◌≡◌, ◌++◌, ◌∷◌, map, string_bytes, IfOk, OnOk};
 ghost use Rattle.std.specs.Io.KnownBytes.{Appends};
-ghost use Rattle.sipl_archive.specs.Archive.{WritesPiece, client_text, digest_line, families_text};
-ghost use Rattle.sipl_archive.specs.Archive.{held_text, page_head, page_text, quoted, setting_line, transports_line};
-ghost use Rattle.sipl_archive.specs.Archive.{transports_text};
+ghost use Rattle.sipl_archive.specs.Archive.{WritesPiece, client_text, digest_line, families_text, file_text};
+ghost use Rattle.sipl_archive.specs.Archive.{greatest_run, held_text, page_head, page_name, page_text, quoted};
+ghost use Rattle.sipl_archive.specs.Archive.{run_named, setting_line, transports_line, transports_text};
 
-use crate::runs::read_name;
+use crate::runs::{list, read_name};
 use crate::text::{write_event, write_number};
 use sha2::{Digest, Sha256};
 use sipl_book::{Event, Extent, Page};
@@ -83,7 +83,7 @@ impl Archive {
         }
         let path = new_path(self.alloc, self.folder.as_str())?;
         self.write_file(rt, path.as_str(), page)?;
-        self.take_place(rt, path.as_str(), page.first())?;
+        self.take_place(rt, path.as_str(), page)?;
         self.file.sync_all()
     }
 
@@ -95,22 +95,29 @@ impl Archive {
             .truncate(true)
             .mode(0o600)
             .open(rt, path)?;
-        let extent = page.extent();
-        let mut text = Vec::new(self.alloc);
-        write_head(self.alloc, &mut text, extent, &self.client)?;
-        write_page(self.alloc, &mut file, &mut text, page.events())?;
+        write_page(self.alloc, &mut file, &self.client, page)?;
         file.sync_all()
     }
 
-    // Moves the file of a page to its place, by the number of the page's first event.
-    fn take_place<R: Files<File = File>>(&self, rt: &R, from: &str, first: u64) -> io::Result<()> {
-        let path = page_path(self.alloc, self.folder.as_str(), self.run, first)?;
+    // Moves the file of a page to its place.
+    fn take_place<R: Files<File = File>>(&self, rt: &R, from: &str, page: &Page) -> io::Result<()> {
+        let path = page_path(self.alloc, self.folder.as_str(), self.run, page)?;
         fs::rename(rt, from, path.as_str())
     }
 }
 
+// Writes a page of a client, which is as settings.
+fn write_page<W: Write>(alloc: Global, out: &mut W, client: &[u8], page: &Page) -> io::Result<()>
+    ensures { OnOk result (Appends (W.contents out.old) (W.contents out.new)
+        (file_text client.now page.now)) }
+{
+    let mut text = Vec::new(alloc);
+    write_head(alloc, &mut text, page.extent(), client)?;
+    write_events(alloc, out, &mut text, page.events())
+}
+
 // Writes the text of a page, of which the head is there, in pieces, and its digest. Nothing of it is left.
-fn write_page<W: Write>(
+fn write_events<W: Write>(
     alloc: Global,
     out: &mut W,
     text: &mut Vec<u8>,
@@ -143,10 +150,9 @@ fn write_piece<W: Write>(out: &mut W, digest: &mut Sha256, text: &mut Vec<u8>) -
 
 // The number after the greatest of a run in a folder: the pages of early runs may have been taken away.
 fn next_run<R: Files<File = File>>(rt: &R, alloc: Global, folder: &str) -> io::Result<u64> {
-    let mut last = 0;
-    for entry in fs::read_dir(&(rt, alloc), folder)? {
-        last = run_of(entry?.path().as_str()).max(last);
-    }
+    let mut names = Vec::new(alloc);
+    list(rt, alloc, folder, &mut names)?;
+    let last = greatest_run(&names);
     if last < MAX_RUN {
         Ok(last + 1)
     } else {
@@ -154,17 +160,33 @@ fn next_run<R: Files<File = File>>(rt: &R, alloc: Global, folder: &str) -> io::R
     }
 }
 
-// The number of the run of a page, by the path of its file; 0 where the file is no page.
-fn run_of(path: &str) -> u64 {
-    let name = path.rsplit('/').next().unwrap_or(path);
+// The greatest run in names of files; 0 where none is that of a page.
+fn greatest_run(names: &[String]) -> u64
+    ensures { result ≡ greatest_run (map (λ name. string_bytes name) names.now) }
+{
+    let mut last = 0;
+    for name in names {
+        last = run_of(name.as_str()).max(last);
+    }
+    last
+}
+
+// The run in the name of a file; 0 where it is not that of a page.
+fn run_of(name: &str) -> u64
+    ensures { result ≡ run_named name.now }
+{
     match read_name(name) {
         Some((run, _)) => run,
         None => 0,
     }
 }
 
-// The path of a page of a run, by the number of its first event.
-fn page_path(alloc: Global, folder: &str, run: u64, first: u64) -> Result<String, AllocError> {
+// The path of a page of a run.
+fn page_path(alloc: Global, folder: &str, run: u64, page: &Page) -> Result<String, AllocError>
+    ensures { IfOk result
+        (λ path. string_bytes path ≡ folder.now ++ 47 ∷ page_name run page.now.first) }
+{
+    let first = page.first();
     format!(in alloc; "{folder}/{run:06}-{first:016}")
 }
 

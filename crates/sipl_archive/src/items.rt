@@ -3,7 +3,9 @@ ghost use Rattle.std.specs.Prelude.{◌≡◌, ◌<◌, ◌≤◌, ◌+◌, [], 
 ghost use Rattle.std.specs.Prelude.{MatchOption, unwrap_or};
 ghost use Rattle.sipl_records.specs.Fields.{fields_of};
 ghost use Rattle.sipl_lines.specs.Lines.{without_cr};
-ghost use Rattle.sipl_archive.specs.Commands.{after_command, after_line, first_line, taken_by, zone_count};
+ghost use Rattle.sipl_archive.specs.Commands.{HasEvent, HasNoEvent, after_command, after_kept_reply, after_line};
+ghost use Rattle.sipl_archive.specs.Commands.{after_reply, edits, first_line, is_change, is_end, is_find, moves};
+ghost use Rattle.sipl_archive.specs.Commands.{taken_by, zone_count};
 ghost use Rattle.sipl_archive.specs.Replies.{AreReplies};
 
 use memchr::memchr;
@@ -85,12 +87,45 @@ fn zone_lines(fields: &[u8]) -> Option<u64>
 }
 
 /// Whether a line is that of a change: an edit, a hold, a release, or a move of the clock.
-pub(crate) fn is_change(line: &[u8]) -> bool {
+pub(crate) fn is_change(line: &[u8]) -> bool
+    ensures { result ≡ is_change line.now }
+{
     match next_field(line) {
-        Some((word, _)) => matches!(
-            word,
-            b"zone" | b"drop" | b"add" | b"del" | b"hold" | b"release" | b"clock"
-        ),
+        Some((word, _)) => is_edit(word) || is_move(word),
+        None => false,
+    }
+}
+
+// Whether a word is that of an edit.
+fn is_edit(word: &[u8]) -> bool
+    ensures { result ≡ edits word.now }
+{
+    matches!(word, b"zone" | b"drop" | b"add" | b"del")
+}
+
+// Whether a word is that of a hold, a release, or a move of the clock.
+fn is_move(word: &[u8]) -> bool
+    ensures { result ≡ moves word.now }
+{
+    word == b"hold".as_slice() || word == b"release".as_slice() || word == b"clock".as_slice()
+}
+
+/// Whether a line is that of a question.
+pub(crate) fn is_find(line: &[u8]) -> bool
+    ensures { result ≡ is_find line.now }
+{
+    match next_field(line) {
+        Some((word, _)) => matches!(word, b"find"),
+        None => false,
+    }
+}
+
+// Whether a line is the last one of a reply.
+fn is_end(line: &[u8]) -> bool
+    ensures { result ≡ is_end line.now }
+{
+    match next_field(line) {
+        Some((word, _)) => matches!(word, b"ok" | b"none" | b"err"),
         None => false,
     }
 }
@@ -98,17 +133,41 @@ pub(crate) fn is_change(line: &[u8]) -> bool {
 /// How many octets the first reply of a text has: its lines up to the one that ends it. `None` where it is
 /// not whole.
 pub(crate) fn reply_of(text: &[u8]) -> Option<usize>
-    ensures { IfSome result (λ len. len ≤ length text.now) }
+    ensures { MatchOption result (after_reply text.now ≡ None) (λ len. (len ≤ length text.now)
+        × (after_reply text.now ≡ Some (drop len text.now))) }
 {
-    let mut len = 0usize;
+    let mut len = 0;
     for _ in 0..text.len() {
-        let rest = text.get(len..)?;
-        len = len.saturating_add(memchr(b'\n', rest)?).saturating_add(1);
-        if let Some((b"ok" | b"none" | b"err", _)) = next_field(rest) {
+        let line = split_line(&text[len..]).0;
+        len += line_len(&text[len..])?;
+        if is_end(line) {
             return Some(len);
         }
     }
     None
+}
+
+/// How many octets the command of the first event of a text has, and of a question how many its reply after it
+/// has.
+pub(crate) fn event_of(text: &[u8]) -> Option<(usize, usize)>
+    ensures { MatchOption result (HasNoEvent text.now) (λ lens. HasEvent text.now lens.0 lens.1) }
+{
+    let (len, _) = item_of(text)?;
+    let reply_len = kept_reply_of(split_line(text).0, &text[len..])?;
+    Some((len, reply_len))
+}
+
+// How many octets the reply has that a page has to the command of a line. `None` where it is not whole, or the
+// command is no event.
+fn kept_reply_of(line: &[u8], text: &[u8]) -> Option<usize>
+    ensures { MatchOption result (after_kept_reply line.now text.now ≡ None)
+        (λ len. (len ≤ length text.now)
+        × (after_kept_reply line.now text.now ≡ Some (drop len text.now))) }
+{
+    if is_change(line) {
+        return Some(0);
+    }
+    if is_find(line) { reply_of(text) } else { None }
 }
 
 /// Serves a session on a text, and returns the replies. `None` where an allocation fails.

@@ -13,6 +13,6 @@ mod zones;
 
 pub use archive::Archive;
 pub use items::{replies_to, split_line, taken_by};
-pub use runs::{ReplayFault, replay};
+pub use runs::{ReplayFault, Replayed, replay};
 pub use state::{Made, find_mark, made_of, mark_of, state_text, whole_len};
 pub use text::{clock_text, edit_text, hold_text, mark_text, release_text};

@@ -2,11 +2,11 @@
 ghost use Rattle.std.specs.Prelude.{◌≡◌, IfOk};
 ghost use Rattle.sipl_plans.specs.Plan.{plan};
 ghost use Rattle.sipl_records.specs.Sets.{set_of};
-ghost use Rattle.sipl_outages.specs.Holds.{no_holds};
+ghost use Rattle.sipl_outages.specs.Holds.BoardEvent.{Hold, Release, Advance};
 ghost use Rattle.sipl_zonestore.specs.Edited.{IsEdited};
-ghost use Rattle.sipl_zonestore.specs.Store.{no_zones};
+ghost use Rattle.sipl_zonestore.specs.Looks.{looked};
 ghost use Rattle.sipl_book.specs.Machine.{zone_edit};
-ghost use Rattle.sipl_archive.specs.Plain.{MakesEdit};
+ghost use Rattle.sipl_archive.specs.Plain.{EditsStore, MakesEdit, MovesBoard, new_plain};
 
 use sipl_book::{Book, BookFault, Done, Edit, Extent, Handed};
 use sipl_choice::{Abilities, Endpoint};
@@ -33,10 +33,7 @@ pub(crate) struct Plain {
 impl Plain {
     /// Nothing is loaded or held, at time 0.
     pub(crate) fn new(alloc: Global, abilities: Abilities, held: Held) -> Plain
-        ensures zones { result.store.zones ≡ no_zones }
-        ensures holds { result.board.holds ≡ no_holds }
-        ensures client { result.client ≡ abilities }
-        ensures held { result.held ≡ held }
+        ensures { result ≡ new_plain abilities held }
     {
         Plain {
             store: ZoneStore::new(alloc),
@@ -51,7 +48,7 @@ impl Plain {
     fn make(&mut self, edit: &Edit) -> Result<u64, BookFault>
         ensures { MakesEdit edit.now self.old self.new result }
     {
-        Ok(edit_store(&mut self.store, edit)?.sets as u64)
+        edit_store(&mut self.store, edit)
     }
 
     // The number of the next event.
@@ -111,17 +108,17 @@ impl Desk for Plain {
     }
 
     fn hold(&mut self, endpoint: &Endpoint, ms: u64) -> Result<u64, BookFault> {
-        self.board.hold(endpoint, ms)?;
+        hold(&mut self.board, endpoint, ms)?;
         Ok(self.count())
     }
 
     fn release(&mut self, endpoint: &Endpoint) -> Result<u64, BookFault> {
-        self.board.release(endpoint)?;
+        release(&mut self.board, endpoint)?;
         Ok(self.count())
     }
 
     fn advance(&mut self, to: u64) -> Result<u64, BookFault> {
-        self.board.advance(to)?;
+        advance(&mut self.board, to)?;
         Ok(self.count())
     }
 
@@ -149,8 +146,14 @@ impl Desk for Plain {
     }
 }
 
-// Makes an edit at a store.
-fn edit_store(store: &mut ZoneStore, edit: &Edit) -> Result<Changed, StoreFault>
+// Makes an edit at a store. Returns how many sets of records have changed.
+fn edit_store(store: &mut ZoneStore, edit: &Edit) -> Result<u64, BookFault>
+    ensures { EditsStore edit.now store.old store.new result }
+{
+    Ok(change_store(store, edit)?.sets as u64)
+}
+
+fn change_store(store: &mut ZoneStore, edit: &Edit) -> Result<Changed, StoreFault>
     ensures { IsEdited (zone_edit edit.now) store.old store.new result }
 {
     match edit {
@@ -159,6 +162,30 @@ fn edit_store(store: &mut ZoneStore, edit: &Edit) -> Result<Changed, StoreFault>
         Edit::Add(record) => store.add(record),
         Edit::Remove(record) => store.remove(record),
     }
+}
+
+// Holds an endpoint for some milliseconds.
+fn hold(board: &mut Board, endpoint: &Endpoint, ms: u64) -> Result<(), BookFault>
+    ensures { MovesBoard (Hold endpoint.now ms) board.old board.new result }
+{
+    board.hold(endpoint, ms)?;
+    Ok(())
+}
+
+// Ends the hold of an endpoint.
+fn release(board: &mut Board, endpoint: &Endpoint) -> Result<(), BookFault>
+    ensures { MovesBoard (Release endpoint.now) board.old board.new result }
+{
+    board.release(endpoint)?;
+    Ok(())
+}
+
+// Moves the clock.
+fn advance(board: &mut Board, to: u64) -> Result<(), BookFault>
+    ensures { MovesBoard (Advance to) board.old board.new result }
+{
+    board.advance(to)?;
+    Ok(())
 }
 
 // The answer to a question, from all records of a store, of which one look is counted.
@@ -174,7 +201,7 @@ fn plain_answer(
     ensures answer { IfOk result
         (λ answer. answer ≡ plan (set_of store.old.zones.records) board.now.holds question.now
         client.now draws.now held) }
-    ensures zones { store.new.zones ≡ store.old.zones }
+    ensures store { store.new ≡ looked store.old }
 {
     plan_of(alloc, store.records(), board, question, client, draws, held)
 }

@@ -1,15 +1,16 @@
 //! The replay of an archive: its pages follow one another, each event is accepted, and each answer is that
 //! of the plain machine.
-ghost use Rattle.std.specs.Prelude.{◌≡◌, ◌≤◌, ◌+◌, [], ◌++◌, length, IfOk, IfSome, IsTrue, OnOk};
+ghost use Rattle.std.specs.Prelude.{◌≡◌, ◌≤◌, ◌+◌, [], ◌++◌, length, IfOk, IfSome, OnOk};
 ghost use Rattle.std.specs.Bool.{Decides};
 ghost use Rattle.sha2.specs.Sha256.{sha256};
 ghost use Rattle.sipl_records.specs.Fields.{fields_of};
-ghost use Rattle.sipl_archive.specs.Archive.{IsHead, digest_line, extent_in};
+ghost use Rattle.sipl_archive.specs.Archive.{IsHead, digest_line, extent_in, page_named};
 ghost use Rattle.sipl_archive.specs.Replay.{RepeatsFirst, RepeatsSome, IsFresh, is_expected};
-ghost use Rattle.sipl_archive.specs.Runs.{Follows, IsBegun, MayBegin, ReplaysEvents, ReplaysPage};
+ghost use Rattle.sipl_archive.specs.Runs.{BeginsRun, Follows, GoesOn, IsBegun, IsNext, ReplaysEvents, ReplaysPage};
+ghost use Rattle.sipl_archive.specs.Runs.{begins_run, counted, number_of_last};
 
 use crate::archive::digest_line;
-use crate::items::{is_change, item_of, replies_to, reply_of, split_line};
+use crate::items::{event_of, is_change, is_find, replies_to, split_line};
 use crate::plain::Plain;
 use memchr::memmem;
 use sha2::{Digest, Sha256};
@@ -27,14 +28,18 @@ const DIGEST_LEN: usize = 72;
 pub enum ReplayFault {
     /// A file can't be read.
     File(String, io::Error),
-    /// This page does not follow the one before it.
-    Gap(String),
-    /// This file is no page, or not a whole one.
+    /// This file has not the name of a page, or that of another one.
+    Misnamed(String),
+    /// This file is cut off, or is no page.
     NotPage(String),
-    /// The event of this number is not accepted there, or its answer is another one.
-    Event(String, u64),
     /// The page is not as it was written.
     Changed(String),
+    /// A page before this one is missing.
+    Gap(String),
+    /// This page has another client or policy than its run.
+    OtherClient(String),
+    /// The event of this number is not accepted there, or its answer is another one.
+    Event(String, u64),
     /// An allocation failed.
     Memory,
 }
@@ -55,10 +60,12 @@ impl<T: Drop> From<AllocFailed<T>> for ReplayFault {
 #[derive(Drop)]
 enum PageFault {
     File(io::Error),
-    Gap,
+    Misnamed,
     NotPage,
-    Event(u64),
     Changed,
+    Gap,
+    OtherClient,
+    Event(u64),
     Memory,
 }
 
@@ -67,10 +74,12 @@ impl PageFault {
     fn at(self, path: String) -> ReplayFault {
         match self {
             PageFault::File(error) => ReplayFault::File(path, error),
-            PageFault::Gap => ReplayFault::Gap(path),
+            PageFault::Misnamed => ReplayFault::Misnamed(path),
             PageFault::NotPage => ReplayFault::NotPage(path),
-            PageFault::Event(number) => ReplayFault::Event(path, number),
             PageFault::Changed => ReplayFault::Changed(path),
+            PageFault::Gap => ReplayFault::Gap(path),
+            PageFault::OtherClient => ReplayFault::OtherClient(path),
+            PageFault::Event(number) => ReplayFault::Event(path, number),
             PageFault::Memory => ReplayFault::Memory,
         }
     }
@@ -91,11 +100,18 @@ struct Head<'a> {
     events: &'a [u8],
 }
 
-// The runs of which pages were replayed: the last one, and how many events there were in all.
+/// A run that was replayed: its number, and how many events its pages have.
+#[derive(Clone, Copy)]
+pub struct Replayed {
+    pub number: u64,
+    pub events: u64,
+}
+
+// The runs of which pages were replayed: the last one, and those before it.
 #[derive(Drop)]
 struct Runs {
     last: Option<Run>,
-    events: u64,
+    ended: Vec<Replayed>,
 }
 
 // A run of which pages were replayed: its number, that of its next event, its client, and what it has led to.
@@ -107,14 +123,16 @@ struct Run {
     desk: Plain,
 }
 
-/// Replays the pages in a folder, of all runs in their order. Returns how many events they have.
-pub fn replay<R: Files>(rt: &R, alloc: Global, folder: &str) -> Result<u64, ReplayFault> {
+/// Replays the pages in a folder, of all runs in their order. Returns the runs, and how many events each has.
+pub fn replay<R: Files>(rt: &R, alloc: Global, folder: &str) -> Result<Vec<Replayed>, ReplayFault> {
     let names = page_names(rt, alloc, folder)?;
     let mut runs = Runs {
         last: None,
-        events: 0,
+        ended: Vec::new(alloc),
     };
-    runs.replay_all(rt, alloc, folder, &names)
+    runs.replay_all(rt, alloc, folder, &names)?;
+    let Runs { ended, .. } = runs;
+    Ok(ended)
 }
 
 // The names of the files in a folder, in the order of their octets, but for that of a page that was being
@@ -127,8 +145,13 @@ fn page_names<R: Files>(rt: &R, alloc: Global, folder: &str) -> Result<Vec<Strin
     }
 }
 
-// Appends the names of the files in a folder, and sorts them all.
-fn list<R: Files>(rt: &R, alloc: Global, folder: &str, names: &mut Vec<String>) -> io::Result<()> {
+/// Appends the names of the files in a folder, but for that of a page that was being written, and sorts them all.
+pub(crate) fn list<R: Files>(
+    rt: &R,
+    alloc: Global,
+    folder: &str,
+    names: &mut Vec<String>,
+) -> io::Result<()> {
     for entry in fs::read_dir(&(rt, alloc), folder)? {
         push_name(alloc, entry?.path().as_str(), names)?;
     }
@@ -148,18 +171,34 @@ fn push_name(alloc: Global, path: &str, names: &mut Vec<String>) -> Result<(), A
 }
 
 impl Runs {
-    // Replays the pages of these names. Returns how many events there were in all.
+    // Replays the pages of these names. Their runs have ended then.
     fn replay_all<R: Files>(
         &mut self,
         rt: &R,
         alloc: Global,
         folder: &str,
         names: &[String],
-    ) -> Result<u64, ReplayFault> {
+    ) -> Result<(), ReplayFault> {
         for name in names {
             self.replay_file(rt, alloc, folder, name.as_str())?;
         }
-        Ok(self.events)
+        self.end_last()?;
+        Ok(())
+    }
+
+    // Counts the last run, if there is one, among those that have ended.
+    fn end_last(&mut self) -> Result<(), AllocError>
+        ensures last { self.new.last ≡ self.old.last }
+        ensures counted { OnOk result
+            (self.new.ended.items ≡ self.old.ended.items ++ counted self.old.last) }
+    {
+        if let Some(run) = &self.last {
+            self.ended.push(Replayed {
+                number: run.number,
+                events: run.next,
+            })?;
+        }
+        Ok(())
     }
 
     // Replays the page of a name.
@@ -193,49 +232,59 @@ impl Runs {
 
     // Replays a page after those of its run.
     fn replay_page(&mut self, alloc: Global, name: &str, text: &[u8]) -> Result<(), PageFault>
-        ensures { OnOk result (ReplaysPage text.now self.old.last self.new.last) }
+        ensures { OnOk result (ReplaysPage name.now text.now self.old.last self.new.last) }
     {
-        let (body, end) = split_digest(text);
-        let (Some((number, first)), Some(head)) = (read_name(name), read_head(body)) else {
+        let Some((number, first)) = read_name(name) else {
+            return Err(PageFault::Misnamed);
+        };
+        let body = read_body(alloc, text)?;
+        let Some(head) = read_head(body) else {
             return Err(PageFault::NotPage);
         };
         if head.first != first {
-            return Err(PageFault::Gap);
+            return Err(PageFault::Misnamed);
         }
         self.follow(alloc, number, &head)?;
         self.replay_events(alloc, &head)?;
-        if !is_digest(alloc, body, end)? {
-            return Err(PageFault::Changed);
-        }
-        self.events = self.events.saturating_add(head.count);
         Ok(())
     }
 
     // Begins the run of a page, if it is a later one than the last. The page has to be the next of its run.
     fn follow(&mut self, alloc: Global, number: u64, head: &Head<'_>) -> Result<(), PageFault>
-        ensures { OnOk result
-            (Follows head.now.first head.now.client.now self.old.last self.new.last) }
+        ensures { OnOk result (Follows number head.now.first head.now.client.now
+            self.old.last self.new.last) }
     {
         self.begin(alloc, number, head)?;
         match &self.last {
-            Some(run) if run.goes_on(number, head) => Ok(()),
-            _ => Err(PageFault::Gap),
+            Some(run) => run.expect(number, head),
+            None => Err(PageFault::Gap),
         }
     }
 
     // Begins the run of a page that is the first one of a later run than the last.
     fn begin(&mut self, alloc: Global, number: u64, head: &Head<'_>) -> Result<(), PageFault>
-        ensures { OnOk result (MayBegin head.now.client.now self.old.last self.new.last) }
+        ensures { OnOk result (BeginsRun number head.now.first head.now.client.now
+            self.old.last self.new.last) }
     {
-        if head.first == 0 && self.last_number() < number {
+        if self.begins(number, head) {
             let run = new_run(alloc, number, head.client)?;
+            self.end_last()?;
             drop(self.last.replace(run));
         }
         Ok(())
     }
 
+    // Whether a page is the first one of a later run than the last.
+    fn begins(&self, number: u64, head: &Head<'_>) -> bool
+        ensures { result ≡ begins_run number head.now.first self.now.last }
+    {
+        head.first == 0 && self.last_number() < number
+    }
+
     // The number of the last run; 0 where there is none.
-    fn last_number(&self) -> u64 {
+    fn last_number(&self) -> u64
+        ensures { result ≡ number_of_last self.now.last }
+    {
         match &self.last {
             Some(run) => run.number,
             None => 0,
@@ -255,33 +304,48 @@ impl Runs {
 }
 
 impl Run {
-    // Whether a page is the next one of the run of this number.
-    fn goes_on(&self, number: u64, head: &Head<'_>) -> bool
-        ensures { IsTrue result → (self.now.next ≡ head.now.first)
-            × (self.now.client.items ≡ head.now.client.now) }
+    // A page has to be the next one of this run: a page before it may be missing, or it may be of another client.
+    fn expect(&self, number: u64, head: &Head<'_>) -> Result<(), PageFault>
+        ensures { OnOk result (IsNext number head.now.first head.now.client.now self.now) }
     {
-        self.number == number && self.next == head.first && self.client.as_slice() == head.client
+        if self.number != number || self.next != head.first {
+            return Err(PageFault::Gap);
+        }
+        if self.client.as_slice() != head.client {
+            return Err(PageFault::OtherClient);
+        }
+        Ok(())
     }
 
-    // Replays the events of a page of this run. The fault has the number of the first that is not accepted, or whose answer
-    // is another one; what is left after the last is as one more.
+    // Replays the events of a page of this run, which goes on with them.
     fn replay_events(&mut self, alloc: Global, head: &Head<'_>) -> Result<(), PageFault>
-        ensures { OnOk result
-            (RepeatsSome head.now.events.now [] head.now.count self.old.desk self.new.desk) }
+        ensures { OnOk result (GoesOn head.now.events.now head.now.count self.old self.new) }
     {
-        let mut rest = head.events;
-        for place in 0..head.count {
-            match replay_event(alloc, &mut self.desk, rest)? {
-                Some(others) => rest = others,
-                None => return Err(PageFault::Event(head.first.saturating_add(place))),
-            }
+        let Some(next) = self.next.checked_add(head.count) else {
+            return Err(PageFault::NotPage);
+        };
+        repeat_events(alloc, &mut self.desk, head)?;
+        self.next = next;
+        Ok(())
+    }
+}
+
+// Replays the events of a page. The fault has the number of the first that is not accepted, or whose answer is
+// another one.
+fn repeat_events(alloc: Global, desk: &mut Plain, head: &Head<'_>) -> Result<(), PageFault>
+    ensures { OnOk result (RepeatsSome head.now.events.now [] head.now.count desk.old desk.new) }
+{
+    let mut rest = head.events;
+    for place in 0..head.count {
+        match replay_event(alloc, desk, rest)? {
+            Some(others) => rest = others,
+            None => return Err(PageFault::Event(head.first.saturating_add(place))),
         }
-        self.next = head.first.saturating_add(head.count);
-        if rest.is_empty() {
-            Ok(())
-        } else {
-            Err(PageFault::Event(self.next))
-        }
+    }
+    if rest.is_empty() {
+        Ok(())
+    } else {
+        Err(PageFault::Changed)
     }
 }
 
@@ -303,27 +367,27 @@ fn replay_event<'a>(
     let Some(told) = replies_to(alloc, desk, command) else {
         return Err(PageFault::Memory);
     };
-    if is_expected(reply, &told) {
+    if is_expected(split_line(command).0, reply, &told) {
         Ok(Some(rest))
     } else {
         Ok(None)
     }
 }
 
-// Whether the reply to an event is as its page has it: a change, which has none there, is accepted, and an answer
-// is the same.
-fn is_expected(reply: &[u8], told: &[u8]) -> bool
-    ensures { result ≡ is_expected reply.now told.now }
+// Whether the reply to the command of a line is as its page has it: a change, which has none there, is accepted,
+// and that to a question is the same.
+fn is_expected(line: &[u8], reply: &[u8], told: &[u8]) -> bool
+    ensures { result ≡ is_expected line.now reply.now told.now }
 {
-    if reply.is_empty() {
-        return told.starts_with(b"ok ");
+    if is_change(line) {
+        return reply.is_empty() && told.starts_with(b"ok ");
     }
-    reply == told && !told.starts_with(b"err")
+    is_find(line) && reply == told && !told.starts_with(b"err")
 }
 
 // A run of a client, of which no page was replayed. The client is as the settings of a service.
 fn new_run(alloc: Global, number: u64, client: &[u8]) -> Result<Run, PageFault>
-    ensures { IfOk result (λ run. IsBegun client.now run) }
+    ensures { IfOk result (λ run. IsBegun number client.now run) }
 {
     let Ok(text) = str::from_utf8(client) else {
         return Err(PageFault::NotPage);
@@ -355,11 +419,29 @@ fn desk_of(alloc: Global, text: &str) -> Result<Plain, PageFault>
     }
 }
 
-// A text without its last line, and that line, which has the digest of a page.
-fn split_digest(text: &[u8]) -> (&[u8], &[u8])
-    ensures { result.0.now ++ result.1.now ≡ text.now }
+// A page without its last line, which is the digest of all before. Without a whole such line the page is cut off.
+fn read_body(alloc: Global, text: &[u8]) -> Result<&[u8], PageFault>
+    ensures { IfOk result (λ body. text.now ≡ body.now ++ digest_line (sha256 body.now)) }
 {
-    text.split_at(text.len().saturating_sub(DIGEST_LEN))
+    let Some((body, end)) = split_digest(text) else {
+        return Err(PageFault::NotPage);
+    };
+    if is_digest(alloc, body, end)? {
+        return Ok(body);
+    }
+    if end.len() < DIGEST_LEN {
+        Err(PageFault::NotPage)
+    } else {
+        Err(PageFault::Changed)
+    }
+}
+
+// A text up to its last line that begins as one with a digest, and the rest, if there is such a line.
+fn split_digest(text: &[u8]) -> Option<(&[u8], &[u8])>
+    ensures { IfSome result (λ parts. parts.0.now ++ parts.1.now ≡ text.now) }
+{
+    let end = memmem::rfind(text, b"\nsha256 ")?;
+    Some(text.split_at(end + 1))
 }
 
 // Whether a line is the last one of a page that has these lines before it.
@@ -369,29 +451,17 @@ fn is_digest(alloc: Global, body: &[u8], line: &[u8]) -> Result<bool, AllocError
     Ok(digest_line(alloc, &Sha256::digest(body))?.as_slice() == line)
 }
 
-// How many octets the first event of a text has, and of an answer how many its reply after it has.
-fn event_of(text: &[u8]) -> Option<(usize, usize)>
-    ensures { IfSome result (λ lens. lens.0 + lens.1 ≤ length text.now) }
-{
-    let (len, _) = item_of(text)?;
-    if is_change(text) {
-        return Some((len, 0));
-    }
-    match next_field(text) {
-        Some((b"find", _)) => Some((len, reply_of(&text[len..])?)),
-        _ => None,
-    }
-}
-
 /// The run and the first number of a page, by its name.
-pub(crate) fn read_name(name: &str) -> Option<(u64, u64)> {
-    let (run, first) = name.split_once('-')?;
-    if run.len() != 6 || first.len() != 16 {
+pub(crate) fn read_name(name: &str) -> Option<(u64, u64)>
+    ensures { result ≡ page_named name.now }
+{
+    let name = name.as_bytes();
+    if name.len() != 23 || name[6] != b'-' {
         return None;
     }
     Some((
-        read_number(run.as_bytes(), u64::MAX)?,
-        read_number(first.as_bytes(), u64::MAX)?,
+        read_number(&name[..6], u64::MAX)?,
+        read_number(&name[7..], u64::MAX)?,
     ))
 }
 

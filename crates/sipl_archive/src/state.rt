@@ -1,7 +1,7 @@
 //! The text of a state, and the changes after it.
-ghost use Rattle.std.specs.Prelude.{◌≡◌, ◌≤◌, ◌++◌, drop, length, IfOk, IfSome, OnOk};
+ghost use Rattle.std.specs.Prelude.{◌≡◌, ◌≤◌, ◌++◌, drop, length, None, Some, IfOk, IfSome, MatchOption, OnOk};
 ghost use Rattle.sipl_archive.specs.Commands.{HasMark, IsWhole, mark_in};
-ghost use Rattle.sipl_archive.specs.Restoring.{IsMade};
+ghost use Rattle.sipl_archive.specs.Restoring.{IsMade, after_made};
 ghost use Rattle.sipl_archive.specs.Text.{state_text};
 
 use crate::items::{is_change, item_of, reply_of, split_line};
@@ -59,7 +59,7 @@ pub fn whole_len(text: &[u8]) -> usize
 /// What the changes of a text came to, by the replies to them: marks have none, and each change that was made has one
 /// that begins with `ok`.
 pub fn made_of(text: &[u8], replies: &[u8]) -> Made
-    ensures { IsMade text.now result }
+    ensures { IsMade text.now replies.now result }
 {
     let mut made = Made {
         octets: 0,
@@ -67,27 +67,31 @@ pub fn made_of(text: &[u8], replies: &[u8]) -> Made
         mark: None,
         is_refused: false,
     };
-    let mut replies = replies;
+    let mut rest = replies;
     while let Some((len, lines)) = item_of(&text[made.octets..]) {
         let line = split_line(&text[made.octets..]).0;
-        if let Some(mark) = mark_of(line) {
-            made.mark = Some(mark);
-        } else if let Some(end) = accepted_len(line, replies) {
-            replies = &replies[end..];
-        } else {
+        let Some(reply_len) = made_reply_of(line, rest) else {
             made.is_refused = true;
             return made;
-        }
+        };
+        rest = &rest[reply_len..];
+        made.mark = mark_of(line).or(made.mark);
         made.octets += len;
         made.lines = made.lines.saturating_add(lines);
     }
     made
 }
 
-// How many octets the first reply of a text has, if it is to a change that was made.
-fn accepted_len(line: &[u8], replies: &[u8]) -> Option<usize>
-    ensures { IfSome result (λ end. end ≤ length replies.now) }
+// How many octets the reply to the command of a line has, which is the first of a text, if it was made: a mark
+// has none.
+fn made_reply_of(line: &[u8], replies: &[u8]) -> Option<usize>
+    ensures { MatchOption result (after_made line.now replies.now ≡ None)
+        (λ len. (len ≤ length replies.now)
+        × (after_made line.now replies.now ≡ Some (drop len replies.now))) }
 {
+    if mark_of(line).is_some() {
+        return Some(0);
+    }
     if is_change(line) && replies.starts_with(b"ok ") {
         reply_of(replies)
     } else {

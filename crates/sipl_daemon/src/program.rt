@@ -13,7 +13,7 @@ use crate::session::restoring::RestoringDesk;
 use crate::settings::DaemonSettings;
 use crate::tell::tell;
 use crate::watch::InputWatch;
-use sipl_archive::{Archive, replay};
+use sipl_archive::{Archive, Replayed, replay};
 use sipl_listen::{Stop, take_lock};
 use sipl_log::{Level, Log};
 use sipl_state::{Restored, StateFault, real_path, restore};
@@ -122,13 +122,25 @@ where
         }
         Call::Tell(address, line) => return tell_line(rt, host, address.as_str(), line.as_str()),
         Call::Replay(folder) => {
-            let events = replay(host, rt.alloc(), folder.as_str())?;
-            println!(rt; "replayed {events}")?;
+            let runs = replay(host, rt.alloc(), folder.as_str())?;
+            print_runs(rt, &runs)?;
         }
         Call::CheckState(path) => check_files(rt, host, log, path.as_str())?,
         Call::Serve(given) => serve(rt, host, input, log, given)?,
     }
     Ok(true)
+}
+
+// Prints a line for each run that was replayed, and how many events all have.
+fn print_runs<R: Print + AllocGlobal>(rt: &R, runs: &[Replayed]) -> Result<(), Fault> {
+    let mut all = 0u64;
+    for run in runs {
+        let (number, events) = (run.number, run.events);
+        println!(rt; "run {number:06} {events}")?;
+        all = all.saturating_add(events);
+    }
+    println!(rt; "replayed {all}")?;
+    Ok(())
 }
 
 // Sends a line to a control address. Returns whether it is not refused.

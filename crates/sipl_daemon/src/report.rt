@@ -132,13 +132,15 @@ fn write_close_fault(out: &mut String, fault: &CloseFault) -> Result<(), AllocEr
 fn write_replay_fault(out: &mut String, fault: &ReplayFault) -> Result<(), AllocError> {
     match fault {
         ReplayFault::File(path, error) => write!(out, "siplocd: replay {path}: {error}"),
+        ReplayFault::Misnamed(path) => write!(out, "siplocd: replay {path}: misnamed"),
+        ReplayFault::NotPage(path) => write!(out, "siplocd: replay {path}: not a whole page"),
+        ReplayFault::Changed(path) => write!(out, "siplocd: replay {path}: not as it was written"),
         ReplayFault::Gap(path) => write!(
             out,
             "siplocd: replay {path}: a page before it is missing"
         ),
-        ReplayFault::NotPage(path) => write!(out, "siplocd: replay {path}: not a whole page"),
+        ReplayFault::OtherClient(path) => write!(out, "siplocd: replay {path}: of another client"),
         ReplayFault::Event(path, number) => write!(out, "siplocd: replay {path}: event {number}"),
-        ReplayFault::Changed(path) => write!(out, "siplocd: replay {path}: not as it was written"),
         ReplayFault::Memory => write!(out, "siplocd: out of memory"),
     }
 }

@@ -195,7 +195,7 @@ def pages_wait_until_they_are_archived(checks: Checks, folder: pathlib.Path) -> 
         checks.expect(until(lambda: daemon.stats()["waiting"] == 0), daemon.stats())
         stopped(checks, daemon, 5)
     ran = subprocess.run([PROGRAM, "replay", str(archive)], capture_output=True, text=True, timeout=60, check=False)
-    checks.equal((ran.returncode, ran.stdout, ran.stderr), (0, "replayed 5\n", ""), "replay")
+    checks.equal((ran.returncode, ran.stdout, ran.stderr), (0, "run 000001 5\nreplayed 5\n", ""), "replay")
     # So many pages may wait, and no more.
     with started(checks, folder, settings, environment=syncs.environment) as daemon, Client(daemon.address) as client:
         syncs.fail("write", errno.ENOSPC)

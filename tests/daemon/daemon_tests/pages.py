@@ -3,6 +3,7 @@
 from __future__ import annotations
 
 import concurrent.futures
+import hashlib
 import pathlib
 import random
 import subprocess
@@ -67,7 +68,7 @@ def the_archive_is_replayed(checks: Checks, folder: pathlib.Path) -> None:
     with started(checks, folder, f'journal = 100\narchive = "{archive}"') as daemon:
         events = use_pages(checks, daemon, 100)
         stopped(checks, daemon, events)
-    checks.equal(replay(archive), (0, f"replayed {events}\n"), "replay")
+    checks.equal(replay(archive), (0, replayed(events)), "replay")
     damage(checks, archive)
 
 
@@ -99,6 +100,17 @@ def sessions_wait_for_pages_that_wait(checks: Checks, folder: pathlib.Path) -> N
         stopped(checks, daemon, sum(counts))
 
 
+def replayed(*events: int, first: int = 1) -> str:
+    """What a replay prints of runs with so many events, from a number on."""
+    return "".join(f"run {run:06} {it}\n" for run, it in enumerate(events, first)) + f"replayed {sum(events)}\n"
+
+
+def digested(octets: bytes) -> bytes:
+    """A page with the digest of what is before its last line."""
+    body = octets[:octets.rindex(b"sha256 ")]
+    return body + b"sha256 " + hashlib.sha256(body).hexdigest().encode() + b"\n"
+
+
 def replay(archive: pathlib.Path) -> tuple[int, str]:
     ran = subprocess.run([PROGRAM, "replay", str(archive)], capture_output=True, text=True, timeout=60, check=False)
     return ran.returncode, ran.stdout + ran.stderr
@@ -127,7 +139,7 @@ def events_in(archive: pathlib.Path) -> int:
 
 
 def damage(checks: Checks, archive: pathlib.Path) -> None:
-    """Changes an octet of an event, of a digest and so on, and takes a page away: a replay has to say where."""
+    """Changes an octet of an event, of a digest and so on, takes a page away: a replay has to say what and where."""
     def refused(cause: str, of: pathlib.Path, octets: bytes) -> None:
         kept = of.read_bytes()
         of.write_bytes(octets)
@@ -146,15 +158,21 @@ def damage(checks: Checks, archive: pathlib.Path) -> None:
         octets = page.read_bytes()
         event = octets[begin:end]
         place = begin + (event.rindex if is_last else event.index)(b"192.0.2.1") + len("192.0.2.")
-        refused(f"event {number}", page, octets[:place] + b"3" + octets[place + 1:])
+        changed = octets[:place] + b"3" + octets[place + 1:]
+        refused("not as it was written", page, changed)
+        refused(f"event {number}", page, digested(changed))
     octets = middle.read_bytes()
     refused("not as it was written", middle, octets[:-2] + (b"1" if octets[-2:] == b"0\n" else b"0") + b"\n")
-    refused("not a whole page", middle, b"")
-    middle.unlink()
+    refused("not as it was written", middle, octets + b"x")
+    for length in 0, len(octets) // 2, len(octets) - 1:
+        refused("not a whole page", middle, octets[:length])
+    refused("of another client", middle, digested(octets.replace(b'families = "v4"', b'families = "v6"', 1)))
+    refused("misnamed", middle, after.read_bytes())
+    other = middle.with_name(middle.name[:-1])
+    middle.rename(other)
+    checks.equal(replay(archive), (1, f"siplocd: replay {other}: misnamed\n"), "a name of another form")
+    other.unlink()
     checks.equal(replay(archive), (1, f"siplocd: replay {after}: a page before it is missing\n"), "a page less")
-    middle.write_bytes(octets[:len(octets) // 2])
-    status, said = replay(archive)
-    checks.expect(status == 1 and said.startswith(f"siplocd: replay {middle}: "), ("half a page", status, said))
     middle.write_bytes(octets)
     checks.equal(replay(archive)[0], 0, "as it was")
 
@@ -188,14 +206,14 @@ def runs_of_an_archive_are_counted_on(checks: Checks, folder: pathlib.Path) -> N
                   ("an archive that is not there", status, said))
     first, pages = run(2)
     second, _ = run(3)
-    checks.equal(replay(archive), (0, f"replayed {5 + 7}\n"), "two runs")
+    checks.equal(replay(archive), (0, replayed(5, 7)), "two runs")
     for page in pages:
         page.unlink()
     # What was being written when a daemon was killed is no page.
     (archive / "new").write_bytes(b"siplocd page 0 1\n")
     third, _ = run(1)
     checks.expect(first < second < third, f"runs {first}, {second}, {third}")
-    checks.equal(replay(archive), (0, f"replayed {7 + 3}\n"), "the later two of three runs")
+    checks.equal(replay(archive), (0, replayed(7, 3, first=2)), "the later two of three runs")
 
 
 @test
@@ -237,4 +255,4 @@ def replays_what_goes_on_from_a_state(checks: Checks, folder: pathlib.Path) -> N
         kinds = [octets[begin:].split(b" ", 1)[0].decode() for _, begin, _ in events_of(octets)]
         checks.equal(kinds[:3], ["clock", "zone", "hold"], f"{kinds} in {page.name}")
     checks.equal([events_before > events, events_in(archive)], [True, events_before + last], "events of all runs")
-    checks.equal(replay(archive), (0, f"replayed {events_before + last}\n"), "replay")
+    checks.equal(replay(archive), (0, replayed(events, events_before - events, last)), "replay")

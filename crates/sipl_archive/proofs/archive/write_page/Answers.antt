@@ -1,25 +1,24 @@
-use Rattle.std.proofs.Common.{◌+◌, take}
-use Rattle.sipl_archive.specs.Archive.{body_text}
-use Rattle.sipl_archive.specs.Text.{event_lines}
-use Rattle.sipl_archive.proofs.Paging.{Sends, body_more, sends_more, sends_piece}
-use Rattle.sipl_archive.proofs.archive.write_page.Goals.{then-len-ge-PIECE_LEN+in_ok-write_piece, else-len-ge-PIECE_LEN}
+use Rattle.std.proofs.Common.{◌≡◌, ◌++◌, List, ℕ, length, ap, subst, ◌∙◌}
+use Rattle.std.specs.Io.KnownBytes.{Appends}
+use Rattle.std.proofs.lemmas.Result.{on_ok_weaker}
+use Rattle.sipl_book.specs.declared.event.Event.{Event}
+use Rattle.sipl_book.specs.declared.outcome.Extent.{Extent}
+use Rattle.sipl_archive.specs.Archive.{file_text, page_head, page_text}
 use Rattle.sipl_archive.proofs.archive.write_page.Goals as goal
 
-pub loop-event-preserved : goal.loop-event-preserved
-loop-event-preserved g c =
+pub returns : goal.returns
+returns g c =
     let contents = g.W.Write.contents in
-    let before = contents c.args.out.now in
-    let head = c.args.text.now.items in
-    let events = c.args.events.now in
-    let i = c.loop-event.event-index in
-    let event = c.event-item.result in
-    let lines = body_text head (take (i + 1) events) in
-    let more : Sends before (contents c.loop-event.out) c.loop-event.digest c.write_event.new.out.items lines =
-    sends_more before (contents c.loop-event.out) c.loop-event.digest c.loop-event.text.items c.write_event.new.out.items
-    (body_text head (take i events)) lines (event_lines event) c.loop-event.invariant c.in_ok-write_event.ensures
-    (body_more head events i event c.loop-event-test.true c.event-item.is) in
-    elim c.if-len-ge-PIECE_LEN.branch [
-      | then-len-ge-PIECE_LEN+in_ok-write_piece w ↦
-          rw (w.out-is, w.digest-is, w.text-is) (sends_piece _ _ _ _ _ _ _ _ more w.in_ok-write_piece.ensures)
-      | else-len-ge-PIECE_LEN w ↦ rw (w.out-is, w.digest-is, w.text-is) more
-    ]
+    let client = c.args.client.now in
+    let page = c.args.page.now in
+    let head = c.write_head.new.out.items in
+    let head_is : head ≡ page_head page.first (length page.events) client =
+    c.in_ok-write_head.ensures
+    ∙ ap (λ (t : List ℕ). t ++ page_head c.extent.result.first c.extent.result.count client) c.new-text.ensures.items
+    ∙ ap (λ (extent : Extent). page_head extent.first extent.count client) c.extent.ensures in
+    let text : page_text head c.events.result.now ≡ file_text client page =
+    ap (λ (h : List ℕ). page_text h c.events.result.now) head_is
+    ∙ ap (λ (events : List Event). page_text (page_head page.first (length page.events) client) events) c.events.ensures.events in
+    on_ok_weaker c.write_events.result
+    (λ appends. subst (λ (t : List ℕ). Appends (contents c.args.out.now) (contents c.write_events.new.out) t) text appends)
+    c.write_events.ensures

@@ -1,5 +1,11 @@
-use Rattle.std.proofs.Common.{◌≤◌, length}
+use Rattle.std.proofs.Common.{◌≡◌, ◌≤◌, ◌-◌, drop, length}
+use Rattle.sipl_archive.specs.Commands.{after_reply, after_reply_within}
 use Rattle.sipl_archive.proofs.items.reply_of.Given as goal
 
+-- what is after the reply, of which so many lines may be left
 abbrev pub invariant-loop : goal.invariant-loop
-invariant-loop l = l.len ≤ length l.text
+invariant-loop l =
+    record {
+      within : l.len ≤ length l.text;
+      same : after_reply_within (length l.text - l.counter) (drop l.len l.text) ≡ after_reply l.text;
+    }

@@ -1,14 +1,15 @@
-use Rattle.std.proofs.Common.{◌≡◌, ◌-◌, ◌≤◌, false, List, drop, length}
+use Rattle.std.proofs.Common.{◌≡◌, ◌-◌, ◌≤◌, false, List, None, drop, length}
 use Rattle.sipl_names.specs.Labels.{Octets}
-use Rattle.sipl_archive.specs.Commands.{Begins}
+use Rattle.sipl_archive.specs.Restoring.{MakesAll, Remaining}
 use Rattle.sipl_archive.proofs.state.made_of.Given as goal
 
--- the octets so far are whole commands, and none was refused
+-- the commands so far were made, by the replies so far
 abbrev pub invariant-loop-len : goal.invariant-loop-len
 invariant-loop-len l =
     record {
       within : l.made.octets ≤ length l.text;
-      begins : (commands : List Octets) × Begins commands l.text (drop l.made.octets l.text);
+      makes : (commands : List Octets) × MakesAll commands (record { text = l.text; replies = l.replies; mark = None })
+          (record { text = drop l.made.octets l.text; replies = l.rest; mark = l.made.mark });
       none : l.made.is_refused ≡ false;
     }
 

@@ -5,5 +5,5 @@ use Rattle.sipl_archive.proofs.runs.Runs.replay_events.Goals as goal
 pub returns-in-Some : goal.returns-in-Some
 returns-in-Some c =
     on_ok_weaker c.replay_events.result
-    (λ repeats. record { before = c.in-Some.run'; after = c.replay_events.new.self; old_is = c.in-Some.is; new_is = refl; repeats = repeats })
+    (λ goes_on. record { before = c.in-Some.run'; after = c.replay_events.new.self; old_is = c.in-Some.is; new_is = refl; goes_on = goes_on })
     c.replay_events.ensures

@@ -1,7 +1,7 @@
 use Rattle.std.proofs.Common.{take}
 use Rattle.sipl_archive.specs.Archive.{body_text}
 use Rattle.sipl_archive.proofs.Paging.{Sends}
-use Rattle.sipl_archive.proofs.archive.write_page.Given as goal
+use Rattle.sipl_archive.proofs.archive.write_events.Given as goal
 
 -- what was written, and then the text, are the lines of the events so far
 abbrev pub invariant-loop-event : goal.invariant-loop-event
