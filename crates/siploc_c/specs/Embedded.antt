@@ -2,7 +2,7 @@
 use Rattle.std.specs.Prelude.{◌≡◌, ◌⊎◌, ◌++◌, ℕ, [], length, min, take, drop, Option, Some, Ok}
 use Rattle.sipl_names.specs.Labels.{Octets}
 use Rattle.sipl_book.specs.Book.{BookState, new_book}
-use Rattle.sipl_lines.specs.Desk.{book_rules}
+use Rattle.sipl_lines.specs.Desk.{DeskRules}
 use Rattle.sipl_lines.specs.Session.{SessionState, at_desk, session_protocol}
 use Rattle.sipl_lines.specs.Settings.{limits_of, settings_of}
 use Rattle.sipl_lines.specs.Takes.{Takes, TakesFirst}
@@ -28,9 +28,9 @@ new_embedded settings =
       replies = [];
     }
 
--- the session with its book
-abbrev pub session_of : EmbeddedState → SessionState BookState
-session_of state = at_desk state.book state.talk.session
+-- the session, at the book as it is seen
+abbrev pub session_of : {D : Type 0} → (BookState → D) → EmbeddedState → SessionState D
+session_of seen state = at_desk (seen state.book) state.talk.session
 
 -- a session that had no octets is opened; or an allocation failed, and all is as it was
 abbrev pub OpensWith : Settings → Option EmbeddedState → Status → Option EmbeddedState → Type 0
@@ -46,24 +46,31 @@ Opens text before number after =
     ⊎ ((refusal : Status) × RefusesSettings text refusal × (number ≡ number_of refusal)
     × (after ≡ before))
 
--- the octets are put: the replies of a session at the book to the lines that end in them follow those
--- that wait
-abbrev pub Puts : EmbeddedState → Octets → EmbeddedState → Type 0
-Puts before octets after =
-    Takes (session_protocol book_rules) (session_of before) before.talk.pending octets before.replies
-    (session_of after) after.talk.pending after.replies
+-- The octets are put: the replies of a session, by the rules of a desk that the book is seen as, follow
+-- those that wait. They are the replies to the lines that end in the octets.
+abbrev pub Puts : {D F : Type 0} → DeskRules D F → (BookState → D) → EmbeddedState → Octets
+    → EmbeddedState → Type 0
+Puts rules seen before octets after =
+    Takes (session_protocol rules) (session_of seen before) before.talk.pending octets before.replies
+    (session_of seen after) after.talk.pending after.replies
 
 -- so many of the octets are put, and no others: all lines before one that ends in the others
-abbrev pub PutsFirst : ℕ → EmbeddedState → Octets → EmbeddedState → Type 0
-PutsFirst count before octets after =
-    TakesFirst (session_protocol book_rules) count (session_of before) before.talk.pending octets
-    before.replies (session_of after) after.talk.pending after.replies
+abbrev pub PutsFirst : {D F : Type 0} → DeskRules D F → (BookState → D) → ℕ → EmbeddedState → Octets
+    → EmbeddedState → Type 0
+PutsFirst rules seen count before octets after =
+    TakesFirst (session_protocol rules) count (session_of seen before) before.talk.pending octets
+    before.replies (session_of seen after) after.talk.pending after.replies
 
 -- all octets are put, or where the space for a reply could not be reserved so many
-abbrev pub PutsCounted : EmbeddedState → Octets → EmbeddedState → ℕ → ℕ → Type 0
-PutsCounted before octets after number count =
-    ((number ≡ number_of Done) × (count ≡ length octets) × Puts before octets after)
-    ⊎ ((number ≡ number_of Memory) × PutsFirst count before octets after)
+abbrev pub PutsCounted : {D F : Type 0} → DeskRules D F → (BookState → D) → EmbeddedState → Octets
+    → EmbeddedState → ℕ → ℕ → Type 0
+PutsCounted rules seen before octets after number count =
+    ((number ≡ number_of Done) × (count ≡ length octets) × Puts rules seen before octets after)
+    ⊎ ((number ≡ number_of Memory) × PutsFirst rules seen count before octets after)
+
+-- the book as it is
+abbrev pub whole : BookState → BookState
+whole book = book
 
 -- The next octets of the replies are written over the first ones of a room, so many as there are and as
 -- it has. The others wait, and nothing else changes.

@@ -1,7 +1,9 @@
 //! A session at a book of its own, whose octets and replies its caller moves.
 ghost use Rattle.std.specs.Prelude.{◌≡◌, IfOk, IfErr, OnOk};
+ghost use Rattle.sipl_lines.specs.Desk.{book_rules};
+ghost use Rattle.sipl_lines.specs.PlainDesk.{plain_of, plain_rules};
 ghost use Rattle.sipl_lines.specs.Settings.{IsWithinLimits};
-ghost use Rattle.siploc_c.specs.Embedded.{Puts, PutsFirst, TakesReplies, new_embedded};
+ghost use Rattle.siploc_c.specs.Embedded.{Puts, PutsFirst, TakesReplies, new_embedded, whole};
 
 use sipl_book::Book;
 use sipl_lines::{OutOfMemory, Settings, Talk};
@@ -57,8 +59,12 @@ impl Embedded {
 
     /// Puts octets into the session, and keeps the replies.
     pub(crate) fn put(&mut self, alloc: Global, octets: &[u8]) -> Result<(), OutOfMemory>
-        ensures ok { OnOk result (Puts self.old octets.now self.new) }
-        ensures err { IfErr result (λ fault. PutsFirst fault.taken self.old octets.now self.new) }
+        ensures plain { OnOk result (Puts plain_rules plain_of self.old octets.now self.new) }
+        ensures plain_first { IfErr result (λ fault.
+            PutsFirst plain_rules plain_of fault.taken self.old octets.now self.new) }
+        ensures book { OnOk result (Puts book_rules whole self.old octets.now self.new) }
+        ensures book_first { IfErr result (λ fault.
+            PutsFirst book_rules whole fault.taken self.old octets.now self.new) }
     {
         self.talk
             .put(alloc, &mut self.book, octets, &mut self.replies)

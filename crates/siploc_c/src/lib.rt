@@ -6,7 +6,9 @@
 #![tactic(auto)]
 
 ghost use Rattle.std.specs.Prelude.{◌≡◌};
-ghost use Rattle.siploc_c.specs.Embedded.{Opens, PutsCounted, TakesReplies};
+ghost use Rattle.sipl_lines.specs.Desk.{book_rules};
+ghost use Rattle.sipl_lines.specs.PlainDesk.{plain_of, plain_rules};
+ghost use Rattle.siploc_c.specs.Embedded.{Opens, PutsCounted, TakesReplies, whole};
 ghost use Rattle.siploc_c.specs.Whole.{RunsLines};
 
 mod embedded;
@@ -71,8 +73,8 @@ pub extern "C" fn siploc_c_open(alloc: Global, settings: &[u8], room: &mut Room)
     }
 }
 
-/// Puts octets into a session: lines, in any pieces. The reply to each line that ends in them is kept until
-/// it is taken. Writes to `taken` how many of the octets were taken.
+/// Puts octets into a session: lines, in any pieces. The reply to each line that ends in them, which is that
+/// of the plain machine, is kept until it is taken. Writes to `taken` how many of the octets were taken.
 ///
 /// The result is the number of a [`Status`]: done, with all octets taken, or memory. Then the octets up to
 /// the end of the line before the one for whose reply there was no space were taken, nothing of that line
@@ -84,7 +86,10 @@ pub extern "C" fn siploc_c_put(
     octets: &[u8],
     taken: &mut usize,
 ) -> u32
-    ensures { PutsCounted session.old.value octets.now session.new.value result taken.new }
+    ensures plain { PutsCounted plain_rules plain_of session.old.value octets.now session.new.value
+        result taken.new }
+    ensures book { PutsCounted book_rules whole session.old.value octets.now session.new.value
+        result taken.new }
 {
     match session.embedded().put(alloc, octets) {
         Ok(()) => {
