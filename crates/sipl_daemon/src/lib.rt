@@ -1,9 +1,7 @@
 //! The daemon: sessions without end over TCP and Unix sockets, at one service, until it is told to stop.
 #![tactic(auto)]
 
-mod arguments;
 mod check;
-mod config;
 mod control;
 mod counts;
 mod daemon;
@@ -19,12 +17,10 @@ mod samples;
 mod scrapes;
 mod server;
 mod session;
-mod settings;
 mod tell;
 mod watch;
 
 pub use fault::DeskFault;
 pub use host::Host;
 pub use program::start;
-pub use settings::{Clocks, DaemonSettings, Entrance, OnFailure};
 pub use watch::InputWatch;

@@ -2,8 +2,8 @@
 use crate::host::Host;
 use crate::observed::Observed;
 use crate::report::Fault;
-use crate::settings::{DaemonSettings, Entrance};
 use sipl_listen::Listener;
+use sipl_settings::{DaemonSettings, Entrance};
 use std::alloc::Global;
 use std::io;
 

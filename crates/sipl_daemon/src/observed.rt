@@ -2,11 +2,11 @@
 mod edits;
 mod states;
 
-use crate::settings::DaemonSettings;
 use sipl_config::{VERSION, changed_settings};
 use sipl_listen::Address;
 use sipl_log::{Level, Line, Log};
 use sipl_metrics::Histogram;
+use sipl_settings::DaemonSettings;
 use std::alloc::{AllocError, Global};
 use std::sync::atomic::{AtomicBool, AtomicU64, Ordering};
 use std::sync::{Arc, Wait};

@@ -1,7 +1,5 @@
 //! The program: its arguments, its settings, and the daemon from its start to its end.
-use crate::arguments::{Call, Given, Unread, read_arguments};
 use crate::check::check_files;
-use crate::config::read_given;
 use crate::daemon::Daemon;
 use crate::host::Host;
 use crate::journal::claims::Claims;
@@ -10,12 +8,12 @@ use crate::observed::tell_start;
 use crate::report::{Fault, write_fault};
 use crate::server::serve_all;
 use crate::session::restoring::RestoringDesk;
-use crate::settings::DaemonSettings;
 use crate::tell::tell;
 use crate::watch::InputWatch;
 use sipl_archive::{Archive, Replayed, replay};
 use sipl_listen::{Stop, take_lock};
 use sipl_log::{Level, Log};
+use sipl_settings::{Call, DaemonSettings, Given, Unread, read_arguments, read_given};
 use sipl_state::{Restored, StateFault, real_path, restore};
 use std::alloc::Global;
 use std::env;
@@ -24,8 +22,6 @@ use std::rt::Env;
 use std::sync::Arc;
 use std::sync::atomic::AtomicU64;
 use std::time::Duration;
-
-const USAGE: &str = "Usage: siplocd [OPTIONS] [SETTINGS]\n       siplocd <COMMAND>";
 
 // The status of a call with wrong arguments.
 const WRONG_ARGUMENTS: u8 = 2;
@@ -43,35 +39,19 @@ where
 {
     let outcome = match read_arguments(rt) {
         Ok(call) => perform(rt, host, input, log, call),
-        Err(Unread::Told(error)) => {
-            if error.use_stderr() {
-                report_wrong(rt, &error);
-                return ExitCode::from(WRONG_ARGUMENTS);
-            }
-            match error.print(rt) {
-                Ok(()) => Ok(true),
-                Err(error) => Err(Fault::Stream(error)),
-            }
-        }
-        Err(Unread::NotText) => {
-            let _ = eprintln!(rt; "error: an argument is not UTF-8\n\n{USAGE}");
+        Err(Unread::Memory) => Err(Fault::Memory),
+        Err(unread) if unread.is_wrong() => {
+            unread.report(rt);
             return ExitCode::from(WRONG_ARGUMENTS);
         }
-        Err(Unread::Memory) => Err(Fault::Memory),
+        Err(unread) => match unread.print(rt) {
+            Ok(()) => Ok(true),
+            Err(error) => Err(Fault::Stream(error)),
+        },
     };
     let status = status_of(rt, host, log, outcome);
     log.end(host, Duration::from_millis(LAST_LINES));
     status
-}
-
-// Writes on standard error what is wrong with the arguments, and the usage.
-fn report_wrong<R: Print + Eprint + AllocGlobal>(rt: &R, error: &clap::Error) {
-    let _ = error.print(rt);
-    if let Ok(text) = format!(in rt.alloc(); "{error}") {
-        if !text.as_str().contains("Usage:") {
-            let _ = eprintln!(rt; "{USAGE}");
-        }
-    }
 }
 
 // The status of what was done. A fault is reported.

@@ -3,6 +3,7 @@ use crate::fault::CloseFault;
 use sipl_archive::ReplayFault;
 use sipl_lines::SettingsFault;
 use sipl_listen::Address;
+use sipl_settings::GivenFault;
 use sipl_state::StateFault;
 use std::alloc::{AllocError, AllocFailed};
 use std::fmt::Write as _;
@@ -11,12 +12,8 @@ use std::io;
 /// Why the daemon does not begin, or ends with a fault.
 #[derive(Drop)]
 pub(crate) enum Fault {
-    /// The settings of a text are refused.
-    Settings(SettingsFault),
-    /// The file of the settings can't be read.
-    File(String, io::Error),
-    /// The settings of a file are refused: where, and why.
-    InFile(String),
+    /// The settings can't be read.
+    Settings(GivenFault),
     /// It cannot listen there.
     Listen(Address, io::Error),
     /// Nobody is there to be told, or the connection failed.
@@ -35,9 +32,15 @@ pub(crate) enum Fault {
     Memory,
 }
 
+impl From<GivenFault> for Fault {
+    fn from(fault: GivenFault) -> Fault {
+        Fault::Settings(fault)
+    }
+}
+
 impl From<SettingsFault> for Fault {
     fn from(fault: SettingsFault) -> Fault {
-        Fault::Settings(fault)
+        Fault::Settings(GivenFault::Settings(fault))
     }
 }
 
@@ -77,15 +80,7 @@ impl From<ReplayFault> for Fault {
 /// Appends what is said of a fault on standard error.
 pub(crate) fn write_fault(out: &mut String, fault: &Fault) -> Result<(), AllocError> {
     match fault {
-        Fault::Settings(SettingsFault::UnknownKey(key)) => {
-            write!(out, "siplocd: settings G2 {key}")
-        }
-        Fault::Settings(SettingsFault::BadValue(key)) => {
-            write!(out, "siplocd: settings G3 {key}")
-        }
-        Fault::File(path, error) => write!(out, "siplocd: settings {path}: {error}"),
-        Fault::InFile(text) => out.push_str(text.as_str()),
-        Fault::Settings(fault) => write!(out, "siplocd: settings {}", fault.code()),
+        Fault::Settings(fault) => fault.write(out),
         Fault::Listen(address, error) => write!(out, "siplocd: listen {address}: {error}"),
         Fault::Tell(address, error) => write!(out, "siplocd: tell {address}: {error}"),
         Fault::Stream(error) => write!(out, "siplocd: {error}"),

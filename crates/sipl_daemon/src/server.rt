@@ -9,12 +9,12 @@ use crate::listeners::Listeners;
 use crate::observed::Cause;
 use crate::scrapes::{accept_scrapers, end_scrapes};
 use crate::session::serve_client;
-use crate::settings::OnFailure;
 use sipl_listen::{
     Accepted, Client, ConnectionFault, Listener, next_client, next_client_making_room,
 };
 use sipl_log::Level;
 use sipl_service::OpenGate;
+use sipl_settings::OnFailure;
 use std::thread;
 use std::time::Duration;
 

@@ -3,7 +3,7 @@ use crate::daemon::Daemon;
 use crate::fault::CloseFault;
 use crate::host::Host;
 use crate::journal::claims::{Claimed, Claims, archive_page};
-use crate::settings::OnFailure;
+use sipl_settings::OnFailure;
 use sipl_state::Turned;
 use std::fs::File;
 use std::rt::Files;

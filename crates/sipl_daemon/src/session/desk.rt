@@ -5,12 +5,12 @@ ghost use Rattle.sipl_daemon.specs.declared.fault.DeskFault.TheVariants.{AsksOnl
 use crate::daemon::Daemon;
 use crate::fault::DeskFault;
 use crate::journal::pages::{answer_octets, board_octets, edit_octets};
-use crate::settings::OnFailure;
 use sipl_book::{Done, Edit, Extent, Handed};
 use sipl_choice::Endpoint;
 use sipl_evidence::Evidence;
 use sipl_lines::{Desk, ServiceDesk};
 use sipl_service::Pass;
+use sipl_settings::OnFailure;
 use sipl_srv::Draws;
 use sipl_uri::Question;
 use std::alloc::Global;

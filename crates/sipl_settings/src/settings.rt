@@ -51,12 +51,13 @@ pub struct DaemonSettings {
     pub zone_octets: u64,
     /// Those that `serve` has too. What it has of `sessions` and `listen` is not used.
     pub service: Settings,
-    ghost within_limits: { IsWithinLimits service },
+    pub ghost within_limits: { IsWithinLimits service },
 }
 
 /// Where it listens.
 #[derive(Drop)]
 pub struct Entrance {
+    /// The address.
     pub address: Address,
     /// The permissions of the file of a Unix socket, where it has its own.
     pub mode: Option<u32>,
@@ -112,7 +113,7 @@ impl DaemonSettings {
     }
 
     /// How many may read the metrics at a time.
-    pub(crate) fn max_scrapers(&self) -> usize {
+    pub fn max_scrapers(&self) -> usize {
         if self.metrics.is_some() {
             MAX_SCRAPERS
         } else {
@@ -121,7 +122,7 @@ impl DaemonSettings {
     }
 
     /// How many descriptors the listeners have, and those who read the metrics.
-    pub(crate) fn descriptors(&self) -> usize {
+    pub fn descriptors(&self) -> usize {
         descriptors_at(&self.control)
             .saturating_add(descriptors_at(&self.metrics))
             .saturating_add(self.max_scrapers())

@@ -9,35 +9,83 @@ use std::{env, io};
 const ABOUT: &str =
     "A locator of SIP servers (RFC 3263): serves sessions until it is told to stop.";
 
+const USAGE: &str = "Usage: siplocd [OPTIONS] [SETTINGS]\n       siplocd <COMMAND>";
+
 const AFTER: &str = "Settings and their defaults: siplocd.toml(5). Without any, the defaults.";
 
 /// What the arguments ask for.
 #[derive(Drop)]
-pub(crate) enum Call {
+pub enum Call {
+    /// To serve with these settings.
     Serve(Given),
-    // Checks the settings of a file.
+    /// To check the settings of the file of this path.
     Check(String),
+    /// To send to this control address this line.
     Tell(String, String),
+    /// To check the pages of the archive of this path.
     Replay(String),
+    /// To read the files of the state of this path.
     CheckState(String),
 }
 
 /// Where the settings are.
 #[derive(Drop)]
-pub(crate) enum Given {
+pub enum Given {
+    /// They are this text.
     Text(String),
+    /// They are in the file of this path.
     File(String),
 }
 
 /// Why the arguments ask for nothing that is done.
 #[derive(Drop)]
-pub(crate) enum Unread {
+pub enum Unread {
     /// One is not UTF-8.
     NotText,
     /// They are wrong, or ask for the usage or the version: what is to be printed.
     Told(Error),
     /// An allocation failed.
     Memory,
+}
+
+impl Unread {
+    /// Whether the arguments are wrong.
+    pub fn is_wrong(&self) -> bool {
+        match self {
+            Unread::NotText => true,
+            Unread::Told(error) => error.use_stderr(),
+            Unread::Memory => false,
+        }
+    }
+
+    /// Prints what the arguments ask for: the usage or the version.
+    pub fn print<R: Print + Eprint>(&self, rt: &R) -> io::Result<()> {
+        match self {
+            Unread::Told(error) => error.print(rt),
+            _ => Ok(()),
+        }
+    }
+
+    /// Writes on standard error what is wrong with the arguments, and the usage.
+    pub fn report<R: Print + Eprint + AllocGlobal>(&self, rt: &R) {
+        match self {
+            Unread::NotText => {
+                let _ = eprintln!(rt; "error: an argument is not UTF-8\n\n{USAGE}");
+            }
+            Unread::Told(error) => report_error(rt, error),
+            Unread::Memory => {}
+        }
+    }
+}
+
+// Writes an error on standard error, and the usage, if it does not have that.
+fn report_error<R: Print + Eprint + AllocGlobal>(rt: &R, error: &Error) {
+    let _ = error.print(rt);
+    if let Ok(text) = format!(in rt.alloc(); "{error}") {
+        if !text.as_str().contains("Usage:") {
+            let _ = eprintln!(rt; "{USAGE}");
+        }
+    }
 }
 
 impl From<io::Error> for Unread {
@@ -64,8 +112,8 @@ impl From<Error> for Unread {
     }
 }
 
-/// What the arguments ask for.
-pub(crate) fn read_arguments<R: Env + AllocGlobal>(rt: &R) -> Result<Call, Unread> {
+/// What the arguments of a process ask for.
+pub fn read_arguments<R: Env + AllocGlobal>(rt: &R) -> Result<Call, Unread> {
     let alloc = rt.alloc();
     let mut words = Vec::new(alloc);
     for word in env::args(rt)? {
