@@ -135,7 +135,7 @@ def check_settings() -> None:
     """Refuses a setting that is in no list, that no program reads, or that is read with other limits."""
     used = {it.const for it in listed("DAEMON") + listed("SERVICE")}
     refuse(f"{ROWS}, DAEMON and SERVICE", set(setting_rows()), used)
-    read = re.findall(r"\(&rows::(\w+)\)\?", text_of("sipl_settings/src/settings.rt"))
+    read = re.findall(r"\(&rows::(\w+)\)", text_of("sipl_settings/src/settings.rt"))
     refuse("sipl_settings/src/settings.rt", {it.const for it in settings_of("siplocd")}, set(read))
     if read != [it.const for it in settings_of("siplocd")]:
         raise SystemExit("sipl_settings/src/settings.rt: the settings are not read in the order of their keys' octets")

@@ -91,23 +91,23 @@ impl DaemonSettings {
     /// of the other keys (G2, G3).
     pub fn from_toml(alloc: Global, text: &str) -> Result<DaemonSettings, SettingsFault> {
         let mut document = Document::from_toml(alloc, text)?;
-        // (in the order of their octets, which is that of faults)
+        // (in the order of their octets, which is that of faults: the first is what `take_service` returns)
         Ok(DaemonSettings {
-            archive: document.take_if_any(&rows::ARCHIVE)?,
-            clients: document.take(&rows::CLIENTS)?,
-            clock: document.take(&rows::CLOCK)?,
-            control: document.take_if_any(&rows::CONTROL)?,
-            find: document.take(&rows::FIND)?,
-            idle: document.take_if_any(&rows::IDLE)?,
-            listen: document.take(&rows::LISTEN)?,
-            log: document.take(&rows::LOG)?,
-            metrics: document.take_if_any(&rows::METRICS)?,
-            mode: document.take(&rows::MODE)?,
-            on_failure: document.take(&rows::ON_FAILURE)?,
-            page_octets: document.take(&rows::PAGE_OCTETS)?,
-            state: document.take_if_any(&rows::STATE)?,
-            ends_with_input: document.take(&rows::STDIN)?,
-            zone_octets: document.take(&rows::ZONE_OCTETS)?,
+            archive: document.take_if_any(&rows::ARCHIVE),
+            clients: document.take(&rows::CLIENTS),
+            clock: document.take(&rows::CLOCK),
+            control: document.take_if_any(&rows::CONTROL),
+            find: document.take(&rows::FIND),
+            idle: document.take_if_any(&rows::IDLE),
+            listen: document.take(&rows::LISTEN),
+            log: document.take(&rows::LOG),
+            metrics: document.take_if_any(&rows::METRICS),
+            mode: document.take(&rows::MODE),
+            on_failure: document.take(&rows::ON_FAILURE),
+            page_octets: document.take(&rows::PAGE_OCTETS),
+            state: document.take_if_any(&rows::STATE),
+            ends_with_input: document.take(&rows::STDIN),
+            zone_octets: document.take(&rows::ZONE_OCTETS),
             service: document.take_service()?,
         })
     }

@@ -14,6 +14,10 @@ impl Setting for u64 {
     fn read(_: Global, row: &Row, value: &Value) -> Result<Option<u64>, AllocError> {
         Ok(row.number(value))
     }
+
+    fn stand_in(_: Global) -> u64 {
+        0
+    }
 }
 
 impl Setting for usize {
@@ -23,12 +27,20 @@ impl Setting for usize {
                 .and_then(|number| usize::try_from(number).ok()),
         )
     }
+
+    fn stand_in(_: Global) -> usize {
+        0
+    }
 }
 
 // The permissions of a file.
 impl Setting for u32 {
     fn read(_: Global, _: &Row, value: &Value) -> Result<Option<u32>, AllocError> {
         Ok(mode(value))
+    }
+
+    fn stand_in(_: Global) -> u32 {
+        0
     }
 }
 
@@ -42,6 +54,10 @@ impl Setting for String {
             _ => Ok(None),
         }
     }
+
+    fn stand_in(alloc: Global) -> String {
+        String::new(alloc)
+    }
 }
 
 impl Setting for Clocks {
@@ -52,6 +68,10 @@ impl Setting for Clocks {
             _ => None,
         })
     }
+
+    fn stand_in(_: Global) -> Clocks {
+        Clocks::Host
+    }
 }
 
 impl Setting for OnFailure {
@@ -61,6 +81,10 @@ impl Setting for OnFailure {
             Some("read") => Some(OnFailure::Read),
             _ => None,
         })
+    }
+
+    fn stand_in(_: Global) -> OnFailure {
+        OnFailure::End
     }
 }
 
@@ -73,6 +97,10 @@ impl Setting for bool {
             _ => None,
         })
     }
+
+    fn stand_in(_: Global) -> bool {
+        false
+    }
 }
 
 impl Setting for Verbosity {
@@ -82,12 +110,23 @@ impl Setting for Verbosity {
             None => None,
         })
     }
+
+    fn stand_in(_: Global) -> Verbosity {
+        Verbosity::Off
+    }
 }
 
 // An address, or a table of it and its mode.
 impl Setting for Entrance {
     fn read(alloc: Global, _: &Row, value: &Value) -> Result<Option<Entrance>, AllocError> {
         read_entrance(alloc, value)
+    }
+
+    fn stand_in(alloc: Global) -> Entrance {
+        Entrance {
+            address: Address::Unix(String::new(alloc)),
+            mode: None,
+        }
     }
 }
 
@@ -108,6 +147,10 @@ impl Setting for Vec<Entrance> {
             }
         }
         Ok(Some(entrances))
+    }
+
+    fn stand_in(alloc: Global) -> Vec<Entrance> {
+        Vec::new(alloc)
     }
 }
 
