@@ -2,10 +2,12 @@
 //! them.
 #![tactic(auto)]
 
+mod connection;
 mod exposition;
 mod histogram;
 mod request;
 
+pub use connection::{read_head, read_rest, write_all};
 pub use exposition::Exposition;
 pub use histogram::Histogram;
 pub use request::{Asked, MAX_HEAD_LEN, read_request, write_reply};
