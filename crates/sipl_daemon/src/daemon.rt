@@ -4,14 +4,13 @@ ghost use Rattle.sipl_lines.specs.Settings.{IsWithinLimits};
 ghost use Rattle.sipl_service.specs.Passes.{GetsReceipt};
 ghost use Rattle.sipl_service.specs.Telling.{IsToldFor, event_of};
 
-use crate::counts::Counts;
 use crate::journal::pages::{Pages, board_octets};
-use crate::observed::Observed;
 use sipl_archive::Archive;
 use sipl_book::BookFault;
 use sipl_lines::Settings;
 use sipl_listen::{Clients, Stop, Stream, max_clients};
 use sipl_log::Log;
+use sipl_observed::{Counts, Observed};
 use sipl_service::{OpenGate, Pass, Service, ServiceFault, Told};
 use sipl_settings::{Clocks, DaemonSettings, OnFailure};
 use sipl_srv::Draws;

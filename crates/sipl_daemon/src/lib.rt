@@ -3,14 +3,13 @@
 
 mod check;
 mod control;
-mod counts;
 mod daemon;
+mod edits;
 mod fault;
 mod host;
 mod http;
 mod journal;
 mod listeners;
-mod observed;
 mod program;
 mod report;
 mod samples;

@@ -1,8 +1,8 @@
 //! All the sockets of a daemon.
 use crate::host::Host;
-use crate::observed::Observed;
 use crate::report::Fault;
 use sipl_listen::Listener;
+use sipl_observed::Observed;
 use sipl_settings::{DaemonSettings, Entrance};
 use std::alloc::Global;
 use std::io;

@@ -105,14 +105,6 @@ fn write_state_fault(out: &mut String, path: &str, fault: &StateFault) -> Result
     }
 }
 
-/// Appends that a log had a write that did not end, at this octet.
-pub(crate) fn write_torn(out: &mut String, path: &str, octet: usize) -> Result<(), AllocError> {
-    write!(
-        out,
-        "siplocd: state {path}.log: a write did not end at octet {octet}"
-    )
-}
-
 // Appends why the daemon ends with a fault.
 fn write_close_fault(out: &mut String, fault: &CloseFault) -> Result<(), AllocError> {
     match fault {

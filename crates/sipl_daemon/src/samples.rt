@@ -2,9 +2,9 @@
 use crate::control::{resident, totals};
 use crate::daemon::Daemon;
 use crate::host::Host;
-use crate::observed::Cause;
 use sipl_config::VERSION;
 use sipl_metrics::Exposition;
+use sipl_observed::Cause;
 use std::alloc::AllocError;
 use std::sync::Wait;
 use std::sync::atomic::{AtomicU64, Ordering};

@@ -6,13 +6,13 @@ use crate::journal::claimer::claim_pages;
 use crate::journal::claims::Claims;
 use crate::journal::mender::mend_changes;
 use crate::listeners::Listeners;
-use crate::observed::Cause;
 use crate::scrapes::{accept_scrapers, end_scrapes};
 use crate::session::serve_client;
 use sipl_listen::{
     Accepted, Client, ConnectionFault, Listener, next_client, next_client_making_room,
 };
 use sipl_log::Level;
+use sipl_observed::Cause;
 use sipl_service::OpenGate;
 use sipl_settings::OnFailure;
 use std::thread;

@@ -1,6 +1,6 @@
 //! The course of a session.
 use crate::daemon::Daemon;
-use crate::observed::Cause;
+use sipl_observed::Cause;
 use std::cell::Cell;
 use std::io::{Error, ErrorKind};
 use std::sync::atomic::AtomicU64;

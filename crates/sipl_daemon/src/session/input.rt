@@ -4,11 +4,11 @@ ghost use Rattle.std.specs.Prelude.{◌≤◌, length};
 
 use crate::daemon::Daemon;
 use crate::http::{MAX_METHOD_LEN, begins_request};
-use crate::observed::Cause;
 use crate::session::course::Course;
 use crate::session::meter::ZoneMeter;
 use sipl_lines::MAX_LINE_LEN;
 use sipl_listen::Stream;
+use sipl_observed::Cause;
 use std::alloc::Global;
 use std::io;
 use std::io::{ErrorKind, Read};

@@ -2,9 +2,9 @@
 ghost use Rattle.std.specs.Io.{WritesAtMost};
 
 use crate::daemon::Daemon;
-use crate::observed::Cause;
 use crate::session::course::Course;
 use sipl_listen::Stream;
+use sipl_observed::Cause;
 use sipl_settings::OnFailure;
 use std::io;
 use std::io::{ErrorKind, Write};

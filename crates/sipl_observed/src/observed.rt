@@ -1,7 +1,5 @@
 //! What is told of the daemon while it runs: its log, and what is counted for its metrics.
-mod edits;
-mod states;
-
+use crate::cause::Cause;
 use sipl_config::{VERSION, changed_settings};
 use sipl_listen::Address;
 use sipl_log::{Level, Line, Log};
@@ -10,39 +8,13 @@ use sipl_settings::DaemonSettings;
 use std::alloc::{AllocError, Global};
 use std::sync::atomic::{AtomicBool, AtomicU64, Ordering};
 use std::sync::{Arc, Wait};
-use std::time::Clock;
-
-/// Why a client has no session, or not any more.
-#[derive(Clone, Copy, Debug, PartialEq, Eq)]
-pub(crate) enum Cause {
-    /// As many clients are connected as there may be.
-    Busy,
-    /// There is no thread for it.
-    Threads,
-    /// It has sent nothing for too long.
-    Idle,
-    /// It takes its replies too slowly.
-    Slow,
-    /// What it sends begins as a request of HTTP does.
-    Http,
-}
-
-impl Cause {
-    pub(crate) fn name(self) -> &'static str {
-        match self {
-            Cause::Busy => "busy",
-            Cause::Threads => "threads",
-            Cause::Idle => "idle",
-            Cause::Slow => "slow",
-            Cause::Http => "http",
-        }
-    }
-}
+use std::time::{Clock, Instant};
 
 /// How many clients there were, and how many had no session, or not any more, for which cause.
 #[derive(Drop)]
-pub(crate) struct ClientCounts {
-    pub(crate) accepted: AtomicU64,
+pub struct ClientCounts {
+    /// How many had a session.
+    pub accepted: AtomicU64,
     busy: AtomicU64,
     threads: AtomicU64,
     idle: AtomicU64,
@@ -63,7 +35,7 @@ impl ClientCounts {
     }
 
     /// The count of a cause.
-    pub(crate) fn of(&self, cause: Cause) -> &AtomicU64 {
+    pub fn of(&self, cause: Cause) -> &AtomicU64 {
         match cause {
             Cause::Busy => &self.busy,
             Cause::Threads => &self.threads,
@@ -76,23 +48,26 @@ impl ClientCounts {
 
 /// What is told of the daemon while it runs.
 #[derive(Drop)]
-pub(crate) struct Observed {
-    alloc: Global,
-    pub(crate) log: Arc<Log, Global>,
-    pub(crate) clients: ClientCounts,
-    // From the read of a batch to its replies written, where there are metrics.
-    pub(crate) batches: Option<Histogram>,
+pub struct Observed {
+    /// The allocator of its lines.
+    pub alloc: Global,
+    /// The log.
+    pub log: Arc<Log, Global>,
+    /// How many clients there were.
+    pub clients: ClientCounts,
+    /// From the read of a batch to its replies written, where there are metrics.
+    pub batches: Option<Histogram>,
     // Whether the state was read: edits before are not told one by one.
     is_open: AtomicBool,
     // How many pages waited when that was told last.
     waiting: AtomicU64,
     // The path of the state, if there is one.
-    state: Option<String>,
+    pub(crate) state: Option<String>,
 }
 
 impl Observed {
     /// Nothing was told yet.
-    pub(crate) fn new(
+    pub fn new(
         alloc: Global,
         settings: &DaemonSettings,
         log: &Arc<Log, Global>,
@@ -117,18 +92,28 @@ impl Observed {
         })
     }
 
-    // The beginning of a line of an event.
-    fn line(&self, level: Level, event: &str) -> Line {
+    /// The beginning of a line of an event.
+    pub fn line(&self, level: Level, event: &str) -> Line {
         Line::new(self.alloc, level, event)
     }
 
+    /// From now on edits are told: the state was read.
+    pub fn open(&self) {
+        self.is_open.store(true, Ordering::SeqCst);
+    }
+
+    /// Whether edits are told.
+    pub fn tells_edits(&self) -> bool {
+        self.is_open.load(Ordering::SeqCst) && self.log.allows(Level::Warn)
+    }
+
     /// Counts a client that has a session.
-    pub(crate) fn count_accepted(&self) {
+    pub fn count_accepted(&self) {
         self.clients.accepted.fetch_add(1, Ordering::SeqCst);
     }
 
     /// Tells of a client that is refused at an address.
-    pub(crate) fn refuse<R: Wait + Clock>(&self, rt: &R, cause: Cause, at: &Address) {
+    pub fn refuse<R: Wait + Clock>(&self, rt: &R, cause: Cause, at: &Address) {
         self.clients.of(cause).fetch_add(1, Ordering::SeqCst);
         let line = self
             .line(Level::Warn, "refused")
@@ -137,7 +122,7 @@ impl Observed {
     }
 
     /// Tells of a client whose session has ended, and why, where that is the daemon's doing.
-    pub(crate) fn close<R: Wait + Clock>(&self, rt: &R, cause: Option<Cause>) {
+    pub fn close<R: Wait + Clock>(&self, rt: &R, cause: Option<Cause>) {
         match cause {
             Some(cause) => {
                 self.clients.of(cause).fetch_add(1, Ordering::SeqCst);
@@ -153,13 +138,13 @@ impl Observed {
     }
 
     /// Tells where it listens, for whom.
-    pub(crate) fn tell_ready<R: Wait + Clock>(&self, rt: &R, whom: &str, at: &Address) {
+    pub fn tell_ready<R: Wait + Clock>(&self, rt: &R, whom: &str, at: &Address) {
         let line = self.line(Level::Info, "ready").text("for", whom);
         self.log.push(rt, self.with_address(line, at));
     }
 
     /// Tells an event.
-    pub(crate) fn tell<R: Wait + Clock>(&self, rt: &R, level: Level, event: &str) {
+    pub fn tell<R: Wait + Clock>(&self, rt: &R, level: Level, event: &str) {
         self.log.push(rt, self.line(level, event));
     }
 
@@ -172,7 +157,7 @@ impl Observed {
     }
 
     /// Tells how many pages were claimed and wait, where twice as many wait as when that was told last.
-    pub(crate) fn see_pages<R: Wait + Clock>(&self, rt: &R, claimed: u64, waiting: u64) {
+    pub fn see_pages<R: Wait + Clock>(&self, rt: &R, claimed: u64, waiting: u64) {
         if waiting == 0 {
             self.waiting.store(0, Ordering::SeqCst);
         }
@@ -190,7 +175,7 @@ impl Observed {
 }
 
 /// Tells that a daemon starts with the settings of a text.
-pub(crate) fn tell_start<R: Wait + Clock>(
+pub fn tell_start<R: Wait + Clock>(
     rt: &R,
     alloc: Global,
     log: &Log,
@@ -202,4 +187,15 @@ pub(crate) fn tell_start<R: Wait + Clock>(
     }
     log.push(rt, line);
     Ok(())
+}
+
+/// The line with the milliseconds since a time, where the clock can be read.
+pub fn with_time<R: Clock>(rt: &R, line: Line, begun: Option<Instant>) -> Line {
+    let Some(begun) = begun else {
+        return line;
+    };
+    match begun.elapsed(rt) {
+        Ok(passed) => line.millis("ms", u64::try_from(passed.as_micros()).unwrap_or(u64::MAX)),
+        Err(_) => line,
+    }
 }

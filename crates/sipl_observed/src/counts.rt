@@ -3,18 +3,24 @@ use std::sync::atomic::{AtomicU64, Ordering};
 
 /// How many answers ended in which way, and how many events there were.
 #[derive(Drop)]
-pub(crate) struct Counts {
-    pub(crate) events: AtomicU64,
-    pub(crate) targets: AtomicU64,
-    pub(crate) no_address: AtomicU64,
-    pub(crate) not_available: AtomicU64,
-    pub(crate) no_transport: AtomicU64,
-    pub(crate) all_held: AtomicU64,
+pub struct Counts {
+    /// The events.
+    pub events: AtomicU64,
+    /// Answers with targets, and those without by their reasons.
+    pub targets: AtomicU64,
+    /// `NoAddress`.
+    pub no_address: AtomicU64,
+    /// `NotAvailable`.
+    pub not_available: AtomicU64,
+    /// `NoTransport`.
+    pub no_transport: AtomicU64,
+    /// `AllHeld`.
+    pub all_held: AtomicU64,
 }
 
 impl Counts {
     /// None yet.
-    pub(crate) fn new() -> Counts {
+    pub fn new() -> Counts {
         Counts {
             events: AtomicU64::new(0),
             targets: AtomicU64::new(0),
@@ -26,7 +32,7 @@ impl Counts {
     }
 
     /// Counts an answer.
-    pub(crate) fn count_answer(&self, answer: &Answer) {
+    pub fn count_answer(&self, answer: &Answer) {
         let count = match answer {
             Answer::Targets(_) => &self.targets,
             Answer::None(Reason::NoAddress) => &self.no_address,
@@ -38,7 +44,7 @@ impl Counts {
     }
 
     /// Counts the events up to the one of this number.
-    pub(crate) fn count_event(&self, number: u64) {
+    pub fn count_event(&self, number: u64) {
         self.events
             .fetch_max(number.saturating_add(1), Ordering::SeqCst);
     }

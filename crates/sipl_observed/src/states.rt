@@ -1,9 +1,8 @@
 //! What is told of states, and of writes that fail.
-use super::Observed;
-use super::edits::with_time;
-use crate::report::write_torn;
+use crate::observed::{Observed, with_time};
 use sipl_log::Level;
 use std::alloc::AllocError;
+use std::fmt::Write as _;
 use std::rt::Files;
 use std::sync::Wait;
 use std::time::{Clock, Duration, Instant};
@@ -14,7 +13,7 @@ const TOLD: u64 = 1_000;
 
 impl Observed {
     /// Tells that a state was written which was begun at a time: how long it took, and how long it is.
-    pub(crate) fn tell_state<R: Files + Wait + Clock>(&self, rt: &R, begun: Option<Instant>) {
+    pub fn tell_state<R: Files + Wait + Clock>(&self, rt: &R, begun: Option<Instant>) {
         let Some(path) = &self.state else {
             return;
         };
@@ -29,7 +28,7 @@ impl Observed {
     }
 
     /// Says that a log had a write that did not end, at this octet, before anything else is done.
-    pub(crate) fn tell_torn<R: Wait + Clock>(
+    pub fn tell_torn<R: Wait + Clock>(
         &self,
         rt: &R,
         path: &str,
@@ -43,12 +42,12 @@ impl Observed {
     }
 
     /// Says something, whatever is written of the log.
-    pub(crate) fn say<R: Wait>(&self, rt: &R, text: &str) {
+    pub fn say<R: Wait>(&self, rt: &R, text: &str) {
         self.log.push_message(rt, Level::Error, text);
     }
 
     /// Says why changes can't be written, and that they are refused.
-    pub(crate) fn say_refusing<R: Wait>(&self, rt: &R, error: &io::Error) {
+    pub fn say_refusing<R: Wait>(&self, rt: &R, error: &io::Error) {
         match format!(in self.alloc; "siplocd: state: {error}: changes are refused") {
             Ok(text) => self.say(rt, text.as_str()),
             Err(_) => self.say(rt, "siplocd: state: changes are refused"),
@@ -56,7 +55,7 @@ impl Observed {
     }
 
     /// Says why a page can't be archived, and that pages wait.
-    pub(crate) fn say_waiting<R: Wait>(&self, rt: &R, error: &io::Error) {
+    pub fn say_waiting<R: Wait>(&self, rt: &R, error: &io::Error) {
         match format!(in self.alloc; "siplocd: archive: {error}: pages wait") {
             Ok(text) => self.say(rt, text.as_str()),
             Err(_) => self.say(rt, "siplocd: archive: pages wait"),
@@ -64,7 +63,7 @@ impl Observed {
     }
 
     /// Tells that changes could not be written.
-    pub(crate) fn tell_unsynced<R: Wait + Clock>(&self, rt: &R, error: &io::Error) {
+    pub fn tell_unsynced<R: Wait + Clock>(&self, rt: &R, error: &io::Error) {
         let line = self.line(Level::Error, "failed").text("what", "changes");
         let line = match format!(in self.alloc; "{error}") {
             Ok(text) => line.text("cause", text.as_str()),
@@ -72,4 +71,12 @@ impl Observed {
         };
         self.log.push(rt, line);
     }
+}
+
+// Appends that a log had a write that did not end, at this octet.
+fn write_torn(out: &mut String, path: &str, octet: usize) -> Result<(), AllocError> {
+    write!(
+        out,
+        "siplocd: state {path}.log: a write did not end at octet {octet}"
+    )
 }

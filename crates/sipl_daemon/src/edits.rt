@@ -2,15 +2,15 @@
 ghost use Rattle.sipl_book.specs.declared.event.Event.TheVariants.{Change};
 ghost use Rattle.sipl_service.specs.Passes.{GetsReceipt};
 
-use super::Observed;
 use crate::daemon::Daemon;
 use sipl_book::{Done, Edit};
 use sipl_log::{Level, Line};
 use sipl_names::Name;
+use sipl_observed::{Observed, with_time};
 use sipl_service::{Pass, ServiceFault};
-use std::alloc::{AllocError, Global};
+use std::alloc::AllocError;
 use std::sync::Wait;
-use std::sync::atomic::{AtomicU64, Ordering};
+use std::sync::atomic::AtomicU64;
 use std::time::{Clock, Instant};
 
 // An edit that is to be told once it is made or refused.
@@ -38,7 +38,7 @@ impl Daemon {
         let story = self.story_of(rt, &edit);
         let outcome = self.source.edit(rt, pass, edit, place);
         if let Ok(Some(story)) = story {
-            self.observed.tell_edit(rt, &story, &outcome);
+            tell_edit(rt, &self.observed, &story, &outcome);
         }
         outcome
     }
@@ -75,57 +75,36 @@ impl Daemon {
     }
 }
 
-impl Observed {
-    /// From now on edits are told: the state was read.
-    pub(crate) fn open(&self) {
-        self.is_open.store(true, Ordering::SeqCst);
-    }
-
-    // Whether edits are told.
-    fn tells_edits(&self) -> bool {
-        self.is_open.load(Ordering::SeqCst) && self.log.allows(Level::Warn)
-    }
-
-    // Tells that an edit was made, or that it failed.
-    fn tell_edit<R: Wait + Clock>(
-        &self,
-        rt: &R,
-        story: &Story,
-        outcome: &Result<Done, ServiceFault>,
-    ) {
-        match outcome {
-            Ok(done) if self.log.allows(story.level) => {
-                let line = with_name(self.alloc, self.line(story.level, story.event), story)
-                    .number("records", story.records)
-                    .number("changed", done.changed);
-                self.log.push(rt, with_time(rt, line, story.begun));
-            }
-            Ok(_) => {}
-            Err(fault) => {
-                let line = self.line(Level::Warn, "failed").text("what", story.event);
-                let line = with_name(self.alloc, line, story);
-                self.log.push(rt, line.text("code", fault.code()));
-            }
+// Tells that an edit was made, or that it failed.
+fn tell_edit<R: Wait + Clock>(
+    rt: &R,
+    observed: &Observed,
+    story: &Story,
+    outcome: &Result<Done, ServiceFault>,
+) {
+    match outcome {
+        Ok(done) if observed.log.allows(story.level) => {
+            let line = with_name(observed, observed.line(story.level, story.event), story)
+                .number("records", story.records)
+                .number("changed", done.changed);
+            observed.log.push(rt, with_time(rt, line, story.begun));
+        }
+        Ok(_) => {}
+        Err(fault) => {
+            let line = observed
+                .line(Level::Warn, "failed")
+                .text("what", story.event);
+            let line = with_name(observed, line, story);
+            observed.log.push(rt, line.text("code", fault.code()));
         }
     }
 }
 
 // The line with the name of a zone, or of a record's owner.
-fn with_name(alloc: Global, line: Line, story: &Story) -> Line {
-    let mut text = Vec::new(alloc);
+fn with_name(observed: &Observed, line: Line, story: &Story) -> Line {
+    let mut text = Vec::new(observed.alloc);
     match story.name.write(&mut text) {
         Ok(()) => line.text("name", str::from_utf8(&text).unwrap_or("")),
-        Err(_) => line,
-    }
-}
-
-/// The line with the milliseconds since a time, where the clock can be read.
-pub(super) fn with_time<R: Clock>(rt: &R, line: Line, begun: Option<Instant>) -> Line {
-    let Some(begun) = begun else {
-        return line;
-    };
-    match begun.elapsed(rt) {
-        Ok(passed) => line.millis("ms", u64::try_from(passed.as_micros()).unwrap_or(u64::MAX)),
         Err(_) => line,
     }
 }

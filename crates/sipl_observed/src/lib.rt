@@ -1,0 +1,11 @@
+//! What is told of the daemon while it runs, in its log, and what is counted of it.
+#![tactic(auto)]
+
+mod cause;
+mod counts;
+mod observed;
+mod states;
+
+pub use cause::Cause;
+pub use counts::Counts;
+pub use observed::{ClientCounts, Observed, tell_start, with_time};
