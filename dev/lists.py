@@ -122,7 +122,7 @@ def read() -> dict[str, Any]:
         "session": commands("session"), "script": commands("script"), "control": commands("control"),
         "steps": {form.split(" ")[0]: form for it in documents.rows_of("lines")["steps"][1:] for form in forms(it[0])},
         "changes": words("sipl_archive/src/items.rt", r'b"(\w+)"', r"fn is_edit\((.*?^}.*?)^}"),
-        "not_asking": words("sipl_daemon/src/session/asking.rt", r'b"(\w+)"', r"fn is_refused\((.*?)^}"),
+        "not_asking": words("sipl_input/src/asking.rt", r'b"(\w+)"', r"fn is_refused\((.*?)^}"),
         "settings": {"siploc": shared, "siplocd": sorted({*own, *shared} - {"sessions"})},
         "codes": codes(), "refusals": refusals(),
     }

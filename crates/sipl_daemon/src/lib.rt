@@ -7,7 +7,6 @@ mod daemon;
 mod edits;
 mod fault;
 mod host;
-mod http;
 mod journal;
 mod listeners;
 mod program;

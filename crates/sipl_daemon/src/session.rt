@@ -1,18 +1,12 @@
 //! A client's session.
-mod asking;
-mod course;
 pub(crate) mod desk;
-mod input;
-mod meter;
 mod output;
 pub(crate) mod restoring;
 
 use crate::daemon::Daemon;
-use crate::session::asking::Asking;
-use crate::session::course::Course;
 use crate::session::desk::SessionDesk;
-use crate::session::input::Input;
 use crate::session::output::{Output, set_patience};
+use sipl_input::{Asking, Course, Input};
 use sipl_lines::{Tapped, serve};
 use sipl_listen::{Client, Stream};
 use std::sync::Wait;
@@ -35,7 +29,7 @@ pub(crate) fn serve_client<R: Wait + Clock>(
     }
     drop(stream);
     desk.end();
-    course.end_batch(daemon);
+    course.end_batch(&daemon.observed);
     daemon.observed.close(rt, course.cause());
     daemon.clients.leave(rt, place);
 }
@@ -50,7 +44,15 @@ fn serve_stream<R: Wait + Clock>(
     asks_only: bool,
 ) {
     let alloc = daemon.alloc;
-    let input = Input::new(rt, daemon, stream, course);
+    let input = Input::new(
+        rt,
+        alloc,
+        stream,
+        course,
+        &daemon.stop,
+        &daemon.observed,
+        daemon.zone_octets,
+    );
     let mut writer = Tapped::new(Output::new(rt, daemon, stream, course));
     if asks_only {
         if let Ok(asking) = Asking::new(alloc, input) {

@@ -2,7 +2,7 @@
 ghost use Rattle.std.specs.Io.{WritesAtMost};
 
 use crate::daemon::Daemon;
-use crate::session::course::Course;
+use sipl_input::Course;
 use sipl_listen::Stream;
 use sipl_observed::Cause;
 use sipl_settings::OnFailure;

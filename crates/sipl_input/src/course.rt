@@ -1,6 +1,5 @@
 //! The course of a session.
-use crate::daemon::Daemon;
-use sipl_observed::Cause;
+use sipl_observed::{Cause, Observed};
 use std::cell::Cell;
 use std::io::{Error, ErrorKind};
 use std::sync::atomic::AtomicU64;
@@ -8,9 +7,9 @@ use std::time::{Clock, Instant};
 
 /// The course of a session, which its reader and its writer note.
 #[derive(Drop)]
-pub(crate) struct Course {
+pub struct Course {
     /// Where its last change ends in the file of changes.
-    pub(crate) place: AtomicU64,
+    pub place: AtomicU64,
     // When the batch was read that is replied to, and when the last of its replies was written.
     read_at: Cell<Option<Instant>>,
     written_at: Cell<Option<Instant>>,
@@ -20,7 +19,7 @@ pub(crate) struct Course {
 
 impl Course {
     /// At the start of a session.
-    pub(crate) fn new() -> Course {
+    pub fn new() -> Course {
         Course {
             place: AtomicU64::new(0),
             read_at: Cell::new(None),
@@ -30,41 +29,41 @@ impl Course {
     }
 
     /// Why the daemon ends it, if it does.
-    pub(crate) fn cause(&self) -> Option<Cause> {
+    pub fn cause(&self) -> Option<Cause> {
         self.cause.get()
     }
 
     /// The daemon ends it.
-    pub(crate) fn end(&self, cause: Cause) {
+    pub fn end(&self, cause: Cause) {
         self.cause.set(Some(cause));
     }
 
     /// The daemon ends it where a read or a write has failed since the client let too much time pass.
-    pub(crate) fn end_if_late(&self, cause: Cause, error: &Error) {
+    pub fn end_if_late(&self, cause: Cause, error: &Error) {
         if matches!(error.kind(), ErrorKind::WouldBlock | ErrorKind::TimedOut) {
             self.end(cause);
         }
     }
 
     /// A batch was read, of which the time is taken where there are metrics.
-    pub(crate) fn begin_batch<R: Clock>(&self, rt: &R, daemon: &Daemon) {
-        if daemon.observed.batches.is_some() {
+    pub fn begin_batch<R: Clock>(&self, rt: &R, observed: &Observed) {
+        if observed.batches.is_some() {
             self.read_at.set(Instant::now(rt).ok());
             self.written_at.set(None);
         }
     }
 
     /// Replies were written.
-    pub(crate) fn write_batch<R: Clock>(&self, rt: &R) {
+    pub fn write_batch<R: Clock>(&self, rt: &R) {
         if self.read_at.get().is_some() {
             self.written_at.set(Instant::now(rt).ok());
         }
     }
 
     /// The next batch is to be read: all replies to the last one were written.
-    pub(crate) fn end_batch(&self, daemon: &Daemon) {
+    pub fn end_batch(&self, observed: &Observed) {
         let (Some(batches), Some(begun), Some(ended)) = (
-            &daemon.observed.batches,
+            &observed.batches,
             self.read_at.get(),
             self.written_at.get(),
         ) else {

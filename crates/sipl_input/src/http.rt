@@ -20,6 +20,6 @@ const METHODS: [&[u8]; 10] = [
 pub(crate) const MAX_METHOD_LEN: usize = 8;
 
 /// Whether a text begins as a request of HTTP does.
-pub(crate) fn begins_request(text: &[u8]) -> bool {
+pub fn begins_request(text: &[u8]) -> bool {
     METHODS.iter().any(|method| text.starts_with(method))
 }

@@ -2,13 +2,12 @@
 ghost use Rattle.std.specs.Io.{ReadsAtMost};
 ghost use Rattle.std.specs.Prelude.{◌≤◌, length};
 
-use crate::daemon::Daemon;
+use crate::course::Course;
 use crate::http::{MAX_METHOD_LEN, begins_request};
-use crate::session::course::Course;
-use crate::session::meter::ZoneMeter;
+use crate::meter::ZoneMeter;
 use sipl_lines::MAX_LINE_LEN;
-use sipl_listen::Stream;
-use sipl_observed::Cause;
+use sipl_listen::{Stop, Stream};
+use sipl_observed::{Cause, Observed};
 use std::alloc::Global;
 use std::io;
 use std::io::{ErrorKind, Read};
@@ -21,12 +20,13 @@ const TOO_LONG: usize = MAX_LINE_LEN + 1;
 /// lines of a zone: so a line whose end has not come is not carried out, and no part of a zone is loaded. Where the lines of a zone have too many octets, one of them is made too long, and
 /// the session refuses the zone for it and keeps no lines.
 #[derive(Drop)]
-pub(crate) struct Input<'a, R> {
+pub struct Input<'a, R> {
     alloc: Global,
     rt: &'a R,
-    daemon: &'a Daemon,
     stream: &'a Stream,
     course: &'a Course,
+    stop: &'a Stop,
+    observed: &'a Observed,
     meter: ZoneMeter,
     // The first octets that were read.
     first: Vec<u8>,
@@ -38,21 +38,24 @@ pub(crate) struct Input<'a, R> {
 }
 
 impl<'a, R: Clock> Input<'a, R> {
-    /// The reader of a session.
-    pub(crate) fn new(
+    /// The reader of a session, whose zones may have so many octets.
+    pub fn new(
         rt: &'a R,
-        daemon: &'a Daemon,
+        alloc: Global,
         stream: &'a Stream,
         course: &'a Course,
+        stop: &'a Stop,
+        observed: &'a Observed,
+        zone_octets: u64,
     ) -> Self {
-        let alloc = daemon.alloc;
         Input {
             alloc,
             rt,
-            daemon,
             stream,
             course,
-            meter: ZoneMeter::new(alloc, daemon.zone_octets),
+            stop,
+            observed,
+            meter: ZoneMeter::new(alloc, zone_octets),
             first: Vec::new(alloc),
             filling: 0,
             tail: Vec::new(alloc),
@@ -61,7 +64,7 @@ impl<'a, R: Clock> Input<'a, R> {
     }
 
     fn check(&self) -> io::Result<()> {
-        if self.daemon.stop.is_asked() {
+        if self.stop.is_asked() {
             return Err(io::Error::from(ErrorKind::ConnectionAborted));
         }
         Ok(())
@@ -73,7 +76,7 @@ impl<'a, R: Clock> Input<'a, R> {
     {
         // A client that came while the others were ended is ended here.
         self.check()?;
-        self.course.end_batch(self.daemon);
+        self.course.end_batch(self.observed);
         let mut stream = self.stream;
         let count = match stream.read(buf) {
             Ok(count) => count,
@@ -82,7 +85,7 @@ impl<'a, R: Clock> Input<'a, R> {
                 return Err(error);
             }
         };
-        self.course.begin_batch(self.rt, self.daemon);
+        self.course.begin_batch(self.rt, self.observed);
         self.check()?;
         if count == 0 && self.meter.is_within() {
             return Err(io::Error::from(ErrorKind::UnexpectedEof));

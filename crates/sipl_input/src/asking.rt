@@ -1,7 +1,7 @@
 //! The reader of a session that may only ask.
 ghost use Rattle.std.specs.Prelude.{◌≤◌, length};
 
-use crate::session::input::Input;
+use crate::input::Input;
 use memchr::memchr;
 use sipl_archive::taken_by;
 use sipl_lines::MAX_LINE_LEN;
@@ -26,7 +26,7 @@ const REFUSED: &[u8] = b"repair\n";
 /// What a client sends that may only ask. In place of each line that is refused, and the lines that it takes, the
 /// session has one that its desk refuses: so it keeps no zone, and makes no hold but those of its calls.
 #[derive(Drop)]
-pub(crate) struct Asking<'a, R> {
+pub struct Asking<'a, R> {
     input: Input<'a, R>,
     chunk: Vec<u8>,
     filter: Filter,
@@ -46,7 +46,7 @@ struct Filter {
 
 impl<'a, R: Clock> Asking<'a, R> {
     /// At the start of a session with this input.
-    pub(crate) fn new(alloc: Global, input: Input<'a, R>) -> Result<Self, AllocError> {
+    pub fn new(alloc: Global, input: Input<'a, R>) -> Result<Self, AllocError> {
         let chunk = vec![in alloc; 0; CHUNK]?;
         Ok(Asking {
             input,
