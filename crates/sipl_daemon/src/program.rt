@@ -100,7 +100,7 @@ where
             let _settings = read_given(host, rt.alloc(), Given::File(path))?;
             println!(rt; "ok")?;
         }
-        Call::Tell(address, line) => return tell_line(rt, host, address.as_str(), line.as_str()),
+        Call::Tell(address, line) => return tell(rt, host, address.as_str(), line.as_str()),
         Call::Replay(folder) => {
             let runs = replay(host, rt.alloc(), folder.as_str())?;
             print_runs(rt, &runs)?;
@@ -121,19 +121,6 @@ fn print_runs<R: Print + AllocGlobal>(rt: &R, runs: &[Replayed]) -> Result<(), F
     }
     println!(rt; "replayed {all}")?;
     Ok(())
-}
-
-// Sends a line to a control address. Returns whether it is not refused.
-fn tell_line<R: Print + AllocGlobal, H: Host>(
-    rt: &R,
-    host: &H,
-    address: &str,
-    line: &str,
-) -> Result<bool, Fault> {
-    match tell(rt, host, address, line) {
-        Ok(is_accepted) => Ok(is_accepted),
-        Err(error) => Err(Fault::Tell(String::from_str(rt.alloc(), address)?, error)),
-    }
 }
 
 // Serves with the settings that are given until the daemon is to stop, claims all pages, and prints how many events
