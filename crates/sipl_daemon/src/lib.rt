@@ -9,6 +9,7 @@ mod fault;
 mod host;
 mod journal;
 mod listeners;
+mod paths;
 mod program;
 mod report;
 mod samples;

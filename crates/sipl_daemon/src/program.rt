@@ -4,6 +4,7 @@ use crate::daemon::Daemon;
 use crate::host::Host;
 use crate::journal::claims::Claims;
 use crate::listeners::Listeners;
+use crate::paths::{expect_folder, expect_page, expect_settings, expect_state};
 use crate::report::{Fault, write_fault};
 use crate::server::serve_all;
 use crate::session::restoring::RestoringDesk;
@@ -13,7 +14,7 @@ use sipl_archive::{Archive, Replayed, replay};
 use sipl_listen::{Stop, take_lock};
 use sipl_log::{Level, Log};
 use sipl_observed::tell_start;
-use sipl_settings::{Call, DaemonSettings, Given, Unread, read_arguments, read_given};
+use sipl_settings::{Call, DaemonSettings, Given, OnFailure, Unread, read_arguments, read_given};
 use sipl_state::{Restored, StateFault, real_path, restore};
 use std::alloc::Global;
 use std::env;
@@ -97,6 +98,7 @@ where
 {
     match call {
         Call::Check(path) => {
+            expect_settings(host, rt.alloc(), path.as_str())?;
             let _settings = read_given(host, rt.alloc(), Given::File(path))?;
             println!(rt; "ok")?;
         }
@@ -105,7 +107,10 @@ where
             let runs = replay(host, rt.alloc(), folder.as_str())?;
             print_runs(rt, &runs)?;
         }
-        Call::CheckState(path) => check_files(rt, host, log, path.as_str())?,
+        Call::CheckState(path) => {
+            expect_state(host, rt.alloc(), path.as_str())?;
+            check_files(rt, host, log, path.as_str())?;
+        }
         Call::Serve(given) => serve(rt, host, input, log, given)?,
     }
     Ok(true)
@@ -136,6 +141,9 @@ where
     R: Env + Print + AllocGlobal,
     H: Host,
 {
+    if let Given::File(path) = &given {
+        expect_settings(host, rt.alloc(), path.as_str())?;
+    }
     let (text, settings) = read_given(host, rt.alloc(), given)?;
     // systemd has its journal read standard error.
     let is_journal = env::var(rt, "JOURNAL_STREAM").is_ok();
@@ -212,9 +220,13 @@ where
     H: Host,
 {
     if let Some(path) = &settings.archive {
+        expect_folder(host, rt.alloc(), path.as_str())?;
         daemon.archive = Some(open_archive(host, rt.alloc(), settings, path.as_str())?);
+        let is_made = settings.on_failure == OnFailure::End;
+        expect_page(host, rt.alloc(), path.as_str(), is_made)?;
     }
     if let Some(path) = &settings.state {
+        expect_state(host, rt.alloc(), path.as_str())?;
         let Restored { changes, found } = open_state(
             host,
             rt.alloc(),

@@ -1,0 +1,132 @@
+//! What is at the paths of settings and arguments, before it is opened: a pipe would be waited for, a device read
+//! without end, and what is in the way of a page be seen only with the first page.
+use crate::host::Host;
+use crate::report::Fault;
+use sipl_settings::GivenFault;
+use sipl_state::{StateFault, real_path};
+use std::alloc::Global;
+use std::fs::{File, Metadata, OpenOptions};
+use std::io::ErrorKind;
+use std::os::unix::fs::{FileTypeExt, OpenOptionsExt};
+use std::rt::Files;
+use std::{fs, io};
+
+// What the names of a state's files have after its own.
+const ENDINGS: &[&str] = &["", ".lock", ".log", ".new", ".log.new", ".log.torn"];
+
+// How many octets a file of settings may have.
+const MAX_SETTINGS: u64 = 1 << 20;
+
+/// Checks that settings can be read from a path: there is a file of no great length, or a pipe that is open and has no
+/// path of its own.
+pub(crate) fn expect_settings<H: Host>(host: &H, alloc: Global, path: &str) -> Result<(), Fault> {
+    match check_settings(host, alloc, path) {
+        Ok(()) => Ok(()),
+        Err(error) => Err(Fault::Settings(GivenFault::File(String::from_str(alloc, path)?, error))),
+    }
+}
+
+/// Checks that each file of a state is one, or is not there.
+pub(crate) fn expect_state<H: Host>(host: &H, alloc: Global, path: &str) -> Result<(), Fault> {
+    match find_state(host, alloc, path) {
+        Ok(path) => expect_state_at(host, alloc, path.as_str()),
+        Err(error) => Err(Fault::State(String::from_str(alloc, path)?, StateFault::File(error))),
+    }
+}
+
+/// Checks that an archive is a folder.
+pub(crate) fn expect_folder<H: Host>(host: &H, alloc: Global, path: &str) -> Result<(), Fault> {
+    match check_folder(host, path) {
+        Ok(()) => Ok(()),
+        Err(error) => Err(Fault::Archive(String::from_str(alloc, path)?, error)),
+    }
+}
+
+/// Checks that the next page of an archive, whose lock is taken, finds no other than a file in its way, and where that
+/// is asked for that it can be made.
+pub(crate) fn expect_page<H: Host>(
+    host: &H,
+    alloc: Global,
+    folder: &str,
+    is_made: bool,
+) -> Result<(), Fault> {
+    let path = format!(in alloc; "{folder}/new")?;
+    match check_page(host, path.as_str(), is_made) {
+        Ok(()) => Ok(()),
+        Err(error) => Err(Fault::Archive(path, error)),
+    }
+}
+
+fn check_settings<H: Host>(host: &H, alloc: Global, path: &str) -> io::Result<()> {
+    let found = fs::metadata(host, path)?;
+    if found.file_type().is_fifo() && fs::canonicalize(&(host, alloc), path).is_err() {
+        return Ok(());
+    }
+    expect_file(&found)?;
+    if found.len() <= MAX_SETTINGS {
+        Ok(())
+    } else {
+        Err(io::Error::from(ErrorKind::FileTooLarge))
+    }
+}
+
+fn expect_file(found: &Metadata) -> io::Result<()> {
+    if found.is_file() {
+        Ok(())
+    } else {
+        Err(io::Error::new(ErrorKind::InvalidInput, "not a regular file"))
+    }
+}
+
+// Checks that there is a file at a path, or nothing.
+fn expect_file_or_none<R: Files>(rt: &R, path: &str) -> io::Result<()> {
+    match fs::metadata(rt, path) {
+        Ok(found) => expect_file(&found),
+        Err(error) if error.kind() == ErrorKind::NotFound => Ok(()),
+        Err(error) => Err(error),
+    }
+}
+
+// The path of a state, which is not that of a link.
+fn find_state<H: Host>(host: &H, alloc: Global, path: &str) -> io::Result<String> {
+    match real_path(host, alloc, path) {
+        Err(error) if error.kind() == ErrorKind::NotFound => Err(io::Error::new(
+            ErrorKind::NotFound,
+            "a symbolic link that leads nowhere",
+        )),
+        found => found,
+    }
+}
+
+fn expect_state_at<H: Host>(host: &H, alloc: Global, path: &str) -> Result<(), Fault> {
+    for ending in ENDINGS {
+        let path = format!(in alloc; "{path}{ending}")?;
+        if let Err(error) = expect_file_or_none(host, path.as_str()) {
+            return Err(Fault::State(path, StateFault::File(error)));
+        }
+    }
+    Ok(())
+}
+
+fn check_folder<R: Files>(rt: &R, path: &str) -> io::Result<()> {
+    if fs::metadata(rt, path)?.is_dir() {
+        Ok(())
+    } else {
+        Err(io::Error::from(ErrorKind::NotADirectory))
+    }
+}
+
+fn check_page<R: Files<File = File>>(rt: &R, path: &str, is_made: bool) -> io::Result<()> {
+    expect_file_or_none(rt, path)?;
+    if !is_made {
+        return Ok(());
+    }
+    let file = OpenOptions::new()
+        .write(true)
+        .create(true)
+        .truncate(true)
+        .mode(0o600)
+        .open(rt, path)?;
+    drop(file);
+    fs::remove_file(rt, path)
+}

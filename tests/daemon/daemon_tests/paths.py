@@ -1,0 +1,101 @@
+"""What is at the paths of settings and arguments: pipes, devices, links and folders in place of files."""
+
+from __future__ import annotations
+
+import os
+import pathlib
+import socket
+import subprocess
+from typing import Sequence
+
+from daemon_tests.support import PATIENCE, PROGRAM, Checks, Client, ended_start, started, stopped, test
+
+
+def refused(checks: Checks, folder: pathlib.Path, words: Sequence[str], begin: str, word: str = "") -> None:
+    """Checks that the program ends at once with one message that begins so and has this word."""
+    try:
+        ran = subprocess.run([PROGRAM, *words], cwd=folder, stdin=subprocess.DEVNULL, capture_output=True, text=True,
+                             timeout=PATIENCE, check=False)
+    except subprocess.TimeoutExpired:
+        checks.expect(False, f"it goes on: {words}")
+        return
+    said = "".join(it for it in ran.stderr.splitlines(keepends=True) if it.startswith("siplocd"))
+    checks.expect(ran.returncode == 1 and not ran.stdout and said.startswith(begin) and said.count("\n") == 1
+                  and word in said, (words, ran))
+
+
+def no_files(folder: pathlib.Path) -> list[pathlib.Path]:
+    """Paths at which there is something that is not a file."""
+    os.mkfifo(folder / "pipe")
+    (folder / "folder").mkdir()
+    (folder / "link").symlink_to("pipe")
+    with socket.socket(socket.AF_UNIX) as listener:
+        listener.bind(str(folder / "socket"))
+    return [*(folder / name for name in ("pipe", "folder", "link", "socket")), pathlib.Path("/dev/null")]
+
+
+@test
+def refuses_what_is_no_file(checks: Checks, folder: pathlib.Path) -> None:
+    listen = f'listen = ["unix:{folder}/s"]\n'
+    for path in no_files(folder):
+        refused(checks, folder, ["check", "--config", str(path)], f"siplocd: settings {path}: ", "not a regular file")
+        refused(checks, folder, ["--config", str(path)], f"siplocd: settings {path}: ", "not a regular file")
+        at = folder / "pipe" if path.name == "link" else path
+        refused(checks, folder, [f'{listen}state = "{path}"'], f"siplocd: state {at}: ", "not a regular file")
+        refused(checks, folder, ["check-state", str(path)], f"siplocd: state {at}: ", "not a regular file")
+        if path.name != "folder":
+            refused(checks, folder, [f'{listen}archive = "{path}"'], f"siplocd: archive {path}: ")
+            refused(checks, folder, ["replay", str(path)], f"siplocd: replay {path}: ")
+    for ending in ".lock", ".log", ".new", ".log.new", ".log.torn":
+        path = folder / f"state{ending}"
+        for make in path.mkdir, lambda at=path: os.mkfifo(at):
+            make()
+            refused(checks, folder, [f'{listen}state = "{folder}/state"'], f"siplocd: state {path}: ", "regular file")
+            path.rmdir() if path.is_dir() else path.unlink()
+    checks.expect(not (folder / "pipe.lock").exists(), "it has made a file before")
+    (folder / "dangling").symlink_to("nowhere")
+    refused(checks, folder, [f'{listen}state = "{folder}/dangling"'], f"siplocd: state {folder}/dangling: ", "link")
+    refused(checks, folder, ["check-state", f"{folder}/dangling"], f"siplocd: state {folder}/dangling: ", "link")
+
+
+@test
+def settings_may_come_from_an_open_pipe(checks: Checks, folder: pathlib.Path) -> None:
+    for text, wanted in (b"idle = 5\n", (0, b"ok\n", b"")), (b"idle = 0\n", (1, b"", None)):
+        ran = subprocess.run([PROGRAM, "check", "--config", "/dev/stdin"], input=text, capture_output=True,
+                             timeout=PATIENCE, check=False)
+        checks.equal((ran.returncode, ran.stdout, ran.stderr if wanted[2] is not None else None), wanted, text)
+
+
+@test
+def refuses_settings_without_end(checks: Checks, folder: pathlib.Path) -> None:
+    path = folder / "siplocd.toml"
+    path.write_bytes(b"#" * ((1 << 20) - 1) + b"\n")
+    ran = subprocess.run([PROGRAM, "check", "--config", str(path)], capture_output=True, text=True, timeout=PATIENCE,
+                         check=False)
+    checks.equal((ran.returncode, ran.stdout, ran.stderr), (0, "ok\n", ""), "the longest settings")
+    path.write_bytes(b"#" * (1 << 20) + b"\n")
+    for words in ["check", "--config", str(path)], ["--config", str(path)]:
+        refused(checks, folder, words, f"siplocd: settings {path}: ", "too large")
+
+
+@test
+def refuses_an_archive_that_takes_no_page(checks: Checks, folder: pathlib.Path) -> None:
+    archive = folder / "archive"
+    archive.mkdir()
+    settings = f'archive = "{archive}"\non_failure = '
+    for make in (archive / "new").mkdir, lambda: os.mkfifo(archive / "new"):
+        make()
+        for on_failure in "end", "read":
+            status, said = ended_start(folder, f'{settings}"{on_failure}"')
+            checks.equal((status, said), (1, f"siplocd: archive {archive}/new: not a regular file\n"), on_failure)
+        (archive / "new").rmdir() if (archive / "new").is_dir() else (archive / "new").unlink()
+    # No one makes a file there, whoever the tests are run by.
+    status, said = ended_start(folder, 'archive = "/proc"')
+    checks.expect(status == 1 and said.startswith("siplocd: archive /proc/new: ") and said.count("\n") == 1,
+                  (status, said))
+    (archive / "new").write_text("cut off")
+    with started(checks, folder, f'archive = "{archive}"') as daemon:
+        with Client(daemon.address) as client:
+            client.ask("find sip:192.0.2.1")
+        stopped(checks, daemon, 1)
+    checks.equal(sorted(it.name for it in archive.iterdir()), ["000001-0000000000000000"], "its files")
