@@ -16,6 +16,7 @@ mod samples;
 mod scrapes;
 mod server;
 mod session;
+mod streams;
 mod tell;
 mod watch;
 

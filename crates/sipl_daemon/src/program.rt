@@ -8,6 +8,7 @@ use crate::paths::{expect_folder, expect_page, expect_settings, expect_state};
 use crate::report::{Fault, write_fault};
 use crate::server::serve_all;
 use crate::session::restoring::RestoringDesk;
+use crate::streams::open_closed;
 use crate::tell::tell;
 use crate::watch::InputWatch;
 use sipl_archive::{Archive, Replayed, replay};
@@ -34,6 +35,18 @@ const LAST_LINES: u64 = 3_000;
 /// was told is refused, or 2 where the arguments are wrong; for a fault and for 2 standard error has the
 /// reason. The thread that writes the log is the caller's.
 pub fn start<R, H>(rt: &R, host: &H, input: &InputWatch, log: &Arc<Log, Global>) -> ExitCode
+where
+    R: Env + Print + Eprint + AllocGlobal,
+    H: Host + Eprint,
+{
+    let opened = open_closed(host, rt.alloc());
+    let status = start_over(rt, host, input, log);
+    drop(opened);
+    status
+}
+
+// Does what the arguments ask for, over standard streams that are open.
+fn start_over<R, H>(rt: &R, host: &H, input: &InputWatch, log: &Arc<Log, Global>) -> ExitCode
 where
     R: Env + Print + Eprint + AllocGlobal,
     H: Host + Eprint,

@@ -1,14 +1,16 @@
-"""What is at the paths of settings and arguments: pipes, devices, links and folders in place of files."""
+"""What is at the paths of settings and arguments: pipes, devices, links and folders in place of files; and what becomes
+of files where the standard streams are closed."""
 
 from __future__ import annotations
 
 import os
 import pathlib
+import signal
 import socket
 import subprocess
 from typing import Sequence
 
-from daemon_tests.support import PATIENCE, PROGRAM, Checks, Client, ended_start, started, stopped, test
+from daemon_tests.support import PATIENCE, PROGRAM, Checks, Client, ended_start, started, stopped, test, until
 
 
 def refused(checks: Checks, folder: pathlib.Path, words: Sequence[str], begin: str, word: str = "") -> None:
@@ -99,3 +101,33 @@ def refuses_an_archive_that_takes_no_page(checks: Checks, folder: pathlib.Path) 
             client.ask("find sip:192.0.2.1")
         stopped(checks, daemon, 1)
     checks.equal(sorted(it.name for it in archive.iterdir()), ["000001-0000000000000000"], "its files")
+
+
+@test
+def prints_into_no_file(checks: Checks, folder: pathlib.Path) -> None:
+    state, address = folder / "state", f"unix:{folder}/lines"
+    settings = f'listen = ["{address}"]\ncontrol = "unix:{folder}/control"\nlog = "debug"\nstate = "{state}"\n'
+    for closed in ">&-", "<&- >&-", "<&- >&- 2>&-", "2>&-":
+        process = subprocess.Popen(["sh", "-c", f'exec "$0" "$@" {closed}', PROGRAM, settings], cwd=folder,
+                                   stdin=subprocess.DEVNULL, stdout=subprocess.DEVNULL, stderr=subprocess.DEVNULL)
+        try:
+            if not until(lambda: (folder / "control").exists() or process.poll() is not None):
+                checks.expect(False, f"not ready: {closed}")
+                continue
+            with Client(address) as client:
+                checks.equal(client.ask("zone example.com. 1\na A 192.0.2.1"), ["ok zone 1 0 0 1"], closed)
+                checks.equal(client.ask("drop example.com."), ["ok drop 1"], closed)
+                checks.equal(client.ask("find sip:192.0.2.1:1"), ["target 1 udp 192.0.2.1 1", "ok find 1"], closed)
+            for number in range(3):
+                is_open = os.path.exists(f"/proc/{process.pid}/fd/{number}")
+                checks.expect(is_open and os.readlink(f"/proc/{process.pid}/fd/{number}") == "/dev/null",
+                              f"{number} is another file: {closed}")
+        finally:
+            process.send_signal(signal.SIGKILL)
+            process.wait()
+        (folder / "control").unlink(missing_ok=True)
+        texts = [it.read_bytes() for it in folder.iterdir() if it.is_file()]
+        checks.expect(not any(word in text for text in texts for word in (b"ready ", b"event=")), (closed, texts))
+        ran = subprocess.run([PROGRAM, "check-state", str(state)], capture_output=True, text=True, timeout=PATIENCE,
+                             check=False)
+        checks.expect(ran.returncode == 0 and ran.stdout.endswith("ok state\n"), (closed, ran))

@@ -11,7 +11,7 @@ import threading
 import time
 from typing import Callable, Iterator
 
-from daemon_tests.support import PATIENCE, PROGRAM, Checks, started, test
+from daemon_tests.support import PATIENCE, PROGRAM, Checks, started, test, until
 
 
 def told(address: str, line: str = "stats", seconds: float = PATIENCE) -> tuple[int, bytes, str]:
@@ -166,3 +166,23 @@ def tell_gives_up_who_says_nothing(checks: Checks, folder: pathlib.Path) -> None
         daemon.process.send_signal(signal.SIGCONT)
         status, printed, _ = told(daemon.control, "now")
         checks.expect(status == 0 and printed.startswith(b"ok now "), (status, printed))
+
+
+@test
+def tell_prints_on_no_connection(checks: Checks, folder: pathlib.Path) -> None:
+    heard = b""
+
+    def listen(stream: socket.socket) -> None:
+        nonlocal heard
+        stream.sendall(b"ok now 1\n")
+        while octets := stream.recv(1 << 16):
+            heard += octets
+
+    with peer(f"unix:{folder}/peer", listen) as address:
+        for closed in ">&-", "<&- >&- 2>&-":
+            heard = b""
+            ran = subprocess.run(["sh", "-c", f'exec "$0" "$@" {closed}', PROGRAM, "tell", address, "now"],
+                                 timeout=PATIENCE, check=False)
+            checks.equal(ran.returncode, 0, closed)
+            checks.expect(until(lambda: heard.endswith(b"now\n")), heard)
+            checks.equal(heard, b"now\n", closed)
