@@ -11,7 +11,7 @@ use std::sync::Wait;
 use std::time::{Clock, Duration, Instant};
 
 // How long a claim waits for receipts that are on their way, in milliseconds.
-const PATIENCE: u64 = 20;
+const PATIENCE: u64 = 5;
 
 // How long it is until a page is archived again that could not be, in milliseconds, and how many others may wait
 // meanwhile.

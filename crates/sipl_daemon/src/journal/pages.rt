@@ -28,9 +28,9 @@ const LOOK: u64 = 100;
 
 // How many pages may wait to be claimed before those who make events wait too, and how long these do at most for each
 // page more, in milliseconds.
-const MAX_AHEAD: usize = 2;
+const MAX_AHEAD: usize = 1;
 
-const PACE: u64 = 20;
+const PACE: u64 = 50;
 
 /// The pages that were turned, and what their events are claimed with, until the thread that claims takes them.
 #[derive(Drop)]
@@ -172,7 +172,7 @@ impl Pages {
             .wait_timeout_while(rt, turned, longest, |turned| turned.is_empty());
     }
 
-    /// Waits until at most two pages wait to be claimed, for 20 milliseconds at most for each page more: so those who
+    /// Waits until at most one page waits to be claimed, for 50 milliseconds at most for each page more: so those who
     /// make events do not get ahead of the thread that claims them. Where that can't go on it does not wait.
     pub(crate) fn keep_pace<R: Wait + Clock>(&self, rt: &R) {
         let turned = self.turned.lock(rt);

@@ -5,10 +5,10 @@ use std::alloc::Global;
 use std::sync::{Mutex, Wait};
 
 /// How many hand-overs' space is kept at most.
-pub(crate) const MAX_RECEIPTS: usize = 512;
+pub(crate) const MAX_RECEIPTS: usize = 128;
 
 // How many journals' space is kept at most.
-const MAX_JOURNALS: usize = 8;
+const MAX_JOURNALS: usize = 3;
 
 /// The space of receipts and of events that were claimed, in which later ones are kept: so a daemon that runs for months
 /// takes no more memory than what was under way at once.
