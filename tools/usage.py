@@ -9,14 +9,38 @@ it. Their continuations are not part of it.
 
 from __future__ import annotations
 
+import errno
 import os
 import pathlib
 import re
 import signal
 import sys
-from typing import NoReturn, Optional, Sequence
+from typing import NoReturn, Optional, Sequence, TextIO
 
 TOP = pathlib.Path(__file__).resolve().parent.parent
+
+# Without standard error `print` writes what belongs there to standard output; and without standard input nothing says so.
+if sys.stderr is None:
+    sys.stderr = open(os.devnull, "w")
+if sys.stdin is None:
+    sys.stdin = open(os.open(os.devnull, os.O_WRONLY))
+
+
+class Ended(BaseException):
+    """A signal that ends the program."""
+
+
+def end_at_signals() -> None:
+    """From now on SIGINT and SIGTERM raise `Ended` in the main thread; a second one ends the program at once."""
+    ours = [it for it in (signal.SIGINT, signal.SIGTERM) if signal.getsignal(it) != signal.SIG_IGN]
+
+    def end(number: int, _: object) -> NoReturn:
+        for it in ours:
+            signal.signal(it, signal.SIG_DFL)
+        raise Ended(f"ended by {signal.Signals(number).name}")
+
+    for it in ours:
+        signal.signal(it, end)
 
 
 class Head:
@@ -49,9 +73,17 @@ class Head:
         sys.exit(2)
 
 
+def output() -> TextIO:
+    """Standard output, or an OSError where it was closed from the beginning."""
+    if sys.stdout is None:
+        raise OSError(errno.EBADF, "it is closed")
+    return sys.stdout
+
+
 def drop_output() -> None:
     """Drops what standard output could not be given: it is not tried again at the end."""
-    os.dup2(os.open(os.devnull, os.O_WRONLY), sys.stdout.fileno())
+    if sys.stdout is not None:
+        os.dup2(os.open(os.devnull, os.O_WRONLY), sys.stdout.fileno())
 
 
 def main_head() -> Head:

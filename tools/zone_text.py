@@ -154,11 +154,14 @@ def print_lines(lines: Iterable[str]) -> bool:
     try:
         for line in lines:
             print(line)
-        sys.stdout.flush()
+        usage.output().flush()
     except OSError as fault:
         usage.drop_output()
         if not isinstance(fault, BrokenPipeError):
             print(f"standard output: {fault.strerror}", file=sys.stderr)
+        return False
+    except usage.Ended as ended:
+        print(ended, file=sys.stderr)
         return False
     return True
 

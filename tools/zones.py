@@ -189,9 +189,11 @@ def ask(server: Server, address: str, apex: str, question: list[str]) -> Iterato
         except OSError as fault:
             raise Fault(f"dig can't be started (Debian's bind9-dnsutils has it): {fault.strerror}") from None
         timer = threading.Timer(60 * server.seconds, dig.kill)
-        timer.start()
+        # (a signal may end the program before it is cancelled)
+        timer.daemon = True
         assert dig.stdout
         try:
+            timer.start()
             yield from filter(None, map(reply.read, decoded(dig.stdout)))
             dig.wait()
         finally:
