@@ -988,13 +988,23 @@ static socklen_t read_place(const char *address, place *place)
 static bool connect_within(int stream, const place *place, socklen_t size, int timeout)
 {
     int flags = fcntl(stream, F_GETFL), cause = 0, yes = 1;
+    int64_t end = now() + timeout;
     socklen_t cause_size = sizeof cause;
     if (flags < 0 || fcntl(stream, F_SETFL, flags | O_NONBLOCK) < 0 || fcntl(stream, F_SETFD, FD_CLOEXEC) < 0)
         return false;
-    if (connect(stream, &place->any, size) < 0) {
+    int status;
+    /* As many clients wait at a Unix socket as it takes: none waits for that by itself. */
+    while ((status = connect(stream, &place->any, size)) < 0 && errno == EAGAIN && place->any.sa_family == AF_UNIX) {
+        if (now() >= end) {
+            errno = ETIMEDOUT;
+            return false;
+        }
+        poll(NULL, 0, 10);
+    }
+    if (status < 0) {
         if (errno != EINPROGRESS && errno != EINTR)
             return false;
-        int events = wait_for(stream, POLLOUT, now() + timeout);
+        int events = wait_for(stream, POLLOUT, end);
         if (events == 0)
             errno = ETIMEDOUT;
         if (events <= 0 || getsockopt(stream, SOL_SOCKET, SO_ERROR, &cause, &cause_size) < 0)

@@ -10,12 +10,14 @@
 
 #include <arpa/inet.h>
 #include <errno.h>
+#include <fcntl.h>
 #include <signal.h>
 #include <stdarg.h>
 #include <stdio.h>
 #include <stdlib.h>
 #include <string.h>
 #include <sys/socket.h>
+#include <sys/un.h>
 #include <sys/wait.h>
 #include <time.h>
 #include <unistd.h>
@@ -908,7 +910,7 @@ static void invalid_commands_are_not_sent(void)
     const char *const texts[] = {"", " ", "\t", "#", "# find sip:a", "quit", " quit\t", "find sip:a\n", "find sip:a\nquit",
                                  "find sip:a\r", "add a.e. A 192.0.2.1\rx", "zone e. 1", "zone e. 0\nfind sip:a",
                                  "zone e. 2\na A 192.0.2.1", "zone e. 1048577\na", "zone e.\na", "zone e. 1\na\r",
-                                 "zone e. 99999999999999999999\na", name};
+                                 "zone e. 99999999999999999999\na", "zone e. 0000000000000000000000001", name};
     const siploc_target blank = {"udp", "a b", 1}, empty = {"udp", "", 1};
     siploc *s = connect_to_fake(serve_one_line, NULL, 10000);
     CHECK(s != NULL);
@@ -1032,6 +1034,39 @@ static void addresses(void)
     }
 }
 
+/* A Unix socket that has as many clients waiting as it takes is waited for, as long as is given. */
+static void full_queue(void)
+{
+    struct sockaddr_un place = {.sun_family = AF_UNIX};
+    char folder[] = "/tmp/siploc-test-XXXXXX", address[128];
+    int clients[8], count = 0, listener = socket(AF_UNIX, SOCK_STREAM, 0);
+    siploc *session;
+    CHECK(mkdtemp(folder) != NULL);
+    snprintf(place.sun_path, sizeof place.sun_path, "%s/s", folder);
+    snprintf(address, sizeof address, "unix:%s", place.sun_path);
+    CHECK(bind(listener, (struct sockaddr *)&place, sizeof place) == 0 && listen(listener, 0) == 0);
+    do {
+        clients[count] = socket(AF_UNIX, SOCK_STREAM, 0);
+        fcntl(clients[count], F_SETFL, O_NONBLOCK);
+    } while (connect(clients[count++], (struct sockaddr *)&place, sizeof place) == 0 && count < 8);
+    CHECK(errno == EAGAIN);
+    CHECK(siploc_connect(address, 300, &session) == SIPLOC_NOT_CONNECTED && errno == ETIMEDOUT);
+    if (start_child() == 0) {
+        pause_for(300);
+        accept(listener, NULL, NULL);
+        pause_for(20000);
+        _exit(0);
+    }
+    CHECK(siploc_connect(address, 20000, &session) == SIPLOC_OK);
+    siploc_set_timeout(session, 1);
+    siploc_close(session);
+    while (count > 0)
+        close(clients[--count]);
+    close(listener);
+    unlink(place.sun_path);
+    rmdir(folder);
+}
+
 int main(int count, char **words)
 {
     static const struct {
@@ -1043,7 +1078,7 @@ int main(int count, char **words)
         TEST(refusals_by_calls), TEST(finds_in_batches), TEST(batch_of_more_than_the_sockets_hold),
         TEST(server_that_ends_in_the_midst), TEST(client_that_is_killed_in_a_zone), TEST(example_program), TEST(replies),
         TEST(cut_at_each_octet), TEST(what_a_refused_find_names), TEST(garbage_without_end), TEST(invalid_commands_are_not_sent), TEST(lost_before_and_after), TEST(timeouts),
-        TEST(addresses)};
+        TEST(addresses), TEST(full_queue)};
     int passed = 0, failed = 0;
     program = getenv("SIPLOC");
     if (count < 3 || program == NULL)

@@ -27,6 +27,7 @@ It needs Python 3.9 and its standard library, and is this file alone. `siploc_as
 
 from __future__ import annotations
 
+import errno
 import ipaddress
 import itertools
 import operator
@@ -113,6 +114,8 @@ _MAX_ZONE_LINES = 1_048_576
 _MAX_REPLY_LINE = 4_096
 _MAX_REPLY_LINES = 65_536
 _CHUNK = 1 << 18
+# The seconds after which a Unix socket that is full is tried again.
+_PAUSE = 0.01
 
 
 class Target(NamedTuple):
@@ -579,10 +582,13 @@ def connect(address: str, timeout: float = 30.0) -> Session:
     """
     fault: Optional[OSError] = None
     for family, place in _places(address):
-        stream = socket.socket(family, socket.SOCK_STREAM)
         try:
-            stream.settimeout(timeout)
-            stream.connect(place)
+            stream = socket.socket(family, socket.SOCK_STREAM)
+        except OSError as refused:
+            fault = fault or refused
+            continue
+        try:
+            _connect(stream, place, timeout)
             _prepare(stream)
         except OSError as refused:
             stream.close()
@@ -590,6 +596,20 @@ def connect(address: str, timeout: float = 30.0) -> Session:
         else:
             return Session(stream, timeout)
     raise NotConnected(f"{address}: {fault}") from fault
+
+
+def _connect(stream: socket.socket, place: object, timeout: float) -> None:
+    """Connects a socket within a time."""
+    end = time.monotonic() + timeout
+    stream.settimeout(timeout)
+    while True:
+        try:
+            return stream.connect(place)
+        except BlockingIOError as full:
+            # As many clients wait at a Unix socket as it takes: none waits for that by itself.
+            if full.errno != errno.EAGAIN or time.monotonic() >= end:
+                raise
+        time.sleep(_PAUSE)
 
 
 def _prepare(stream: socket.socket) -> None:

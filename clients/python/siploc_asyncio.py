@@ -13,7 +13,9 @@ session with it, since the reply that was due would be taken for that of the nex
 from __future__ import annotations
 
 import asyncio
+import errno
 import operator
+import os
 import socket
 from typing import Iterable, List, Optional, Sequence, Tuple, Union
 
@@ -30,10 +32,14 @@ async def connect(address: str, timeout: float = 30.0) -> Session:
     """A session with the server at an address, as `siploc.connect` takes one."""
     fault: Optional[Exception] = None
     for family, place in siploc._places(address):
-        stream = socket.socket(family, socket.SOCK_STREAM)
+        try:
+            stream = socket.socket(family, socket.SOCK_STREAM)
+        except OSError as refused:
+            fault = fault or refused
+            continue
         stream.setblocking(False)
         try:
-            await asyncio.wait_for(asyncio.get_running_loop().sock_connect(stream, place), timeout)
+            await asyncio.wait_for(_connect(stream, place), timeout)
             siploc._prepare(stream)
         except (OSError, asyncio.TimeoutError) as refused:
             stream.close()
@@ -44,6 +50,16 @@ async def connect(address: str, timeout: float = 30.0) -> Session:
         else:
             return Session(stream, timeout)
     raise NotConnected(f"{address}: {fault or 'timed out'}") from fault
+
+
+async def _connect(stream: socket.socket, place: Union[str, Tuple[str, int]]) -> None:
+    if stream.family != socket.AF_UNIX:
+        return await asyncio.get_running_loop().sock_connect(stream, place)
+    # (the loop takes a Unix socket for connected at which as many clients wait as it takes)
+    while (code := stream.connect_ex(place)) == errno.EAGAIN:
+        await asyncio.sleep(siploc._PAUSE)
+    if code:
+        raise OSError(code, os.strerror(code))
 
 
 class Session:

@@ -12,6 +12,7 @@ import os
 import pathlib
 import random
 import re
+import resource
 import select
 import signal
 import socket
@@ -50,6 +51,38 @@ def free_port():
         with socket.socket() as probe, contextlib.suppress(OSError):
             probe.bind(("127.0.0.1", port))
             return port
+
+
+@contextlib.contextmanager
+def full_queue():
+    """The address of a Unix socket that has as many clients waiting as it takes, and the socket."""
+    with tempfile.TemporaryDirectory() as folder, contextlib.ExitStack() as stack:
+        listener = stack.enter_context(socket.socket(socket.AF_UNIX))
+        listener.bind(f"{folder}/s")
+        listener.listen(0)
+        with contextlib.suppress(BlockingIOError):
+            while True:
+                client = stack.enter_context(socket.socket(socket.AF_UNIX))
+                client.setblocking(False)
+                client.connect(f"{folder}/s")
+        yield f"unix:{folder}/s", listener
+
+
+def accept_all(listener):
+    """Accepts two clients, and closes their connections."""
+    for _ in range(2):
+        listener.accept()[0].close()
+
+
+@contextlib.contextmanager
+def no_descriptors():
+    """This process can open no more meanwhile."""
+    limits = resource.getrlimit(resource.RLIMIT_NOFILE)
+    resource.setrlimit(resource.RLIMIT_NOFILE, (3, limits[1]))
+    try:
+        yield
+    finally:
+        resource.setrlimit(resource.RLIMIT_NOFILE, limits)
 
 
 def wait_for_octets(session):
@@ -525,7 +558,7 @@ class Faults(unittest.TestCase):
             for text in ("", " ", "\t", "#", "# find sip:a", "quit", " quit\t", "find sip:a\n", "find sip:a\nquit",
                          "find sip:a\r", "add a.e. A 192.0.2.1\rx", "zone e. 1", "zone e. 0\nfind sip:a",
                          "zone e. 2\na A 192.0.2.1", "zone e. 1048577\na", "zone e.\na", "zone e. 1\na\r",
-                         "zone " + "a" * 65_536 + " 1\na"):
+                         "zone " + "a" * 65_536 + " 1\na", "zone e. " + "0" * 30 + "1"):
                 with self.subTest(text=text[:40]), self.assertRaises(siploc.InvalidCommand):
                     session.batch(["find sip:a", text])
             for call in (lambda: session.find("sip:a seed 1"), lambda: session.find("sip:a\tseed"),
@@ -664,6 +697,24 @@ class Faults(unittest.TestCase):
             with self.subTest(address), self.assertRaises(siploc.NotConnected) as caught:
                 siploc.connect(address)
             self.assertIn(address, str(caught.exception))
+
+    def test_full_queue(self):
+        """A Unix socket that has as many clients waiting as it takes is waited for, as long as is given."""
+        with full_queue() as (address, listener):
+            start = time.monotonic()
+            with self.assertRaises(siploc.NotConnected):
+                siploc.connect(address, 0.3)
+            self.assertTrue(0.3 <= time.monotonic() - start < 10)
+            threading.Timer(0.3, accept_all, [listener]).start()
+            session = siploc.connect(address, 20)
+            self.assertTrue(session.is_open)
+            session._end()
+
+    def test_no_descriptor(self):
+        """Where this process may open no more it is not connected."""
+        with no_descriptors(), self.assertRaises(siploc.NotConnected) as caught:
+            siploc.connect("127.0.0.1:5099")
+        self.assertIn("open files", str(caught.exception))
 
     def test_characters_without_octets(self):
         """A lone surrogate that stands for no octet is an error of this module, and nothing is sent."""

@@ -10,13 +10,14 @@ import asyncio
 import contextlib
 import inspect
 import sys
+import threading
 import time
 import unittest
 
 import siploc
 import siploc_asyncio
 from siploc import Target
-from test_siploc import FIRST, SECOND, TOP, ZONE, Server
+from test_siploc import FIRST, SECOND, TOP, ZONE, Server, accept_all, full_queue, no_descriptors
 
 
 @contextlib.asynccontextmanager
@@ -187,6 +188,20 @@ class Asyncio(unittest.IsolatedAsyncioTestCase):
             await siploc_asyncio.connect("unix:/nonexistent/socket")
         with self.assertRaises(siploc.InvalidCommand):
             await siploc_asyncio.connect("192.0.2.1:5099")
+
+    async def test_full_queue(self):
+        """A Unix socket that has as many clients waiting as it takes is waited for, as long as is given."""
+        with full_queue() as (address, listener):
+            with self.assertRaises(siploc.NotConnected):
+                await siploc_asyncio.connect(address, 0.3)
+            threading.Timer(0.3, accept_all, [listener]).start()
+            session = await siploc_asyncio.connect(address, 20)
+            session._end()
+
+    async def test_no_descriptor(self):
+        """Where this process may open no more it is not connected."""
+        with no_descriptors(), self.assertRaises(siploc.NotConnected):
+            await siploc_asyncio.connect("127.0.0.1:5099")
 
     async def test_cancelled(self):
         """A call that is cancelled ends the session; one that waits for its turn ends alone."""

@@ -3,6 +3,7 @@ package siploc
 import (
 	"bufio"
 	"context"
+	"errors"
 	"io"
 	"net"
 	"net/netip"
@@ -29,7 +30,7 @@ func Connect(ctx context.Context, address string, timeout time.Duration) (*Sessi
 	dialer := net.Dialer{Timeout: timeout}
 	var first error
 	for _, place := range places {
-		stream, err := dialer.DialContext(ctx, network, place)
+		stream, err := dial(ctx, dialer, network, place)
 		if connection, isTCP := stream.(*net.TCPConn); err == nil && isTCP {
 			// A connection that ends before its time is reset, also where this process is killed. Else the server
 			// would see the end of the input, and take half a line as a line, and half a zone as a zone.
@@ -45,6 +46,21 @@ func Connect(ctx context.Context, address string, timeout time.Duration) (*Sessi
 		}
 	}
 	return nil, &NotConnectedError{Address: address, Cause: first}
+}
+
+// dial connects to a place. Where as many clients wait at a Unix socket as it takes, the dialer does not wait.
+func dial(ctx context.Context, dialer net.Dialer, network, place string) (net.Conn, error) {
+	for end := time.Now().Add(dialer.Timeout); ; {
+		stream, err := dialer.DialContext(ctx, network, place)
+		if !errors.Is(err, syscall.EAGAIN) || time.Now().After(end) {
+			return stream, err
+		}
+		select {
+		case <-ctx.Done():
+			return nil, ctx.Err()
+		case <-time.After(10 * time.Millisecond):
+		}
+	}
 }
 
 // New opens a session over a connection that is there, such as an end of a socket pair. The timeout is how long a call
@@ -171,9 +187,13 @@ func (e *exchange) write() {
 }
 
 // readBefore looks, without waiting, for what came before any command was sent: the end of the connection, or a
-// refusal of the session.
+// refusal of the session. It can't where the connection is none of the system.
 func (e *exchange) readBefore() error {
-	raw, err := e.stream.(syscall.Conn).SyscallConn()
+	stream, isOfSystem := e.stream.(syscall.Conn)
+	if !isOfSystem {
+		return nil
+	}
+	raw, err := stream.SyscallConn()
 	if err != nil {
 		return &BrokenError{Kind: ErrConnectionLost, Cause: err}
 	}

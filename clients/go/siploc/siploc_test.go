@@ -638,7 +638,8 @@ func TestInvalidCommandsAreNotSent(t *testing.T) {
 	}
 	for _, line := range []string{"", " ", "\t", "#", "# find sip:a", "quit", " quit\t", "find sip:a\n", "find sip:a\nquit",
 		"find sip:a\r", "add a.e. A 192.0.2.1\rx", "zone e. 1", "zone e. 0\nfind sip:a", "zone e. 2\na A 192.0.2.1",
-		"zone e. 1048577\na", "zone e.\na", "zone e. 1\na\r", "zone " + strings.Repeat("a", 65_536) + " 1\na"} {
+		"zone e. 1048577\na", "zone e.\na", "zone e. 1\na\r", "zone " + strings.Repeat("a", 65_536) + " 1\na",
+		"zone e. " + strings.Repeat("0", 30) + "1"} {
 		_, err := session.Batch(ctx, []string{"find sip:a", line})
 		is(err)
 	}
@@ -765,6 +766,52 @@ func TestAddresses(t *testing.T) {
 }
 
 // silent is a server that takes what comes, and says nothing.
+// A Unix socket that has as many clients waiting as it takes is waited for, as long as is given.
+func TestFullQueue(t *testing.T) {
+	address := &syscall.SockaddrUnix{Name: filepath.Join(t.TempDir(), "s")}
+	listener, err := syscall.Socket(syscall.AF_UNIX, syscall.SOCK_STREAM, 0)
+	equal(t, err, nil)
+	t.Cleanup(func() { _ = syscall.Close(listener) })
+	equal(t, syscall.Bind(listener, address), nil)
+	equal(t, syscall.Listen(listener, 0), nil)
+	for err = nil; err == nil; {
+		client, _ := syscall.Socket(syscall.AF_UNIX, syscall.SOCK_STREAM|syscall.SOCK_NONBLOCK, 0)
+		t.Cleanup(func() { _ = syscall.Close(client) })
+		err = syscall.Connect(client, address)
+	}
+	equal(t, err, syscall.EAGAIN)
+	begin := time.Now()
+	_, err = Connect(ctx, "unix:"+address.Name, 300*time.Millisecond)
+	equal(t, errors.Is(err, ErrNotConnected) && time.Since(begin) >= 300*time.Millisecond, true)
+	ended, end := context.WithTimeout(ctx, 300*time.Millisecond)
+	defer end()
+	_, err = Connect(ended, "unix:"+address.Name, time.Minute)
+	equal(t, errors.Is(err, ErrNotConnected) && time.Since(begin) < 30*time.Second, true)
+	time.AfterFunc(300*time.Millisecond, func() {
+		for i := 0; i < 2; i++ {
+			_, _, _ = syscall.Accept(listener)
+		}
+	})
+	session, err := Connect(ctx, "unix:"+address.Name, 20*time.Second)
+	equal(t, err, nil)
+	session.carrier.end()
+}
+
+// A connection need not be one of the system.
+func TestConnectionsOfOtherKinds(t *testing.T) {
+	stream, other := net.Pipe()
+	go func() {
+		reader := bufio.NewReader(other)
+		for line := ""; line != "quit\n"; {
+			line, _ = reader.ReadString('\n')
+			_, _ = io.WriteString(other, "ok "+line)
+		}
+	}()
+	session := New(stream, 10*time.Second)
+	equal(t, session.Repair(ctx), nil)
+	equal(t, session.Close(), nil)
+}
+
 func silent(t *testing.T) string {
 	return fake(t, func(stream net.Conn) { _, _ = io.Copy(io.Discard, stream) })
 }
