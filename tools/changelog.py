@@ -194,7 +194,12 @@ def mark_of(name: str, turn: int) -> Optional[Mark]:
 
 def stream_id(key: str) -> str:
     """The stream of a key, in a mark."""
-    return hashlib.sha256(key.encode()).hexdigest()[:16]
+    return hashlib.sha256(octets_of(key)).hexdigest()[:16]
+
+
+def octets_of(text: str) -> bytes:
+    """The octets of a text, which may be those of a word that is not UTF-8."""
+    return text.encode("utf-8", "surrogateescape")
 
 
 def marks_of(session: Session) -> List[Mark]:
@@ -296,13 +301,13 @@ class Stream:
 
     def append(self, changes: Sequence[Change]) -> Place:
         """Appends changes in order, all or none; the place of the last one."""
-        replies = self.transact([[b"XADD", self.key.encode(), b"*", b"change", it.octets] for it in changes])
+        replies = self.transact([[b"XADD", octets_of(self.key), b"*", b"change", it.octets] for it in changes])
         return place_of(bytes_of(replies[-1]))
 
     def append_once(self, changes: Sequence[Change], token: str, first: int) -> Place:
         """Appends changes in order, all or none, if that was not done before; the place of the last one. A publisher's
         changes are numbered by its token, these from the first number on."""
-        key = self.key.encode()
+        key = octets_of(self.key)
         place = self.ask([[b"EVAL", _APPEND, b"2", key, b"%b:by:%b" % (key, token.encode()), token.encode(), b"%d" % first,
                            *(it.octets for it in changes)]])[0]
         if place is None:
@@ -322,17 +327,22 @@ class Stream:
 
     def wait(self, place: Place, milliseconds: int) -> None:
         """Waits until there is an entry after a place, or so long."""
-        self.ask([[b"XREAD", b"COUNT", b"1", b"BLOCK", b"%d" % milliseconds, b"STREAMS", self.key.encode(),
+        self.ask([[b"XREAD", b"COUNT", b"1", b"BLOCK", b"%d" % milliseconds, b"STREAMS", octets_of(self.key),
                    id_of(place).encode()]])
 
     def window(self, place: Place) -> Tuple[Extent, List[Value]]:
         """Which entries there are, and at the same time some of them after a place, in order."""
-        reply = self.ask([[b"EVAL", _WINDOW, b"1", self.key.encode(), id_of(place).encode()]])[0]
+        reply = self.ask([[b"EVAL", _WINDOW, b"1", octets_of(self.key), id_of(place).encode()]])[0]
         if not isinstance(reply, list) or [*map(type, reply)] not in ([], [list, int, list]):
             raise Fault(f"not a reply of Redis: {reply!r}")
         if not reply:
             return Extent((0, 0), (0, 0), (0, 0), 0, False), []
-        return self.extent_of(reply[0], reply[1] == 1), reply[2]  # type: ignore[arg-type, return-value]
+        info, has, values = reply
+        places = [place, *(place_of(bytes_of(it[0])) if isinstance(it, list) and len(it) == 2 else place
+                           for it in values)]  # type: ignore[union-attr]
+        if any(before >= after for before, after in zip(places, places[1:])):
+            raise Fault(f"not a reply of Redis: entries out of order, {[*map(id_of, places)][:60]}")
+        return self.extent_of(info, has == 1), values  # type: ignore[arg-type, return-value]
 
     def after(self, place: Place) -> List[Entry]:
         """Some entries after a place, in order."""
@@ -356,7 +366,7 @@ class Stream:
         name, fields = value  # type: ignore[misc]
         place = place_of(name)
         try:
-            if not isinstance(fields, list) or fields[::2] not in ([b"change"], [b"change", b"by"]):
+            if not isinstance(fields, list) or len(fields) % 2 or fields[::2] not in ([b"change"], [b"change", b"by"]):
                 raise Fault("it does not have the field `change`, and at most `by`")
             change = change_of(bytes_of(fields[1]))
             change.check()
@@ -370,7 +380,7 @@ class Stream:
 
     def extent_of(self, info: List[Value], has: bool) -> Extent:
         """What `XINFO STREAM` says, and whether there is the entry that was asked for."""
-        facts = dict(zip(info[::2], info[1::2]))  # type: ignore[arg-type]
+        facts = dict(zip(map(bytes_of, info[::2]), info[1::2]))
         names = (b"recorded-first-entry-id", b"last-generated-id", b"max-deleted-entry-id")
         places, counts = [facts.get(name) for name in names], [facts.get(name)
                                                                for name in (b"entries-added", b"length")]
@@ -449,6 +459,10 @@ class Publisher:
             return
         except Away:
             pass
+        except Fault:
+            # Nothing was done.
+            self.count = first
+            raise
         while True:
             try:
                 self.stream = Stream(self.address, self.key)

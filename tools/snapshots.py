@@ -65,7 +65,7 @@ def without_marks(changes: Iterable[changelog.Change]) -> Tuple[List[changelog.M
     others = []
     for change in changes:
         first, *lines = change.command.split("\n")
-        word, owner, *_ = first.split(" ")
+        word, owner = [*first.split(" "), ""][:2]
         if word in ("zone", "drop") and owner == changelog.MARKS:
             marks = {it.turn: it for it in map(record_mark, lines) if it}
         elif word in ("add", "del") and owner.endswith(f".{changelog.MARKS}"):
@@ -81,14 +81,14 @@ def without_marks(changes: Iterable[changelog.Change]) -> Tuple[List[changelog.M
 
 def record_mark(record: str) -> Optional[changelog.Mark]:
     """The mark that a record is, if it is one."""
-    owner, kind, *data = record.split(" ")
+    owner, *data = record.split(" ")
     turn = owner[2:3]
-    is_mark = owner in (f"at{turn}.{changelog.MARKS}",) and turn in ("0", "1") and kind == "CNAME" and len(data) == 1
-    return changelog.mark_of(data[0], int(turn)) if is_mark else None
+    is_mark = owner in (f"at{turn}.{changelog.MARKS}",) and turn in ("0", "1") and data[:1] == ["CNAME"] and len(data) == 2
+    return changelog.mark_of(data[1], int(turn)) if is_mark else None
 
 
 def key_of(stream: changelog.Stream) -> bytes:
-    return f"{stream.key}:snapshot".encode()
+    return changelog.octets_of(f"{stream.key}:snapshot")
 
 
 def published(stream: changelog.Stream) -> Optional[Snapshot]:
@@ -104,7 +104,7 @@ def watch(stream: changelog.Stream) -> None:
 
 def publish(stream: changelog.Stream, snapshot: Snapshot, trims: bool) -> int:
     """Publishes a snapshot, and takes out all entries before it where that is wanted: how many there were."""
-    trim = [[b"XTRIM", stream.key.encode(), b"MINID", changelog.id_of(snapshot.mark.place).encode()]] if trims else []
+    trim = [[b"XTRIM", changelog.octets_of(stream.key), b"MINID", changelog.id_of(snapshot.mark.place).encode()]] if trims else []
     done = stream.transact([[b"SET", key_of(stream), snapshot.octets()], *trim])
     if not done:
         raise changelog.Fault("another snapshot was published meanwhile")
