@@ -43,6 +43,8 @@ class Primary:
         self.next_look, self.ignored = 0.0, ""
 
     def has(self, address: str) -> bool:
+        # (at [::] one of IPv4 comes so)
+        address = address[len("::ffff:"):] if re.fullmatch(r"::ffff:[0-9.]+", address) else address
         if address not in self.addresses and time.monotonic() >= self.next_look:
             self.next_look = time.monotonic() + LOOK_UP
             with contextlib.suppress(zones.Fault):
@@ -73,7 +75,8 @@ class Bell:
             datagrams = socket.socket(family, socket.SOCK_DGRAM)
             try:
                 datagrams.bind(place)
-                return datagrams, socket.create_server(datagrams.getsockname()[:2], family=family)
+                is_dual = place[0] == "::" and socket.has_dualstack_ipv6()
+                return datagrams, socket.create_server(datagrams.getsockname()[:2], family=family, dualstack_ipv6=is_dual)
             except OSError as fault:
                 datagrams.close()
                 if place[1] or not tries:

@@ -9,11 +9,14 @@ from __future__ import annotations
 import argparse
 import collections
 import itertools
+import os
 import re
+import select
 import socket
 import subprocess
 import tempfile
 import threading
+import time
 from typing import IO, Callable, Iterable, Iterator, NamedTuple, Optional, Sequence, TypeVar
 
 # The types that siploc reads, and those by which no name exists: RRSIG and NSEC are never a name's only records
@@ -86,11 +89,13 @@ def is_within(name: str, apex: str) -> bool:
 
 
 class Server(NamedTuple):
-    """A name server, with the file of its TSIG key, and the seconds for which it may be silent."""
+    """A name server, with the file of its TSIG key, the seconds for which it may be silent, and what is done each second
+    while it is waited for."""
     host: str
     port: int
     key: Optional[str] = None
     seconds: int = 10
+    meanwhile: Callable[[], None] = lambda: None
 
     @classmethod
     def read(cls, text: str, key: Optional[str] = None, seconds: int = 10) -> Server:
@@ -183,7 +188,7 @@ def ask(server: Server, address: str, apex: str, question: list[str]) -> Iterato
                *(["-k", server.key] if server.key else []),
                *OPTIONS, f"+time={server.seconds}", "-q", apex, *question]
     reply = Reply(server)
-    with tempfile.TemporaryFile() as errors:
+    with temporary_file() as errors:
         try:
             dig = subprocess.Popen(command, stdin=subprocess.DEVNULL, stdout=subprocess.PIPE, stderr=errors)
         except OSError as fault:
@@ -194,7 +199,7 @@ def ask(server: Server, address: str, apex: str, question: list[str]) -> Iterato
         assert dig.stdout
         try:
             timer.start()
-            yield from filter(None, map(reply.read, decoded(dig.stdout)))
+            yield from filter(None, map(reply.read, lines_of(dig.stdout, server.meanwhile)))
             dig.wait()
         finally:
             timer.cancel()
@@ -207,11 +212,29 @@ def ask(server: Server, address: str, apex: str, question: list[str]) -> Iterato
         reply.end(errors.read().decode(errors="replace"), dig.returncode)
 
 
-def decoded(lines: IO[bytes]) -> Iterator[str]:
-    for line in lines:
-        if not line.isascii():
-            raise Fault(f"dig printed octets that are not of ASCII: {line[:80]!r}")
-        yield line.decode()
+def temporary_file() -> IO[bytes]:
+    try:
+        return tempfile.TemporaryFile()
+    except OSError as fault:
+        raise Fault(f"there is no temporary file: {fault.strerror}") from None
+
+
+def lines_of(output: IO[bytes], meanwhile: Callable[[], None]) -> Iterator[str]:
+    """The lines of what `dig` prints, as they come. Each second something else is done."""
+    poll, octets, rest, then = select.poll(), b" ", b"", time.monotonic() + 1
+    poll.register(output, select.POLLIN)
+    while octets:
+        is_there = poll.poll(1_000)
+        if time.monotonic() >= then:
+            meanwhile()
+            then = time.monotonic() + 1
+        if is_there:
+            octets = os.read(output.fileno(), 1 << 16)
+            *lines, rest = (rest + (octets or b"\n" * bool(rest))).split(b"\n")
+            for line in lines:
+                if not line.isascii():
+                    raise Fault(f"dig printed octets that are not of ASCII: {line[:80]!r}")
+                yield f"{line.decode()}\n"
 
 
 def each_address(server: Server, call: Callable[[str], Answer]) -> Answer:
