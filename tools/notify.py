@@ -76,7 +76,8 @@ class Bell:
             try:
                 datagrams.bind(place)
                 is_dual = place[0] == "::" and socket.has_dualstack_ipv6()
-                return datagrams, socket.create_server(datagrams.getsockname()[:2], family=family, dualstack_ipv6=is_dual)
+                there = datagrams.getsockname()[:2]
+                return datagrams, socket.create_server(there, family=family, dualstack_ipv6=is_dual)
             except OSError as fault:
                 datagrams.close()
                 if place[1] or not tries:

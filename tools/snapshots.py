@@ -83,8 +83,8 @@ def record_mark(record: str) -> Optional[changelog.Mark]:
     """The mark that a record is, if it is one."""
     owner, *data = record.split(" ")
     turn = owner[2:3]
-    is_mark = owner in (f"at{turn}.{changelog.MARKS}",) and turn in ("0", "1") and data[:1] == ["CNAME"] and len(data) == 2
-    return changelog.mark_of(data[1], int(turn)) if is_mark else None
+    is_owner = turn in ("0", "1") and owner == f"at{turn}.{changelog.MARKS}"
+    return changelog.mark_of(data[1], int(turn)) if is_owner and data[:1] == ["CNAME"] and len(data) == 2 else None
 
 
 def key_of(stream: changelog.Stream) -> bytes:

@@ -19,7 +19,7 @@ from typing import NoReturn, Optional, Sequence, TextIO
 
 TOP = pathlib.Path(__file__).resolve().parent.parent
 
-# Without standard error `print` writes what belongs there to standard output; and without standard input nothing says so.
+# Without standard error `print` writes what belongs there to standard output; without standard input nothing says so.
 if sys.stderr is None:
     sys.stderr = open(os.devnull, "w")
 if sys.stdin is None:

@@ -15,7 +15,7 @@ import os
 import sys
 import time
 from pathlib import Path
-from typing import Callable, Dict, Iterator, List, TypeVar
+from typing import Callable, Dict, Iterator, List, Set, Tuple, TypeVar
 
 import KSR
 
@@ -82,7 +82,9 @@ class Embedded(locator.Locator):
     def __init__(self) -> None:
         super().__init__()
         self.holds = Holds()
-        self.loaded: Dict[str, int] = {}
+        # What each file was when it was loaded, or refused.
+        self.loaded: Dict[str, Tuple[int, int, int]] = {}
+        self.refused: Set[str] = set()
         self.told = ""
         self.next_tick = self.next_look = 0
 
@@ -99,6 +101,7 @@ class Embedded(locator.Locator):
     def open(self) -> siploc.BaseSession:
         """A session with all zones."""
         session = siploc_embedded.open('held = "last"', library=LIBRARY)
+        self.refused = set()
         self.loaded, self.next_tick, self.next_look, self.holds.seen = {}, 0, milliseconds() + LOOK, 0
         try:
             self.load(session)
@@ -146,26 +149,34 @@ class Embedded(locator.Locator):
 
     def load(self, session: siploc.BaseSession) -> None:
         """Loads the files that are new or have changed, and drops the zones of those that have gone. What can't
-        be read is tried again. Where the folder can't be, it raises an OSError."""
+        be read is tried again, and what was refused, maybe for another zone, when one has gone. Where the folder can't be
+        read, it raises an OSError."""
         found = {it.name: it for it in os.scandir(ZONES) if it.is_file()}
-        for name in [it for it in self.loaded if it not in found]:
+        gone = [it for it in self.loaded if it not in found]
+        for name in gone:
             del self.loaded[name]
+            self.refused.discard(name)
             # (one that was refused is not there)
             with contextlib.suppress(siploc.Refused, siploc.InvalidCommand):
                 in_journal(session, lambda: session.drop(f"{name}."))
+        for name in self.refused if gone else ():
+            self.loaded.pop(name, None)
         unread = ""
         for name, entry in found.items():
             try:
-                changed = entry.stat().st_mtime_ns
-                if self.loaded.get(name) == changed:
+                there = entry.stat()
+                stamp = there.st_ino, there.st_size, there.st_mtime_ns
+                if self.loaded.get(name) == stamp:
                     continue
                 with open(entry.path, encoding="utf-8", errors="surrogateescape") as text:
                     lines = list(text)
-                self.loaded[name] = changed
+                self.loaded[name] = stamp
+                self.refused.discard(name)
                 in_journal(session, lambda: session.load(f"{name}.", lines))
             except OSError as fault:
                 unread = str(fault)
             except (siploc.Refused, siploc.InvalidCommand) as fault:
+                self.refused.add(name)
                 KSR.err(f"siploc: {entry.path}: {fault}\n")
         self.fault(unread)
 
