@@ -15,7 +15,7 @@ import time
 from typing import TYPE_CHECKING, BinaryIO, Dict, Iterable, Iterator, List, NamedTuple, Optional, Sequence, Tuple, Union
 
 if TYPE_CHECKING:
-    from siploc import Session
+    from siploc import Dependency, Session
 
 #: How many changes are appended, or are a batch, at most.
 WINDOW = 256
@@ -207,7 +207,7 @@ def marks_of(session: Session) -> List[Mark]:
     for _ in range(20):
         marks, exists = [], False
         for turn in range(2):
-            for it in session.deps(f"sip:at{turn}.{MARKS}:1"):
+            for it in sets_of(session, f"at{turn}.{MARKS}"):
                 mark = mark_of(it.name, turn)
                 exists = exists or it.records > 0 and it.name == MARKS
                 if mark:
@@ -217,6 +217,16 @@ def marks_of(session: Session) -> List[Mark]:
             return sorted(marks, key=lambda mark: (mark.place, mark.is_broken))
         # Each of them was looked for while it was replaced: once more.
     raise Fault(f"the locator has a zone {MARKS} that is none of ours")
+
+
+def sets_of(session: Session, name: str) -> List[Dependency]:
+    """The record sets that lead to the addresses of a name, for whatever transport the client has: of others none is
+    read."""
+    for uri in (f"sip:{name}:1", f"sips:{name}:1", f"sip:{name}:1;transport=tcp", f"sip:{name}:1;transport=sctp"):
+        found = session.deps(uri)
+        if found:
+            return found
+    raise Fault(f"the locator reads nothing for {name}")
 
 
 def batches(entries: Iterable[Entry]) -> Iterator[List[Entry]]:
