@@ -464,24 +464,23 @@ class Publisher:
             # (Redis counts no more what was appended)
             self.token, self.count = secrets.token_hex(8), 0
         first, self.count, self.used, end = self.count, self.count + len(changes), now, now + self.seconds
-        try:
-            self.place = self.stream.append_once(changes, self.token, first)
-            return
-        except Away:
-            pass
-        except Fault:
-            # Nothing was done.
-            self.count = first
-            raise
+        is_new = False
         while True:
             try:
-                self.stream = Stream(self.address, self.key)
+                if is_new:
+                    self.stream = Stream(self.address, self.key)
                 self.place = self.stream.append_once(changes, self.token, first)
                 return
             except Away:
-                if time.monotonic() >= end:
+                if is_new and time.monotonic() >= end:
                     raise
-            time.sleep(0.2)
+            except Fault:
+                # What is appended after it has a count of its own.
+                self.token, self.count = secrets.token_hex(8), 0
+                raise
+            if is_new:
+                time.sleep(0.2)
+            is_new = True
 
 
 class Away(Fault):

@@ -65,8 +65,8 @@ def add_words(parser: argparse.ArgumentParser) -> None:
 def read_words(parser: argparse.ArgumentParser, words: Sequence[str]) -> argparse.Namespace:
     """The words that were given, with the server and the names read."""
     given = parser.parse_intermixed_args(words)
-    if given.timeout < 1:
-        parser.error("--timeout is less than a second")
+    if not 1 <= given.timeout <= 3_600:
+        parser.error("--timeout is 1 to 3600")
     try:
         given.server = zones.Server.read(given.server, given.tsig, given.timeout)
         given.apex, given.children, given.apart = (
