@@ -7,8 +7,8 @@
         for target in session.find("sip:server1.example.com:5070"):
             print(target.transport, target.address, target.port)
 
-A session is one connection, and is used by one thread at a time. Each method sends one command and returns
-what its reply says; `batch` sends many. These errors are raised, all of them an `Error`:
+A session is one connection. Threads may share it: their calls are made one after another. Each method sends one
+command and returns what its reply says; `batch` sends many. These errors are raised, all of them an `Error`:
 
     InvalidCommand    the command would break the protocol: it was not sent, and the session goes on
     Refused           the reply is `err CODE`: the session goes on
@@ -35,6 +35,7 @@ import re
 import select
 import socket
 import struct
+import threading
 import time
 from dataclasses import dataclass
 from typing import Dict, Iterable, Iterator, List, NamedTuple, Optional, Pattern, Sequence, Tuple, TypeVar, Union
@@ -744,6 +745,8 @@ class Session(BaseSession):
         stream.setblocking(False)
         self.timeout = timeout
         self._stream: Optional[socket.socket] = stream
+        # (the handler of a signal comes in too, where its thread is within a call)
+        self._turn, self._is_busy = threading.RLock(), False
         self._poll = select.poll()
         self._poll.register(stream, select.POLLIN)
 
@@ -752,14 +755,16 @@ class Session(BaseSession):
         return self._stream is not None
 
     def close(self) -> None:
-        """Ends the session by `quit`, and closes the connection. Nothing is raised."""
-        if self._stream is not None:
-            self.timeout = min(self.timeout, 1.0)
-            try:
-                self._exchange([_Command("quit", b"quit\n", _FORMS["quit"])])
-            except Error:
-                pass
-            self._end()
+        """Ends the session by `quit`, and closes the connection, after a call that another thread makes. Nothing is
+        raised."""
+        with self._turn:
+            if self._stream is not None:
+                self.timeout = min(self.timeout, 1.0)
+                try:
+                    self._exchange([_Command("quit", b"quit\n", _FORMS["quit"])])
+                except Error:
+                    pass
+                self._end()
 
     def _end(self) -> None:
         if self._stream is not None:
@@ -767,18 +772,24 @@ class Session(BaseSession):
             self._stream = None
 
     def _exchange(self, commands: Sequence[_Command]) -> List[Reply]:
-        """Sends commands and reads their replies. The session ends where this raises."""
-        if self._stream is None:
-            raise NotConnected("the session has ended")
-        exchange = _Exchange(self._stream, self._poll, commands)
-        try:
-            exchange.run(self.timeout)
-        except OSError as fault:
-            self._end()
-            raise exchange.lost(str(fault)) from fault
-        except BaseException:
-            self._end()
-            raise
+        """Sends commands and reads their replies. The session ends where this raises anything but an InvalidCommand."""
+        with self._turn:
+            if self._stream is None:
+                raise NotConnected("the session has ended")
+            if self._is_busy:
+                raise InvalidCommand("the call of a signal's handler within a call")
+            exchange = _Exchange(self._stream, self._poll, commands)
+            try:
+                self._is_busy = True
+                exchange.run(self.timeout)
+            except OSError as fault:
+                self._end()
+                raise exchange.lost(str(fault)) from fault
+            except BaseException:
+                self._end()
+                raise
+            finally:
+                self._is_busy = False
         return exchange.replies
 
 

@@ -710,6 +710,68 @@ class Faults(unittest.TestCase):
             self.assertTrue(session.is_open)
             session._end()
 
+    def test_threads(self):
+        """Threads may share a session: each has the replies to its own commands, also where another one closes it."""
+        def serve(stream):
+            with contextlib.suppress(OSError):
+                for text in stream.makefile():
+                    port = text.rpartition(":")[2].strip()
+                    stream.sendall(b"ok quit\n" if text == "quit\n" else b"target 1 udp 192.0.2.1 %s\nok find 1\n" % port.encode())
+
+        wrong = []
+
+        def ask(session, first):
+            try:
+                for port in range(first, first + 300):
+                    if [it.port for it in session.find(f"sip:192.0.2.1:{port}")] != [port]:
+                        wrong.append(port)
+            except siploc.NotConnected:
+                wrong.append("ended")
+
+        for is_closed in (False, True):
+            with fake(serve) as (address, _):
+                session = siploc.connect(address)
+                threads = [threading.Thread(target=ask, args=(session, 1_000 * number)) for number in range(1, 9)]
+                for thread in threads:
+                    thread.start()
+                if is_closed:
+                    session.close()
+                for thread in threads:
+                    thread.join()
+                session.close()
+            self.assertEqual({*wrong}, {"ended"} if is_closed else set())
+
+    def test_call_within_a_call(self):
+        """What a signal calls while a call is being made is refused, and the call goes on; it may be closed."""
+        def serve(stream):
+            with contextlib.suppress(OSError):
+                for _ in range(2):
+                    stream.recv(100)
+                    os.kill(os.getpid(), signal.SIGUSR1)
+                    time.sleep(0.2)
+                    stream.sendall(b"ok repair\n")
+
+        said = []
+
+        def call(*_):
+            try:
+                said.append(session.find("sip:a"))
+            except siploc.InvalidCommand:
+                said.append("refused")
+
+        before = signal.signal(signal.SIGUSR1, call)
+        try:
+            with fake(serve) as (address, _):
+                session = siploc.connect(address)
+                session.repair()
+                self.assertEqual(said, ["refused"])
+                signal.signal(signal.SIGUSR1, lambda *_: session.close())
+                with self.assertRaises(siploc.SessionBroken):
+                    session.repair()
+                self.assertFalse(session.is_open)
+        finally:
+            signal.signal(signal.SIGUSR1, before)
+
     def test_no_descriptor(self):
         """Where this process may open no more it is not connected."""
         with no_descriptors(), self.assertRaises(siploc.NotConnected) as caught:
