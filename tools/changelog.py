@@ -158,7 +158,7 @@ class Entry(NamedTuple):
 class Mark(NamedTuple):
     """What a locator was given: all entries of a stream up to a place, and maybe a first part of the batch after it.
     It is broken where the locator has refused one of its own accord: then it is not what the stream says. It is half while
-    a snapshot is given.
+    a snapshot is given. By `locator` a locator is known at each of its addresses.
 
     A locator has two, at two names. The older one is deleted before the next one is added in its place: so there is
     always one, and space for the next."""
@@ -169,6 +169,7 @@ class Mark(NamedTuple):
     is_broken: bool = False
     turn: int = 0
     is_half: bool = False
+    locator: str = ""
 
     @property
     def is_good(self) -> bool:
@@ -182,14 +183,16 @@ class Mark(NamedTuple):
     def record(self) -> str:
         """The record that is the mark."""
         state = "broken" if self.is_broken else "half" if self.is_half else "good"
-        return f"at{self.turn}.{MARKS} CNAME {id_of(self.place)}.{id_of(self.first)}.{self.stream}.{state}.{MARKS}"
+        names = [id_of(self.place), id_of(self.first), self.stream, state, *filter(None, [self.locator]), MARKS]
+        return f"at{self.turn}.{MARKS} CNAME {'.'.join(names)}"
 
 
 def mark_of(name: str, turn: int) -> Optional[Mark]:
     """The mark that an alias leads to, if it is one."""
-    match = re.fullmatch(rf"([0-9-]+)\.([0-9-]+)\.([0-9a-f]+)\.(good|half|broken)\.{re.escape(MARKS)}", name)
+    match = re.fullmatch(r"([0-9-]+)\.([0-9-]+)\.([0-9a-f]+)\.(good|half|broken)\.(?:([0-9a-f]{16})\.)?"
+                         + re.escape(MARKS), name)
     return Mark(match[3], place_of(match[1]), place_of(match[2]), match[4] == "broken", turn,
-                match[4] == "half") if match else None
+                match[4] == "half", match[5] or "") if match else None
 
 
 def stream_id(key: str) -> str:

@@ -24,7 +24,7 @@ class Snapshot(NamedTuple):
     changes: List[changelog.Change]
 
     def octets(self) -> bytes:
-        return b"\n".join([f"# {self.mark.record}".encode(), *(it.octets for it in self.changes), b""])
+        return b"\n".join([f"# {self.mark._replace(locator='').record}".encode(), *(it.octets for it in self.changes), b""])
 
 
 def read(octets: bytes) -> Snapshot:
