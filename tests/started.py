@@ -40,6 +40,16 @@ def daemon_program() -> str:
     return program([os.environ.get("SIPLOCD", str(TOP / "crates/siplocd/out/siplocd"))])
 
 
+def daemon_beside(path: str) -> str:
+    """The daemon's program: SIPLOCD, or beside that of the locator, or the one that was built here."""
+    beside = Path(path).with_name(Path(path).name.replace("siploc", "siplocd", 1))
+    there = [it for it in (os.environ.get("SIPLOCD"), beside, TOP / "crates/siplocd/out/siplocd") if it
+             and os.access(it, os.X_OK)]
+    if not there:
+        raise Failed("there is no siplocd; SIPLOCD names one")
+    return str(there[0])
+
+
 def free_ports(count: int, kind: int = socket.SOCK_STREAM) -> List[int]:
     """Ports of 127.0.0.1 that nobody has, each given once by this process. They are below those that the system gives
     to sockets without one, so that none is taken before it is used."""
@@ -117,19 +127,13 @@ class Locator(Started):
 
 
 class Daemon(Locator):
-    """The daemon without zones, with a state, whose time is that of `clock` lines. Its program is SIPLOCD, or beside
-    that of the locator, or the one that was built here."""
+    """The daemon without zones, with a state, whose time is that of `clock` lines."""
 
     def __init__(self, path: str, folder: Path, name: str, port: int, settings: str = "",
                  environment: Optional[Dict[str, str]] = None) -> None:
-        beside = Path(path).with_name(Path(path).name.replace("siploc", "siplocd", 1))
-        there = [it for it in (os.environ.get("SIPLOCD"), beside, TOP / "crates/siplocd/out/siplocd") if it
-                 and os.access(it, os.X_OK)]
-        if not there:
-            raise Failed("there is no siplocd; SIPLOCD names one")
         self.address, self.state = f"127.0.0.1:{port}", folder / f"{name}.state"
         text = f'listen = ["{self.address}"]\nclock = "lines"\nstate = "{self.state}"\nworkers = 0\n{settings}'
-        Started.__init__(self, folder, name, [str(there[0]), text], environment)
+        Started.__init__(self, folder, name, [daemon_beside(path), text], environment)
         wait_for(f"{name} at {self.address}", self.listens, 60)
 
 

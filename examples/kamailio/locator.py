@@ -7,9 +7,11 @@ what has failed is published there for all locators (examples/cluster/README.md)
 
 from __future__ import annotations
 
+import hmac
 import os
 import random
 import re
+import secrets
 import sys
 import time
 from typing import Callable, List, Optional, TypeVar
@@ -27,6 +29,8 @@ HOLD = int(os.environ.get("SIPLOC_HOLD", "30000"))
 STREAM, REDIS = os.environ.get("SIPLOC_STREAM"), os.environ.get("SIPLOC_REDIS", "127.0.0.1:6379")
 # How long a request waits for the locator before Kamailio's own resolver takes its place, in seconds.
 PATIENCE = 0.5
+# What Record-Routes are signed with, here and in other proxies that have it; a script that is loaded again has it too.
+SECRET = os.environ["SIPLOC_SECRET"] = os.environ.get("SIPLOC_SECRET") or secrets.token_hex(32)
 # How many targets of an answer are tried at most.
 MOST = 4
 
@@ -105,6 +109,11 @@ class Locator:
             self.stream.append(siploc.line("hold", *target, milliseconds))
         else:
             self.ask(lambda session: session.hold(target, milliseconds))
+
+    def sign(self, _message: object, call: str) -> int:
+        """Sets $var(call) to the signature of a call's Call-ID."""
+        KSR.pv.sets("$var(call)", hmac.new(SECRET.encode(), call.encode(), "sha256").hexdigest()[:32])
+        return 1
 
     def locate(self, _message: object) -> int:
         """Sets $du to the first target of the next hop, and keeps the others for `failed`."""

@@ -31,6 +31,7 @@ class Server:
                  more: str = "", context: Optional[ssl.SSLContext] = None) -> None:
         self.transport, self.host, self.status, self.more, self.context = transport, host, status, more, context
         self.methods: List[str] = []
+        self.last = b""
         if transport == "udp":
             self.socket = socket.socket(socket.AF_INET6 if ":" in host else socket.AF_INET, socket.SOCK_DGRAM)
             self.socket.bind((host, port))
@@ -45,6 +46,7 @@ class Server:
         """What it sends back, if it sends anything."""
         method = request.split(b" ", 1)[0].decode("latin-1")
         self.methods.append(method)
+        self.last = request
         return b"" if self.status is None or method == "ACK" else reply_to(request, self.status, self.more)
 
     def serve_datagrams(self) -> None:
@@ -90,26 +92,47 @@ class Server:
         self.close()
 
 
-def ask(port: int, uri: str = "sip:bob@example.com", method: str = "INVITE", seconds: float = 8.0) -> Tuple[int, float]:
-    """The status of the final response to a request over UDP to a port of 127.0.0.1, and after how many seconds it
-    came; 0 where none comes. It is sent once, and a final response to an INVITE has its ACK."""
+def final(port: int, uri: str, method: str = "INVITE", seconds: float = 8.0, tag: str = "", call: str = "",
+          more: str = "") -> Tuple[bytes, float]:
+    """The final response to a request over UDP to a port of 127.0.0.1, and after how many seconds it came; nothing
+    where none comes. It is sent once, and an INVITE that has failed has its ACK. `tag` is that of To, `call` the
+    Call-ID, and `more` has further header fields, each with its line end."""
     number, start = next(NUMBERS), time.monotonic()
     with socket.socket(socket.AF_INET, socket.SOCK_DGRAM) as client:
         client.bind(("127.0.0.1", 0))
         here = f"127.0.0.1:{client.getsockname()[1]}"
-        head = "\r\n".join([
-            f"Via: SIP/2.0/UDP {here};branch=z9hG4bKt{number}", f"From: <sip:alice@example.net>;tag={number}",
-            "To: <sip:bob@example.com>", f"Call-ID: {number}@{here}", f"Contact: <sip:alice@{here}>",
-            "Max-Forwards: 70", "Content-Length: 0", f"CSeq: 1 {{}}\r\n\r\n"])
-        client.sendto(f"{method} {uri} SIP/2.0\r\n{head.format(method)}".encode(errors="surrogateescape"), ("127.0.0.1", port))
-        status = 0
+
+        def send(method: str, tag: str) -> None:
+            lines = [f"{method} {uri} SIP/2.0", f"Via: SIP/2.0/UDP {here};branch=z9hG4bKt{number}",
+                     f"From: <sip:alice@example.net>;tag={number}",
+                     f"To: <sip:bob@example.com>{f';tag={tag}' if tag else ''}",
+                     f"Call-ID: {call or f'{number}@{here}'}", f"Contact: <sip:alice@{here}>", "Max-Forwards: 70",
+                     f"CSeq: {number} {method}", f"{more}Content-Length: 0\r\n\r\n"]
+            client.sendto("\r\n".join(lines).encode(errors="surrogateescape"), ("127.0.0.1", port))
+
+        send(method, tag)
+        reply, status = b"", 0
         while status < 200:
             client.settimeout(max(0.01, start + seconds - time.monotonic()))
             try:
-                status = int(client.recv(65_536).split(b" ", 2)[1])
+                reply = client.recv(65_536)
             except socket.timeout:
-                return 0, time.monotonic() - start
+                return b"", time.monotonic() - start
+            status = status_of(reply)
         took = time.monotonic() - start
-        if method == "INVITE":
-            client.sendto(f"ACK {uri} SIP/2.0\r\n{head.format('ACK')}".encode(errors="surrogateescape"), ("127.0.0.1", port))
-        return status, took
+        if method == "INVITE" and status >= 300:
+            given = re.search(rb"(?im)^to:[^\r]*;tag=([^;\r]+)", reply)
+            send("ACK", given[1].decode() if given else tag)
+        return reply, took
+
+
+def status_of(reply: bytes) -> int:
+    """The status of a response; 0 where there is none."""
+    return int(reply.split(b" ", 2)[1]) if reply else 0
+
+
+def ask(port: int, uri: str = "sip:bob@example.com", method: str = "INVITE", seconds: float = 8.0, **words: str
+        ) -> Tuple[int, float]:
+    """The status of what `final` has, or 0."""
+    reply, took = final(port, uri, method, seconds, **words)
+    return status_of(reply), took
