@@ -129,6 +129,10 @@ class Locator:
         except Away:
             return AWAY
         except siploc.Error as fault:
+            if isinstance(fault, siploc.InvalidCommand) or isinstance(fault, siploc.Refused) and fault.code[0] in "UK":
+                # (in DNS anyone may have its name, for any address)
+                KSR.info(f"siploc: {uri}: {fault}\n")
+                return NO_TARGET
             KSR.warn(f"siploc: {fault}: Kamailio's own resolver is asked for {uri}\n")
             return AWAY
         if not answer:
