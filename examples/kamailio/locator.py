@@ -129,7 +129,7 @@ class Locator:
         except Away:
             return AWAY
         except siploc.Error as fault:
-            if isinstance(fault, siploc.InvalidCommand) or isinstance(fault, siploc.Refused) and fault.code[0] in "UK":
+            if isinstance(fault, siploc.InvalidCommand) or isinstance(fault, siploc.Refused) and fault.code[0] == "U":
                 # (in DNS anyone may have its name, for any address)
                 KSR.info(f"siploc: {uri}: {fault}\n")
                 return NO_TARGET
