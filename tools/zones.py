@@ -435,7 +435,7 @@ class Zone:
                                      if len(it) > MAX_SET and owner not in self.refused for text in it)
         marks = sum(1 for it in self.others if "" in self.kept(it))
         counts = {**self.left_out,
-                  **{f"as it was: {why}": len(self.read[owner]) for owner, why in self.refused.items()},
+                  **{f"since {why}": len(self.read[owner]) for owner, why in self.refused.items()},
                   "of types that are not read, whose names exist by others": sum(self.others.values()) - marks,
                   **{f"of type {kind} of {owner}, beyond the {MAX_SET} of a set": count - MAX_SET
                      for (owner, kind), count in beyond.items()}}
