@@ -24,7 +24,8 @@ class Snapshot(NamedTuple):
     changes: List[changelog.Change]
 
     def octets(self) -> bytes:
-        return b"\n".join([f"# {self.mark._replace(locator='').record}".encode(), *(it.octets for it in self.changes), b""])
+        mark = self.mark._replace(locator="")
+        return b"\n".join([f"# {mark.record}".encode(), *(it.octets for it in self.changes), b""])
 
 
 def read(octets: bytes) -> Snapshot:
@@ -104,7 +105,8 @@ def watch(stream: changelog.Stream) -> None:
 
 def publish(stream: changelog.Stream, snapshot: Snapshot, trims: bool) -> int:
     """Publishes a snapshot, and takes out all entries before it where that is wanted: how many there were."""
-    trim = [[b"XTRIM", changelog.octets_of(stream.key), b"MINID", changelog.id_of(snapshot.mark.place).encode()]] if trims else []
+    first = changelog.id_of(snapshot.mark.place).encode()
+    trim = [[b"XTRIM", changelog.octets_of(stream.key), b"MINID", first]] if trims else []
     done = stream.transact([[b"SET", key_of(stream), snapshot.octets()], *trim])
     if not done:
         raise changelog.Fault("another snapshot was published meanwhile")

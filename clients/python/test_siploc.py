@@ -716,7 +716,8 @@ class Faults(unittest.TestCase):
             with contextlib.suppress(OSError):
                 for text in stream.makefile():
                     port = text.rpartition(":")[2].strip()
-                    stream.sendall(b"ok quit\n" if text == "quit\n" else b"target 1 udp 192.0.2.1 %s\nok find 1\n" % port.encode())
+                    found = f"target 1 udp 192.0.2.1 {port}\nok find 1\n"
+                    stream.sendall(b"ok quit\n" if text == "quit\n" else found.encode())
 
         wrong = []
 
