@@ -111,9 +111,13 @@ class Bell:
                 continue
             with contextlib.suppress(OSError):
                 if self.primary.has(sender[0]) and self.free.acquire(blocking=False):
-                    threading.Thread(target=self.serve_stream, args=(stream,), daemon=True).start()
-                else:
-                    stream.close()
+                    try:
+                        threading.Thread(target=self.serve_stream, args=(stream,), daemon=True).start()
+                        continue
+                    except RuntimeError:
+                        # (there is no other thread)
+                        self.free.release()
+                stream.close()
 
     def serve_stream(self, stream: socket.socket) -> None:
         """One message of a connection, which may take two seconds."""
