@@ -15,7 +15,6 @@ import select
 import socket
 import subprocess
 import tempfile
-import threading
 import time
 from typing import IO, Callable, Iterable, Iterator, NamedTuple, Optional, Sequence, TypeVar
 
@@ -193,22 +192,18 @@ def ask(server: Server, address: str, apex: str, question: list[str]) -> Iterato
             dig = subprocess.Popen(command, stdin=subprocess.DEVNULL, stdout=subprocess.PIPE, stderr=errors)
         except OSError as fault:
             raise Fault(f"dig can't be started (Debian's bind9-dnsutils has it): {fault.strerror}") from None
-        timer = threading.Timer(60 * server.seconds, dig.kill)
-        # (a signal may end the program before it is cancelled)
-        timer.daemon = True
+        end = time.monotonic() + 60 * server.seconds
         assert dig.stdout
         try:
-            timer.start()
-            yield from filter(None, map(reply.read, lines_of(dig.stdout, server.meanwhile)))
-            dig.wait()
+            yield from filter(None, map(reply.read, lines_of(dig.stdout, end, server.meanwhile)))
+            dig.wait(max(end - time.monotonic(), 1))
+        except subprocess.TimeoutExpired:
+            raise Fault(f"the transfer took more than {60 * server.seconds} seconds") from None
         finally:
-            timer.cancel()
             dig.kill()
             dig.wait()
             dig.stdout.close()
         errors.seek(0)
-        if dig.returncode == -9:
-            raise Fault(f"the transfer took more than {60 * server.seconds} seconds")
         reply.end(errors.read().decode(errors="replace"), dig.returncode)
 
 
@@ -219,8 +214,8 @@ def temporary_file() -> IO[bytes]:
         raise Fault(f"there is no temporary file: {fault.strerror}") from None
 
 
-def lines_of(output: IO[bytes], meanwhile: Callable[[], None]) -> Iterator[str]:
-    """The lines of what `dig` prints, as they come. Each second something else is done."""
+def lines_of(output: IO[bytes], end: float, meanwhile: Callable[[], None]) -> Iterator[str]:
+    """The lines of what `dig` prints, as they come, until a time. Each second something else is done."""
     poll, octets, rest, then = select.poll(), b" ", b"", time.monotonic() + 1
     poll.register(output, select.POLLIN)
     while octets:
@@ -228,6 +223,8 @@ def lines_of(output: IO[bytes], meanwhile: Callable[[], None]) -> Iterator[str]:
         if time.monotonic() >= then:
             meanwhile()
             then = time.monotonic() + 1
+        if time.monotonic() >= end:
+            raise subprocess.TimeoutExpired("dig", 0)
         if is_there:
             octets = os.read(output.fileno(), 1 << 16)
             *lines, rest = (rest + (octets or b"\n" * bool(rest))).split(b"\n")
