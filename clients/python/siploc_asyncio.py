@@ -24,7 +24,7 @@ from siploc import Answer, Dependency, Loaded, NotConnected, Opened, Page, Reply
 
 __all__ = ["Session", "connect"]
 
-# What is sent at once: the time begins anew when it has been taken.
+# What is sent at once, at most.
 _CHUNK = 1 << 16
 
 
@@ -199,10 +199,22 @@ class Session:
         """Sends all commands. When the connection fails it ends, and what was replied before is still read."""
         loop = asyncio.get_running_loop()
         while exchange.sent < len(exchange.output):
-            chunk = exchange.output[exchange.sent:exchange.sent + _CHUNK]
-            exchange.sent += len(chunk)
             try:
-                await loop.sock_sendall(stream, chunk)
+                exchange.sent += stream.send(exchange.output[exchange.sent:exchange.sent + _CHUNK])
+                progress[0] = loop.time()
+                await asyncio.sleep(0)
+            except BlockingIOError:
+                await _writable(stream)
             except OSError:
                 return
-            progress[0] = loop.time()
+
+
+async def _writable(stream: socket.socket) -> None:
+    """Waits until a socket takes octets, or has failed."""
+    loop = asyncio.get_running_loop()
+    ready = loop.create_future()
+    loop.add_writer(stream, lambda: ready.done() or ready.set_result(None))
+    try:
+        await ready
+    finally:
+        loop.remove_writer(stream)

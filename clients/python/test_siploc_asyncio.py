@@ -9,6 +9,7 @@ The last line is `N passed, M failed`.
 import asyncio
 import contextlib
 import inspect
+import socket
 import sys
 import threading
 import time
@@ -197,6 +198,32 @@ class Asyncio(unittest.IsolatedAsyncioTestCase):
             threading.Timer(0.3, accept_all, [listener]).start()
             session = await siploc_asyncio.connect(address, 20)
             session._end()
+
+    async def test_server_that_reads_slowly(self):
+        """A server that takes some octets now and then makes progress."""
+        text = ["x" * 399] * 300
+
+        def serve(listener):
+            stream, _ = listener.accept()
+            with contextlib.suppress(OSError), stream:
+                left = sum(len(it) + 1 for it in text)
+                while left > 0:
+                    left -= len(stream.recv(2_048)) or left
+                    time.sleep(0.05)
+                stream.sendall(b"ok zone 1 0 0 1\n")
+                stream.recv(1)
+
+        with socket.create_server(("127.0.0.1", 0)) as listener:
+            listener.setsockopt(socket.SOL_SOCKET, socket.SO_RCVBUF, 4_096)
+            thread = threading.Thread(target=serve, args=[listener])
+            thread.start()
+            session = await siploc_asyncio.connect("127.0.0.1:%d" % listener.getsockname()[1], 1)
+            session._stream.setsockopt(socket.SOL_SOCKET, socket.SO_SNDBUF, 4_096)
+            try:
+                self.assertEqual(await session.load("e.", text), (1, 0, 0, 1))
+            finally:
+                session._end()
+                thread.join()
 
     async def test_no_descriptor(self):
         """Where this process may open no more it is not connected."""
