@@ -141,7 +141,7 @@ func (c *connection) exchange(ctx context.Context, commands []command, timeout t
 		return nil, err
 	}
 	var writer sync.WaitGroup
-	if len(exchange.output) <= maxInline {
+	if _, isOfSystem := c.stream.(syscall.Conn); isOfSystem && len(exchange.output) <= maxInline {
 		exchange.write()
 	} else {
 		writer.Add(1)

@@ -37,7 +37,8 @@ const (
 	maxReplyLines = 65_536
 	// What is written without a look at the replies: a connection without replies on their way takes it.
 	maxInline = 1 << 14
-	chunk     = 1 << 18
+	// What the server has to take within the time, for the time to begin anew.
+	chunk = 1 << 14
 )
 
 // DefaultTimeout is how long a call waits without progress where no other time is given.

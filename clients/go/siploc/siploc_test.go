@@ -766,6 +766,27 @@ func TestAddresses(t *testing.T) {
 }
 
 // silent is a server that takes what comes, and says nothing.
+// A server that takes some octets now and then makes progress.
+func TestServerThatReadsSlowly(t *testing.T) {
+	text := strings.Repeat(strings.Repeat("x", 399)+"\n", 1500)
+	session := connect(t, fake(t, func(stream net.Conn) {
+		_ = stream.(*net.TCPConn).SetReadBuffer(4096)
+		octets := make([]byte, 2048)
+		for left := len("zone e. 1500\n") + len(text); left > 0; time.Sleep(20 * time.Millisecond) {
+			count, err := stream.Read(octets)
+			if left -= count; err != nil {
+				return
+			}
+		}
+		_, _ = io.WriteString(stream, "ok zone 1 0 0 1\n")
+		_, _ = io.Copy(io.Discard, stream)
+	}), time.Second)
+	equal(t, streamOf(session).(*net.TCPConn).SetWriteBuffer(4096), nil)
+	loaded, err := session.Load(ctx, "e.", text)
+	equal(t, err, nil)
+	equal(t, loaded, Loaded{1, 0, 0, 1})
+}
+
 // A Unix socket that has as many clients waiting as it takes is waited for, as long as is given.
 func TestFullQueue(t *testing.T) {
 	address := &syscall.SockaddrUnix{Name: filepath.Join(t.TempDir(), "s")}
@@ -801,14 +822,22 @@ func TestFullQueue(t *testing.T) {
 func TestConnectionsOfOtherKinds(t *testing.T) {
 	stream, other := net.Pipe()
 	go func() {
-		reader := bufio.NewReader(other)
-		for line := ""; line != "quit\n"; {
-			line, _ = reader.ReadString('\n')
-			_, _ = io.WriteString(other, "ok "+line)
+		// (it takes an octet at a time, and replies before it reads on)
+		for line, octet := "", make([]byte, 1); line != "quit\n"; {
+			_, _ = io.ReadFull(other, octet)
+			if line = strings.TrimSuffix(line, "\n") + string(octet); octet[0] == '\n' {
+				_, _ = io.WriteString(other, "ok "+line)
+				if line != "quit\n" {
+					line = ""
+				}
+			}
 		}
 	}()
-	session := New(stream, 10*time.Second)
+	session := New(stream, 5*time.Second)
 	equal(t, session.Repair(ctx), nil)
+	replies, err := session.Batch(ctx, []string{"repair", "repair", "broke"})
+	equal(t, err, nil)
+	equal(t, allLines(replies), []string{"ok repair", "ok repair", "ok broke"})
 	equal(t, session.Close(), nil)
 }
 
