@@ -768,11 +768,11 @@ func TestAddresses(t *testing.T) {
 // silent is a server that takes what comes, and says nothing.
 // A server that takes some octets now and then makes progress.
 func TestServerThatReadsSlowly(t *testing.T) {
-	text := strings.Repeat(strings.Repeat("x", 399)+"\n", 1500)
+	text := strings.Repeat(strings.Repeat("x", 399)+"\n", 800)
 	session := connect(t, fake(t, func(stream net.Conn) {
 		_ = stream.(*net.TCPConn).SetReadBuffer(4096)
 		octets := make([]byte, 2048)
-		for left := len("zone e. 1500\n") + len(text); left > 0; time.Sleep(20 * time.Millisecond) {
+		for left := len("zone e. 800\n") + len(text); left > 0; time.Sleep(20 * time.Millisecond) {
 			count, err := stream.Read(octets)
 			if left -= count; err != nil {
 				return
