@@ -12,12 +12,17 @@ use std::sync::atomic::{AtomicU64, Ordering};
 /// The metrics of the daemon, as they are now.
 pub(crate) fn exposition<H: Host>(host: &H, daemon: &Daemon) -> Result<Exposition, AllocError> {
     let mut out = Exposition::new(daemon.alloc);
+    write_each(host, daemon, &mut out)?;
+    Ok(out)
+}
+
+fn write_each<H: Host>(host: &H, daemon: &Daemon, out: &mut Exposition) -> Result<(), AllocError> {
     out.begin("siploc_build_info", "gauge", "The version of the daemon.")?;
     out.labelled("siploc_build_info", "version", VERSION, 1)?;
-    write_answers(daemon, &mut out)?;
-    write_zones(host, daemon, &mut out)?;
-    write_clients(host, daemon, &mut out)?;
-    write_pages(host, daemon, &mut out)?;
+    write_answers(daemon, out)?;
+    write_zones(host, daemon, out)?;
+    write_clients(host, daemon, out)?;
+    write_pages(host, daemon, out)?;
     out.gauge(
         "siploc_resident_bytes",
         "Octets of the process in memory.",
@@ -27,8 +32,7 @@ pub(crate) fn exposition<H: Host>(host: &H, daemon: &Daemon) -> Result<Expositio
         "siploc_log_lines_dropped_total",
         "Lines of the log that were not written.",
         daemon.observed.log.dropped(host),
-    )?;
-    Ok(out)
+    )
 }
 
 // The answers, by their ends, and the time that batches take.
