@@ -13,7 +13,7 @@ use std::rt::Files;
 use std::sync::Wait;
 use std::sync::atomic::{AtomicU64, Ordering};
 use std::time::Duration;
-use std::{fs, io};
+use std::{fs, io, mem};
 
 // How many octets one connection may send.
 const MAX_LEN: u64 = 65_536;
@@ -35,7 +35,8 @@ pub(crate) fn serve_control<H: Host>(host: &H, daemon: &Daemon, client: Client) 
     let Client { stream, place } = client;
     daemon.controls.leave(host, place);
     if is_to_stop {
-        daemon.keep_open(host, stream);
+        // (it has said its last line before the connection ends)
+        mem::forget(stream);
         daemon.stop.ask(host);
     }
 }

@@ -8,7 +8,7 @@ use crate::journal::pages::{Pages, board_octets};
 use sipl_archive::Archive;
 use sipl_book::BookFault;
 use sipl_lines::Settings;
-use sipl_listen::{Clients, Stop, Stream, max_clients};
+use sipl_listen::{Clients, Stop, max_clients};
 use sipl_log::Log;
 use sipl_observed::{Counts, Observed};
 use sipl_service::{OpenGate, Pass, Service, ServiceFault, Told};
@@ -52,8 +52,6 @@ pub(crate) struct Daemon {
     pub(crate) on_failure: OnFailure,
     // For how many seconds a client may send nothing.
     pub(crate) idle: Option<u64>,
-    // The connections that asked for the stop, which stay open until the process ends.
-    pub(crate) open: Mutex<Vec<Arc<Stream, Global>>>,
 }
 
 // The places of all who connect.
@@ -160,13 +158,7 @@ impl Daemon {
             mover,
             on_failure: settings.on_failure,
             idle: settings.idle,
-            open: Mutex::new(Vec::new(alloc)),
         }
-    }
-
-    // Keeps a connection open until the process ends.
-    pub(crate) fn keep_open<R: Wait>(&self, rt: &R, stream: Arc<Stream, Global>) {
-        let _ = self.open.lock(rt).push(stream);
     }
 
     // Moves the book's time to that of the host, if it is the host's and an endpoint is held. The move is not

@@ -111,6 +111,20 @@ def ends_with_its_input(checks: Checks, folder: pathlib.Path) -> None:
 
 
 @test
+def a_connection_that_asked_for_the_stop_ends_last(checks: Checks, folder: pathlib.Path) -> None:
+    """Who kills the daemon once that connection has ended finds its last lines all the same."""
+    for _ in range(20):
+        with started(checks, folder) as daemon, Client(daemon.control) as client:
+            client.send("stop\n")
+            while client.stream.recv(4096):
+                pass
+            daemon.kill()
+            daemon.reader.join(PATIENCE)
+            checks.equal(daemon.lines[-1:], ["closed 0"], "the last line")
+            checks.expect("event=end" in (daemon.log() or [""])[-1], daemon.log()[-1:])
+
+
+@test
 def stops_however_clients_behave(checks: Checks, folder: pathlib.Path) -> None:
     with started(checks, folder) as daemon, contextlib.ExitStack() as stack:
         clients = [stack.enter_context(Client(daemon.address)) for _ in range(12)]

@@ -29,7 +29,6 @@ impl Daemon {
             controls,
             mover,
             on_failure,
-            open,
             observed,
             scrapers,
             ..
@@ -69,7 +68,6 @@ impl Daemon {
         drop(mover);
         drop(clients);
         drop(controls);
-        drop(open);
         drop(observed);
         drop(scrapers);
         ended
