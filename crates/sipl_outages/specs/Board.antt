@@ -1,5 +1,5 @@
 -- A board of holds, what always holds of it, and how its calls end.
-use Rattle.std.specs.Prelude.{◌≡◌, ◌≢◌, ℕ, ◌^◌, ◌≤◌, ◌&&◌, nat_lt, nat_le, Bool, true, length, None, Some, Result, OnOk, OnErr, IfErr}
+use Rattle.std.specs.Prelude.{◌≡◌, ◌≢◌, ℕ, ◌^◌, ◌≤◌, ◌&&◌, nat_lt, nat_le, Bool, true, length, None, Some, Result, MatchResult, OnOk, OnErr, IfErr}
 use Rattle.std.specs.List.{list_all, IsDistinct}
 use Rattle.std.specs.Map.{keys_of}
 use Rattle.sipl_choice.specs.declared.endpoint.Endpoint.{Endpoint}
@@ -25,6 +25,12 @@ pub record IsConsistent (board : BoardState) : Type 0 where
   pub within : length board.holds.ends ≤ board.max_holds
   pub limit : board.max_holds ≤ 4096
   pub time : board.holds.now ≤ 2 ^ 52
+
+-- a look for the fault of an event gives it, if there is one
+abbrev pub Finds : BoardEvent → BoardState → Result (Unit {0}) BoardFault → Type 0
+Finds event board result =
+    MatchResult result (λ _. refusal_of board.max_holds event board.holds ≡ None)
+    (λ fault. refusal_of board.max_holds event board.holds ≡ Some fault)
 
 -- how a call ends that makes an event of a board: it is accepted exactly where no fault applies,
 -- and else the board stays; an allocation failure may come in place of either; what always holds of

@@ -4,7 +4,7 @@ ghost use Rattle.indexmap.specs.IndexMap.{IsUnique};
 ghost use Rattle.sipl_choice.specs.Endpoints.{same_endpoint};
 ghost use Rattle.sipl_outages.specs.Holds.{no_holds, is_held, is_new_hold, refusal_of};
 ghost use Rattle.sipl_outages.specs.Holds.BoardEvent.{Hold, Release, Advance};
-ghost use Rattle.sipl_outages.specs.Board.{IsConsistent, Makes};
+ghost use Rattle.sipl_outages.specs.Board.{Finds, IsConsistent, Makes};
 
 use crate::fault::BoardFault;
 use indexmap::IndexMap;
@@ -174,6 +174,46 @@ impl Board {
         }
         drop_ended(&mut self.ends, to);
         self.time = to;
+        Ok(())
+    }
+
+    /// The fault that `hold` would find, if there is one. Does not allocate. Constant time but for hashing.
+    pub fn check_hold(&self, endpoint: &Endpoint, ms: u64) -> Result<(), BoardFault>
+        ensures { Finds (Hold endpoint.now ms) self.now result }
+    {
+        let longest = MAX_TIME - self.time;
+        if ms > longest {
+            return Err(BoardFault::TooFar);
+        }
+        let is_new = !self.is_held(endpoint) && ms != 0;
+        if is_new && self.len() >= self.max_holds {
+            return Err(BoardFault::BoardFull);
+        }
+        Ok(())
+    }
+
+    /// The fault that `release` would find, if there is one. Does not allocate. Constant time but for
+    /// hashing.
+    pub fn check_release(&self, endpoint: &Endpoint) -> Result<(), BoardFault>
+        ensures { Finds (Release endpoint.now) self.now result }
+    {
+        if self.is_held(endpoint) {
+            Ok(())
+        } else {
+            Err(BoardFault::NotHeld)
+        }
+    }
+
+    /// The fault that `advance` would find, if there is one. Does not allocate.
+    pub fn check_advance(&self, to: u64) -> Result<(), BoardFault>
+        ensures { Finds (Advance to) self.now result }
+    {
+        if to < self.now() {
+            return Err(BoardFault::ClockBack);
+        }
+        if to > MAX_TIME {
+            return Err(BoardFault::TooFar);
+        }
         Ok(())
     }
 

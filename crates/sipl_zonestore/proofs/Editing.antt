@@ -1,6 +1,6 @@
 -- What an edit does to a store, from what it does to its records.
-use Rattle.std.proofs.Common.{◌≡◌, ◌≢◌, ℕ, Bool, true, false, not, if◌then◌else◌, List, Option, None, Some, Result, Ok, Err, length, nat_le, nat_lt, refl, ap, subst, sym, ◌∙◌, inl, inr}
-use Rattle.std.specs.Prelude.{OnOk, OnErr, IfErr}
+use Rattle.std.proofs.Common.{◌≡◌, ◌≢◌, ◌+◌, ◌^◌, ◌≤◌, ℕ, Bool, true, false, not, if◌then◌else◌, List, Option, None, Some, Result, Ok, Err, length, nat_le, nat_lt, refl, ap, subst, sym, ◌∙◌, inl, inr}
+use Rattle.std.specs.Prelude.{OnOk, OnErr, IfErr, MatchResult}
 use Rattle.std.specs.Option.{option_or}
 use Rattle.std.specs.List.{count_by, list_any}
 use Rattle.std.proofs.lemmas.Bool.{cases_Bool}
@@ -23,6 +23,7 @@ use Rattle.sipl_zonestore.specs.Edited.{IsEdited, IsKept, store_refusal, early_r
 use Rattle.sipl_zonestore.specs.Consistent.{IsConsistent}
 use Rattle.sipl_zonestore.proofs.Numbering.{kept-after, same_key-flipped}
 use Rattle.sipl_zonestore.proofs.ExactKeys.{changed-existence_any}
+use Rattle.sipl_zonestore.proofs.Recorded.{enough-unload}
 use Rattle.sipl_zonestore.proofs.Elements.{or_left}
 use Rattle.sipl_zonestore.proofs.Consistency.{IsGood, consistent-edited}
 
@@ -53,6 +54,15 @@ existence-kept old new key of none =
       agree true false same = cc
       agree false true same = cc
       agree false false same = refl
+
+-- the refusal of an edit that the zones accept is that of its numbers
+pub checked : (edit : Edit) (store : Store) (result : Result (Unit {0}) StoreFault) → refusal_of store.max_records edit store.zones ≡ None → MatchResult result (λ _. number_refusal store.zones.records (after edit store.zones).records store.next ≡ None) (λ fault. number_refusal store.zones.records (after edit store.zones).records store.next ≡ Some fault) → MatchResult result (λ _. store_refusal edit store ≡ None) (λ fault. store_refusal edit store ≡ Some fault)
+checked edit store (Ok done) accepted none = second_none (refusal_of store.max_records edit store.zones) (number_refusal store.zones.records (after edit store.zones).records store.next) accepted none
+checked edit store (Err fault) accepted why = second (refusal_of store.max_records edit store.zones) (number_refusal store.zones.records (after edit store.zones).records store.next) fault accepted why
+
+-- and else that of its zones
+pub unchecked : (edit : Edit) (store : Store) (fault : StoreFault) → refusal_of store.max_records edit store.zones ≡ Some fault → store_refusal edit store ≡ Some fault
+unchecked edit store fault why = first_some (refusal_of store.max_records edit store.zones) (number_refusal store.zones.records (after edit store.zones).records store.next) fault why
 
 -- an edit that the zones accept is what the records say
 pub edited : (edit : Edit) (old new : Store) (result : Result Changed StoreFault) → IsGood edit → IsConsistent old → refusal_of old.max_records edit old.zones ≡ None → IsReplaced (after edit old.zones).records (part old) (part new) result → IfErr result (λ fault. fault ≡ Memory → early_refusal edit old ≡ None) → OnOk result (new.zones.apexes ≡ (after edit old.zones).apexes) → OnErr result (new.zones.apexes ≡ old.zones.apexes) → new.max_records ≡ old.max_records → new.looks ≡ old.looks → IsEdited edit old new result
@@ -199,3 +209,10 @@ loaded max_records apex zones there = rw there refl
 -- and another one may not
 pub not_loaded : (max_records : ℕ) (apex : List (List ℕ)) (zones : Zones) → list_any (same_name apex) zones.apexes ≡ false → refusal_of max_records (unload apex) zones ≡ Some NoZone
 not_loaded max_records apex zones none = rw none refl
+
+-- whether a zone may be unloaded
+pub checked-unload : (store : Store) (apex : List (List ℕ)) (result : Result (Unit {0}) StoreFault) → store.next ≤ 2 ^ 52 + 1 → MatchResult result (λ _. list_any (same_name apex) store.zones.apexes ≡ true) (λ fault. (list_any (same_name apex) store.zones.apexes ≡ false) × (fault ≡ NoZone)) → MatchResult result (λ _. store_refusal (unload apex) store ≡ None) (λ fault. store_refusal (unload apex) store ≡ Some fault)
+checked-unload store apex (Ok done) few there =
+    second_none (refusal_of store.max_records (unload apex) store.zones) (number_refusal store.zones.records (after (unload apex) store.zones).records store.next) (loaded store.max_records apex store.zones there) (enough-unload apex store.zones.records store.next few)
+checked-unload store apex (Err fault) few why =
+    unchecked (unload apex) store fault (not_loaded store.max_records apex store.zones why.0 ∙ ap (λ f. Some f) (sym why.1))

@@ -1,5 +1,6 @@
 -- Records whose sets are numbered, once records have changed.
 use Rattle.std.proofs.Common.{◌≡◌, ◌≢◌, ℕ, ◌+◌, ◌^◌, ◌<◌, ◌≤◌, Bool, true, false, not, ◌&&◌, List, [], ◌∷◌, ◌++◌, length, map, Option, None, Some, Ok, Err, if◌then◌else◌, cond, refl, ap, subst, sym, ◌∙◌, arith, append-nil}
+use Rattle.std.specs.Prelude.{Result, MatchResult}
 use Rattle.std.specs.List.{filter, filter_map, list_any, list_all, position_from}
 use Rattle.std.specs.Option.{option_to_list, unwrap_or}
 use Rattle.sipl_names.specs.Labels.{Labels, is_within}
@@ -176,6 +177,16 @@ enough-add old r next count counted few =
 pub enough-remove : (old : List Record) (r : Record) (next count : ℕ) (sets : OwnerTable) → HasSets sets old → list_any (same_record r) old ≡ true → count ≡ length (keys_left sets r) → next + count ≤ 2 ^ 52 + 1 → number_refusal old (records_without r old) next ≡ None
 enough-remove old r next count sets has some counted few =
     accepted-numbers old (records_without r old) next count (counted ∙ ap length (sym (numbered-remove old r sets has some))) few
+
+-- whether enough are left to add a record
+pub checked-add : (old : List Record) (r : Record) (next count : ℕ) (result : Result (Unit {0}) StoreFault) → count ≡ length (option_to_list (key_of r)) → MatchResult result (λ _. next + count ≤ 2 ^ 52 + 1) (λ fault. (2 ^ 52 + 1 < next + count) × (fault ≡ NumberSpent)) → MatchResult result (λ _. number_refusal old (old ++ r ∷ []) next ≡ None) (λ fault. number_refusal old (old ++ r ∷ []) next ≡ Some fault)
+checked-add old r next count (Ok done) counted few = enough-add old r next count counted few
+checked-add old r next count (Err fault) counted why = refused-add old r next count fault counted why.0 why.1
+
+-- or to remove one
+pub checked-remove : (old : List Record) (r : Record) (next count : ℕ) (sets : OwnerTable) (result : Result (Unit {0}) StoreFault) → HasSets sets old → list_any (same_record r) old ≡ true → count ≡ length (keys_left sets r) → MatchResult result (λ _. next + count ≤ 2 ^ 52 + 1) (λ fault. (2 ^ 52 + 1 < next + count) × (fault ≡ NumberSpent)) → MatchResult result (λ _. number_refusal old (records_without r old) next ≡ None) (λ fault. number_refusal old (records_without r old) next ≡ Some fault)
+checked-remove old r next count sets (Ok done) has some counted few = enough-remove old r next count sets has some counted few
+checked-remove old r next count sets (Err fault) has some counted why = refused-remove old r next count sets fault has some counted why.0 why.1
 
 -- where records are only left out, no set takes a number
 numbered-outside : (apex : List (List ℕ)) (old : List Record) → numbered_keys old (records_outside apex old ++ []) ≡ []

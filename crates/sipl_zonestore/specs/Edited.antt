@@ -1,5 +1,5 @@
 -- What an edit does to a store.
-use Rattle.std.specs.Prelude.{◌≡◌, ◌≢◌, false, Option, None, Some, Result, OnOk, OnErr, IfOk, IfErr}
+use Rattle.std.specs.Prelude.{◌≡◌, ◌≢◌, false, Option, None, Some, Result, MatchResult, OnOk, OnErr, IfOk, IfErr}
 use Rattle.std.specs.List.{list_any}
 use Rattle.std.specs.Option.{option_or}
 use Rattle.sipl_records.specs.Sets.{set_of, same_key}
@@ -26,6 +26,12 @@ early_refusal (load zone) store = refusal_of store.max_records (load zone) store
 early_refusal (unload apex) store = store_refusal (unload apex) store
 early_refusal (add r) store = store_refusal (add r) store
 early_refusal (remove r) store = store_refusal (remove r) store
+
+-- a look for an edit's early refusal gives it, if there is one
+abbrev pub FindsEarly : Edit → Store → Result (Unit {0}) StoreFault → Type 0
+FindsEarly edit store result =
+    MatchResult result (λ _. early_refusal edit store ≡ None)
+    (λ fault. early_refusal edit store ≡ Some fault)
 
 -- the key's set and its number are as they were
 abbrev pub IsKept : Store → Store → Key → Type 0

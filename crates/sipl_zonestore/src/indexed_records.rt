@@ -1,5 +1,5 @@
 //! Records with an index of their sets.
-ghost use Rattle.std.specs.Prelude.{◌≡◌, ◌≤◌, ◌<◌, ◌^◌, ◌+◌, ◌&&◌, ◌||◌, not, [], ◌∷◌, ◌++◌, length, true, false, None, Ok, if◌then◌else◌, IfOk, IfErr, OnOk, OnErr};
+ghost use Rattle.std.specs.Prelude.{◌≡◌, ◌≤◌, ◌<◌, ◌^◌, ◌+◌, ◌&&◌, ◌||◌, not, [], ◌∷◌, ◌++◌, length, true, false, None, Some, Ok, if◌then◌else◌, IfOk, IfErr, OnOk, OnErr, MatchResult};
 ghost use Rattle.std.specs.Borrow.{sem};
 ghost use Rattle.std.specs.Io.BufRead.{Rests};
 ghost use Rattle.std.specs.List.{count_by, list_all, list_any};
@@ -290,6 +290,29 @@ impl IndexedRecords {
         self.records.apply(apex, patch, copies);
         self.next += count as u64;
         Ok(changed)
+    }
+
+    // The fault of appending a record, which is that too few numbers are left. Does not allocate.
+    pub(crate) fn check_push(&self, new: &Record) -> Result<(), StoreFault>
+        ensures { MatchResult result
+            (λ _. number_refusal self.now.records (self.now.records ++ new.now ∷ []) self.now.next
+            ≡ None)
+            (λ fault. number_refusal self.now.records (self.now.records ++ new.now ∷ []) self.now.next
+            ≡ Some fault) }
+    {
+        check_numbers(self.next, added_count(new))
+    }
+
+    // The fault of removing a record, which is that too few numbers are left. Does not allocate.
+    pub(crate) fn check_remove(&self, old: &Record) -> Result<(), StoreFault>
+        requires present { list_any (same_record old.now) self.now.records ≡ true }
+        ensures { MatchResult result
+            (λ _. number_refusal self.now.records (records_without old.now self.now.records)
+            self.now.next ≡ None)
+            (λ fault. number_refusal self.now.records (records_without old.now self.now.records)
+            self.now.next ≡ Some fault) }
+    {
+        check_numbers(self.next, removed_count(&self.sets, old))
     }
 
     // Appends a record. Returns what it changed. Nothing is allocated where too few

@@ -5,7 +5,7 @@ ghost use Rattle.std.specs.Io.BufRead.{Rests};
 ghost use Rattle.sipl_records.specs.Sets.{set_of};
 ghost use Rattle.sipl_zonestore.specs.Store.{Store, number_in, no_zones};
 ghost use Rattle.sipl_zonestore.specs.Edits.{load, unload, add, remove};
-ghost use Rattle.sipl_zonestore.specs.Edited.{IsEdited};
+ghost use Rattle.sipl_zonestore.specs.Edited.{FindsEarly, IsEdited};
 ghost use Rattle.sipl_zonestore.specs.Looks.{looked};
 ghost use Rattle.sipl_zonestore.specs.Consistent.{IsConsistent};
 
@@ -171,6 +171,45 @@ impl ZoneStore {
         let changed = self.records.remove(old)?;
         self.shared = None;
         Ok(changed)
+    }
+
+    /// The fault that `load` would find before it allocates, if there is one: each but too few numbers
+    /// (S8). Changes nothing, and does not allocate. Linear in the number of loaded zones, or of records
+    /// where one was removed or the text has more than fit in beside all of them.
+    pub fn check_load(&mut self, zone: &ZoneText) -> Result<(), StoreFault>
+        ensures found { FindsEarly (load zone.now) self.old result }
+        ensures unchanged { self.new ≡ self.old }
+    {
+        check_load(
+            self.max_records,
+            zone,
+            &self.apexes,
+            self.records.as_slice(),
+        )
+    }
+
+    /// The fault that `unload` would find, if there is one. Does not allocate.
+    pub fn check_unload(&self, apex: &Name) -> Result<(), StoreFault>
+        ensures { FindsEarly (unload apex.now) self.now result }
+    {
+        check_unload(apex, &self.apexes)
+    }
+
+    /// The fault that `add` would find, if there is one. Does not allocate. The cost is that of `add`.
+    pub fn check_add(&self, new: &Record) -> Result<(), StoreFault>
+        ensures { FindsEarly (add new.now) self.now result }
+    {
+        check_add(self.max_records, new, &self.apexes, &self.records)?;
+        self.records.check_push(new)
+    }
+
+    /// The fault that `remove` would find, if there is one. Does not allocate. Constant time but for
+    /// hashing, the loaded zones and the data of its set.
+    pub fn check_remove(&self, old: &Record) -> Result<(), StoreFault>
+        ensures { FindsEarly (remove old.now) self.now result }
+    {
+        check_remove(old, &self.apexes, &self.records)?;
+        self.records.check_remove(old)
     }
 
     /// The number of the key's set and its data, in the order of addition; 0 and no data where it
