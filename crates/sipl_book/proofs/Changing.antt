@@ -197,6 +197,18 @@ fault-of NumberSpent some = refl
 fault-of WildApex some = refl
 fault-of Memory some = absurd (some refl)
 
+memory-of : (fault : StoreFault) → of_store fault ≡ BookMemory → fault ≡ Memory
+memory-of Overlap is = cc
+memory-of NoZone is = cc
+memory-of Duplicate is = cc
+memory-of Absent is = cc
+memory-of AliasBesideData is = cc
+memory-of SetFull is = cc
+memory-of StoreFull is = cc
+memory-of NumberSpent is = cc
+memory-of WildApex is = cc
+memory-of Memory is = refl
+
 pub refused-change : (edit : Edit) (old : BookState) (store : Store) (journal : List Event) (fault : StoreFault)
     → IsConsistent old → IsEdited (zone_edit edit) old.store store (Err fault) → length old.journal < old.max_events → journal ≡ old.journal
     → IsChanged edit old (record old { store = store; journal = journal }) (Err (of_store fault))
@@ -215,7 +227,9 @@ refused-change edit old store journal fault good edited space journal_is =
           cond-false (leb old.max_events (length old.journal)) (Some JournalFull) _ (lt-leb old.max_events (length old.journal) space)
           ∙ ap (option_map OfStore) (edited.refused (λ memory. some (ap of_store memory)))
           ∙ fault-of fault some;
-      memory = λ _. cond-false (leb old.max_events (length old.journal)) (Some JournalFull) None (lt-leb old.max_events (length old.journal) space);
+      memory = λ memory.
+          cond-false (leb old.max_events (length old.journal)) (Some JournalFull) _ (lt-leb old.max_events (length old.journal) space)
+          ∙ ap (option_map OfStore) (edited.memory (memory-of fault memory));
       unchanged = λ i. record old { store = edited.unchanged i; journal = journal_is i };
       first = refl;
       base = refl;

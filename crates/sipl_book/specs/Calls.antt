@@ -7,7 +7,7 @@ use Rattle.sipl_uri.specs.declared.question.Question.{Question}
 use Rattle.sipl_evidence.specs.Items.{Item}
 use Rattle.sipl_zonestore.specs.Store.{Store, number_in}
 use Rattle.sipl_zonestore.specs.Edits.{after as after_edit}
-use Rattle.sipl_zonestore.specs.Edited.{store_refusal}
+use Rattle.sipl_zonestore.specs.Edited.{early_refusal, store_refusal}
 use Rattle.sipl_zonestore.specs.Looks.{looked}
 use Rattle.sipl_zonestore.specs.Changes.{changed_count, changed_keys}
 use Rattle.sipl_zonestore.specs.Numbers.{number_after, next_after}
@@ -48,10 +48,16 @@ abbrev pub change_refusal : Edit → BookState → Option BookFault
 change_refusal edit book =
     unless_full book (option_map StoreFault (store_refusal (zone_edit edit) book.store))
 
+-- the fault of an edit that is found before anything is allocated: each one, but for too few numbers
+-- for a zone's text
+abbrev pub early_change_refusal : Edit → BookState → Option BookFault
+early_change_refusal edit book =
+    unless_full book (option_map StoreFault (early_refusal (zone_edit edit) book.store))
+
 -- An accepted edit changes the zones, the numbers of their sets, and which entries are current, and
 -- is the next event. The entries that it makes outdated are marked in their order, but for those
--- that are leased. A refused one changes nothing. An allocation fails only where the journal is not
--- full. What always holds of a book holds after either.
+-- that are leased. A refused one changes nothing. An allocation fails only where no early refusal
+-- comes before. What always holds of a book holds after either.
 pub record IsChanged (edit : Edit) (old new : BookState) (result : Result Done BookFault)
     : Type 0 where
   pub accepted : OnOk result (change_refusal edit old ≡ None)
@@ -70,7 +76,7 @@ pub record IsChanged (edit : Edit) (old new : BookState) (result : Result Done B
   pub queue : OnOk result (new.queue ≡ after_marks old.queue
       (dependents (changed_keys old.store.zones.records new.store.zones.records) old.entries))
   pub refused : IfErr result (λ fault. fault ≢ Memory → change_refusal edit old ≡ Some fault)
-  pub memory : IfErr result (λ fault. fault ≡ Memory → unless_full old None ≡ None)
+  pub memory : IfErr result (λ fault. fault ≡ Memory → early_change_refusal edit old ≡ None)
   pub unchanged : OnErr result (new ≡ old)
   pub first : new.first ≡ old.first
   pub base : new.base ≡ old.base
@@ -102,15 +108,14 @@ after_board event book =
     })
 
 -- An accepted hold, release or move of the clock is the next event. A refused one changes nothing.
--- An allocation fails only where the journal is not full. What always holds of a board holds after
--- either.
+-- An allocation fails only where no fault applies. What always holds of a board holds after either.
 pub record MovesBoard (event : BoardEvent) (old new : BookState) (result : Result ℕ BookFault)
     : Type 0 where
   pub accepted : OnOk result (board_refusal event old ≡ None)
   pub number : IfOk result (λ number. number ≡ next_event old)
   pub after : OnOk result (new ≡ after_board event old)
   pub refused : IfErr result (λ fault. fault ≢ Memory → board_refusal event old ≡ Some fault)
-  pub memory : IfErr result (λ fault. fault ≡ Memory → unless_full old None ≡ None)
+  pub memory : IfErr result (λ fault. fault ≡ Memory → board_refusal event old ≡ None)
   pub unchanged : OnErr result (new ≡ old)
   pub consistent : IsConsistentBoard new.board
 

@@ -16,7 +16,7 @@ ghost use Rattle.sipl_book.specs.Repairs.{IsQueueOf};
 ghost use Rattle.sipl_book.specs.Machine.{IsLegal, replay};
 
 use crate::cache::Cache;
-use crate::checks::reserve_event;
+use crate::checks::{board_fault, first_fault, reserve_event};
 use crate::edit::{Edit, change_event};
 use crate::entry::Entry;
 use crate::event::Event;
@@ -118,13 +118,15 @@ impl Book {
     /// shares its records with that of the last load, where they are equal. The cost is that of
     /// the edit, a search for each entry that depends on a changed set, and a sort of their ids.
     ///
-    /// The fault is the first one: a full journal (B3), a fault of the zones (S1 to S9).
+    /// The fault is the first one: a full journal (B3), a fault of the zones (S1 to S9). Memory is reported
+    /// only where none of them is the fault, but for too few numbers at a load (S8).
     pub fn change(&mut self, edit: Edit) -> Result<Done, BookFault>
         ensures { IsChanged edit self.old self.new result }
     {
         if let Err(fault) = reserve_event(&mut self.journal, self.max_events) {
+            let own = edit.early_fault(&mut self.store);
             drop(edit);
-            return Err(fault);
+            return Err(first_fault(fault, own));
         }
         let changed = match edit.apply(&mut self.store) {
             Ok(changed) => changed,
@@ -154,7 +156,10 @@ impl Book {
     pub fn hold(&mut self, endpoint: &Endpoint, ms: u64) -> Result<u64, BookFault>
         ensures { MovesBoard (Hold endpoint.now ms) self.old self.new result }
     {
-        reserve_event(&mut self.journal, self.max_events)?;
+        if let Err(fault) = reserve_event(&mut self.journal, self.max_events) {
+            let own = board_fault(self.board.get().check_hold(endpoint, ms));
+            return Err(first_fault(fault, own));
+        }
         self.board.hold(endpoint, ms)?;
         Ok(record_event(&mut self.journal, self.first, Event::Hold(*endpoint, ms)))
     }
@@ -166,7 +171,10 @@ impl Book {
     pub fn release(&mut self, endpoint: &Endpoint) -> Result<u64, BookFault>
         ensures { MovesBoard (Release endpoint.now) self.old self.new result }
     {
-        reserve_event(&mut self.journal, self.max_events)?;
+        if let Err(fault) = reserve_event(&mut self.journal, self.max_events) {
+            let own = board_fault(self.board.get().check_release(endpoint));
+            return Err(first_fault(fault, own));
+        }
         self.board.release(endpoint)?;
         Ok(record_event(&mut self.journal, self.first, Event::Release(*endpoint)))
     }
@@ -179,7 +187,10 @@ impl Book {
     pub fn advance(&mut self, to: u64) -> Result<u64, BookFault>
         ensures { MovesBoard (Advance to) self.old self.new result }
     {
-        reserve_event(&mut self.journal, self.max_events)?;
+        if let Err(fault) = reserve_event(&mut self.journal, self.max_events) {
+            let own = board_fault(self.board.get().check_advance(to));
+            return Err(first_fault(fault, own));
+        }
         self.board.advance(to)?;
         Ok(record_event(&mut self.journal, self.first, Event::Advance(to)))
     }

@@ -1,11 +1,12 @@
 // What is checked before a book records an event or takes a finding.
-ghost use Rattle.std.specs.Prelude.{◌≡◌, ◌<◌, length, nat_le, if◌then◌else◌, OnOk, IfErr, position, vec_len, vec_capacity};
+ghost use Rattle.std.specs.Prelude.{◌≡◌, ◌≢◌, ◌<◌, length, nat_le, if◌then◌else◌, None, Some, unwrap_or, OnOk, IfErr, MatchResult, position, vec_len, vec_capacity};
 ghost use Rattle.sipl_zonestore.specs.Looks.{looked};
 ghost use Rattle.sipl_book.specs.Calls.{after_looks, compared, is_renumbered, is_stale};
 
 use crate::event::Event;
 use crate::fault::BookFault;
 use sipl_evidence::Item;
+use sipl_outages::BoardFault;
 use sipl_zonestore::ZoneStore;
 
 // Reserves the place of the next event. B3 where the journal has as many as it may have, or else an
@@ -23,6 +24,27 @@ pub(crate) fn reserve_event(journal: &mut Vec<Event>, max_events: usize) -> Resu
     }
     journal.reserve(1)?;
     Ok(())
+}
+
+// The fault of an event that has no place: one of its own comes before a want of memory.
+pub(crate) fn first_fault(unreserved: BookFault, own: Option<BookFault>) -> BookFault
+    ensures full { unreserved ≢ BookFault.Memory → result ≡ unreserved }
+    ensures memory { unreserved ≡ BookFault.Memory → result ≡ unwrap_or own BookFault.Memory }
+{
+    match (unreserved, own) {
+        (BookFault::Memory, Some(fault)) => fault,
+        (fault, _) => fault,
+    }
+}
+
+// The fault that a board finds.
+pub(crate) fn board_fault(found: Result<(), BoardFault>) -> Option<BookFault>
+    ensures { MatchResult found (λ _. result ≡ None) (λ fault. result ≡ Some (BookFault.Board fault)) }
+{
+    match found {
+        Ok(()) => None,
+        Err(fault) => Some(BookFault::Board(fault)),
+    }
 }
 
 // The place of the first item whose set has another number than when it was read. Looks at no data.

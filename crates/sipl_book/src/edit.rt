@@ -1,8 +1,9 @@
-ghost use Rattle.std.specs.Prelude.{◌≡◌, IfOk};
-ghost use Rattle.sipl_zonestore.specs.Edited.{IsEdited};
+ghost use Rattle.std.specs.Prelude.{◌≡◌, IfOk, option_map};
+ghost use Rattle.sipl_zonestore.specs.Edited.{IsEdited, early_refusal};
 ghost use Rattle.sipl_book.specs.Machine.{zone_edit};
 
 use crate::event::Event;
+use crate::fault::BookFault;
 use sipl_masterfile::ZoneText;
 use sipl_names::Name;
 use sipl_records::Record;
@@ -33,6 +34,24 @@ impl Edit {
             Edit::Add(record) => Edit::Add(record.dup(alloc)?),
             Edit::Remove(record) => Edit::Remove(record.dup(alloc)?),
         })
+    }
+
+    // The fault of the edit that is found before anything is allocated, if there is one.
+    pub(crate) fn early_fault(&self, store: &mut ZoneStore) -> Option<BookFault>
+        ensures found { result
+            ≡ option_map BookFault.Store (early_refusal (zone_edit self.now) store.old) }
+        ensures unchanged { store.new ≡ store.old }
+    {
+        let found = match self {
+            Edit::Load(zone) => store.check_load(zone),
+            Edit::Unload(apex) => store.check_unload(apex),
+            Edit::Add(record) => store.check_add(record),
+            Edit::Remove(record) => store.check_remove(record),
+        };
+        match found {
+            Ok(()) => None,
+            Err(fault) => Some(BookFault::Store(fault)),
+        }
     }
 
     // Makes the edit. Returns the keys of the sets that changed, and how many are those of record sets.

@@ -6,5 +6,5 @@ use Rattle.sipl_book.proofs.book.Book.advance.Goals as goal
 pub invariant_of-self-2 : goal.invariant_of-self-2
 invariant_of-self-2 c =
     consistent-moved _ _ c.advance.new.self c.record_event.new.journal.items c.self.invariant c.in_ok-advance.ensures.event
-    c.in_ok-reserve_event.ensures.few
+    c.in_default.ensures.few
     (c.record_event.ensures.items ∙ ap (λ events. events ++ Advance c.args.to ∷ []) c.reserve_event.ensures.items)
