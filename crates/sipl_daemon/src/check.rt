@@ -1,11 +1,11 @@
 //! A check of the files of a state, without a daemon that goes on from them.
 use crate::daemon::Daemon;
-use crate::host::Host;
+use crate::fault::state_fault;
 use crate::journal::claims::Claims;
-use crate::report::Fault;
 use crate::session::restoring::RestoringDesk;
 use sipl_listen::Stop;
 use sipl_log::Log;
+use sipl_process::{Fault, Host, expect_state};
 use sipl_settings::DaemonSettings;
 use sipl_state::{FoundFiles, StateFault, check_state, real_path};
 use std::alloc::Global;
@@ -26,6 +26,8 @@ where
     H: Host,
 {
     let alloc = rt.alloc();
+    let real = real_path(host, alloc, path);
+    expect_state(host, alloc, path, real)?;
     let settings = Box::new(alloc, DaemonSettings::from_toml(alloc, "")?)?;
     let stop = Arc::new(alloc, Stop::new())?;
     let daemon = Daemon::new(host, alloc, &settings, &stop, log)?;
@@ -50,7 +52,7 @@ where
 {
     let found = match check_at(host, rt.alloc(), daemon, claims, path) {
         Ok(found) => found,
-        Err(fault) => return Err(Fault::State(String::from_str(rt.alloc(), path)?, fault)),
+        Err(fault) => return Err(state_fault(rt.alloc(), path, fault)?),
     };
     if let Some(octet) = found.torn {
         daemon.observed.tell_torn(host, path, octet)?;

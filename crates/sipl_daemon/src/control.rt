@@ -1,10 +1,10 @@
 //! Control lines: what an operator asks of the daemon, beside its clients.
 use crate::daemon::Daemon;
-use crate::host::Host;
 use sipl_archive::hold_text;
 use sipl_input::begins_request;
 use sipl_listen::{Client, Stream};
 use sipl_names::Name;
+use sipl_process::Host;
 use sipl_state::{Holds, Tally};
 use std::alloc::{AllocError, Global};
 use std::fmt::Write as _;

@@ -8,23 +8,21 @@ use crate::journal::pages::{Pages, board_octets};
 use sipl_archive::Archive;
 use sipl_book::BookFault;
 use sipl_lines::Settings;
-use sipl_listen::{Clients, Stop, max_clients};
+use sipl_listen::{Clients, Stop};
 use sipl_log::Log;
 use sipl_observed::{Counts, Observed};
+use sipl_process::Places;
 use sipl_service::{OpenGate, Pass, Service, ServiceFault, Told};
 use sipl_settings::{Clocks, DaemonSettings, OnFailure};
 use sipl_srv::Draws;
 use sipl_state::{Changes, HostTime, Source};
 use sipl_uri::Question;
-use std::alloc::{AllocError, Global};
+use std::alloc::Global;
 use std::io;
 use std::rt::Files;
 use std::sync::atomic::AtomicU64;
 use std::sync::{Arc, Mutex, Wait};
 use std::time::Clock;
-
-// How many control connections there may be at a time.
-const MAX_CONTROLS: usize = 8;
 
 /// What the threads of a daemon share.
 #[derive(Drop)]
@@ -52,33 +50,6 @@ pub(crate) struct Daemon {
     pub(crate) on_failure: OnFailure,
     // For how many seconds a client may send nothing.
     pub(crate) idle: Option<u64>,
-}
-
-// The places of all who connect.
-#[derive(Drop)]
-struct Places {
-    clients: Clients,
-    controls: Clients,
-    scrapers: Clients,
-}
-
-impl Places {
-    // Those of a daemon with these settings.
-    fn new<R: Files>(
-        rt: &R,
-        alloc: Global,
-        settings: &DaemonSettings,
-    ) -> Result<Places, AllocError> {
-        let max = max_clients(rt, alloc, settings.clients, settings.descriptors());
-        let clients = Clients::new(alloc, max)?;
-        let controls = Clients::new(alloc, MAX_CONTROLS)?;
-        let scrapers = Clients::new(alloc, settings.max_scrapers())?;
-        Ok(Places {
-            clients,
-            controls,
-            scrapers,
-        })
-    }
 }
 
 // What a daemon has beside its service: its time, the places of all who connect, and what is told of it.

@@ -1,10 +1,11 @@
-//! Why a line is refused, and why a daemon ends.
+//! Why a line is refused, and why a state can't be read.
 ghost use Rattle.std.specs.Prelude.{◌≡◌};
 ghost use Rattle.sipl_daemon.specs.Faults.{desk_code};
 
-use sipl_service::{ClaimFault, ServiceFault};
-use std::alloc::AllocError;
-use std::io;
+use sipl_process::Fault;
+use sipl_service::ServiceFault;
+use sipl_state::StateFault;
+use std::alloc::{AllocError, Global};
 use thiserror::Error;
 
 /// Why a line of a session is refused.
@@ -44,27 +45,22 @@ impl From<ServiceFault> for DeskFault {
     }
 }
 
-/// Why a daemon ends with a fault.
-#[derive(Drop)]
-pub(crate) enum CloseFault {
-    /// The service is not closed.
-    Close(ServiceFault),
-    /// The events are not what callers were told.
-    Claim(ClaimFault),
-    /// The state, or its changes, are not written.
-    State(io::Error),
-    /// A page is not archived.
-    Archive(io::Error),
-}
-
-impl From<ClaimFault> for CloseFault {
-    fn from(fault: ClaimFault) -> CloseFault {
-        CloseFault::Claim(fault)
-    }
-}
-
-impl From<AllocError> for CloseFault {
-    fn from(_: AllocError) -> CloseFault {
-        CloseFault::Claim(ClaimFault::Memory)
-    }
+/// The fault of a state of this path that can't be read.
+pub(crate) fn state_fault(
+    alloc: Global,
+    path: &str,
+    fault: StateFault,
+) -> Result<Fault, AllocError> {
+    let text = match fault {
+        StateFault::File(error) => return Ok(Fault::State(String::from_str(alloc, path)?, error)),
+        StateFault::State(line) => format!(in alloc; "siplocd: state {path}: line {line}"),
+        StateFault::Digest => format!(in alloc; "siplocd: state {path}: not as it was written"),
+        StateFault::Line(line) => format!(in alloc; "siplocd: state {path}.log: line {line}"),
+        StateFault::Octet(place) => format!(in alloc; "siplocd: state {path}.log: octet {place}"),
+        StateFault::Commit(number) => {
+            format!(in alloc; "siplocd: state {path}.log: commit {number}")
+        }
+        StateFault::OtherLog => format!(in alloc; "siplocd: state {path}.log: not of this state"),
+    };
+    Ok(Fault::InState(text?))
 }

@@ -1,32 +1,24 @@
 //! The program: its arguments, its settings, and the daemon from its start to its end.
 use crate::check::check_files;
 use crate::daemon::Daemon;
-use crate::host::Host;
+use crate::fault::state_fault;
 use crate::journal::claims::Claims;
-use crate::listeners::Listeners;
-use crate::paths::{expect_folder, expect_page, expect_settings, expect_state};
-use crate::report::{Fault, write_fault};
 use crate::server::serve_all;
 use crate::session::restoring::RestoringDesk;
-use crate::streams::open_closed;
-use crate::tell::tell;
-use crate::watch::InputWatch;
-use sipl_archive::{Archive, Replayed, replay};
 use sipl_listen::{Stop, take_lock};
 use sipl_log::{Level, Log};
-use sipl_observed::tell_start;
-use sipl_settings::{Call, DaemonSettings, Given, OnFailure, Unread, read_arguments, read_given};
+use sipl_process::{
+    Fault, Host, InputWatch, Listeners, begin, check_settings, expect_state, open_archive,
+    open_closed, print_replay, read_call, status_of, tell,
+};
+use sipl_settings::{Call, DaemonSettings, Given};
 use sipl_state::{Restored, StateFault, real_path, restore};
 use std::alloc::Global;
-use std::env;
 use std::process::ExitCode;
 use std::rt::Env;
 use std::sync::Arc;
 use std::sync::atomic::AtomicU64;
 use std::time::Duration;
-
-// The status of a call with wrong arguments.
-const WRONG_ARGUMENTS: u8 = 2;
 
 // How long the end waits for the log to be written, in milliseconds.
 const LAST_LINES: u64 = 3_000;
@@ -51,50 +43,12 @@ where
     R: Env + Print + Eprint + AllocGlobal,
     H: Host + Eprint,
 {
-    let outcome = match read_arguments(rt) {
-        Ok(call) => perform(rt, host, input, log, call),
-        Err(Unread::Memory) => Err(Fault::Memory),
-        Err(unread) if unread.is_wrong() => {
-            unread.report(rt);
-            return ExitCode::from(WRONG_ARGUMENTS);
-        }
-        Err(unread) => match unread.print(rt) {
-            Ok(()) => Ok(true),
-            Err(error) => Err(Fault::Stream(error)),
-        },
+    let status = match read_call(rt, host, log) {
+        Ok(call) => status_of(rt, host, log, perform(rt, host, input, log, call)),
+        Err(status) => status,
     };
-    let status = status_of(rt, host, log, outcome);
     log.end(host, Duration::from_millis(LAST_LINES));
     status
-}
-
-// The status of what was done. A fault is reported.
-fn status_of<R, H>(rt: &R, host: &H, log: &Log, outcome: Result<bool, Fault>) -> ExitCode
-where
-    R: Eprint + AllocGlobal,
-    H: Host,
-{
-    match outcome {
-        Ok(true) => ExitCode::SUCCESS,
-        Ok(false) => ExitCode::FAILURE,
-        Err(fault) => {
-            report(rt, host, log, &fault);
-            ExitCode::FAILURE
-        }
-    }
-}
-
-// Writes a fault on standard error, after the lines of the log that are there.
-fn report<R, H>(rt: &R, host: &H, log: &Log, fault: &Fault)
-where
-    R: Eprint + AllocGlobal,
-    H: Host,
-{
-    let mut text = String::new(rt.alloc());
-    let is_written = write_fault(&mut text, fault).is_ok();
-    if !is_written || !log.push_message(host, Level::Error, text.as_str()) {
-        let _ = eprintln!(rt; "siplocd: out of memory");
-    }
 }
 
 // Does what the arguments ask for. Returns whether a line that was told is not refused.
@@ -110,35 +64,13 @@ where
     H: Host,
 {
     match call {
-        Call::Check(path) => {
-            expect_settings(host, rt.alloc(), path.as_str())?;
-            let _settings = read_given(host, rt.alloc(), Given::File(path))?;
-            println!(rt; "ok")?;
-        }
+        Call::Check(path) => check_settings(rt, host, path)?,
         Call::Tell(address, line) => return tell(rt, host, address.as_str(), line.as_str()),
-        Call::Replay(folder) => {
-            let runs = replay(host, rt.alloc(), folder.as_str())?;
-            print_runs(rt, &runs)?;
-        }
-        Call::CheckState(path) => {
-            expect_state(host, rt.alloc(), path.as_str())?;
-            check_files(rt, host, log, path.as_str())?;
-        }
+        Call::Replay(folder) => print_replay(rt, host, folder.as_str())?,
+        Call::CheckState(path) => check_files(rt, host, log, path.as_str())?,
         Call::Serve(given) => serve(rt, host, input, log, given)?,
     }
     Ok(true)
-}
-
-// Prints a line for each run that was replayed, and how many events all have.
-fn print_runs<R: Print + AllocGlobal>(rt: &R, runs: &[Replayed]) -> Result<(), Fault> {
-    let mut all = 0u64;
-    for run in runs {
-        let (number, events) = (run.number, run.events);
-        println!(rt; "run {number:06} {events}")?;
-        all = all.saturating_add(events);
-    }
-    println!(rt; "replayed {all}")?;
-    Ok(())
 }
 
 // Serves with the settings that are given until the daemon is to stop, claims all pages, and prints how many events
@@ -154,15 +86,7 @@ where
     R: Env + Print + AllocGlobal,
     H: Host,
 {
-    if let Given::File(path) = &given {
-        expect_settings(host, rt.alloc(), path.as_str())?;
-    }
-    let (text, settings) = read_given(host, rt.alloc(), given)?;
-    // systemd has its journal read standard error.
-    let is_journal = env::var(rt, "JOURNAL_STREAM").is_ok();
-    log.begin(host, settings.log, is_journal);
-    tell_start(host, rt.alloc(), log, text.as_str())?;
-    drop(text);
+    let settings = begin(rt, host, log, given)?;
     let events = serve_with(rt, host, input, &settings, log)?;
     log.push(host, log.line(Level::Info, "end").number("events", events));
     println!(rt; "closed {events}")?;
@@ -232,14 +156,10 @@ where
     R: AllocGlobal,
     H: Host,
 {
-    if let Some(path) = &settings.archive {
-        expect_folder(host, rt.alloc(), path.as_str())?;
-        daemon.archive = Some(open_archive(host, rt.alloc(), settings, path.as_str())?);
-        let is_made = settings.on_failure == OnFailure::End;
-        expect_page(host, rt.alloc(), path.as_str(), is_made)?;
-    }
+    daemon.archive = open_archive(host, rt.alloc(), settings)?;
     if let Some(path) = &settings.state {
-        expect_state(host, rt.alloc(), path.as_str())?;
+        let real = real_path(host, rt.alloc(), path.as_str());
+        expect_state(host, rt.alloc(), path.as_str(), real)?;
         let Restored { changes, found } = open_state(
             host,
             rt.alloc(),
@@ -256,20 +176,6 @@ where
     Ok(())
 }
 
-// The archive of a path.
-fn open_archive<H: Host>(
-    host: &H,
-    alloc: Global,
-    settings: &DaemonSettings,
-    path: &str,
-) -> Result<Archive, Fault> {
-    let own = &settings.service;
-    match Archive::open(host, alloc, path, &own.abilities, own.held) {
-        Ok(archive) => Ok(archive),
-        Err(error) => Err(Fault::Archive(String::from_str(alloc, path)?, error)),
-    }
-}
-
 // The changes after the state of a path, from which the daemon goes on.
 fn open_state<H: Host>(
     host: &H,
@@ -280,7 +186,7 @@ fn open_state<H: Host>(
 ) -> Result<Restored, Fault> {
     match restore_at(host, alloc, daemon, claims, path) {
         Ok(restored) => Ok(restored),
-        Err(fault) => Err(Fault::State(String::from_str(alloc, path)?, fault)),
+        Err(fault) => Err(state_fault(alloc, path, fault)?),
     }
 }
 
@@ -315,10 +221,7 @@ where
     R: Print + AllocGlobal,
     H: Host,
 {
-    let listeners = Listeners::bind(host, rt.alloc(), settings)?;
-    daemon.observed.open();
-    listeners.tell(host, &daemon.observed);
-    listeners.print(rt)?;
+    let listeners = Listeners::open(rt, host, settings, &daemon.observed)?;
     if settings.ends_with_input {
         input.begin(host, stop);
     }

@@ -1,10 +1,10 @@
 //! The metrics of the daemon.
 use crate::control::{resident, totals};
 use crate::daemon::Daemon;
-use crate::host::Host;
 use sipl_config::VERSION;
 use sipl_metrics::Exposition;
 use sipl_observed::Cause;
+use sipl_process::Host;
 use std::alloc::AllocError;
 use std::sync::Wait;
 use std::sync::atomic::{AtomicU64, Ordering};

@@ -1,9 +1,9 @@
 //! Those who read the metrics, over HTTP: one request a connection, and ten seconds for it.
 use crate::daemon::Daemon;
-use crate::host::Host;
 use crate::samples::exposition;
 use sipl_listen::{Client, Listener, Stream, next_stream};
 use sipl_metrics::{Asked, read_head, read_rest, write_all, write_reply};
+use sipl_process::Host;
 use std::alloc::AllocError;
 use std::sync::Arc;
 use std::time::{Duration, Instant};

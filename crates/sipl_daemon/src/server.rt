@@ -1,11 +1,9 @@
 //! The threads of a daemon.
 use crate::control::serve_control;
 use crate::daemon::Daemon;
-use crate::host::Host;
 use crate::journal::claimer::claim_pages;
 use crate::journal::claims::Claims;
 use crate::journal::mender::mend_changes;
-use crate::listeners::Listeners;
 use crate::scrapes::{accept_scrapers, end_scrapes};
 use crate::session::serve_client;
 use sipl_listen::{
@@ -13,6 +11,7 @@ use sipl_listen::{
 };
 use sipl_log::Level;
 use sipl_observed::Cause;
+use sipl_process::{Host, Listeners};
 use sipl_service::OpenGate;
 use sipl_settings::OnFailure;
 use std::thread;

@@ -1,8 +1,9 @@
 //! A locator of SIP servers (RFC 3263) that a proxy runs for months: sessions over TCP and Unix sockets.
 #![tactic(auto)]
 
-use sipl_daemon::{InputWatch, start};
+use sipl_daemon::start;
 use sipl_log::Log;
+use sipl_process::InputWatch;
 use std::alloc::AllocError;
 use std::fs::File;
 use std::marker::PhantomData;

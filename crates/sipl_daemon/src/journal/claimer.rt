@@ -1,8 +1,7 @@
 //! The thread that claims pages, and writes states.
 use crate::daemon::Daemon;
-use crate::fault::CloseFault;
-use crate::host::Host;
 use crate::journal::claims::{Claimed, Claims, archive_page};
+use sipl_process::{CloseFault, Host};
 use sipl_settings::OnFailure;
 use sipl_state::Turned;
 use std::fs::File;

@@ -1,9 +1,9 @@
 //! What was claimed.
-use crate::fault::CloseFault;
 use crate::journal::pages::Pages;
 use crate::journal::spaces::MAX_RECEIPTS;
 use sipl_archive::Archive;
 use sipl_book::Page;
+use sipl_process::CloseFault;
 use sipl_service::{ClaimFault, Ledger, Receipts};
 use sipl_state::Turned;
 use std::alloc::{AllocError, Global};

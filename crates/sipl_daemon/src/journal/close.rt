@@ -1,11 +1,11 @@
 //! The end of a daemon: its service is closed, all pages are claimed, and the state is written.
 use crate::daemon::Daemon;
-use crate::fault::CloseFault;
 use crate::journal::claims::Claims;
 use crate::journal::pages::Pages;
 use sipl_archive::Archive;
 use sipl_book::Page;
 use sipl_observed::Observed;
+use sipl_process::CloseFault;
 use sipl_settings::OnFailure;
 use sipl_state::{Changes, Source};
 use std::fs::File;

@@ -1,6 +1,6 @@
 //! The thread that writes the log of a state anew where changes could not be written, if the daemon is to go on then.
 use crate::daemon::Daemon;
-use crate::host::Host;
+use sipl_process::Host;
 use sipl_state::Changes;
 use std::time::Duration;
 

@@ -1,17 +1,16 @@
 //! Faults of the program, and what is said of them.
-use crate::fault::CloseFault;
 use sipl_archive::ReplayFault;
 use sipl_lines::SettingsFault;
 use sipl_listen::Address;
+use sipl_service::{ClaimFault, ServiceFault};
 use sipl_settings::GivenFault;
-use sipl_state::StateFault;
 use std::alloc::{AllocError, AllocFailed};
 use std::fmt::Write as _;
 use std::io;
 
 /// Why the daemon does not begin, or ends with a fault.
 #[derive(Drop)]
-pub(crate) enum Fault {
+pub enum Fault {
     /// The settings can't be read.
     Settings(GivenFault),
     /// It cannot listen there.
@@ -20,8 +19,10 @@ pub(crate) enum Fault {
     Tell(String, io::Error),
     /// Standard output failed, or the clock.
     Stream(io::Error),
-    /// The state of this path can't be read.
-    State(String, StateFault),
+    /// A file of the state of this path can't be read.
+    State(String, io::Error),
+    /// What a state has is refused: where, and why.
+    InState(String),
     /// The archive of this path can't be opened.
     Archive(String, io::Error),
     /// An archive is not replayed.
@@ -30,6 +31,31 @@ pub(crate) enum Fault {
     Close(CloseFault),
     /// An allocation failed.
     Memory,
+}
+
+/// Why a daemon ends with a fault.
+#[derive(Drop)]
+pub enum CloseFault {
+    /// The service is not closed.
+    Close(ServiceFault),
+    /// The events are not what callers were told.
+    Claim(ClaimFault),
+    /// The state, or its changes, are not written.
+    State(io::Error),
+    /// A page is not archived.
+    Archive(io::Error),
+}
+
+impl From<ClaimFault> for CloseFault {
+    fn from(fault: ClaimFault) -> CloseFault {
+        CloseFault::Claim(fault)
+    }
+}
+
+impl From<AllocError> for CloseFault {
+    fn from(_: AllocError) -> CloseFault {
+        CloseFault::Claim(ClaimFault::Memory)
+    }
 }
 
 impl From<GivenFault> for Fault {
@@ -77,31 +103,21 @@ impl From<ReplayFault> for Fault {
     }
 }
 
-/// Appends what is said of a fault on standard error.
-pub(crate) fn write_fault(out: &mut String, fault: &Fault) -> Result<(), AllocError> {
-    match fault {
-        Fault::Settings(fault) => fault.write(out),
-        Fault::Listen(address, error) => write!(out, "siplocd: listen {address}: {error}"),
-        Fault::Tell(address, error) => write!(out, "siplocd: tell {address}: {error}"),
-        Fault::Stream(error) => write!(out, "siplocd: {error}"),
-        Fault::State(path, fault) => write_state_fault(out, path.as_str(), fault),
-        Fault::Archive(path, error) => write!(out, "siplocd: archive {path}: {error}"),
-        Fault::Replay(fault) => write_replay_fault(out, fault),
-        Fault::Close(fault) => write_close_fault(out, fault),
-        Fault::Memory => write!(out, "siplocd: out of memory"),
-    }
-}
-
-// Appends why a state can't be read.
-fn write_state_fault(out: &mut String, path: &str, fault: &StateFault) -> Result<(), AllocError> {
-    match fault {
-        StateFault::File(error) => write!(out, "siplocd: state {path}: {error}"),
-        StateFault::State(line) => write!(out, "siplocd: state {path}: line {line}"),
-        StateFault::Digest => write!(out, "siplocd: state {path}: not as it was written"),
-        StateFault::Line(line) => write!(out, "siplocd: state {path}.log: line {line}"),
-        StateFault::Octet(place) => write!(out, "siplocd: state {path}.log: octet {place}"),
-        StateFault::Commit(number) => write!(out, "siplocd: state {path}.log: commit {number}"),
-        StateFault::OtherLog => write!(out, "siplocd: state {path}.log: not of this state"),
+impl Fault {
+    /// Appends what is said of it on standard error.
+    pub fn write(&self, out: &mut String) -> Result<(), AllocError> {
+        match self {
+            Fault::Settings(fault) => fault.write(out),
+            Fault::Listen(address, error) => write!(out, "siplocd: listen {address}: {error}"),
+            Fault::Tell(address, error) => write!(out, "siplocd: tell {address}: {error}"),
+            Fault::Stream(error) => write!(out, "siplocd: {error}"),
+            Fault::State(path, error) => write!(out, "siplocd: state {path}: {error}"),
+            Fault::InState(text) => out.push_str(text.as_str()),
+            Fault::Archive(path, error) => write!(out, "siplocd: archive {path}: {error}"),
+            Fault::Replay(fault) => write_replay_fault(out, fault),
+            Fault::Close(fault) => write_close_fault(out, fault),
+            Fault::Memory => write!(out, "siplocd: out of memory"),
+        }
     }
 }
 

@@ -10,7 +10,7 @@ use std::rt::Files;
 const STREAMS: i32 = 3;
 
 /// Opens the null device in place of each standard stream that is closed, for as long as what it returns is kept.
-pub(crate) fn open_closed<R: Files<File = File>>(rt: &R, alloc: Global) -> io::Result<Vec<File>> {
+pub fn open_closed<R: Files<File = File>>(rt: &R, alloc: Global) -> io::Result<Vec<File>> {
     let mut opened = Vec::new(alloc);
     for _ in 0..STREAMS {
         let file = OpenOptions::new()

@@ -25,7 +25,7 @@ impl InputWatch {
     }
 
     /// Has the thread read standard input, and ask for this stop at its end.
-    pub(crate) fn begin<R: Wait>(&self, rt: &R, stop: Arc<Stop, Global>) {
+    pub fn begin<R: Wait>(&self, rt: &R, stop: Arc<Stop, Global>) {
         drop(self.stop.lock(rt).replace(stop));
         self.begun.notify_all();
     }

@@ -1,6 +1,6 @@
 //! All the sockets of a daemon.
+use crate::fault::Fault;
 use crate::host::Host;
-use crate::report::Fault;
 use sipl_listen::Listener;
 use sipl_observed::Observed;
 use sipl_settings::{DaemonSettings, Entrance};
@@ -9,18 +9,40 @@ use std::io;
 
 /// The sockets at which a daemon accepts clients, and that of control lines, if it has one.
 #[derive(Drop)]
-pub(crate) struct Listeners {
-    pub(crate) clients: Vec<Listener>,
-    // Those of clients that may only ask.
-    pub(crate) find: Vec<Listener>,
-    pub(crate) control: Option<Listener>,
-    // That of who reads the metrics.
-    pub(crate) metrics: Option<Listener>,
+pub struct Listeners {
+    /// Those of clients.
+    pub clients: Vec<Listener>,
+    /// Those of clients that may only ask.
+    pub find: Vec<Listener>,
+    /// That of control lines.
+    pub control: Option<Listener>,
+    /// That of who reads the metrics.
+    pub metrics: Option<Listener>,
 }
 
 impl Listeners {
-    /// Listens at all addresses of the settings.
-    pub(crate) fn bind<H: Host>(
+    /// Listens at all addresses of the settings, and says so: on standard output, and in the log, which has edits from
+    /// then on.
+    pub fn open<R, H>(
+        rt: &R,
+        host: &H,
+        settings: &DaemonSettings,
+        observed: &Observed,
+    ) -> Result<Box<Listeners>, Fault>
+    where
+        R: Print + AllocGlobal,
+        H: Host,
+    {
+        let alloc = rt.alloc();
+        let listeners = Box::new(alloc, Listeners::bind(host, alloc, settings)?)?;
+        observed.open();
+        listeners.tell(host, observed);
+        listeners.print(rt)?;
+        Ok(listeners)
+    }
+
+    // Listens at all addresses of the settings.
+    fn bind<H: Host>(
         host: &H,
         alloc: Global,
         settings: &DaemonSettings,
@@ -58,8 +80,8 @@ impl Listeners {
         Ok(())
     }
 
-    /// Prints the addresses: after the others those of clients that may only ask, and that of control lines last.
-    pub(crate) fn print<R: Print>(&self, rt: &R) -> io::Result<()> {
+    // Prints the addresses: after the others those of clients that may only ask, and that of control lines last.
+    fn print<R: Print>(&self, rt: &R) -> io::Result<()> {
         for listener in &self.clients {
             println!(rt; "ready {}", listener.address())?;
         }
@@ -72,8 +94,8 @@ impl Listeners {
         Ok(())
     }
 
-    /// Tells the addresses in the log, and that of who reads the metrics, too.
-    pub(crate) fn tell<H: Host>(&self, host: &H, observed: &Observed) {
+    // Tells the addresses in the log, and that of who reads the metrics, too.
+    fn tell<H: Host>(&self, host: &H, observed: &Observed) {
         for listener in &self.clients {
             observed.tell_ready(host, "clients", listener.address());
         }
@@ -89,7 +111,7 @@ impl Listeners {
     }
 
     /// Ends all accepts but those of who reads the metrics.
-    pub(crate) fn close(&self) {
+    pub fn close(&self) {
         for listener in &self.clients {
             listener.close();
         }
@@ -102,7 +124,7 @@ impl Listeners {
     }
 
     /// Removes the files of Unix sockets.
-    pub(crate) fn remove<H: Host>(&self, host: &H) {
+    pub fn remove<H: Host>(&self, host: &H) {
         for listener in &self.clients {
             listener.remove(host);
         }

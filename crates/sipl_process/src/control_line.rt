@@ -1,6 +1,6 @@
 //! A control line, sent to a daemon.
+use crate::fault::Fault;
 use crate::host::Host;
-use crate::report::Fault;
 use memchr::memrchr;
 use sipl_listen::{Address, Stream};
 use std::alloc::{AllocError, Global};
@@ -26,7 +26,7 @@ const HEAD: usize = 8;
 
 /// Sends a line to the control address of a daemon, and prints what comes back until the connection ends.
 /// Returns whether the line is accepted. What comes back has to be the reply of a control address, and to end.
-pub(crate) fn tell<R: Print + AllocGlobal, H: Host>(
+pub fn tell<R: Print + AllocGlobal, H: Host>(
     rt: &R,
     host: &H,
     address: &str,

@@ -1,9 +1,8 @@
 //! What is at the paths of settings and arguments, before it is opened: a pipe would be waited for, a device read
 //! without end, and what is in the way of a page be seen only with the first page.
+use crate::fault::Fault;
 use crate::host::Host;
-use crate::report::Fault;
 use sipl_settings::GivenFault;
-use sipl_state::{StateFault, real_path};
 use std::alloc::Global;
 use std::fs::{File, Metadata, OpenOptions};
 use std::io::ErrorKind;
@@ -26,11 +25,16 @@ pub(crate) fn expect_settings<H: Host>(host: &H, alloc: Global, path: &str) -> R
     }
 }
 
-/// Checks that each file of a state is one, or is not there.
-pub(crate) fn expect_state<H: Host>(host: &H, alloc: Global, path: &str) -> Result<(), Fault> {
-    match find_state(host, alloc, path) {
+/// Checks that each file of a state is one, or is not there. `found` is where the path leads, if that can be said.
+pub fn expect_state<H: Host>(
+    host: &H,
+    alloc: Global,
+    path: &str,
+    found: io::Result<String>,
+) -> Result<(), Fault> {
+    match found {
         Ok(path) => expect_state_at(host, alloc, path.as_str()),
-        Err(error) => Err(Fault::State(String::from_str(alloc, path)?, StateFault::File(error))),
+        Err(error) => Err(Fault::State(String::from_str(alloc, path)?, link_error(error))),
     }
 }
 
@@ -87,14 +91,12 @@ fn expect_file_or_none<R: Files>(rt: &R, path: &str) -> io::Result<()> {
     }
 }
 
-// The path of a state, which is not that of a link.
-fn find_state<H: Host>(host: &H, alloc: Global, path: &str) -> io::Result<String> {
-    match real_path(host, alloc, path) {
-        Err(error) if error.kind() == ErrorKind::NotFound => Err(io::Error::new(
-            ErrorKind::NotFound,
-            "a symbolic link that leads nowhere",
-        )),
-        found => found,
+// What is said where a path does not lead to a state: nothing is found only where it is a link.
+fn link_error(error: io::Error) -> io::Error {
+    if error.kind() == ErrorKind::NotFound {
+        io::Error::new(ErrorKind::NotFound, "a symbolic link that leads nowhere")
+    } else {
+        error
     }
 }
 
@@ -102,7 +104,7 @@ fn expect_state_at<H: Host>(host: &H, alloc: Global, path: &str) -> Result<(), F
     for ending in ENDINGS {
         let path = format!(in alloc; "{path}{ending}")?;
         if let Err(error) = expect_file_or_none(host, path.as_str()) {
-            return Err(Fault::State(path, StateFault::File(error)));
+            return Err(Fault::State(path, error));
         }
     }
     Ok(())
