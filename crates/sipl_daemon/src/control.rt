@@ -9,11 +9,9 @@ use sipl_state::{Holds, Tally};
 use std::alloc::{AllocError, Global};
 use std::fmt::Write as _;
 use std::io::{BufRead, BufReader, Read, Write};
-use std::rt::Files;
 use std::sync::Wait;
-use std::sync::atomic::{AtomicU64, Ordering};
 use std::time::Duration;
-use std::{fs, io, mem};
+use std::{io, mem};
 
 // How many octets one connection may send.
 const MAX_LEN: u64 = 65_536;
@@ -109,7 +107,7 @@ fn obey<H: Host>(
     reply: &mut String,
 ) -> Result<Go, AllocError> {
     match line {
-        "stats" => write_stats(host, daemon, reply)?,
+        "stats" => daemon.figures(host).write_stats(&daemon.counts, reply)?,
         "now" => writeln!(reply, "ok now {}", daemon.source.service.now(host))?,
         "zones" => write_zones(host, daemon, reply)?,
         "holds" => write_holds(host, daemon, reply)?,
@@ -129,45 +127,6 @@ fn turn_page<H: Host>(host: &H, daemon: &Daemon, reply: &mut String) -> Result<(
         Ok(extent) => writeln!(reply, "ok page {} {}", extent.first, extent.count),
         Err(fault) => writeln!(reply, "err {}", fault.code()),
     }
-}
-
-fn write_stats<H: Host>(host: &H, daemon: &Daemon, reply: &mut String) -> Result<(), AllocError> {
-    let counts = &daemon.counts;
-    let entries = daemon.source.service.entry_counts(host);
-    let (records, held) = totals(host, daemon);
-    let stats = [
-        ("events", count(&counts.events)),
-        ("targets", count(&counts.targets)),
-        ("NoAddress", count(&counts.no_address)),
-        ("NotAvailable", count(&counts.not_available)),
-        ("NoTransport", count(&counts.no_transport)),
-        ("AllHeld", count(&counts.all_held)),
-        ("kept", entries.kept),
-        ("current", entries.current),
-        ("queued", entries.queued),
-        ("records", records),
-        ("held", held),
-        ("clients", daemon.clients.count(host)),
-        ("pages", daemon.pages.claimed()),
-        ("waiting", daemon.pages.waiting(host) as u64),
-        ("resident", resident(host, daemon.alloc)),
-    ];
-    write_each(reply, &stats)?;
-    reply.push_str("ok stats\n")
-}
-
-// Lines of a name and a number.
-fn write_each(reply: &mut String, stats: &[(&str, u64)]) -> Result<(), AllocError> {
-    for (name, number) in stats {
-        writeln!(reply, "{name} {number}")?;
-    }
-    Ok(())
-}
-
-/// How many records there are, and how many held endpoints.
-pub(crate) fn totals<H: Host>(host: &H, daemon: &Daemon) -> (u64, u64) {
-    let tally = daemon.source.tally.lock(host);
-    (tally.records(), tally.holds().ends.len() as u64)
 }
 
 // The zones, and how many records each has.
@@ -208,21 +167,4 @@ fn write_tally_holds(alloc: Global, holds: &Holds, reply: &mut String) -> Result
         reply.push_str(str::from_utf8(&text).unwrap_or(""))?;
     }
     writeln!(reply, "ok holds {}", holds.ends.len())
-}
-
-fn count(count: &AtomicU64) -> u64 {
-    count.load(Ordering::SeqCst)
-}
-
-/// How many octets of the process are in memory; 0 where that can't be read.
-pub(crate) fn resident<H: Files>(host: &H, alloc: Global) -> u64 {
-    match fs::read_to_string(&(host, alloc), "/proc/self/statm") {
-        Ok(text) => resident_in(text.as_str()).unwrap_or(0),
-        Err(_) => 0,
-    }
-}
-
-fn resident_in(statm: &str) -> Option<u64> {
-    let pages = statm.split(' ').nth(1)?.parse::<u64>().ok()?;
-    Some(pages.saturating_mul(4096))
 }

@@ -10,7 +10,7 @@ use sipl_book::BookFault;
 use sipl_lines::Settings;
 use sipl_listen::{Clients, Stop};
 use sipl_log::Log;
-use sipl_observed::{Counts, Observed};
+use sipl_observed::{Counts, Figures, Observed, resident};
 use sipl_process::Places;
 use sipl_service::{OpenGate, Pass, Service, ServiceFault, Told};
 use sipl_settings::{Clocks, DaemonSettings, OnFailure};
@@ -235,6 +235,28 @@ impl Daemon {
         self.counts.count_event(number);
         self.pages
             .count_event(rt, &self.source, number, octets, place);
+    }
+
+    // What is counted, as it is now.
+    pub(crate) fn figures<R: Files + Wait>(&self, rt: &R) -> Figures {
+        let (zones, records, held) = self.totals(rt);
+        Figures {
+            entries: self.source.service.entry_counts(rt),
+            zones,
+            records,
+            held,
+            clients: self.clients.count(rt),
+            claimed: self.pages.claimed(),
+            waiting: self.pages.waiting(rt) as u64,
+            resident: resident(rt, self.alloc),
+        }
+    }
+
+    // How many zones there are, how many records they have, and how many endpoints are held.
+    fn totals<R: Wait>(&self, rt: &R) -> (u64, u64, u64) {
+        let tally = self.source.tally.lock(rt);
+        let held = tally.holds().ends.len() as u64;
+        (tally.zones().len() as u64, tally.records(), held)
     }
 }
 

@@ -8,7 +8,6 @@ mod edits;
 mod fault;
 mod journal;
 mod program;
-mod samples;
 mod scrapes;
 mod server;
 mod session;

@@ -1,6 +1,5 @@
 //! Those who read the metrics, over HTTP: one request a connection, and ten seconds for it.
 use crate::daemon::Daemon;
-use crate::samples::exposition;
 use sipl_listen::{Client, Listener, Stream, next_stream};
 use sipl_metrics::{Asked, read_head, read_rest, write_all, write_reply};
 use sipl_process::Host;
@@ -75,7 +74,8 @@ fn reply_text<H: Host>(host: &H, daemon: &Daemon, asked: Asked) -> Result<String
     let mut reply = String::new(daemon.alloc);
     match asked {
         Asked::Metrics => {
-            let metrics = exposition(host, daemon)?;
+            let figures = daemon.figures(host);
+            let metrics = figures.exposition(host, &daemon.counts, &daemon.observed)?;
             write_reply(&mut reply, "200 OK", EXPOSITION, metrics.as_str())?;
         }
         Asked::Health if daemon.stop.is_asked() => {
