@@ -191,7 +191,7 @@ impl Daemon {
 
     // Goes on from a state that was read: the changes after it are in a file.
     pub(crate) fn put_changes(&mut self, changes: Changes) {
-        self.source.changes = Some(changes);
+        drop(self.source.changes.replace(changes));
     }
 
     // The time of the host goes on from that of the book.

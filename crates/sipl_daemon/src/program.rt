@@ -14,6 +14,7 @@ use sipl_process::{
 use sipl_settings::{Call, DaemonSettings, Given};
 use sipl_state::{Restored, StateFault, real_path, restore};
 use std::alloc::Global;
+use std::mem;
 use std::process::ExitCode;
 use std::rt::Env;
 use std::sync::Arc;
@@ -156,7 +157,8 @@ where
     R: AllocGlobal,
     H: Host,
 {
-    daemon.archive = open_archive(host, rt.alloc(), settings)?;
+    let archive = open_archive(host, rt.alloc(), settings)?;
+    drop(mem::replace(&mut daemon.archive, archive));
     if let Some(path) = &settings.state {
         let real = real_path(host, rt.alloc(), path.as_str());
         expect_state(host, rt.alloc(), path.as_str(), real)?;
@@ -167,10 +169,10 @@ where
             claims,
             path.as_str(),
         )?;
+        daemon.put_changes(changes);
         if let Some(octet) = found.torn {
             daemon.observed.tell_torn(host, path.as_str(), octet)?;
         }
-        daemon.put_changes(changes);
         daemon.restart_time(host)?;
     }
     Ok(())

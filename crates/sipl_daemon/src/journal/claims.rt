@@ -9,6 +9,7 @@ use sipl_state::Turned;
 use std::alloc::{AllocError, Global};
 use std::collections::VecDeque;
 use std::fs::File;
+use std::mem;
 use std::rt::Files;
 use std::sync::Wait;
 
@@ -55,7 +56,7 @@ impl Claims {
 
     /// Keeps a page that was claimed and could not be archived.
     pub(crate) fn put_unarchived(&mut self, turned: Turned) {
-        self.unarchived = Some(turned);
+        drop(self.unarchived.replace(turned));
     }
 
     /// Takes that page out, if there is one.
@@ -65,7 +66,7 @@ impl Claims {
 
     /// Keeps the fault with which the daemon is to end.
     pub(crate) fn fail(&mut self, fault: CloseFault) {
-        self.fault = Some(fault);
+        drop(self.fault.replace(fault));
     }
 
     /// Tries to claim the next page. It stays here until it is taken out.
@@ -90,14 +91,14 @@ impl Claims {
     // Takes the next page that was turned, if there is none here.
     fn put_next<R: Wait>(&mut self, rt: &R, pages: &Pages) {
         if self.next.is_none() {
-            self.next = pages.take_next(rt);
+            drop(mem::replace(&mut self.next, pages.take_next(rt)));
         }
     }
 
     // Takes the receipts that were handed over, if there are none to add.
     fn put_handed<R: Wait>(&mut self, rt: &R, pages: &Pages) {
         if self.handed.is_empty() {
-            self.handed = pages.take_handed(rt);
+            drop(mem::replace(&mut self.handed, pages.take_handed(rt)));
         }
     }
 
@@ -160,7 +161,7 @@ impl Claims {
         if let Some(turned) = &self.unarchived {
             archive_page(rt, archive, &turned.page)?;
         }
-        self.unarchived = None;
+        drop(self.unarchived.take());
         Ok(())
     }
 
@@ -174,7 +175,7 @@ impl Claims {
             self.ledger.claim(&turned.page)?;
             archive_page(rt, archive, &turned.page)?;
         }
-        self.next = None;
+        drop(self.next.take());
         Ok(())
     }
 }
