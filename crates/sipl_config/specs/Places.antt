@@ -1,6 +1,8 @@
 -- What is said of a fault in the text of settings, and where it is.
 use Rattle.std.specs.Prelude.{◌≡◌, ◌==◌, ◌+◌, ◌-◌, ◌^◌, ◌⊎◌, ℕ, List, [], ◌++◌, Option, Some, None, IsSome, codes, count_by, decimal, min, take}
 use Rattle.toml.specs.Parse.{parse_document}
+use Rattle.sipl_config.specs.Rows.{allowed_words}
+use Rattle.sipl_config.specs.declared.rows.Row.{Row}
 
 -- the number of the line with the octet at a place, in 64 bits: lines end with LF
 abbrev pub line_number : List ℕ → ℕ → ℕ
@@ -26,3 +28,12 @@ IsTextFault path text told =
 abbrev pub IsKeyFault : List ℕ → List ℕ → List ℕ → List ℕ → List ℕ → Type 0
 IsKeyFault path key code allowed told = (line : Option ℕ)
     × (told ≡ at_line path line (key ++ (codes ": " ++ (code ++ (codes ": " ++ allowed)))))
+
+-- what is allowed in place of a key that is none of these, which are in words
+abbrev pub no_such_key : List ℕ → List ℕ
+no_such_key keys = codes "no such key; there are " ++ keys
+
+-- what the value of a setting may be, if there is one
+abbrev pub allowed_of : Option Row → List ℕ
+allowed_of (Some row) = allowed_words row.values
+allowed_of None = []

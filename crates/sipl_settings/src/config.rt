@@ -1,7 +1,7 @@
 //! The settings that the arguments give, as a text or as a file.
 use crate::arguments::Given;
 use crate::settings::DaemonSettings;
-use sipl_config::{daemon_keys, daemon_row, key_fault, text_fault};
+use sipl_config::{bad_value, daemon_keys, daemon_row, text_fault, unknown_key};
 use sipl_lines::SettingsFault;
 use std::alloc::{AllocError, AllocFailed, Global};
 use std::fmt::Write as _;
@@ -99,29 +99,10 @@ fn told(
     match fault {
         SettingsFault::UnknownKey(key) => {
             let keys = daemon_keys(alloc)?;
-            let allowed = format!(in alloc; "no such key; there are {keys}")?;
-            key_fault(
-                alloc,
-                path,
-                text,
-                key.as_str(),
-                fault.code(),
-                allowed.as_str(),
-            )
+            unknown_key(alloc, path, text, key.as_str(), keys.as_str())
         }
         SettingsFault::BadValue(key) => {
-            let allowed = match daemon_row(key.as_str()) {
-                Some(row) => row.allowed(alloc)?,
-                None => String::new(alloc),
-            };
-            key_fault(
-                alloc,
-                path,
-                text,
-                key.as_str(),
-                fault.code(),
-                allowed.as_str(),
-            )
+            bad_value(alloc, path, text, key.as_str(), daemon_row(key.as_str()))
         }
         _ => text_fault(alloc, path, text),
     }

@@ -5,7 +5,7 @@ ghost use Rattle.sipl_lines.specs.Settings.{IsWithinLimits};
 use crate::arguments::{Call, Given, Unread, read_arguments};
 use crate::serve::{ServerFault, serve_connections};
 use sipl_book::Book;
-use sipl_config::{key_fault, service_keys, service_row, text_fault};
+use sipl_config::{bad_value, service_keys, service_row, text_fault, unknown_key};
 use sipl_lines::{
     Ended, ServeFault, Settings, SettingsFault, Tapped, check_zone, play_script, serve_book,
 };
@@ -181,29 +181,10 @@ fn told(
     match fault {
         SettingsFault::UnknownKey(key) => {
             let keys = service_keys(alloc)?;
-            let allowed = format!(in alloc; "no such key; there are {keys}")?;
-            key_fault(
-                alloc,
-                path,
-                text,
-                key.as_str(),
-                fault.code(),
-                allowed.as_str(),
-            )
+            unknown_key(alloc, path, text, key.as_str(), keys.as_str())
         }
         SettingsFault::BadValue(key) => {
-            let allowed = match service_row(key.as_str()) {
-                Some(row) => row.allowed(alloc)?,
-                None => String::new(alloc),
-            };
-            key_fault(
-                alloc,
-                path,
-                text,
-                key.as_str(),
-                fault.code(),
-                allowed.as_str(),
-            )
+            bad_value(alloc, path, text, key.as_str(), service_row(key.as_str()))
         }
         _ => text_fault(alloc, path, text),
     }
