@@ -1,0 +1,3 @@
+mod HeldInOrder
+mod Closest
+mod Casing

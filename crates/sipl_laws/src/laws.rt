@@ -1,0 +1,61 @@
+//! What follows from the definitions. Each law is the contract of a function that does nothing.
+
+ghost use Rattle.std.specs.Prelude.{◌≡◌, ◌++◌, ℕ, List};
+ghost use Rattle.sipl_names.specs.Labels.{Labels, IsName};
+ghost use Rattle.sipl_records.specs.declared.kind.Kind.{Kind};
+ghost use Rattle.sipl_choice.specs.Abilities.{Client};
+ghost use Rattle.sipl_choice.specs.declared.endpoint.Endpoint.{Endpoint};
+ghost use Rattle.sipl_evidence.specs.Answers.{asking_within, max_ancestors};
+ghost use Rattle.sipl_evidence.specs.Enclosers.{IsClosest};
+ghost use Rattle.sipl_evidence.specs.Looks.{Look, result_of};
+ghost use Rattle.sipl_outages.specs.Holds.{Holds};
+ghost use Rattle.sipl_outages.specs.declared.held.Held.TheVariants.{Last};
+ghost use Rattle.sipl_uri.specs.declared.question.Question.{Question};
+ghost use Rattle.sipl_plans.specs.Plan.{plan, with_held_last};
+ghost use Rattle.sipl_plans.specs.Policies.{HoldsNone};
+ghost use Rattle.sipl_plans.specs.declared.answer.Answer.TheVariants.{Targets, None};
+ghost use Rattle.sipl_plans.specs.declared.answer.Reason.{Reason};
+ghost use Rattle.sipl_laws.specs.NameCases.{NameCase, answer_in, number_of};
+
+use sipl_evidence::laws::{
+    absent_names_are_answered_at_the_wildcard, answers_are_those_at_the_first_alias,
+};
+
+/// Where held endpoints are tried last, the targets are those that there are where nothing is held:
+/// first the free ones, in their order, and then the held ones, in theirs. Where there are none, the
+/// reason is the same (RFC 3263, 4.3).
+pub fn held_last_keeps_the_order()
+    ensures targets { (look : Look) (holds free : Holds) (question : Question) (client : Client)
+        (words : List ℕ) (targets : List Endpoint) → HoldsNone free
+        → plan look free question client words Last ≡ Targets targets
+        → plan look holds question client words Last ≡ Targets (with_held_last holds targets) }
+    ensures none { (look : Look) (holds free : Holds) (question : Question) (client : Client)
+        (words : List ℕ) (reason : Reason) → HoldsNone free
+        → plan look free question client words Last ≡ None reason
+        → plan look holds question client words Last ≡ None reason }
+{}
+
+/// Each name is in one of seven cases, and in no other: it has data of the kind, an alias is
+/// followed, it exists without either, it does not exist and neither does an ancestor, or, of the
+/// wildcard at its closest encloser, that has data, an alias of it is followed, or neither
+/// (RFC 1034, 3.6.2; RFC 4592, 2.2.1 and 3.3.1). The case decides the answer.
+pub fn names_are_in_one_case()
+    ensures some { (look : Look) (left : ℕ) (kind : Kind) (name : Labels) → IsName name
+        → NameCase look max_ancestors left kind name }
+    ensures one { (look : Look) (ancestors left : ℕ) (kind : Kind) (name : Labels)
+        (case other : NameCase look ancestors left kind name)
+        → number_of case ≡ number_of other }
+    ensures answer { (look : Look) (ancestors left : ℕ) (kind : Kind) (name : Labels)
+        (case : NameCase look ancestors left kind name)
+        → result_of look (asking_within ancestors left name kind) ≡ answer_in case }
+{
+    answers_are_those_at_the_first_alias();
+    absent_names_are_answered_at_the_wildcard();
+}
+
+/// A name has at most one closest encloser (RFC 4592, 3.3.1).
+pub fn closest_enclosers_are_equal()
+    ensures { (look : Look) (below encloser further other : Labels)
+        → IsClosest look below encloser → IsClosest look further other
+        → below ++ encloser ≡ further ++ other → encloser ≡ other }
+{}

@@ -1,0 +1,4 @@
+//! Laws that join those of several crates; nothing stands on it.
+#![tactic(auto)]
+
+pub mod laws;
