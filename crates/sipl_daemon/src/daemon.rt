@@ -46,7 +46,7 @@ pub(crate) struct Daemon {
     time: Option<HostTime>,
     // The pass of the moves of the clock.
     pub(crate) mover: Mutex<Pass>,
-    // What it does where changes can't be written.
+    // What it does where changes can't be written, or pages archived.
     pub(crate) on_failure: OnFailure,
     // For how many seconds a client may send nothing.
     pub(crate) idle: Option<u64>,

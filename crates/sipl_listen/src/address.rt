@@ -20,7 +20,7 @@ pub enum Address {
 
 impl Address {
     /// Reads an address such as `127.0.0.1:5099`, `[::1]:5099` or `unix:/run/siplocd.sock`. `None` where
-    /// it is neither, of another machine, or a path without octets or of more than 107.
+    /// it is neither, of another machine, or a path that has no octets, more than 107, or a NUL.
     pub fn from_text(alloc: Global, text: &str) -> Result<Option<Address>, AllocError>
         ensures found { IfOk result (λ found. IfSome found (IsAddressText text.now)) }
         ensures none { IfOk result (λ found. IfNone found

@@ -121,7 +121,7 @@ impl Clients {
         Some(Client { stream, place })
     }
 
-    /// A client was heard.
+    /// A client has sent a line: of all it was heard last.
     pub fn hear<R: Wait>(&self, rt: &R, place: usize) {
         self.places.lock(rt).hear(place);
     }

@@ -11,7 +11,8 @@ const MIN_KEPT: usize = 32;
 const OTHERS: usize = 20;
 
 /// How many clients there may be at a time, of so many that are wanted, beside listeners with so many descriptors:
-/// 32 fewer than the system's limit of descriptors, or 20 and those of the listeners, where these are more.
+/// 32 fewer than the system's limit of descriptors, or 20 and those of the listeners, where these are more; but one at
+/// least.
 pub fn max_clients<R: Files>(rt: &R, alloc: Global, wanted: usize, listeners: usize) -> usize
     ensures no_more { result ≤ wanted }
     ensures some { 0 < wanted → 0 < result }

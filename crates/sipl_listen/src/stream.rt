@@ -21,7 +21,8 @@ pub enum Stream {
 }
 
 impl Stream {
-    /// Sets how long a read or a write may wait: one that waits longer fails with `WouldBlock`.
+    /// Sets how long a read or a write may wait: one that waits longer fails with `WouldBlock`. Over TCP each write is
+    /// sent at once from then on.
     pub fn set_timeouts(&self, read: Option<Duration>, write: Option<Duration>) -> io::Result<()> {
         match self {
             Stream::Tcp(stream) => {

@@ -8,7 +8,7 @@ ghost use Rattle.sipl_log.specs.Verbosities.{verbosity_of, verbosity_rank};
 pub enum Level {
     /// Something was lost, or the program ends with a fault.
     Error,
-    /// Something was refused that is not to be.
+    /// Something was refused, or is not as it should be.
     Warn,
     /// What an operator wants to know of each day.
     Info,

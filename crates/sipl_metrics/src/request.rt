@@ -8,7 +8,7 @@ use httparse::spans::{EMPTY_HEADER_SPAN, parse_request};
 use std::alloc::AllocError;
 use std::fmt::Write as _;
 
-/// The most octets of a request's head.
+/// The maximum length in octets of a request's head.
 pub const MAX_HEAD_LEN: usize = 8_192;
 
 // The most fields of a head.
@@ -29,8 +29,8 @@ pub enum Asked {
     Bad,
 }
 
-/// What a request asks for, once its head has come: `None` where more of it is to come. A head that is too long, or has
-/// more than 64 fields, is bad.
+/// What a request asks for, once its head has come: `None` where more of it is to come. A head that is none of HTTP/1,
+/// is too long, or has more than 64 fields, is bad.
 pub fn read_request(octets: &[u8]) -> Option<Asked>
     ensures found { (head : RequestHead) (rest : List ℕ) → ReadsRequest octets.now head rest
         → length head.fields ≤ 64 → IsAskedBy octets.now result }

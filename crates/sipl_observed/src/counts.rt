@@ -6,9 +6,9 @@ use std::sync::atomic::{AtomicU64, Ordering};
 pub struct Counts {
     /// The events.
     pub events: AtomicU64,
-    /// Answers with targets, and those without by their reasons.
+    /// Answers with targets.
     pub targets: AtomicU64,
-    /// `NoAddress`.
+    /// Those without targets, for the reason `NoAddress`; and so on.
     pub no_address: AtomicU64,
     /// `NotAvailable`.
     pub not_available: AtomicU64,

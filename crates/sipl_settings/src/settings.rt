@@ -39,7 +39,7 @@ pub struct DaemonSettings {
     pub metrics: Option<Entrance>,
     /// The permissions of the files of Unix sockets that have none of their own.
     pub mode: u32,
-    /// What it does where changes can't be written to the files of `state`.
+    /// What it does where changes can't be written to the files of `state`, or pages to `archive`.
     pub on_failure: OnFailure,
     /// How many octets of memory the events of a page may take.
     pub page_octets: u64,
@@ -72,12 +72,12 @@ pub enum Clocks {
     Lines,
 }
 
-/// What a daemon does where changes can't be written to the files of its state.
+/// What a daemon does where changes can't be written to the files of its state, or pages to its archive.
 #[derive(Clone, Copy, Debug, PartialEq, Eq)]
 pub enum OnFailure {
     /// It ends.
     End,
-    /// It goes on to answer, refuses changes (D2), and tries again each second.
+    /// It goes on to answer, refuses changes (D2) or has pages wait, and tries again each second.
     Read,
 }
 
