@@ -41,13 +41,12 @@ def contract(path: pathlib.Path, function: str) -> list[str]:
         is_owner = re.compile(rf"(?:impl|(?:pub )?trait)\b.*\b{owner}\b")
         start = next((i for i, line in enumerate(lines) if is_owner.match(line)), len(lines))
     is_head = re.compile(rf"\s*(?:pub(?:\(\w+\))? )?(?:const )?fn {name}\b")
-    for first in range(start, len(lines)):
-        if is_head.match(lines[first]):
-            for last in range(first, len(lines)):
-                if lines[last].strip() in ("{", "{}") or lines[last].endswith((" {", " {}", ";")):
-                    head = lines[first : last + 1]
-                    head[-1] = re.sub(r"\s*(\{\}?|;)$", "", head[-1])
-                    return textwrap.dedent("\n".join(head)).rstrip().split("\n")
+    first = next((i for i in range(start, len(lines)) if is_head.match(lines[i])), len(lines))
+    for last in range(first, len(lines)):
+        if lines[last].strip() in ("{", "{}") or lines[last].endswith((" {", " {}", ";")):
+            head = lines[first : last + 1]
+            head[-1] = re.sub(r"\s*(\{\}?|;)$", "", head[-1])
+            return textwrap.dedent("\n".join(head)).rstrip().split("\n")
     raise SystemExit(f"{path.relative_to(TOP)}: no function {function}")
 
 

@@ -40,10 +40,11 @@ def messages() -> dict[str, str]:
     """Each code with its message: that of the variant whose `code()` it is."""
     found: dict[str, str] = {}
     for text in sources():
-        for fault, body in re.findall(r"^impl (\w+) \{\n(.*?)^\}", text, re.S | re.M):
-            for code, message in messages_of(fault, body, text) if "fn code(" in body else ():
-                if found.setdefault(code, message) != message:
-                    raise SystemExit(f"{code} has two messages: {found[code]}; {message}")
+        impls = re.findall(r"^impl (\w+) \{\n(.*?)^\}", text, re.S | re.M)
+        bodies = [(fault, body) for fault, body in impls if "fn code(" in body]
+        for code, message in (it for fault, body in bodies for it in messages_of(fault, body, text)):
+            if found.setdefault(code, message) != message:
+                raise SystemExit(f"{code} has two messages: {found[code]}; {message}")
         for variant, name in re.findall(r'Reason::(\w+) => "(\w+)"', text):
             comment = re.findall(rf"/// (.*)\n    {variant},", declaration("Reason"))[0].rstrip(".")
             found[name] = comment[0].lower() + comment[1:]

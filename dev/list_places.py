@@ -213,19 +213,24 @@ def files() -> Iterator[str]:
                 yield str(path.relative_to(TOP))
 
 
+def lists_in(file: str, name: str, least: int, known: Sequence[tuple[int, int]]) -> Iterator[int]:
+    """Where a file has so many words at least of a list, one after another, outside these spans."""
+    if sum(word in text_of(file) for word in wanted()[name]) < least:
+        return
+    for found in run_of([*wanted()[name]], least).finditer(text_of(file)):
+        is_known = any(begin <= found.start() and found.end() <= end for begin, end in known)
+        if not is_known and len({*re.findall(r"\w+", found[0])} & wanted()[name]) >= least:
+            yield found.start()
+
+
 def unknown_lists() -> Iterator[str]:
     """The lists that are not compared."""
     places = [*CLIENTS, *TOOLS]
     for file in files():
         known = [span for it in places if it.file == file for span in spans(it)]
         for name, least in SORTS.items():
-            if sum(word in text_of(file) for word in wanted()[name]) < least:
-                continue
-            for found in run_of([*wanted()[name]], least).finditer(text_of(file)):
-                is_known = any(begin <= found.start() and found.end() <= end for begin, end in known)
-                if not is_known and len({*re.findall(r"\w+", found[0])} & wanted()[name]) >= least:
-                    place = f"{file}:{line_of(file, found.start())}"
-                    yield f"{place} has a list of {name}, which dev/list_places.py does not compare"
+            for at in lists_in(file, name, least, known):
+                yield f"{file}:{line_of(file, at)} has a list of {name}, which dev/list_places.py does not compare"
 
 
 def incomplete_rows() -> Iterator[str]:
