@@ -311,10 +311,17 @@ class HalfReply(BadReply):
     """The connection ended within a reply."""
 
 
-_NUMBER = r"(0|[1-9][0-9]{0,19})"
-_OCTET = r"(?:25[0-5]|2[0-4][0-9]|1[0-9][0-9]|[1-9]?[0-9])"
+def _up_to(most: int) -> str:
+    """The pattern of a number from 0 to a maximum of several digits, without leading zeros."""
+    digits = str(most)
+    tops = (f"{digits[:at]}[{'0' if at else '1'}-{int(digit) - 1}][0-9]{{{len(digits) - at - 1}}}"
+            for at, digit in enumerate(digits) if digit > ("0" if at else "1"))
+    return "|".join(["0", f"[1-9][0-9]{{0,{len(digits) - 2}}}", *tops, digits])
+
+
+_NUMBER, _ATTEMPT, _PORT = (f"({_up_to((1 << bits) - 1)})" for bits in (64, 32, 16))
+_OCTET = f"(?:{_up_to(255)})"
 _ADDRESS = rf"({_OCTET}(?:\.{_OCTET}){{3}}|[0-9a-f]{{1,4}}(?::[0-9a-f]{{1,4}}){{7}})"
-_PORT = r"(6553[0-5]|655[0-2][0-9]|65[0-4][0-9]{2}|6[0-4][0-9]{3}|[1-5][0-9]{4}|[1-9][0-9]{0,3}|0)"
 _ENDPOINT = rf"(udp|tcp|tls|sctp) {_ADDRESS} {_PORT}"
 _NAME = r"([!-~]{1,1020})"
 _KIND = r"(A|AAAA|CNAME|SRV|NAPTR|EXISTS)"
@@ -323,7 +330,7 @@ _CODE = r"([A-Z][A-Za-z0-9]{0,31})"
 _BLANK = re.compile(r"[ \t\r\n]")
 _TARGET = re.compile(rf"target {_NUMBER} {_ENDPOINT}")
 _DEPENDENCY = re.compile(rf"dep {_NAME} {_KIND} {_NUMBER}")
-_STEP = re.compile(rf"send {_NUMBER} {_ENDPOINT} (z9hG4bK[0-9a-f]{{16}}\.[0-9]+)|resend {_NUMBER}|ack {_NUMBER}"
+_STEP = re.compile(rf"send {_ATTEMPT} {_ENDPOINT} (z9hG4bK[0-9a-f]{{16}}\.{_ATTEMPT})|resend {_ATTEMPT}|ack {_ATTEMPT}"
                    rf"|hold {_ENDPOINT} {_NUMBER}|deliver ([1-6][0-9][0-9])|exhausted")
 _NONE = re.compile(r"none (NoAddress|NotAvailable|NoTransport|AllHeld)")
 _REFUSED = re.compile(rf"err {_CODE}")
@@ -491,6 +498,14 @@ def line(*fields: object) -> str:
     return " ".join(texts)
 
 
+def _number(value: int, bits: int = 64) -> int:
+    """A number of so many bits, as a field."""
+    number = operator.index(value)
+    if not 0 <= number < 1 << bits:
+        raise InvalidCommand(f"a number is not within 0 to 2^{bits} - 1")
+    return number
+
+
 def zone(apex: str, text: Union[str, Iterable[str]]) -> str:
     """A command that loads a zone, for `batch`: its lines are joined by LF.
 
@@ -513,8 +528,8 @@ def _draws(words: Optional[Iterable[int]], seed: Optional[int]) -> List[str]:
     if words is not None and seed is not None:
         raise InvalidCommand("both words and a seed are given")
     if seed is not None:
-        return ["seed", str(operator.index(seed))]
-    texts = [str(operator.index(word)) for word in words or ()]
+        return ["seed", str(_number(seed))]
+    texts = [str(_number(word, 32)) for word in words or ()]
     return ["words", ",".join(texts)] if texts else []
 
 
@@ -684,7 +699,7 @@ class BaseSession:
 
     def hold(self, target: Union[Target, Tuple[str, str, int]], milliseconds: int) -> None:
         """Leaves an endpoint out of answers for so many milliseconds."""
-        self._ask(line("hold", *target, operator.index(milliseconds)))
+        self._ask(line("hold", *target, _number(milliseconds)))
 
     def release(self, target: Union[Target, Tuple[str, str, int]]) -> None:
         """Ends the hold of an endpoint."""
@@ -692,7 +707,7 @@ class BaseSession:
 
     def clock(self, milliseconds: int) -> List[Step]:
         """Sets the time, which begins at 0, and returns the steps of the call that has not ended."""
-        return self._ask(line("clock", operator.index(milliseconds))).steps
+        return self._ask(line("clock", _number(milliseconds))).steps
 
     # Calls.
 
@@ -702,13 +717,13 @@ class BaseSession:
 
         `kind` is `invite` or `other`; `base` is a number of 64 bits that no other request has.
         """
-        reply = self._ask(line("call", kind, operator.index(base), uri, *_draws(words, seed)))
+        reply = self._ask(line("call", kind, _number(base), uri, *_draws(words, seed)))
         return Opened(reply.steps, reply.reason)
 
     def got(self, attempt: int, code: int, *, retry: Optional[int] = None) -> List[Step]:
         """A response with this status code has come to an attempt; `retry`: the seconds of its Retry-After."""
-        fields = [] if retry is None else ["retry", operator.index(retry)]
-        return self._ask(line("got", operator.index(attempt), operator.index(code), *fields)).steps
+        fields = [] if retry is None else ["retry", _number(retry, 32)]
+        return self._ask(line("got", _number(attempt, 32), _number(code, 16), *fields)).steps
 
     def broke(self) -> List[Step]:
         """The transport of the call's running attempt has failed."""

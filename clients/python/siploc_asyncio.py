@@ -14,7 +14,6 @@ from __future__ import annotations
 
 import asyncio
 import errno
-import operator
 import os
 import socket
 from typing import Iterable, List, Optional, Sequence, Tuple, Union
@@ -122,22 +121,22 @@ class Session:
         return Page(*(await self._ask("page")).counts)
 
     async def hold(self, target: Union[Target, Tuple[str, str, int]], milliseconds: int) -> None:
-        await self._ask(line("hold", *target, operator.index(milliseconds)))
+        await self._ask(line("hold", *target, siploc._number(milliseconds)))
 
     async def release(self, target: Union[Target, Tuple[str, str, int]]) -> None:
         await self._ask(line("release", *target))
 
     async def clock(self, milliseconds: int) -> List[Step]:
-        return (await self._ask(line("clock", operator.index(milliseconds)))).steps
+        return (await self._ask(line("clock", siploc._number(milliseconds)))).steps
 
     async def call(self, kind: str, base: int, uri: str, *, words: Optional[Iterable[int]] = None,
                    seed: Optional[int] = None) -> Opened:
-        reply = await self._ask(line("call", kind, operator.index(base), uri, *siploc._draws(words, seed)))
+        reply = await self._ask(line("call", kind, siploc._number(base), uri, *siploc._draws(words, seed)))
         return Opened(reply.steps, reply.reason)
 
     async def got(self, attempt: int, code: int, *, retry: Optional[int] = None) -> List[Step]:
-        fields = [] if retry is None else ["retry", operator.index(retry)]
-        return (await self._ask(line("got", operator.index(attempt), operator.index(code), *fields))).steps
+        fields = [] if retry is None else ["retry", siploc._number(retry, 32)]
+        return (await self._ask(line("got", siploc._number(attempt, 32), siploc._number(code, 16), *fields))).steps
 
     async def broke(self) -> List[Step]:
         return (await self._ask("broke")).steps

@@ -569,7 +569,11 @@ class Faults(unittest.TestCase):
                          lambda: session.load("e. 0", ""), lambda: session.load("e.\n", ""),
                          lambda: session.load("e.", ["a A 192.0.2.1\nb A 192.0.2.1"]),
                          lambda: session.load("e.", "a A\r192.0.2.1"), lambda: session.hold(("udp", "a b", 1), 1),
-                         lambda: session.release(("udp", "", 1)), lambda: session.call("invite x", 1, "sip:a")):
+                         lambda: session.release(("udp", "", 1)), lambda: session.call("invite x", 1, "sip:a"),
+                         lambda: session.find("sip:a", words=[2**32]), lambda: session.find("sip:a", seed=2**64),
+                         lambda: session.hold(FIRST, 10**5000), lambda: session.clock(-1),
+                         lambda: session.call("invite", 2**64, "sip:a"), lambda: session.got(2**32, 200),
+                         lambda: session.got(1, 2**16), lambda: session.got(1, 503, retry=2**32)):
                 with self.assertRaises(siploc.InvalidCommand):
                     call()
             for call in (lambda: session.clock("1\nquit"), lambda: session.find("sip:a", words=["1 2"])):
