@@ -110,19 +110,19 @@ class Locator:
         else:
             self.ask(lambda session: session.hold(target, milliseconds))
 
-    def sign(self, _message: object, call: str) -> int:
+    def sign(self, _message: object) -> int:
         """Sets $var(call) to the signature of a call's Call-ID."""
+        call = text_of("$ci")
+        if call is None:
+            return FAILED
         KSR.pv.sets("$var(call)", hmac.new(SECRET.encode(), call.encode(), "sha256").hexdigest()[:32])
         return 1
 
     def locate(self, _message: object) -> int:
         """Sets $du to the first target of the next hop, and keeps the others for `failed`."""
-        try:
-            uri = KSR.pv.get("$nh(u)")
-        except UnicodeError:
-            # (it may be an address all the same)
-            return NUMERIC
-        if is_numeric(uri):
+        uri = text_of("$nh(u)")
+        # (what is no text may be an address all the same)
+        if uri is None or is_numeric(uri):
             return NUMERIC
         try:
             answer = self.ask(lambda session: session.find(uri, seed=self.chance.getrandbits(64)))
@@ -141,7 +141,11 @@ class Locator:
         go_to([" ".join(map(str, target)) for target in answer.targets[:MOST]])
         return LOCATED
 
-    def failed(self, _message: object, retry_after: str) -> int:
+    def failed_by_reply(self, message: object) -> int:
+        """The same as `failed`, for the time of the reply's Retry-After."""
+        return self.failed(message, text_of("$T_rpl($hdr(Retry-After))") or "")
+
+    def failed(self, _message: object, retry_after: str = "") -> int:
         """Holds the target that has failed, and sets $du to the next one, where there is one."""
         targets = KSR.pv.get(TARGETS)
         if not targets:
@@ -159,6 +163,16 @@ class Locator:
             return FAILED
         go_to(others)
         return LOCATED
+
+
+def text_of(variable: str) -> Optional[str]:
+    """A variable of the script, where it is there and UTF-8. As an argument of python_exec what is not would leave an
+    error to the next request of this process."""
+    try:
+        text: Optional[str] = KSR.pv.get(variable)
+    except UnicodeError:
+        return None
+    return text
 
 
 def is_numeric(uri: str) -> bool:

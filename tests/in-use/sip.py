@@ -92,23 +92,29 @@ class Server:
         self.close()
 
 
+def request(method: str, uri: str, here: str, number: int, tag: str = "", call: str = "", more: str = "") -> bytes:
+    """A request of the client at an address; `tag` is that of To, `call` the Call-ID, and `more` has further header
+    fields, each with its line end."""
+    lines = [f"{method} {uri} SIP/2.0", f"Via: SIP/2.0/UDP {here};branch=z9hG4bKt{number}",
+             f"From: <sip:alice@example.net>;tag={number}",
+             f"To: <sip:bob@example.com>{f';tag={tag}' if tag else ''}",
+             f"Call-ID: {call or f'{number}@{here}'}", f"Contact: <sip:alice@{here}>", "Max-Forwards: 70",
+             f"CSeq: {number} {method}", f"{more}Content-Length: 0\r\n\r\n"]
+    return "\r\n".join(lines).encode(errors="surrogateescape")
+
+
 def final(port: int, uri: str, method: str = "INVITE", seconds: float = 8.0, tag: str = "", call: str = "",
           more: str = "") -> Tuple[bytes, float]:
     """The final response to a request over UDP to a port of 127.0.0.1, and after how many seconds it came; nothing
-    where none comes. It is sent once, and an INVITE that has failed has its ACK. `tag` is that of To, `call` the
-    Call-ID, and `more` has further header fields, each with its line end."""
+    where none comes. It is sent once, and an INVITE that has failed has its ACK. The other words are those of
+    `request`."""
     number, start = next(NUMBERS), time.monotonic()
     with socket.socket(socket.AF_INET, socket.SOCK_DGRAM) as client:
         client.bind(("127.0.0.1", 0))
         here = f"127.0.0.1:{client.getsockname()[1]}"
 
         def send(method: str, tag: str) -> None:
-            lines = [f"{method} {uri} SIP/2.0", f"Via: SIP/2.0/UDP {here};branch=z9hG4bKt{number}",
-                     f"From: <sip:alice@example.net>;tag={number}",
-                     f"To: <sip:bob@example.com>{f';tag={tag}' if tag else ''}",
-                     f"Call-ID: {call or f'{number}@{here}'}", f"Contact: <sip:alice@{here}>", "Max-Forwards: 70",
-                     f"CSeq: {number} {method}", f"{more}Content-Length: 0\r\n\r\n"]
-            client.sendto("\r\n".join(lines).encode(errors="surrogateescape"), ("127.0.0.1", port))
+            client.sendto(request(method, uri, here, number, tag, call, more), ("127.0.0.1", port))
 
         send(method, tag)
         reply, status = b"", 0
