@@ -30,6 +30,8 @@ LIBRARY = os.environ.get("SIPLOC_LIBRARY", "libsiploc_embedded.so")
 TICK, LOOK = 100, 1000
 # How many holds wait for a process at most, the octets of each, and those before them.
 HOLDS, HOLD, FIRST = 256, 64, 8
+# What no file is: it is loaded again.
+NEVER = (0, 0, 0)
 Reply = TypeVar("Reply")
 
 
@@ -85,6 +87,8 @@ class Embedded(locator.Locator):
         # What each file was when it was loaded, or refused.
         self.loaded: Dict[str, Tuple[int, int, int]] = {}
         self.refused: Set[str] = set()
+        # The holds for which there was no memory.
+        self.waiting: List[str] = []
         self.told = ""
         self.next_tick = self.next_look = 0
 
@@ -101,7 +105,7 @@ class Embedded(locator.Locator):
     def open(self) -> siploc.BaseSession:
         """A session with all zones."""
         session = siploc_embedded.open('held = "last"', library=LIBRARY)
-        self.refused = set()
+        self.refused, self.waiting = set(), []
         self.loaded, self.next_tick, self.next_look, self.holds.seen = {}, 0, milliseconds() + LOOK, 0
         try:
             self.load(session)
@@ -121,18 +125,22 @@ class Embedded(locator.Locator):
         self.holds.append(f"{siploc.line(*target)} {milliseconds() + wait}")
 
     def follow(self, session: siploc.BaseSession) -> None:
-        """Moves the time, loads what has changed, and holds what has failed."""
+        """Moves the time, loads what has changed, and holds what has failed; what lacked memory, the next time."""
         now = milliseconds()
         if now >= self.next_tick:
-            in_journal(session, lambda: session.clock(now))
-            self.next_tick = now + TICK
+            try:
+                in_journal(session, lambda: session.clock(now))
+                self.next_tick = now + TICK
+            except siploc.Refused as fault:
+                KSR.warn(f"siploc: {fault}: the time is as it was\n")
         if now >= self.next_look:
             self.next_look = now + LOOK
             try:
                 self.load(session)
             except OSError as fault:
                 self.fault(f"{fault}: zones are as they were")
-        for text in self.holds.unseen():
+        holds, self.waiting = [*self.waiting, *self.holds.unseen()], []
+        for text in holds:
             transport, address, port, end = text.split(" ")
             if int(end) > now:
                 target = siploc.Target(transport, address, int(port))
@@ -140,6 +148,7 @@ class Embedded(locator.Locator):
                     in_journal(session, lambda: session.hold(target, int(end) - now))
                 except siploc.Refused as fault:
                     KSR.warn(f"siploc: {fault}: it is not held\n")
+                    self.waiting += [text] * (fault.code == "Memory")
 
     def fault(self, text: str) -> None:
         """Says what is wrong with files, once; nothing where all is well."""
@@ -149,36 +158,51 @@ class Embedded(locator.Locator):
 
     def load(self, session: siploc.BaseSession) -> None:
         """Loads the files that are new or have changed, and drops the zones of those that have gone. What can't
-        be read is tried again, and what was refused, maybe for another zone, when one has gone. Where the folder can't be
-        read, it raises an OSError."""
+        be read, or lacked memory, is tried again, and what was refused, maybe for another zone, when one has gone.
+        Where the folder can't be read, it raises an OSError."""
         found = {it.name: it for it in os.scandir(ZONES) if it.is_file()}
         gone = [it for it in self.loaded if it not in found]
-        for name in gone:
-            del self.loaded[name]
-            self.refused.discard(name)
-            # (one that was refused is not there)
-            with contextlib.suppress(siploc.Refused, siploc.InvalidCommand):
-                in_journal(session, lambda: session.drop(f"{name}."))
+        faults = [self.drop(session, name) for name in gone]
         for name in self.refused if gone else ():
             self.loaded.pop(name, None)
-        unread = ""
-        for name, entry in found.items():
-            try:
-                there = entry.stat()
-                stamp = there.st_ino, there.st_size, there.st_mtime_ns
-                if self.loaded.get(name) == stamp:
-                    continue
-                with open(entry.path, encoding="utf-8", errors="surrogateescape") as text:
-                    lines = list(text)
-                self.loaded[name] = stamp
-                self.refused.discard(name)
-                in_journal(session, lambda: session.load(f"{name}.", lines))
-            except OSError as fault:
-                unread = str(fault)
-            except (siploc.Refused, siploc.InvalidCommand) as fault:
-                self.refused.add(name)
-                KSR.err(f"siploc: {entry.path}: {fault}\n")
-        self.fault(unread)
+        faults += [self.load_file(session, entry) for entry in found.values()]
+        self.fault(next(filter(None, faults), ""))
+
+    def drop(self, session: siploc.BaseSession, name: str) -> str:
+        """Drops the zone of a file that has gone; the cause where that is tried again."""
+        try:
+            in_journal(session, lambda: session.drop(f"{name}."))
+        except siploc.InvalidCommand:
+            pass
+        except siploc.Refused as fault:
+            # (one that was refused is not there)
+            if fault.code == "Memory":
+                return f"{name}: {fault}"
+        del self.loaded[name]
+        self.refused.discard(name)
+        return ""
+
+    def load_file(self, session: siploc.BaseSession, entry: os.DirEntry[str]) -> str:
+        """Loads a file that is new or has changed; the cause where that is tried again."""
+        try:
+            there = entry.stat()
+            stamp = there.st_ino, there.st_size, there.st_mtime_ns
+            if self.loaded.get(entry.name) == stamp:
+                return ""
+            with open(entry.path, encoding="utf-8", errors="surrogateescape") as text:
+                lines = list(text)
+            self.loaded[entry.name] = stamp
+            self.refused.discard(entry.name)
+            in_journal(session, lambda: session.load(f"{entry.name}.", lines))
+        except OSError as fault:
+            return str(fault)
+        except (siploc.Refused, siploc.InvalidCommand) as fault:
+            if isinstance(fault, siploc.Refused) and fault.code == "Memory":
+                self.loaded[entry.name] = NEVER
+                return f"{entry.path}: {fault}"
+            self.refused.add(entry.name)
+            KSR.err(f"siploc: {entry.path}: {fault}\n")
+        return ""
 
 
 def in_journal(session: siploc.BaseSession, step: Callable[[], Reply]) -> Reply:
