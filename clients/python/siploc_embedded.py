@@ -75,32 +75,43 @@ class Session(siploc.BaseSession):
         if status != _OK:
             raise MemoryError
         self._put, self._take = library.siploc_embedded_put, library.siploc_embedded_take
-        self._handle, self._room, self._turn = handle, ctypes.create_string_buffer(_ROOM), threading.Lock()
+        self._handle, self._room, self._turn = handle, ctypes.create_string_buffer(_ROOM), threading.RLock()
+        # (the handler of a signal comes in too, where its thread is within a call)
+        self._is_busy = self._ends = False
         # Also where the session is dropped.
         self._close = weakref.finalize(self, library.siploc_embedded_close, handle)
         self._close.atexit = False
 
     @property
     def is_open(self) -> bool:
-        return self._close.alive
+        return self._close.alive and not self._ends
 
     def close(self) -> None:
         """Ends the session, and frees what it has; a call that is being made comes to its end before."""
         with self._turn:
-            self._close()
+            self._ends = True
+            if not self._is_busy:
+                self._close()
 
     def _exchange(self, commands: Sequence[siploc._Command]) -> List[siploc.Reply]:
         """Carries out commands, and reads their replies."""
         with self._turn:
-            if not self._close.alive:
+            if not self.is_open:
                 raise siploc.NotConnected("the session has ended")
+            if self._is_busy:
+                raise siploc.InvalidCommand("the call of a signal's handler within a call")
             come = siploc._Replies(commands)
             try:
+                self._is_busy = True
                 while len(come.replies) < len(commands):
                     self._run(come)
             except BaseException:
-                self._close()
+                self._ends = True
                 raise
+            finally:
+                self._is_busy = False
+                if self._ends:
+                    self._close()
         return come.replies
 
     def _run(self, come: siploc._Replies) -> None:

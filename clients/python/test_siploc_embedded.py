@@ -9,6 +9,7 @@ The last line is `N passed, M failed`.
 
 import ctypes
 import sys
+import threading
 import unittest
 
 import siploc
@@ -71,6 +72,29 @@ class Memory(unittest.TestCase):
         lines = [b"target %d udp 192.0.2.1 %d\n" % (place, place) for place in range(1, 3_001)]
         session = siploc_embedded.Session(Library([], [b"".join(lines) + b"ok find 3000\n"]), "")
         self.assertEqual(len(session.find("sip:a")), 3_000)
+
+    def test_calls_of_a_signal_s_handler(self):
+        """What a signal calls while a call is being made is refused, and the call goes on; it may be closed."""
+        library, faults = Library([], [b"ok repair\n", b"ok repair\n", b"ok repair\n"]), []
+        session = siploc_embedded.Session(library, "")
+        put = library.siploc_embedded_put
+
+        def signalled(*words):
+            try:
+                handler()
+            except siploc.Error as fault:
+                faults.append(fault)
+            return put(*words)
+
+        session._put, handler = signalled, session.repair
+        thread = threading.Thread(target=session.repair, daemon=True)
+        thread.start()
+        thread.join(10)
+        self.assertFalse(thread.is_alive())
+        self.assertEqual([type(it) for it in faults], [siploc.InvalidCommand])
+        handler = session.close
+        session.repair()
+        self.assertEqual((session.is_open, library.closed), (False, 1))
 
     def test_a_session_that_is_dropped(self):
         library = Library([], [])
