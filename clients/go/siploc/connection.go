@@ -75,8 +75,11 @@ func New(stream net.Conn, timeout time.Duration) *Session {
 // placesOf returns the network and the places of an address, in the order in which they are tried.
 func placesOf(address string) (string, []string, error) {
 	if place := strings.TrimPrefix(address, "unix:"); place != address {
-		if place == "" || len(place) > 107 {
+		if place == "" || len(place) > 107 || strings.Contains(place, "\x00") {
 			return "", nil, invalid("the path of a Unix socket has 1 to 107 octets: %.200q", address)
+		}
+		if place[0] == '@' {
+			place = "./" + place // (it would be an abstract name)
 		}
 		return "unix", []string{place}, nil
 	}

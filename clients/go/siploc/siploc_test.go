@@ -743,7 +743,7 @@ func TestGoroutines(t *testing.T) {
 func TestAddresses(t *testing.T) {
 	for _, address := range []string{"", "127.0.0.1", "localhost", "localhost:0", "192.0.2.1:5099", "[2001:db8::1]:5099",
 		"127.0.0.1:0", "127.0.0.1:65536", "127.0.0.1:x", "::1:5099", "unix:", "unix:" + strings.Repeat("x", 108),
-		"[127.0.0.1]:5099", "300.0.0.1:1"} {
+		"[127.0.0.1]:5099", "300.0.0.1:1", "unix:/tmp\x00/socket", "unix:\x00socket"} {
 		_, err := Connect(ctx, address, time.Second)
 		if !errors.Is(err, ErrInvalidCommand) {
 			t.Errorf("%s: %v", address, err)
@@ -816,6 +816,16 @@ func TestFullQueue(t *testing.T) {
 	session, err := Connect(ctx, "unix:"+address.Name, 20*time.Second)
 	equal(t, err, nil)
 	session.carrier.end()
+}
+
+// A path that begins with @ is one of a file, and no abstract name.
+func TestPathsThatBeginWithAt(t *testing.T) {
+	name := fmt.Sprintf("@siploc-%d", os.Getpid())
+	abstract, err := net.Listen("unix", name)
+	equal(t, err, nil)
+	defer abstract.Close()
+	_, err = Connect(ctx, "unix:"+name, time.Second)
+	equal(t, errors.Is(err, os.ErrNotExist), true)
 }
 
 // A connection need not be one of the system.
