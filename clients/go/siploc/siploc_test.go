@@ -126,6 +126,12 @@ func fake(t *testing.T, serve func(net.Conn)) string {
 	if err != nil {
 		t.Fatal(err)
 	}
+	serveOne(t, listener, serve)
+	return listener.Addr().String()
+}
+
+// serveOne calls a function with the only connection of a listener.
+func serveOne(t *testing.T, listener net.Listener, serve func(net.Conn)) {
 	var done sync.WaitGroup
 	done.Add(1)
 	go func() {
@@ -141,7 +147,6 @@ func fake(t *testing.T, serve func(net.Conn)) string {
 		listener.Close()
 		done.Wait()
 	})
-	return listener.Addr().String()
 }
 
 // commands returns those of a session's lines: each a line, or a `zone` line with its text.
@@ -766,11 +771,13 @@ func TestAddresses(t *testing.T) {
 }
 
 // silent is a server that takes what comes, and says nothing.
-// A server that takes some octets now and then makes progress.
+// A server that takes some octets now and then makes progress. (Over TCP the system waits up to seconds to send to a
+// buffer that was full.)
 func TestServerThatReadsSlowly(t *testing.T) {
 	text := strings.Repeat(strings.Repeat("x", 399)+"\n", 800)
-	session := connect(t, fake(t, func(stream net.Conn) {
-		_ = stream.(*net.TCPConn).SetReadBuffer(4096)
+	listener, err := net.Listen("unix", filepath.Join(t.TempDir(), "s"))
+	equal(t, err, nil)
+	serveOne(t, listener, func(stream net.Conn) {
 		octets := make([]byte, 2048)
 		for left := len("zone e. 800\n") + len(text); left > 0; time.Sleep(20 * time.Millisecond) {
 			count, err := stream.Read(octets)
@@ -780,11 +787,14 @@ func TestServerThatReadsSlowly(t *testing.T) {
 		}
 		_, _ = io.WriteString(stream, "ok zone 1 0 0 1\n")
 		_, _ = io.Copy(io.Discard, stream)
-	}), time.Second)
-	equal(t, streamOf(session).(*net.TCPConn).SetWriteBuffer(4096), nil)
+	})
+	session := connect(t, "unix:"+listener.Addr().String(), time.Second)
+	equal(t, streamOf(session).(*net.UnixConn).SetWriteBuffer(4096), nil)
+	begin := time.Now()
 	loaded, err := session.Load(ctx, "e.", text)
 	equal(t, err, nil)
 	equal(t, loaded, Loaded{1, 0, 0, 1})
+	equal(t, time.Since(begin) > 2*time.Second, true)
 }
 
 // A Unix socket that has as many clients waiting as it takes is waited for, as long as is given.
