@@ -523,9 +523,7 @@ def fetch_changes(server: Server, zone: Zone) -> Changes | Zone:
         soa = begin(records, zone.apex)
         second = next(records, None)
         if second is None:
-            if serial_of(soa) != serial:
-                raise Fault("the server sends no differences")
-            return Changes(soa, [])
+            raise Fault("the server sends no differences")
         if second.kind != "SOA" or second.owner != zone.apex or serial_of(second) == serial_of(soa):
             return take(Zone(zone.apex, zone.apart, zone.truncate, zone.skip), soa,
                         finish(itertools.chain([second], records), soa, zone.apex), zone)
