@@ -80,6 +80,14 @@ def output() -> TextIO:
     return sys.stdout
 
 
+def print_done(text: str) -> None:
+    """Prints what was done. Where that can't be printed the fault has it."""
+    try:
+        print(text, flush=True)
+    except OSError as fault:
+        raise OSError(fault.errno, f"{fault.strerror}: {text}") from fault
+
+
 def drop_output() -> None:
     """Drops what standard output could not be given: it is not tried again at the end."""
     if sys.stdout is not None:
