@@ -1,8 +1,8 @@
 """Snapshots of a locator that is given a Redis stream: what tools/snapshot publishes, and tools/apply begins with where
 the stream's beginning was taken out.
 
-A snapshot is a text at the key STREAM:snapshot: a comment with the locator's mark, and the changes that lead to its
-zones, holds and time.
+A snapshot is a text at the key STREAM:snapshot: a comment with the locator's mark, the changes that lead to its zones,
+holds and time, and the digest of these lines.
 """
 
 from __future__ import annotations
@@ -25,15 +25,17 @@ class Snapshot(NamedTuple):
 
     def octets(self) -> bytes:
         mark = self.mark._replace(locator="")
-        return b"\n".join([f"# {mark.record}".encode(), *(it.octets for it in self.changes), b""])
+        return commits.sealed(b"\n".join([f"# {mark.record}".encode(), *(it.octets for it in self.changes), b""]))
 
 
 def read(octets: bytes) -> Snapshot:
     """The snapshot of a text."""
-    first, *lines = octets.split(b"\n")
-    marks, changes = without_marks([changelog.change_of(b"add" + first[1:])] if first.startswith(b"# at") else [])
+    text = octets[:-commits.SEAL_LEN]
+    first, *lines = text.split(b"\n")
+    is_whole = first.startswith(b"# at") and octets == commits.sealed(text)
+    marks, changes = without_marks([changelog.change_of(b"add" + first[1:])] if is_whole else [])
     if not marks or changes:
-        raise changelog.Fault("not a snapshot of tools/snapshot")
+        raise changelog.Fault("not a snapshot of tools/snapshot, or a damaged one: delete it, and publish another")
     return Snapshot(marks[0], [change for _, change in changelog.changes_in(lines)])
 
 
@@ -95,7 +97,10 @@ def key_of(stream: changelog.Stream) -> bytes:
 def published(stream: changelog.Stream) -> Optional[Snapshot]:
     """The snapshot that was published, if there is one."""
     octets = stream.ask([[b"GET", key_of(stream)]])[0]
-    return read(octets) if isinstance(octets, bytes) else None
+    try:
+        return read(octets) if isinstance(octets, bytes) else None
+    except changelog.Fault as fault:
+        raise changelog.Fault(f"{stream.key}:snapshot: {fault}") from fault
 
 
 def watch(stream: changelog.Stream) -> None:
