@@ -74,8 +74,8 @@ IsOne {A} Acts = (before : PlainState) (o p : Result A BookFault) (a b : PlainSt
 
 ends_one : {A : Type 0} (ending : PlainState → Ending A) → IsOne (λ before outcome after. EndsSo (ending before) before outcome after)
 ends_one ending before o p a b (inl is) (inl is') well well' = (is.0 ∙ sym is'.0, is.1 ∙ sym is'.1)
-ends_one ending before o p a b (inl is) (inr failed) well well' = absurd (well' failed.2)
-ends_one ending before o p a b (inr failed) is well well' = absurd (well failed.2)
+ends_one ending before o p a b (inl is) (inr failed) well well' = absurd (well' failed.1)
+ends_one ending before o p a b (inr failed) is well well' = absurd (well failed.1)
 
 does : {A : Type 0} (Acts : PlainState → Result A BookFault → PlainState → Type 0) (reply_of : A → Octets) → IsOne Acts → HasOne (Does plain_rules Acts reply_of)
 does Acts reply_of one before t u a b done done' well well' =

@@ -1,7 +1,7 @@
 -- The calls of a book, seen as those of the plain machine.
 use Rattle.std.proofs.Common.{◌≡◌, ◌≢◌, ◌⊎◌, ℕ, Bool, true, false, List, [], ◌∷◌, map, length, Option, None, Some, Result, Ok, Err, IfOk, IfErr, OnOk, OnErr, IsTrue, IsFalse, inl, inr, refl, sym, ap, subst, ◌∙◌, length-append}
 use Rattle.std.proofs.lemmas.List.Elements.{All-head, All-tail}
-use Rattle.std.specs.Prelude.{◌-◌, ◌^◌, nat_le, nat_lt, option_map, if◌then◌else◌}
+use Rattle.std.specs.Prelude.{◌+◌, ◌-◌, ◌^◌, nat_le, nat_lt, option_map, if◌then◌else◌}
 use Rattle.std.specs.Option.{option_or}
 use Rattle.std.specs.Result.{result_map_both}
 use Rattle.sipl_records.specs.Sets.{set_of}
@@ -11,19 +11,20 @@ use Rattle.sipl_uri.specs.declared.question.Question.{Question}
 use Rattle.sipl_evidence.specs.Items.{Item}
 use Rattle.sipl_evidence.specs.Known.{Agrees}
 use Rattle.sipl_evidence.specs.Looks.{Look}
-use Rattle.sipl_outages.specs.Holds.{BoardEvent, after as after_hold, refusal_of as hold_refusal}
-use Rattle.sipl_outages.specs.declared.fault.BoardFault.{BoardFault}
+use Rattle.sipl_outages.specs.Holds.{BoardEvent, after as after_hold}
 use Rattle.sipl_zonestore.specs.declared.fault.StoreFault.{StoreFault}
+use Rattle.sipl_zonestore.specs.declared.fault.StoreFault.TheVariants.{NumberSpent}
 use Rattle.sipl_zonestore.specs.Edits.{refusal_of as zones_refusal}
 use Rattle.sipl_zonestore.specs.Changes.{changed_count}
-use Rattle.sipl_zonestore.specs.Numbers.{next_after, number_refusal}
+use Rattle.sipl_zonestore.specs.Numbers.{next_after}
 use Rattle.sipl_book.specs.Machine.{zone_edit}
 use Rattle.sipl_book.specs.Book.{BookState, answer_now, next_event}
-use Rattle.sipl_book.specs.Calls.{IsChanged, MovesBoard, answer_event, board_event, recorded}
+use Rattle.sipl_book.specs.Calls.{IsChanged, MovesBoard, answer_event, board_event, early_change_refusal, recorded}
 use Rattle.sipl_book.specs.Entries.{has_current_entry}
 use Rattle.sipl_book.specs.Lookups.{AreDependencies, IsAnswered, IsKept, IsRepaired, after_reads}
 use Rattle.sipl_book.specs.Pages.{IsTurned, PageState, after_turn, extent_of, page_of, turn_refusal}
 use Rattle.sipl_book.specs.declared.edit.Edit.{Edit}
+use Rattle.sipl_book.specs.declared.edit.Edit.TheVariants.{Load, Unload, Add, Remove}
 use Rattle.sipl_book.specs.declared.event.Event.{Event}
 use Rattle.sipl_book.specs.declared.event.Event.TheVariants.{Change}
 use Rattle.sipl_book.specs.declared.fault.BookFault.{BookFault}
@@ -53,28 +54,23 @@ memory_or_not Memory = inl refl
 abbrev limited : Bool → Option BookFault → Option BookFault
 limited full fault = if full then Some JournalFull else fault
 
--- a result that is neither B3 nor B6
+-- a result that has no fault but too few numbers of sets
 abbrev IsOpen : {A : Type 0} → Result A BookFault → Type 0
-IsOpen result = (result ≢ Err JournalFull) × (result ≢ Err PagesSpent)
+IsOpen result = IfErr result (λ fault. fault ≡ Store NumberSpent)
 
--- a fault that is neither, or none
-abbrev IsOther : Option BookFault → Type 0
-IsOther fault = (fault ≢ Some JournalFull) × (fault ≢ Some PagesSpent)
+-- where no fault applies a call does not end with one
+none_open : {A : Type 0} (fault : Option BookFault) (value : A) (after before : PlainState) → fault ≡ None → IsOpen (ending_of fault value after before).0
+none_open None value after before none = tt
+none_open (Some e) value after before none = cc
 
--- a call ends otherwise than with B3 or B6 where there may be more events, if its own fault is another
-ending_open : {A : Type 0} (full : Bool) (fault : Option BookFault) (value : A) (after before : PlainState) → IsOther fault
-    → limited full None ≡ None → IsOpen (ending_of (limited full fault) value after before).0
-ending_open true fault value after before other room = (λ same. cc, λ same. cc)
-ending_open false None value after before other room = (λ same. cc, λ same. cc)
-ending_open false (Some e) value after before other room = (λ same. other.0 (cc), λ same. other.1 (cc))
-
-of_the_store : (fault : Option StoreFault) → IsOther (option_map Store fault)
-of_the_store None = (λ same. cc, λ same. cc)
-of_the_store (Some fault) = (λ same. cc, λ same. cc)
-
-of_the_board : (fault : Option BoardFault) → IsOther (option_map Board fault)
-of_the_board None = (λ same. cc, λ same. cc)
-of_the_board (Some fault) = (λ same. cc, λ same. cc)
+-- where the zones have none either, it may be that too few numbers are left
+spent_open : {A : Type 0} (full : Bool) (zones : Option StoreFault) (spent : Bool) (value : A) (after before : PlainState)
+    → limited full (option_map Store zones) ≡ None
+    → IsOpen (ending_of (limited full (option_map Store (option_or zones (if spent then Some NumberSpent else None)))) value after before).0
+spent_open true zones spent value after before none = cc
+spent_open false None true value after before none = refl
+spent_open false None false value after before none = tt
+spent_open false (Some fault) spent value after before none = cc
 
 if_err : {A E : Type 0} {P Q : E → Type 0} (r : Result A E) → ((e : E) → P e → Q e) → IfErr r P → IfErr r Q
 if_err (Ok value) weaker fact = tt
@@ -90,7 +86,7 @@ ends_so {A} fault value after before (Ok v) new accepted is moved refused memory
     inl (subst (λ f. (Ok v ≡ (ending_of f value after before).0) × (new ≡ (ending_of f value after before).1)) (sym accepted) (ap Ok is, moved))
 ends_so {A} fault value after before (Err e) new accepted is moved refused memory kept =
     elim (memory_or_not e) as (λ _. EndsSo (ending_of fault value after before) before (Err e) new) [
-      | inl same ↦ inr ((memory same).0, (memory same).1, ap Err same, kept)
+      | inl same ↦ inr (memory same, ap Err same, kept)
       | inr other ↦ inl (subst (λ f. (Err e ≡ (ending_of f value after before).0) × (new ≡ (ending_of f value after before).1)) (sym (refused other)) (refl, kept))
     ]
 
@@ -122,15 +118,30 @@ finds question words old outcome new found =
     found.accepted (found_value question words old outcome found.number found.answer)
     (found_after (has_current_entry old.entries question) outcome question words old new (answer_event old question words) found.from_entry found.committed)
     found.refused
-    (if_err outcome (λ e room same. ending_open (nat_le old.max_events (length old.journal)) None (record { number = next_event old; answer = answer_now old question words }) (with_event (plain_of old)) (plain_of old) (λ none. cc, λ none. cc) (room same)) found.memory)
+    (if_err outcome (λ e none same. none_open (unless_at_limit (plain_of old) None) (record { number = next_event old; answer = answer_now old question words }) (with_event (plain_of old)) (plain_of old) (none same)) found.memory)
     (on_err outcome (ap plain_of) found.unchanged)
 
 -- ---- an edit
 
--- the fault of an edit where there may be more events
-abbrev zones_fault : Edit → PlainState → Option StoreFault
-zones_fault edit plain =
-    option_or (zones_refusal plain.max_records (zone_edit edit) plain.zones) (number_refusal plain.zones.records (edited edit plain).records plain.next)
+-- where no early refusal of an edit comes before, it ends with none but too few numbers
+change_open : (edit : Edit) (old : BookState) → early_change_refusal edit old ≡ None → IsOpen (change_ending edit (plain_of old)).0
+change_open (Load zone) old none =
+    let plain = plain_of old in
+    spent_open (nat_le old.max_events (length old.journal)) (zones_refusal plain.max_records (zone_edit (Load zone)) plain.zones)
+    (nat_lt (2 ^ 52 + 1) (next_after plain.zones.records (edited (Load zone) plain).records plain.next))
+    (record { number = next_event old; changed = changed_count plain.zones.records (edited (Load zone) plain).records }) (after_change (Load zone) plain) plain none
+change_open (Unload apex) old none =
+    let plain = plain_of old in
+    none_open (change_refusal (Unload apex) plain)
+    (record { number = next_event old; changed = changed_count plain.zones.records (edited (Unload apex) plain).records }) (after_change (Unload apex) plain) plain none
+change_open (Add r) old none =
+    let plain = plain_of old in
+    none_open (change_refusal (Add r) plain)
+    (record { number = next_event old; changed = changed_count plain.zones.records (edited (Add r) plain).records }) (after_change (Add r) plain) plain none
+change_open (Remove r) old none =
+    let plain = plain_of old in
+    none_open (change_refusal (Remove r) plain)
+    (record { number = next_event old; changed = changed_count plain.zones.records (edited (Remove r) plain).records }) (after_change (Remove r) plain) plain none
 
 changed_value : (edit : Edit) (old new : BookState) (outcome : Result Done BookFault)
     → IfOk outcome (λ done. done.number ≡ next_event old)
@@ -169,9 +180,7 @@ changes edit old outcome new is =
     (after_change edit (plain_of old)) (plain_of old) outcome (plain_of new)
     is.accepted (changed_value edit old new outcome is.number is.changed is.zones) (changed_after edit old new outcome is)
     is.refused
-    (if_err outcome (λ e room same. ending_open (nat_le old.max_events (length old.journal)) (option_map Store (zones_fault edit (plain_of old)))
-    (record { number = next_event old; changed = changed_count old.store.zones.records (edited edit (plain_of old)).records })
-    (after_change edit (plain_of old)) (plain_of old) (of_the_store (zones_fault edit (plain_of old))) (room same)) is.memory)
+    (if_err outcome (λ e none same. change_open edit old (none same)) is.memory)
     (on_err outcome (ap plain_of) is.unchanged)
 
 -- ---- a hold, a release or a move of the clock
@@ -183,8 +192,7 @@ moves event old outcome new is =
     ends_so (move_refusal event (plain_of old)) (next_event old) (with_event (plain_of moved)) (plain_of old) outcome (plain_of new)
     is.accepted is.number (on_ok outcome (λ after. ap plain_of after ∙ recorded-plain (board_event event) moved) is.after)
     is.refused
-    (if_err outcome (λ e room same. ending_open (nat_le old.max_events (length old.journal)) (option_map Board (hold_refusal old.board.max_holds event old.board.holds)) (next_event old) (with_event (plain_of moved)) (plain_of old)
-    (of_the_board (hold_refusal old.board.max_holds event old.board.holds)) (room same)) is.memory)
+    (if_err outcome (λ e none same. none_open (move_refusal event (plain_of old)) (next_event old) (with_event (plain_of moved)) (plain_of old) (none same)) is.memory)
     (on_err outcome (ap plain_of) is.unchanged)
 
 -- ---- the dependencies of a question
@@ -208,21 +216,16 @@ depends : (question : Question) (old : BookState) (outcome : Result (List Item) 
 depends question old (Ok items) new are =
     let look : Look = set_of old.store.zones.records in
     inl (ap Ok (listed-agree look items are.sets.agrees ∙ ap (map (keyed look)) are.keys), ap plain_of are.unchanged)
-depends question old (Err e) new are = inr (λ same. cc, λ same. cc, ap Err are.failed, ap plain_of are.unchanged)
+depends question old (Err e) new are = inr (tt, ap Err are.failed, ap plain_of are.unchanged)
 
 -- ---- a repair
 
 repairs : (old : BookState) (outcome : Result (Unit {0}) BookFault) (new : BookState)
     → IsRepaired old new outcome → EndsSo (Ok tt, plain_of old) (plain_of old) outcome (plain_of new)
 repairs old (Ok done) new is = inl (refl, ap plain_of is.renewed.others)
-repairs old (Err e) new is = inr (λ same. cc, λ same. cc, ap Err is.failed, ap plain_of is.renewed.others)
+repairs old (Err e) new is = inr (tt, ap Err is.failed, ap plain_of is.renewed.others)
 
 -- ---- a page
-
--- where no fault applies a page does not end with one
-page_open : {A : Type 0} (fault : Option BookFault) (value : A) (after before : PlainState) → fault ≡ None → IsOpen (ending_of fault value after before).0
-page_open None value after before none = (λ same. cc, λ same. cc)
-page_open (Some e) value after before none = cc
 
 turns : (old : BookState) (turned : Result PageState BookFault) (new : BookState)
     → IsTurned old new turned → EndsSo (page_ending (plain_of old)) (plain_of old) (result_map_both extent_of (λ fault. fault) turned) (plain_of new)
@@ -232,7 +235,7 @@ turns old (Ok page) new is =
 turns old (Err e) new is =
     ends_so (turn_refusal old) (extent_of (page_of old)) (plain_of (after_turn old)) (plain_of old) (Err e) (plain_of new)
     tt tt tt is.refused
-    (λ same. page_open (turn_refusal old) (extent_of (page_of old)) (plain_of (after_turn old)) (plain_of old) (is.memory same))
+    (λ same. none_open (turn_refusal old) (extent_of (page_of old)) (plain_of (after_turn old)) (plain_of old) (is.memory same))
     (ap plain_of is.unchanged)
 
 pages : (old : BookState) (outcome : Result Extent BookFault) (new : BookState)

@@ -1,7 +1,7 @@
 -- The plain machine of a session's text: zones, holds, the time, limits, the number of the page's first
 -- event, a count of the page's events and the next number of a set. It has no kept answer, no queue and
 -- no lease.
-use Rattle.std.specs.Prelude.{◌≡◌, ◌≢◌, ◌⊎◌, ◌+◌, ◌-◌, ◌^◌, ℕ, List, length, map, nat_le, nat_lt, if◌then◌else◌, Option, None, Some, option_map, Result, Ok, Err}
+use Rattle.std.specs.Prelude.{◌≡◌, ◌⊎◌, ◌+◌, ◌-◌, ◌^◌, ℕ, List, length, map, nat_le, nat_lt, if◌then◌else◌, Option, None, Some, option_map, Result, Ok, Err, IfErr}
 use Rattle.std.specs.Option.{option_or}
 use Rattle.sipl_records.specs.Sets.{set_of}
 use Rattle.sipl_records.specs.declared.data.Data.{Data}
@@ -14,6 +14,7 @@ use Rattle.sipl_outages.specs.Holds.{Holds, BoardEvent, refusal_of as hold_refus
 use Rattle.sipl_plans.specs.Plan.{plan}
 use Rattle.sipl_plans.specs.Route.{reads}
 use Rattle.sipl_zonestore.specs.Store.{Zones}
+use Rattle.sipl_zonestore.specs.declared.fault.StoreFault.TheVariants.{NumberSpent}
 use Rattle.sipl_zonestore.specs.Edits.{refusal_of as zones_refusal, after as zones_after}
 use Rattle.sipl_zonestore.specs.Changes.{changed_count}
 use Rattle.sipl_zonestore.specs.Numbers.{next_after, number_refusal}
@@ -158,12 +159,12 @@ abbrev pub sets_listed : Result (List Item) BookFault → Result (List (Key × L
 sets_listed (Ok items) = Ok (map (λ item. (item.key, item.content)) items)
 sets_listed (Err fault) = Err fault
 
--- a call ends so; or an allocation failed, and the state is as it was, but not where there may be no
--- more events or pages: that is found before anything is allocated
+-- a call ends so; or an allocation failed, and the state is as it was, where it has no fault but too few
+-- numbers of sets: each other fault is found before anything is allocated
 abbrev pub EndsSo : {A : Type 0} → Ending A → PlainState → Result A BookFault → PlainState → Type 0
 EndsSo ending before outcome after =
     ((outcome ≡ ending.0) × (after ≡ ending.1))
-    ⊎ ((ending.0 ≢ Err JournalFull) × (ending.0 ≢ Err PagesSpent)
+    ⊎ (IfErr ending.0 (λ fault. fault ≡ Store NumberSpent)
     × (outcome ≡ Err Memory) × (after ≡ before))
 
 -- what the calls of the plain machine do; there is nothing that a repair has to look up again

@@ -1,8 +1,8 @@
 // What a change does to the book that the lock lends it, and the receipt for it, whose caller has space for it.
 ghost use Rattle.std.specs.Prelude.{◌≡◌, ◌≢◌, ◌^◌, ◌-◌, ◌≤◌, length, slice_get, None, Some, Ok, IfOk, IfErr, IfSome, OnOk, OnErr};
 ghost use Rattle.sipl_outages.specs.Holds.BoardEvent.{Hold, Release, Advance};
-ghost use Rattle.sipl_book.specs.Calls.{IsChanged, MovesBoard, board_refusal, change_refusal};
-ghost use Rattle.sipl_service.specs.Refusals.{change_fault, unless_ahead};
+ghost use Rattle.sipl_book.specs.Calls.{IsChanged, MovesBoard, board_refusal, change_refusal, early_change_refusal};
+ghost use Rattle.sipl_service.specs.Refusals.{change_fault};
 
 use crate::checks::next_number;
 use crate::fault::ServiceFault;
@@ -65,7 +65,7 @@ pub(crate) fn change(
     ensures refused { IfErr result (λ fault. fault ≢ ServiceFault.Memory
         → change_fault pass.now book.old (change_refusal new.value.edit book.old) ≡ Some fault) }
     ensures memory { IfErr result (λ fault. fault ≡ ServiceFault.Memory
-        → unless_ahead pass.now book.old None ≡ None) }
+        → change_fault pass.now book.old (early_change_refusal new.value.edit book.old) ≡ None) }
     ensures unchanged { OnErr result (book.new ≡ book.old) }
 {
     next_number(book, pass)?;
@@ -114,7 +114,7 @@ pub(crate) fn hold(
     ensures refused { IfErr result (λ fault. fault ≢ ServiceFault.Memory
         → change_fault pass.now book.old (board_refusal (Hold endpoint.now ms) book.old) ≡ Some fault) }
     ensures memory { IfErr result (λ fault. fault ≡ ServiceFault.Memory
-        → unless_ahead pass.now book.old None ≡ None) }
+        → change_fault pass.now book.old (board_refusal (Hold endpoint.now ms) book.old) ≡ None) }
     ensures unchanged { OnErr result (book.new ≡ book.old) }
 {
     next_number(book, pass)?;
@@ -138,7 +138,7 @@ pub(crate) fn release(
     ensures refused { IfErr result (λ fault. fault ≢ ServiceFault.Memory
         → change_fault pass.now book.old (board_refusal (Release endpoint.now) book.old) ≡ Some fault) }
     ensures memory { IfErr result (λ fault. fault ≡ ServiceFault.Memory
-        → unless_ahead pass.now book.old None ≡ None) }
+        → change_fault pass.now book.old (board_refusal (Release endpoint.now) book.old) ≡ None) }
     ensures unchanged { OnErr result (book.new ≡ book.old) }
 {
     next_number(book, pass)?;
@@ -159,7 +159,7 @@ pub(crate) fn advance(book: &mut Book, pass: &Pass, to: u64) -> Result<Receipt, 
     ensures refused { IfErr result (λ fault. fault ≢ ServiceFault.Memory
         → change_fault pass.now book.old (board_refusal (Advance to) book.old) ≡ Some fault) }
     ensures memory { IfErr result (λ fault. fault ≡ ServiceFault.Memory
-        → unless_ahead pass.now book.old None ≡ None) }
+        → change_fault pass.now book.old (board_refusal (Advance to) book.old) ≡ None) }
     ensures unchanged { OnErr result (book.new ≡ book.old) }
 {
     next_number(book, pass)?;
