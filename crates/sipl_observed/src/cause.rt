@@ -1,3 +1,6 @@
+ghost use Rattle.std.specs.Prelude.{◌≡◌};
+ghost use Rattle.sipl_observed.specs.Causes.{cause_name};
+
 /// Why a client has no session, or not any more.
 #[derive(Clone, Copy, Debug, PartialEq, Eq)]
 pub enum Cause {
@@ -15,7 +18,9 @@ pub enum Cause {
 
 impl Cause {
     /// Its name, in the log and in metrics.
-    pub fn name(self) -> &'static str {
+    pub fn name(self) -> &'static str
+        ensures { result.now ≡ cause_name self }
+    {
         match self {
             Cause::Busy => "busy",
             Cause::Threads => "threads",
