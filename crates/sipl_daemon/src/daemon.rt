@@ -73,12 +73,17 @@ impl Surroundings {
             Clocks::Lines => None,
         };
         let places = Places::new(rt, alloc, settings)?;
-        let observed = Observed::new(alloc, settings, log)?;
-        Ok(Surroundings {
-            time,
-            places,
-            observed,
-        })
+        match Observed::new(alloc, settings, log) {
+            Ok(observed) => Ok(Surroundings {
+                time,
+                places,
+                observed,
+            }),
+            Err(error) => {
+                drop(places);
+                Err(io::Error::from(error))
+            }
+        }
     }
 }
 
@@ -91,11 +96,19 @@ impl Daemon {
         stop: &Arc<Stop, Global>,
         log: &Arc<Log, Global>,
     ) -> io::Result<Box<Daemon>> {
-        let surroundings = Surroundings::new(rt, alloc, settings, log)?;
-        let service = new_service(alloc, &settings.service)?;
         let stop = Arc::try_clone(stop)?;
-        let daemon = Daemon::over(service, alloc, settings, stop, surroundings);
-        Ok(Box::new(alloc, daemon)?)
+        let surroundings = Surroundings::new(rt, alloc, settings, log)?;
+        match new_service(alloc, &settings.service) {
+            Ok(service) => {
+                let daemon = Daemon::over(service, alloc, settings, stop, surroundings);
+                Ok(Box::new(alloc, daemon)?)
+            }
+            Err(error) => {
+                drop(surroundings);
+                drop(stop);
+                Err(error)
+            }
+        }
     }
 
     // A daemon over this service.

@@ -26,9 +26,10 @@ impl Daemon {
     {
         let story = self.story_of(rt, &edit);
         let outcome = self.source.edit(rt, pass, edit, place);
-        if let Ok(Some(story)) = story {
+        if let Ok(Some(story)) = &story {
             story.tell(rt, &self.observed, &outcome);
         }
+        drop(story);
         outcome
     }
 

@@ -56,9 +56,13 @@ fn serve_stream<R: Wait + Clock>(
     let mut writer = Tapped::new(Output::new(rt, daemon, stream, course));
     if asks_only {
         if let Ok(asking) = Asking::new(alloc, input) {
-            let _ = serve(alloc, &mut Tapped::new(asking), &mut writer, desk);
+            let mut reader = Tapped::new(asking);
+            drop(serve(alloc, &mut reader, &mut writer, desk));
+            drop(reader);
         }
     } else {
-        let _ = serve(alloc, &mut Tapped::new(input), &mut writer, desk);
+        let mut reader = Tapped::new(input);
+        drop(serve(alloc, &mut reader, &mut writer, desk));
+        drop(reader);
     }
 }

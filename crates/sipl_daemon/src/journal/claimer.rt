@@ -99,7 +99,10 @@ fn keep_or_wait<H: Host>(
             daemon.pages.hold_up(true);
             daemon.stop.pause(host, Duration::from_millis(AGAIN));
         }
-        Err(fault) => fail(host, daemon, claims, fault),
+        Err(fault) => {
+            drop(turned);
+            fail(host, daemon, claims, fault);
+        }
     }
 }
 
@@ -117,7 +120,10 @@ fn keep_claimed<R: Files<File = File> + Wait + Clock>(
     if let Some(turned) = claims.take() {
         match keep(rt, daemon, &turned) {
             Ok(()) => use_again(rt, daemon, turned),
-            Err(fault) => fail(rt, daemon, claims, fault),
+            Err(fault) => {
+                drop(turned);
+                fail(rt, daemon, claims, fault);
+            }
         }
     }
 }

@@ -104,7 +104,7 @@ impl Pages {
         let mut turned = self.turned.lock(rt);
         // Another thread may have turned it.
         if self.is_due(source, number, self.octets.load(Ordering::SeqCst), place) {
-            let _ = self.push_page(rt, source, &mut turned);
+            drop(self.push_page(rt, source, &mut turned));
         }
     }
 
@@ -138,7 +138,7 @@ impl Pages {
         let due = due_after(next.page.next(), self.journal);
         self.due.store(due, Ordering::SeqCst);
         self.octets.store(0, Ordering::SeqCst);
-        let _ = turned.push_back(next);
+        drop(turned.push_back(next));
         self.woken.notify_all();
         Ok(extent)
     }

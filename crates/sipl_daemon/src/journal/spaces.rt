@@ -45,7 +45,7 @@ impl Spaces {
             let Some(space) = ledger.take_space() else {
                 break;
             };
-            let _ = receipts.push(space);
+            drop(receipts.push(space));
         }
     }
 
@@ -53,7 +53,9 @@ impl Spaces {
     pub(crate) fn put_journal<R: Wait>(&self, rt: &R, space: Vec<Event>) {
         let mut journals = self.journals.lock(rt);
         if journals.len() < MAX_JOURNALS {
-            let _ = journals.push(space);
+            drop(journals.push(space));
+        } else {
+            drop(space);
         }
     }
 }
