@@ -7,8 +7,9 @@
         for target in session.find("sip:server1.example.com:5070"):
             print(target.transport, target.address, target.port)
 
-A session is one connection. Threads may share it: their calls are made one after another. Each method sends one
-command and returns what its reply says; `batch` sends many. These errors are raised, all of them an `Error`:
+A session is one connection. Threads may share it: their calls are made one after another. The child of a fork can't,
+and connects anew. Each method sends one command and returns what its reply says; `batch` sends many. These errors are
+raised, all of them an `Error`:
 
     InvalidCommand    the command would break the protocol: it was not sent, and the session goes on
     Refused           the reply is `err CODE`: the session goes on
@@ -17,7 +18,7 @@ command and returns what its reply says; `batch` sends many. These errors are ra
         TimedOut          there was no progress for `timeout` seconds
       BadReply          the reply is none that the protocol has
         HalfReply         the connection ended within a reply
-    NotConnected      nobody listens at the address, or the session has ended before
+    NotConnected      nobody listens at the address, or the session has ended before, or is another process's
 
 After a `SessionBroken` the connection is closed. To connect again is up to the caller.
 
@@ -31,6 +32,7 @@ import errno
 import ipaddress
 import itertools
 import operator
+import os
 import re
 import select
 import socket
@@ -243,7 +245,7 @@ class InvalidCommand(Error, ValueError):
 
 
 class NotConnected(Error):
-    """Nobody listens at the address, or the session has ended before. Nothing was sent."""
+    """Nobody listens at the address, the session has ended before, or it is another process's. Nothing was sent."""
 
 
 class Refused(Error):
@@ -760,6 +762,7 @@ class Session(BaseSession):
         stream.setblocking(False)
         self.timeout = timeout
         self._stream: Optional[socket.socket] = stream
+        self._process = os.getpid()
         # (the handler of a signal comes in too, where its thread is within a call)
         self._turn, self._is_busy = threading.RLock(), False
         self._poll = select.poll()
@@ -767,7 +770,7 @@ class Session(BaseSession):
 
     @property
     def is_open(self) -> bool:
-        return self._stream is not None
+        return self._stream is not None and self._process == os.getpid()
 
     def close(self) -> None:
         """Ends the session by `quit`, and closes the connection, after a call that another thread makes. Nothing is
@@ -789,8 +792,8 @@ class Session(BaseSession):
     def _exchange(self, commands: Sequence[_Command]) -> List[Reply]:
         """Sends commands and reads their replies. The session ends where this raises anything but an InvalidCommand."""
         with self._turn:
-            if self._stream is None:
-                raise NotConnected("the session has ended")
+            if self._stream is None or not self.is_open:
+                raise NotConnected("the session has ended, or is another process's")
             if self._is_busy:
                 raise InvalidCommand("the call of a signal's handler within a call")
             exchange = _Exchange(self._stream, self._poll, commands)

@@ -746,6 +746,30 @@ class Faults(unittest.TestCase):
                 session.close()
             self.assertEqual({*wrong}, {"ended"} if is_closed else set())
 
+    def test_fork(self):
+        """The child of a fork sends nothing in its parent's session, nor ends it."""
+        def serve(stream):
+            stream.sendall(b"ok repair\n" if read_lines(stream) == b"repair\n" else b"err K1\n")
+            return read_lines(stream)
+
+        with fake(serve) as (address, last):
+            session = siploc.connect(address)
+            child = os.fork()
+            if not child:
+                status = 1
+                try:
+                    session.find("sip:a")
+                except siploc.NotConnected:
+                    status = int(session.is_open)
+                finally:
+                    session.close()
+                    os._exit(status)
+            self.assertEqual(os.waitpid(child, 0)[1], 0)
+            session.repair()
+            with contextlib.suppress(siploc.Error):
+                session.close()
+        self.assertEqual(last, [b"quit\n"])
+
     def test_call_within_a_call(self):
         """What a signal calls while a call is being made is refused, and the call goes on; it may be closed."""
         def serve(stream):
