@@ -33,6 +33,9 @@ PATIENCE = 0.5
 SECRET = os.environ["SIPLOC_SECRET"] = os.environ.get("SIPLOC_SECRET") or secrets.token_hex(32)
 # How many targets of an answer are tried at most.
 MOST = 4
+# How many endpoints a process holds, in the time of a hold, whose port is a URI's: else strangers could name as many as
+# may be held.
+NAMED = 64
 
 LOCATED, NO_TARGET, AWAY, NUMERIC = 1, 2, 3, 4
 FAILED = -1
@@ -79,6 +82,8 @@ class Locator:
         self.session: Optional[siploc.BaseSession] = None
         self.next_try = 0.0
         self.stream = Stream()
+        # When endpoints were held whose port is a URI's.
+        self.named: List[float] = []
         self.chance = random.SystemRandom()
 
     def child_init(self, _rank: int) -> int:
@@ -138,7 +143,8 @@ class Locator:
         if not answer:
             KSR.info(f"siploc: {uri}: {answer.reason}\n")
             return NO_TARGET
-        go_to([" ".join(map(str, target)) for target in answer.targets[:MOST]])
+        named = " named" if ":" in places_of(uri)[0] else ""
+        go_to([" ".join(map(str, target)) + named for target in answer.targets[:MOST]])
         return LOCATED
 
     def failed_by_reply(self, message: object) -> int:
@@ -152,17 +158,26 @@ class Locator:
             # The locator was away when they were asked for.
             return FAILED
         first, *others = targets.split(",")
-        transport, address, port = first.split(" ")
+        transport, address, port, *named = first.split(" ")
         match = re.match(r"\s*([0-9]{1,9})\s*(?:[;(]|$)", retry_after, re.ASCII)
         wait = match and int(match[1]) * 1000 or HOLD
         try:
-            self.hold(siploc.Target(transport, address, int(port)), wait)
+            if not named or self.has_place():
+                self.hold(siploc.Target(transport, address, int(port)), wait)
         except (Away, changelog.Fault, siploc.Error) as fault:
             KSR.warn(f"siploc: {fault}: {first} is not held\n")
         if not others:
             return FAILED
         go_to(others)
         return LOCATED
+
+
+    def has_place(self) -> bool:
+        """Whether this process holds one more endpoint whose port is a URI's."""
+        now = time.monotonic()
+        self.named = [it for it in self.named if it > now - HOLD / 1000]
+        self.named += [now] * (len(self.named) < NAMED)
+        return self.named[-1:] == [now]
 
 
 def text_of(variable: str) -> Optional[str]:
@@ -178,15 +193,20 @@ def text_of(variable: str) -> Optional[str]:
 def is_numeric(uri: str) -> bool:
     """Whether a URI has an address in the place of a name: its `maddr`, or else its host. Where it has more than one, or
     one without a name, the locator refuses it, and nobody knows what Kamailio takes: then any of them counts."""
-    host, *parameters = uri.partition(":")[2].rpartition("@")[2].partition("?")[0].split(";")
+    host, *parameters = places_of(uri)
     given = [it[len("maddr="):] for it in parameters if it.lower().startswith("maddr=")]
     places = given if len(given) == 1 and given[0] else [host, *given]
     return any(re.match(r"\[|[0-9.]+(:|$)", it) for it in places)
 
 
+def places_of(uri: str) -> List[str]:
+    """A URI's host with its port, and its parameters."""
+    return uri.partition(":")[2].rpartition("@")[2].partition("?")[0].split(";")
+
+
 def go_to(targets: List[str]) -> None:
     """Makes the first target the next hop, and keeps all of them with the transaction."""
-    transport, address, port = targets[0].split(" ")
+    transport, address, port = targets[0].split(" ")[:3]
     host = f"[{address}]" if ":" in address else address
     KSR.pv.sets("$du", f"sip:{host}:{port};transport={transport}")
     KSR.pv.sets(TARGETS, ",".join(targets))
