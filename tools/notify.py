@@ -64,8 +64,11 @@ class Bell:
         self.rung, self.free = threading.Condition(), threading.Semaphore(STREAMS)
         self.datagrams, self.streams = self.listeners(place)
         self.place: Place = self.datagrams.getsockname()[:2]
-        for serve in (self.serve_datagrams, self.serve_streams):
-            threading.Thread(target=serve, daemon=True).start()
+        try:
+            for serve in (self.serve_datagrams, self.serve_streams):
+                threading.Thread(target=serve, daemon=True).start()
+        except RuntimeError as fault:
+            raise OSError(f"nothing listens at {show_place(self.place)}: {fault}") from None
 
     @staticmethod
     def listeners(place: Place) -> tuple[socket.socket, socket.socket]:
