@@ -9,6 +9,7 @@ it. Their continuations are not part of it.
 
 from __future__ import annotations
 
+import atexit
 import errno
 import os
 import pathlib
@@ -41,6 +42,10 @@ def end_at_signals() -> None:
 
     for it in ours:
         signal.signal(it, end)
+    # (one that comes just before a wait begins does not end that: the next alarm does)
+    signal.signal(signal.SIGALRM, lambda *_: None)
+    signal.setitimer(signal.ITIMER_REAL, 1.0, 1.0)
+    atexit.register(signal.setitimer, signal.ITIMER_REAL, 0.0)
 
 
 class Head:
