@@ -40,10 +40,24 @@ def end_at_signals() -> None:
             signal.signal(it, signal.SIG_DFL)
         raise Ended(f"ended by {signal.Signals(number).name}")
 
+    lost: list[object] = []
+
+    def again(*_: object) -> None:
+        if lost:
+            raise Ended(lost.pop())
+
+    def ignored(fault: sys.UnraisableHookArgs) -> None:
+        if isinstance(fault.exc_value, Ended):
+            lost.append(fault.exc_value)
+        else:
+            sys.__unraisablehook__(fault)
+
     for it in ours:
         signal.signal(it, end)
-    # (one that comes just before a wait begins does not end that: the next alarm does)
-    signal.signal(signal.SIGALRM, lambda *_: None)
+    # (one that comes just before a wait begins does not end that, and what is raised while Python drops something is
+    # ignored: then the next alarm does it)
+    sys.unraisablehook = ignored
+    signal.signal(signal.SIGALRM, again)
     signal.setitimer(signal.ITIMER_REAL, 1.0, 1.0)
     atexit.register(signal.setitimer, signal.ITIMER_REAL, 0.0)
 
