@@ -105,6 +105,8 @@ def print_done(text: str) -> None:
         print(text, flush=True)
     except OSError as fault:
         raise OSError(fault.errno, f"{fault.strerror}: {text}") from fault
+    except Ended as ended:
+        raise Ended(f"{ended}: {text}") from None
 
 
 def drop_output() -> None:
