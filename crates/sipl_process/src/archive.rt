@@ -1,7 +1,7 @@
 //! The archive of the settings, and a replay of one.
 use crate::fault::Fault;
 use crate::host::Host;
-use crate::paths::{expect_folder, expect_page};
+use crate::paths::{expect_folder, expect_page, expect_pages};
 use sipl_archive::{Archive, Replayed, replay};
 use sipl_settings::{DaemonSettings, OnFailure};
 use std::alloc::Global;
@@ -47,6 +47,7 @@ where
     R: Print + AllocGlobal,
     H: Host,
 {
+    expect_pages(host, rt.alloc(), folder)?;
     let runs = replay(host, rt.alloc(), folder)?;
     print_runs(rt, &runs)
 }

@@ -2,6 +2,7 @@
 //! without end, and what is in the way of a page be seen only with the first page.
 use crate::fault::Fault;
 use crate::host::Host;
+use sipl_archive::ReplayFault;
 use sipl_settings::GivenFault;
 use std::alloc::Global;
 use std::fs::{File, Metadata, OpenOptions};
@@ -46,6 +47,18 @@ pub(crate) fn expect_folder<H: Host>(host: &H, alloc: Global, path: &str) -> Res
     }
 }
 
+/// Checks that what is in an archive is files, but for a page that is being written.
+pub(crate) fn expect_pages<H: Host>(host: &H, alloc: Global, folder: &str) -> Result<(), Fault> {
+    match check_pages(host, alloc, folder) {
+        Ok(None) => Ok(()),
+        Ok(Some((path, error))) => Err(Fault::Replay(ReplayFault::File(path, error))),
+        Err(error) => {
+            let folder = String::from_str(alloc, folder)?;
+            Err(Fault::Replay(ReplayFault::File(folder, error)))
+        }
+    }
+}
+
 /// Checks that the next page of an archive, whose lock is taken, finds no other than a file in its way, and where that
 /// is asked for that it can be made.
 pub(crate) fn expect_page<H: Host>(
@@ -59,6 +72,30 @@ pub(crate) fn expect_page<H: Host>(
         Ok(()) => Ok(()),
         Err(error) => Err(Fault::Archive(path, error)),
     }
+}
+
+// The path of the first in a folder that is not a file, and why, if there is one.
+fn check_pages<H: Host>(
+    host: &H,
+    alloc: Global,
+    folder: &str,
+) -> io::Result<Option<(String, io::Error)>> {
+    for entry in fs::read_dir(&(host, alloc), folder)? {
+        let entry = entry?;
+        let path = entry.path().as_str();
+        if path.ends_with("/new") {
+            continue;
+        }
+        if let Err(error) = expect_file_at(host, path) {
+            return Ok(Some((String::from_str(alloc, path)?, error)));
+        }
+    }
+    Ok(None)
+}
+
+// Checks that there is a file at a path.
+fn expect_file_at<R: Files>(rt: &R, path: &str) -> io::Result<()> {
+    expect_file(&fs::metadata(rt, path)?)
 }
 
 fn check_settings<H: Host>(host: &H, alloc: Global, path: &str) -> io::Result<()> {

@@ -61,6 +61,26 @@ def refuses_what_is_no_file(checks: Checks, folder: pathlib.Path) -> None:
 
 
 @test
+def replays_no_pipe_and_no_device(checks: Checks, folder: pathlib.Path) -> None:
+    archive = folder / "archive"
+    archive.mkdir()
+    page = archive / "000002-0000000000000000"
+    with started(checks, folder, f'archive = "{archive}"') as daemon:
+        with Client(daemon.address) as client:
+            client.ask("find sip:192.0.2.1")
+        stopped(checks, daemon, 1)
+    for make in lambda: os.mkfifo(page), lambda: page.symlink_to("/dev/zero"), page.mkdir:
+        make()
+        refused(checks, folder, ["replay", str(archive)], f"siplocd: replay {page}: ", "not a regular file")
+        page.rmdir() if page.is_dir() else page.unlink()
+    # That of a page that is being written is nothing yet.
+    os.mkfifo(archive / "new")
+    ran = subprocess.run([PROGRAM, "replay", str(archive)], capture_output=True, text=True, timeout=PATIENCE,
+                         check=False)
+    checks.equal((ran.returncode, ran.stdout, ran.stderr), (0, "run 000001 1\nreplayed 1\n", ""), "the page")
+
+
+@test
 def settings_may_come_from_an_open_pipe(checks: Checks, folder: pathlib.Path) -> None:
     for text, wanted in (b"idle = 5\n", (0, b"ok\n", b"")), (b"idle = 0\n", (1, b"", None)):
         ran = subprocess.run([PROGRAM, "check", "--config", "/dev/stdin"], input=text, capture_output=True,
