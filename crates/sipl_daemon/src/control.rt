@@ -79,15 +79,17 @@ fn reply_to_next<H: Host, B: BufRead>(
     client: &Client,
     is_first: bool,
 ) -> io::Result<Option<Go>> {
-    let mut line = String::new(daemon.alloc);
-    if reader.read_line(&mut line)? == 0 {
+    let mut line = Vec::new(daemon.alloc);
+    if reader.read_until(b'\n', &mut line)? == 0 {
         return Ok(None);
     }
     daemon.controls.hear(host, client.place);
-    if is_first && begins_request(line.as_bytes()) {
+    if is_first && begins_request(&line) {
         return Ok(None);
     }
-    Ok(Some(reply_to(host, daemon, line.as_str().trim(), &client.stream)?))
+    // (no command has a `?`)
+    let text = str::from_utf8(&line).unwrap_or("?");
+    Ok(Some(reply_to(host, daemon, text.trim(), &client.stream)?))
 }
 
 // Replies to a line.

@@ -33,6 +33,11 @@ def control_lines(checks: Checks, folder: pathlib.Path) -> None:
                 replies = [other.reply(), *([other.reply()] if line else [])]
                 checks.expect((replies[-1] or [""])[-1] == "ok stats", (line, replies))
                 checks.expect(not line or (replies[0] or [""])[-1].startswith("err "), (line, replies))
+        for octets in b"\xff", b"now\xff", b"\xc3 now":
+            with Client(daemon.control) as other:
+                other.stream.sendall(octets + b"\nnow\n")
+                checks.equal(other.reply(), ["err K1"], octets)
+                checks.expect((other.reply() or [""])[-1].startswith("ok now "), f"after {octets!r}")
         with Client(daemon.control) as other, contextlib.suppress(OSError):
             other.send("x" * 100_000)
             other.reply()
