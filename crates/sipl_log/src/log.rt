@@ -122,10 +122,13 @@ impl Log {
     // Waits for lines, and writes them.
     fn write_next<R: Eprint + Wait + Clock>(&self, rt: &R) {
         let text = self.take_next(rt);
-        if !text.is_empty() {
-            let _ = eprint!(rt; "{text}");
+        let is_written = text.is_empty() || eprint!(rt; "{text}").is_ok();
+        let mut queue = self.queue.lock(rt);
+        if !is_written {
+            queue.lose_text(text.as_str());
         }
-        self.queue.lock(rt).is_writing = false;
+        queue.is_writing = false;
+        drop(queue);
         self.changed.notify_all();
     }
 

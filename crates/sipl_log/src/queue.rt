@@ -20,6 +20,9 @@ pub(crate) struct Queue {
     // How many lines were dropped since a line said so, and in all.
     lost: u64,
     dropped: u64,
+    // How many of them lines tell that wait, and those that are being written.
+    told: u64,
+    in_hand: u64,
     /// Whether a thread writes lines, and whether it is at it.
     pub(crate) has_writer: bool,
     pub(crate) is_writing: bool,
@@ -35,6 +38,8 @@ impl Queue {
             repeats: Repeats::new(alloc),
             lost: 0,
             dropped: 0,
+            told: 0,
+            in_hand: 0,
             has_writer: false,
             is_writing: false,
         }
@@ -97,13 +102,25 @@ impl Queue {
     /// Takes out all that waits, as one text.
     pub(crate) fn take(&mut self) -> String {
         let lines = mem::replace(&mut self.lines, VecDeque::new(self.alloc));
+        self.in_hand = mem::replace(&mut self.told, 0);
         match joined(self.alloc, &lines) {
             Ok(text) => text,
             Err(_) => {
-                self.count_lost(lines.len() as u64);
+                self.lose(lines.len() as u64);
                 String::new(self.alloc)
             }
         }
+    }
+
+    /// Counts the lines of a text that was taken out and could not be written, or not all of it.
+    pub(crate) fn lose_text(&mut self, text: &str) {
+        self.lose(text.as_bytes().iter().filter(|octet| **octet == b'\n').count() as u64);
+    }
+
+    // Counts lines that were taken out and are lost. Those of which one of them tells are to be told again.
+    fn lose(&mut self, lines: u64) {
+        self.count_lost(lines);
+        self.lost = self.lost.saturating_add(self.in_hand);
     }
 
     // Appends a line, if there is space; before it how many had none.
@@ -122,6 +139,7 @@ impl Queue {
         let line = Line::new(self.alloc, Level::Warn, "lost").number("lines", self.lost);
         if let Some(text) = line.into_text() {
             if self.append(Level::Warn, text.as_str()).is_ok() {
+                self.told = self.told.saturating_add(self.lost);
                 self.lost = 0;
             }
         }

@@ -214,3 +214,48 @@ def a_log_that_no_one_reads_stops_no_session(checks: Checks, folder: pathlib.Pat
         os.close(reader)
         if process.stdout:
             process.stdout.close()
+
+
+def lines_told(text: bytes) -> int:
+    """How many of the lines about names that begin with `n` are whole in a log, and how many it says to be lost."""
+    whole = re.findall(rb"^debug event=added name=n\d+\.example\.com\. .*ms=\d+\.\d{3}$", text, re.M)
+    return len(whole) + sum(int(it) for it in re.findall(rb"^warn event=lost lines=(\d+)$", text, re.M))
+
+
+def read_log(reader: int, client: Client, count: int) -> bytes:
+    """Reads a log until it tells of so many lines, for some time at most. Meanwhile edits are refused, which is told."""
+    text, end = b"", time.monotonic() + PATIENCE
+    while lines_told(text) < count and time.monotonic() < end:
+        try:
+            text += os.read(reader, 1 << 16)
+        except BlockingIOError:
+            client.ask("drop none.")
+            time.sleep(0.05)
+    return text
+
+
+@test
+def counts_what_could_not_be_written(checks: Checks, folder: pathlib.Path) -> None:
+    address, count = f"unix:{folder}/lines", 3_000
+    reader, writer = os.pipe()
+    # A write that would wait fails, as one to a disk that is full does.
+    os.set_blocking(writer, False)
+    os.set_blocking(reader, False)
+    process = subprocess.Popen([PROGRAM, f'listen = ["{address}"]\nlog = "debug"'], stdout=subprocess.PIPE,
+                               stderr=writer, stdin=subprocess.DEVNULL)
+    os.close(writer)
+    try:
+        checks.expect(b"ready" in (process.stdout.readline() if process.stdout else b""), "it begins")
+        with Client(address) as client:
+            client.ask("zone example.com. 0")
+            for begin in range(0, count, 250):
+                client.send("".join(f"add n{it}.example.com. A 192.0.2.3\n" for it in range(begin, begin + 250)))
+                checks.equal([client.reply() for _ in range(250)], 250 * [["ok add 1"]], begin)
+            text = read_log(reader, client, count)
+        checks.expect(b"event=lost" in text and lines_told(text) >= count, (lines_told(text), text[-300:]))
+    finally:
+        process.kill()
+        process.wait()
+        os.close(reader)
+        if process.stdout:
+            process.stdout.close()
