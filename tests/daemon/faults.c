@@ -9,13 +9,16 @@
 //                  inode of each file of a folder when that was synced
 //
 // NAME is the path below the folder, `.` for the folder itself, `archive/page` for each page that has its place there,
-// and `socket`. ACTION is the number of an error; `before` or `after`, the end of the process before the operation or
-// after it; of a write `half`, the end after half of its octets, and `short`, which writes half of them; or `full`:
-// half of the octets are written, and from then on the disk has no space, until the folder has a file `emptied`.
+// `socket`, and `new` of a `thread`, the making of one. ACTION is the number of an error; `before` or `after`, the end of
+// the process before the operation or after it; of a write `half`, the end after half of its octets, and `short`, which
+// writes half of them; or `full`: half of the octets are written, and from then on the disk has no space, until the
+// folder has a file `emptied`.
 #define _GNU_SOURCE
 #include <dirent.h>
+#include <dlfcn.h>
 #include <errno.h>
 #include <fcntl.h>
+#include <pthread.h>
 #include <signal.h>
 #include <stdarg.h>
 #include <stdatomic.h>
@@ -285,4 +288,9 @@ ssize_t recv(int file, void *octets, size_t size, int flags) {
 
 ssize_t send(int file, const void *octets, size_t size, int flags) {
     ON_FILE("send", file, syscall(SYS_sendto, file, octets, size, flags, NULL, 0));
+}
+
+int pthread_create(pthread_t *thread, const pthread_attr_t *with, void *(*run)(void *), void *of) {
+    int (*next)(pthread_t *, const pthread_attr_t *, void *(*)(void *), void *) = dlsym(RTLD_NEXT, "pthread_create");
+    return fails(is_chosen("thread", trace < 0 ? NULL : "new")) ? errno : next(thread, with, run, of);
 }

@@ -20,7 +20,7 @@ use sipl_uri::Question;
 use std::alloc::Global;
 use std::io;
 use std::rt::Files;
-use std::sync::atomic::AtomicU64;
+use std::sync::atomic::{AtomicBool, AtomicU64, Ordering};
 use std::sync::{Arc, Mutex, Wait};
 use std::time::Clock;
 
@@ -50,6 +50,8 @@ pub(crate) struct Daemon {
     pub(crate) on_failure: OnFailure,
     // For how many seconds a client may send nothing.
     pub(crate) idle: Option<u64>,
+    // Whether a thread could not be made without which it does not go on.
+    lacks_thread: AtomicBool,
 }
 
 // What a daemon has beside its service: its time, the places of all who connect, and what is told of it.
@@ -142,7 +144,19 @@ impl Daemon {
             mover,
             on_failure: settings.on_failure,
             idle: settings.idle,
+            lacks_thread: AtomicBool::new(false),
         }
+    }
+
+    // Asks for the stop, since a thread could not be made without which the daemon does not go on.
+    pub(crate) fn lack_thread<R: Wait>(&self, rt: &R) {
+        self.lacks_thread.store(true, Ordering::SeqCst);
+        self.stop.ask(rt);
+    }
+
+    // Whether it ends since a thread could not be made.
+    pub(crate) fn lacks_thread(&self) -> bool {
+        self.lacks_thread.load(Ordering::SeqCst)
     }
 
     // Moves the book's time to that of the host, if it is the host's and an endpoint is held. The move is not

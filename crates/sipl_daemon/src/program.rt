@@ -14,12 +14,13 @@ use sipl_process::{
 use sipl_settings::{Call, DaemonSettings, Given};
 use sipl_state::{Restored, StateFault, real_path, restore};
 use std::alloc::Global;
-use std::mem;
+use std::io::ErrorKind;
 use std::process::ExitCode;
 use std::rt::Env;
 use std::sync::Arc;
 use std::sync::atomic::AtomicU64;
 use std::time::Duration;
+use std::{io, mem};
 
 // How long the end waits for the log to be written, in milliseconds.
 const LAST_LINES: u64 = 3_000;
@@ -119,12 +120,17 @@ where
     }
 }
 
-// Claims all pages of a daemon. Returns how many events there were.
+// Claims all pages of a daemon. Returns how many events there were. One that ended for want of a thread has failed.
 fn close<H: Host>(host: &H, daemon: Box<Daemon>, claims: Claims) -> Result<u64, Fault> {
     let mut claims = claims;
+    let lacks_thread = daemon.lacks_thread();
     let events = Box::into_inner(daemon).close(host, &mut claims);
     drop(claims);
-    Ok(events?)
+    let events = events?;
+    if lacks_thread {
+        return Err(Fault::Stream(io::Error::new(ErrorKind::WouldBlock, "no thread can be made")));
+    }
+    Ok(events)
 }
 
 // Goes on from the state, if there is one, and serves until the daemon is to stop.

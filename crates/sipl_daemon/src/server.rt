@@ -38,22 +38,22 @@ pub(crate) fn serve_all<H: Host>(
             .spawn(move || claim_pages(host, daemon, claims))
             .is_err()
         {
-            daemon.stop.ask(host);
+            daemon.lack_thread(host);
         }
         if scope.spawn(move || run_clock(host, daemon)).is_err() {
-            daemon.stop.ask(host);
+            daemon.lack_thread(host);
         }
         if daemon.on_failure == OnFailure::Read
             && scope.spawn(move || mend_changes(host, daemon)).is_err()
         {
-            daemon.stop.ask(host);
+            daemon.lack_thread(host);
         }
         for listener in &listeners.clients {
             if scope
                 .spawn(move || accept_clients(host, daemon, listener, false))
                 .is_err()
             {
-                daemon.stop.ask(host);
+                daemon.lack_thread(host);
             }
         }
         for listener in &listeners.find {
@@ -61,7 +61,7 @@ pub(crate) fn serve_all<H: Host>(
                 .spawn(move || accept_clients(host, daemon, listener, true))
                 .is_err()
             {
-                daemon.stop.ask(host);
+                daemon.lack_thread(host);
             }
         }
         if let Some(listener) = &listeners.control {
@@ -69,7 +69,7 @@ pub(crate) fn serve_all<H: Host>(
                 .spawn(move || accept_control(host, daemon, listener))
                 .is_err()
             {
-                daemon.stop.ask(host);
+                daemon.lack_thread(host);
             }
         }
         if let Some(listener) = &listeners.metrics {
@@ -77,7 +77,7 @@ pub(crate) fn serve_all<H: Host>(
                 .spawn(move || accept_scrapers(host, daemon, listener))
                 .is_err()
             {
-                daemon.stop.ask(host);
+                daemon.lack_thread(host);
             }
         }
         daemon.stop.wait(host);

@@ -8,7 +8,7 @@ import subprocess
 import time
 
 from commits import log_of, state_of
-from daemon_tests.support import PROGRAM, Checks, Client, Daemon, started, stopped, test, until
+from daemon_tests.support import PROGRAM, TOP, Checks, Client, Daemon, started, stopped, test, until
 from daemon_tests.syncs import Syncs
 
 REFUSED = ["err D2"]
@@ -207,3 +207,20 @@ def pages_wait_until_they_are_archived(checks: Checks, folder: pathlib.Path) -> 
         checks.expect(daemon.said().endswith("siplocd: archive: No space left on device (os error 28)\n"),
                       daemon.said())
     syncs.fail("write", 0)
+
+
+@test
+def says_where_no_thread_can_be_made(checks: Checks, folder: pathlib.Path) -> None:
+    library = folder / "faults.so"
+    subprocess.run(["cc", "-O2", "-shared", "-fPIC", "-o", library, TOP / "tests/daemon/faults.c"], check=True)
+    # Those of the input, of the log and of the workers are the first three; without them it goes on.
+    for count, on_failure in (4, "end"), (5, "end"), (6, "end"), (7, "end"), (6, "read"), (8, "read"):
+        inner = folder / f"{count}-{on_failure}"
+        inner.mkdir()
+        environment = {"LD_PRELOAD": str(library), "FAULT_FOLDER": f"{inner}/", "FAULT_LOG": f"{inner}/trace",
+                       "FAULT": f"thread new {count} {errno.EAGAIN}"}
+        settings = f'workers = 0\non_failure = "{on_failure}"'
+        daemon = Daemon(inner, settings, listen=[f"unix:{inner}/lines"], environment=environment, waits=False)
+        status, last = daemon.end()
+        checks.equal((status, daemon.said()), (1, "siplocd: no thread can be made\n"), f"thread {count}, {last!r}")
+        checks.expect(not last.startswith("closed"), f"{last!r} for want of thread {count}")

@@ -334,8 +334,8 @@ class Faults:
                 operations = operations[:operations.index("accept socket")]
             for operation, total in collections.Counter(operations).items():
                 kind, name = operation.split(" ")
-                if name.startswith("lines"):
-                    # (as of the other socket)
+                if name.startswith("lines") or kind == "thread":
+                    # (as of the other socket; and a session without a thread may be that of the stop)
                     continue
                 counts = {1 + it * (total - 1) // max(1, min(most, total) - 1) for it in range(min(most, total))}
                 found += [Fault(scene.name, kind, name, count, action)
