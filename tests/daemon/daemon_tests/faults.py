@@ -21,7 +21,7 @@ from typing import Any, Iterator, NamedTuple, Optional, Sequence
 
 from commits import bodies_of, body_of, log_of, state_of
 from daemon_tests.states import Edits
-from daemon_tests.support import PATIENCE, SEED, TOP, Checks, Client, Daemon, test
+from daemon_tests.support import PATIENCE, PROGRAM, SEED, TOP, Checks, Client, Daemon, test
 
 # What becomes of an operation of a kind, as tests/daemon/faults.c has it: the end of the process, or an error.
 ENDS = ["before", "half", "after"]
@@ -237,6 +237,7 @@ class Clients:
 
     def check(self, folder: pathlib.Path) -> None:
         """Starts a daemon without faults, and checks that there is what may be, and the same in its state."""
+        self.replay(folder)
         daemon = begin(folder)
         try:
             if not daemon.is_ready():
@@ -250,8 +251,16 @@ class Clients:
             kept = [kept_of(own, zones, holds) for own in self.edits]
             if kept != seen:
                 self.wrong.append(f"a state with {kept}, and not {seen}")
+            self.replay(folder)
         finally:
             daemon.kill()
+
+    def replay(self, folder: pathlib.Path, events: str = "") -> None:
+        """Checks that the pages that there are can be replayed; and that the first run has so many events, if any."""
+        ran = subprocess.run([PROGRAM, "replay", folder / "archive"], capture_output=True, text=True, timeout=PATIENCE,
+                             check=False)
+        if ran.returncode or events and f"run 000001 {events}" not in ran.stdout.splitlines():
+            self.wrong.append(f"an archive of which a replay says {ran.stdout!r}, {ran.stderr!r}, {events}")
 
 
 def read_state(path: pathlib.Path) -> tuple[dict[str, list[str]], list[str]]:
@@ -368,6 +377,8 @@ class Faults:
             is_met = any(it[0] == "!" for it in lines)
             if not is_end(fault, is_met, status, last, daemon.said()):
                 clients.wrong.append(f"ended with {status}, {last!r}, {daemon.said()!r}")
+            if status == 0 and last != "closed 0":
+                clients.replay(folder, last.removeprefix("closed "))
             if is_outlived(fault) and any(len(it) > 1 for it in clients.may_be):
                 clients.wrong.append(f"changes without a reply: {clients.may_be}")
             # As the process left it, and as the end of the machine may have left it then.
