@@ -92,12 +92,17 @@ fn reply_to_next<H: Host, B: BufRead>(
     Ok(Some(reply_to(host, daemon, text.trim(), &client.stream)?))
 }
 
-// Replies to a line.
+// Replies to a line. One that asks for the stop need not wait for the reply.
 fn reply_to<H: Host>(host: &H, daemon: &Daemon, line: &str, stream: &Stream) -> io::Result<Go> {
     let mut reply = String::new(daemon.alloc);
     let go = obey(host, daemon, line, &mut reply)?;
     let mut writer = stream;
-    writer.write_all(reply.as_bytes())?;
+    match go {
+        Go::On => writer.write_all(reply.as_bytes())?,
+        Go::Stop => {
+            let _ = writer.write_all(reply.as_bytes());
+        }
+    }
     Ok(go)
 }
 

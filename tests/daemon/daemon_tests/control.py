@@ -59,6 +59,18 @@ def control_lines(checks: Checks, folder: pathlib.Path) -> None:
 
 
 @test
+def stops_for_who_does_not_wait(checks: Checks, folder: pathlib.Path) -> None:
+    for number in range(5):
+        inner = folder / str(number)
+        inner.mkdir()
+        with started(checks, inner) as daemon:
+            with Client(daemon.control) as client:
+                client.send("stop\n")
+            status, last = daemon.end()
+            checks.expect(status == 0 and last.startswith("closed "), (status, last, daemon.said()))
+
+
+@test
 def silent_control_connections_keep_no_one_out(checks: Checks, folder: pathlib.Path) -> None:
     with started(checks, folder) as daemon, contextlib.ExitStack() as stack:
         silent = [stack.enter_context(Client(daemon.control)) for _ in range(7)]
