@@ -47,8 +47,8 @@ impl StateFiles {
         })
     }
 
-    /// Begins a log with these octets: the new one is there before its state takes its place, and takes its own after
-    /// that. What a kill leaves between the two is finished at the next start.
+    /// Begins a log with these octets: the new one is there, also after a loss of power, before its state takes its
+    /// place, and takes its own after that. What a kill leaves between the two is finished at the next start.
     pub(crate) fn begin<R: Files<File = File>>(
         &self,
         rt: &R,
@@ -56,6 +56,7 @@ impl StateFiles {
         log: &[u8],
     ) -> io::Result<()> {
         write_new(rt, alloc, self.log.as_str(), log)?;
+        sync_folder(rt, self.state.as_str())?;
         take_place(rt, alloc, self.state.as_str())?;
         take_place(rt, alloc, self.log.as_str())
     }

@@ -60,7 +60,7 @@ def answers_while_no_change_can_be_written(checks: Checks, folder: pathlib.Path)
 
 @test
 def goes_on_after_a_trim_that_failed(checks: Checks, folder: pathlib.Path) -> None:
-    for place, error in (1, errno.EIO), (2, errno.EIO), (3, errno.EIO), (0, errno.EMFILE):
+    for place, error in (1, errno.EIO), (2, errno.EIO), (3, errno.EIO), (4, errno.EIO), (0, errno.EMFILE):
         inner = folder / f"{place}"
         inner.mkdir()
         syncs, settings = Syncs(inner), f'state = "{inner}/state"\non_failure = "read"'
@@ -72,7 +72,7 @@ def goes_on_after_a_trim_that_failed(checks: Checks, folder: pathlib.Path) -> No
             else:
                 syncs.fail("open", error)
             checks.equal(client.ask(LONG_ZONE), ["ok zone 1401 0 0 1401"], "zone")
-            checks.expect(until(lambda: "refused" in daemon.said()) or place == 3, f"{place}: {daemon.said()!r}")
+            checks.expect(until(lambda: "refused" in daemon.said()) or place == 4, f"{place}: {daemon.said()!r}")
             syncs.fail("open", 0)
             checks.expect(accepts(client, "add b.example.com. A 192.0.2.2"), f"{place}: refused for ever")
             daemon.kill()

@@ -322,8 +322,8 @@ def reports_no_change_as_kept_after_a_trim_that_failed(checks: Checks, folder: p
                 Client(daemon.address) as client, Client(daemon.address) as other:
             checks.equal(client.ask(zone), ["ok zone 1401 0 0 1401"], "zone")
             checks.equal(other.ask("repair"), ["ok repair"], "before")
-            # The folder is synced after the state was moved there, and then after the changes were.
-            syncs.watch_folder(2, error if name == "folder" else 0)
+            # The folder is synced before and after the state is moved there, and then after the changes were.
+            syncs.watch_folder(3, error if name == "folder" else 0)
             daemon.tell("page")
             checks.expect(until(syncs.has_begun), f"{name}: no trim")
             client.send("add late.example.com. A 192.0.2.3\n")
@@ -342,6 +342,26 @@ def reports_no_change_as_kept_after_a_trim_that_failed(checks: Checks, folder: p
             checks.equal(reply, ["target 1 udp 192.0.2.1 1", "ok find 1"], f"{name}: after another start")
             checks.equal(client.ask("add late.example.com. A 192.0.2.4")[-1:], ["ok add 1"], f"{name}: a change")
             stopped(checks, daemon)
+
+
+@test
+def a_state_takes_its_place_after_the_name_of_its_log_is_kept(checks: Checks, folder: pathlib.Path) -> None:
+    text = "x" * 255
+    zone = "zone example.com. 1401\na A 192.0.2.1" + "".join(f'\nn{n} NAPTR 1 1 "{text}" "{text}" "{text}" .'
+                                                             for n in range(1_400))
+    syncs, state = Syncs(folder), folder / "state"
+    with started(checks, folder, f'state = "{state}"', environment=syncs.environment) as daemon, \
+            Client(daemon.address) as client:
+        before = state.read_bytes()
+        checks.equal(client.ask(zone), ["ok zone 1401 0 0 1401"], "zone")
+        syncs.watch_folder(1, 0)
+        daemon.tell("page")
+        checks.expect(until(syncs.has_begun), "no state is written")
+        there = (folder / "state.new").exists(), (folder / "state.log.new").exists()
+        checks.equal((there, state.read_bytes() == before), ((True, True), True), "while the folder is synced")
+        syncs.go_on()
+        checks.expect(until(lambda: state.read_bytes() != before), "no state took its place")
+        stopped(checks, daemon)
 
 
 @test
