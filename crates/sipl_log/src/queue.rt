@@ -114,7 +114,12 @@ impl Queue {
 
     /// Counts the lines of a text that was taken out and could not be written, or not all of it.
     pub(crate) fn lose_text(&mut self, text: &str) {
-        self.lose(text.as_bytes().iter().filter(|octet| **octet == b'\n').count() as u64);
+        self.lose(
+            text.as_bytes()
+                .iter()
+                .filter(|octet| **octet == b'\n')
+                .count() as u64,
+        );
     }
 
     // Counts lines that were taken out and are lost. Those of which one of them tells are to be told again.
