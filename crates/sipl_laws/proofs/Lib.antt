@@ -1,3 +1,17 @@
 mod HeldInOrder
 mod Closest
 mod Casing
+mod Cuts
+mod Octets
+mod SameLines
+mod SameZones
+mod SameEvents
+mod SamePages
+mod FieldLists
+mod WordFields
+mod LineLengths
+mod LineRequests
+mod EventRequests
+mod Cutting
+mod EventCuts
+mod EventReads

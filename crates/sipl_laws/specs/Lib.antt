@@ -1,1 +1,3 @@
 pub mod NameCases
+pub mod Events
+pub mod Asked

@@ -1,7 +1,8 @@
 //! What follows from the definitions. Each law is the contract of a function that does nothing.
 
-ghost use Rattle.std.specs.Prelude.{◌≡◌, ◌++◌, ℕ, List};
-ghost use Rattle.sipl_names.specs.Labels.{Labels, IsName};
+ghost use Rattle.std.specs.Prelude.{◌≡◌, ◌++◌, ℕ, List, Some, map};
+ghost use Rattle.std.specs.List.{AllByRecursion};
+ghost use Rattle.sipl_names.specs.Labels.{Labels, IsName, Octets};
 ghost use Rattle.sipl_records.specs.declared.kind.Kind.{Kind};
 ghost use Rattle.sipl_choice.specs.Abilities.{Client};
 ghost use Rattle.sipl_choice.specs.declared.endpoint.Endpoint.{Endpoint};
@@ -15,11 +16,22 @@ ghost use Rattle.sipl_plans.specs.Plan.{plan, with_held_last};
 ghost use Rattle.sipl_plans.specs.Policies.{HoldsNone};
 ghost use Rattle.sipl_plans.specs.declared.answer.Answer.TheVariants.{Targets, None};
 ghost use Rattle.sipl_plans.specs.declared.answer.Reason.{Reason};
+ghost use Rattle.sipl_book.specs.Pages.{PageState};
+ghost use Rattle.sipl_book.specs.declared.event.Event.{Event};
+ghost use Rattle.sipl_lines.specs.Requests.{request_of};
+ghost use Rattle.sipl_archive.specs.Archive.{file_text, page_text};
+ghost use Rattle.sipl_archive.specs.Commands.{after_command, after_kept_reply, first_line};
+ghost use Rattle.sipl_archive.specs.Text.{event_lines};
+ghost use Rattle.sipl_laws.specs.Asked.{event_reply, event_request};
+ghost use Rattle.sipl_laws.specs.Events.{IsEvent, IsPage, kept_event};
 ghost use Rattle.sipl_laws.specs.NameCases.{NameCase, answer_in, number_of};
 
 use sipl_evidence::laws::{
     absent_names_are_answered_at_the_wildcard, answers_are_those_at_the_first_alias,
 };
+use sipl_masterfile::laws::printing_records_reads_back;
+use sipl_records::laws::printing_addresses_reads_back;
+use sipl_uri::laws::{printed_questions_read_back, question_text_has_at_most_1030_octets};
 
 /// Where held endpoints are tried last, the targets are those that there are where nothing is held:
 /// first the free ones, in their order, and then the held ones, in theirs. Where there are none, the
@@ -59,3 +71,36 @@ pub fn closest_enclosers_are_equal()
         → IsClosest look below encloser → IsClosest look further other
         → below ++ encloser ≡ further ++ other → encloser ≡ other }
 {}
+
+/// The lines of an event are one command, whatever is after them, and then its reply, if a page has one.
+/// The first line asks a session for what the event is.
+pub fn event_lines_are_one_command()
+    ensures command { (event : Event) (rest : Octets) → IsEvent event
+        → after_command (event_lines event ++ rest) ≡ Some (event_reply event ++ rest) }
+    ensures reply { (event : Event) (rest : Octets) → IsEvent event
+        → after_kept_reply (first_line (event_lines event ++ rest)) (event_reply event ++ rest)
+        ≡ Some rest }
+    ensures request { (event : Event) (rest : Octets) → IsEvent event
+        → request_of (first_line (event_lines event ++ rest)) ≡ event_request event }
+{
+    printing_addresses_reads_back();
+    question_text_has_at_most_1030_octets();
+}
+
+/// Two pages with one head and one text have the same events, and so have two files of a client's
+/// pages, which begin with the same event. Of a loaded zone no page has how many records its text
+/// stated outside its apex, or twice.
+pub fn page_texts_differ()
+    ensures page { (head : Octets) (events others : List Event) → AllByRecursion IsEvent events
+        → AllByRecursion IsEvent others → page_text head events ≡ page_text head others
+        → map kept_event events ≡ map kept_event others }
+    ensures first { (client : Octets) (page other : PageState) → IsPage page → IsPage other
+        → file_text client page ≡ file_text client other → page.first ≡ other.first }
+    ensures file { (client : Octets) (page other : PageState) → IsPage page → IsPage other
+        → file_text client page ≡ file_text client other
+        → map kept_event page.events ≡ map kept_event other.events }
+{
+    printing_addresses_reads_back();
+    printing_records_reads_back();
+    printed_questions_read_back();
+}
