@@ -36,7 +36,7 @@ use Rattle.sipl_laws.proofs.SameZones.{from-listed, left-fit}
 use Rattle.sipl_laws.proofs.WordFields.{left-fewer, length-listed}
 
 -- the word of an event's line, the rest of the line, and what is after it
-abbrev word : Event → Octets
+abbrev pub word : Event → Octets
 word (Change (Load z)) = codes "zone"
 word (Change (Unload apex)) = codes "drop"
 word (Change (Add r)) = codes "add"
@@ -46,7 +46,7 @@ word (Release endpoint) = codes "release"
 word (Advance to) = codes "clock"
 word (Answered question words answer) = codes "find"
 
-abbrev words_after : Event → Octets
+abbrev pub words_after : Event → Octets
 words_after (Change (Load z)) = text_of z.apex ++ 32 ∷ decimal (length z.records)
 words_after (Change (Unload apex)) = text_of apex
 words_after (Change (Add r)) = record_text r
@@ -67,7 +67,7 @@ two a b c d r = simp append_assoc
 three : (a b c d r : Octets) → (a ++ b ++ c ++ 10 ∷ d) ++ r ≡ (a ++ (b ++ c)) ++ 10 ∷ (d ++ r)
 three a b c d r = simp append_assoc
 
-line-parts : (e : Event) (r : Octets) → event_lines e ++ r ≡ (word e ++ 32 ∷ words_after e) ++ 10 ∷ (lines_after e ++ r)
+pub line-parts : (e : Event) (r : Octets) → event_lines e ++ r ≡ (word e ++ 32 ∷ words_after e) ++ 10 ∷ (lines_after e ++ r)
 line-parts (Change (Load z)) r = two (codes "zone ") (text_of z.apex) (32 ∷ decimal (length z.records)) (flat_map record_line z.records) r
 line-parts (Change (Unload apex)) r = joined (codes "drop " ++ text_of apex) (10 ∷ []) r
 line-parts (Change (Add one)) r = joined (codes "add " ++ record_text one) (10 ∷ []) r
@@ -112,7 +112,7 @@ pub event-line : (e : Event) (r : Octets) → IsEvent e → first_line (event_li
 event-line e r is = ap first_line (line-parts e r) ∙ line-before (word e ++ 32 ∷ words_after e) (lines_after e ++ r) (from-line e is)
 
 -- the first field of the line is its word
-by-word : (test : Octets → Bool) (e : Event) → first_passes test (fields_of (word e ++ 32 ∷ words_after e)) ≡ test (word e)
+pub by-word : (test : Octets → Bool) (e : Event) → first_passes test (fields_of (word e ++ 32 ∷ words_after e)) ≡ test (word e)
 by-word test e = passes test (word e) (words_after e) (some-word e).0 (some-word e).1
 
 -- the reply that the page has is after the command
@@ -158,7 +158,7 @@ module _ (short : (question : Question) → IsAskable question → length (quest
       )
 
   -- the line takes the lines of a zone's records, or none
-  taken : (e : Event) → IsEvent e → taken_by (word e ++ 32 ∷ words_after e) ≡ taken_by_fields (word e ∷ fields_of (words_after e))
+  pub taken : (e : Event) → IsEvent e → taken_by (word e ++ 32 ∷ words_after e) ≡ taken_by_fields (word e ∷ fields_of (words_after e))
   taken e is = taken-is (word e) (words_after e) (some-word e).0 (some-word e).1 (from-words e is) (short-line e is)
 
   one : (e : Event) (r : Octets) → IsEvent e → taken_by_fields (word e ∷ fields_of (words_after e)) ≡ 0 → after_command (event_lines e ++ r) ≡ Some (lines_after e ++ r)
@@ -187,7 +187,7 @@ module _ (short : (question : Question) → IsAskable question → length (quest
   event-command (Answered question words answer) r is = one (Answered question words answer) r is refl
 
   module _ (reads : (address : Address) → IsAddress address → address_of (text_of_address address) ≡ Some address) where
-    asks : (e : Event) → IsEvent e → request_of (word e ++ 32 ∷ words_after e) ≡ event_request e
+    pub asks : (e : Event) → IsEvent e → request_of (word e ++ 32 ∷ words_after e) ≡ event_request e
     asks (Change (Load z)) is = zone-asks z.apex (length z.records) is.apex is.few
     asks (Change (Unload apex)) is = drop-asks apex is
     asks (Change (Add r)) is = add-asks r is

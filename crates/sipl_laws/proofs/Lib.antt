@@ -15,3 +15,6 @@ mod EventRequests
 mod Cutting
 mod EventCuts
 mod EventReads
+mod CarriedOut
+mod PageReads
+mod Instances

@@ -1,3 +1,4 @@
 pub mod NameCases
 pub mod Events
 pub mod Asked
+pub mod Carried

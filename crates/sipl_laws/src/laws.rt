@@ -1,7 +1,7 @@
 //! What follows from the definitions. Each law is the contract of a function that does nothing.
 
-ghost use Rattle.std.specs.Prelude.{◌≡◌, ◌++◌, ℕ, List, Some, map};
-ghost use Rattle.std.specs.List.{AllByRecursion};
+ghost use Rattle.std.specs.Prelude.{◌≡◌, ◌++◌, ◌<◌, ◌^◌, ℕ, List, [], Some, length, map};
+ghost use Rattle.std.specs.List.{AllByRecursion, flat_map};
 ghost use Rattle.sipl_names.specs.Labels.{Labels, IsName, Octets};
 ghost use Rattle.sipl_records.specs.declared.kind.Kind.{Kind};
 ghost use Rattle.sipl_choice.specs.Abilities.{Client};
@@ -19,10 +19,14 @@ ghost use Rattle.sipl_plans.specs.declared.answer.Reason.{Reason};
 ghost use Rattle.sipl_book.specs.Pages.{PageState};
 ghost use Rattle.sipl_book.specs.declared.event.Event.{Event};
 ghost use Rattle.sipl_lines.specs.Requests.{request_of};
-ghost use Rattle.sipl_archive.specs.Archive.{file_text, page_text};
+ghost use Rattle.sipl_archive.specs.Archive.{IsHead, body_text, file_text, page_head, page_text};
 ghost use Rattle.sipl_archive.specs.Commands.{after_command, after_kept_reply, first_line};
+ghost use Rattle.sipl_archive.specs.Plain.{PlainState};
+ghost use Rattle.sipl_archive.specs.Replay.{Repeats, RepeatsSome};
 ghost use Rattle.sipl_archive.specs.Text.{event_lines};
 ghost use Rattle.sipl_laws.specs.Asked.{event_reply, event_request};
+ghost use Rattle.sipl_laws.specs.Carried.{Accepts, AcceptsAll, LoadNothing, LoadsNothing};
+ghost use Rattle.sipl_laws.specs.Carried.{all_after, event_command, plain_after};
 ghost use Rattle.sipl_laws.specs.Events.{IsEvent, IsPage, kept_event};
 ghost use Rattle.sipl_laws.specs.NameCases.{NameCase, answer_in, number_of};
 
@@ -34,8 +38,8 @@ use sipl_records::laws::printing_addresses_reads_back;
 use sipl_uri::laws::{printed_questions_read_back, question_text_has_at_most_1030_octets};
 
 /// Where held endpoints are tried last, the targets are those that there are where nothing is held:
-/// first the free ones, in their order, and then the held ones, in theirs. Where there are none, the
-/// reason is the same (RFC 3263, 4.3).
+/// first the free ones, in their order, and then the held ones, in theirs. Where there are none,
+/// the reason is the same (RFC 3263, 4.3).
 pub fn held_last_keeps_the_order()
     ensures targets { (look : Look) (holds free : Holds) (question : Question) (client : Client)
         (words : List ℕ) (targets : List Endpoint) → HoldsNone free
@@ -49,8 +53,8 @@ pub fn held_last_keeps_the_order()
 
 /// Each name is in one of seven cases, and in no other: it has data of the kind, an alias is
 /// followed, it exists without either, it does not exist and neither does an ancestor, or, of the
-/// wildcard at its closest encloser, that has data, an alias of it is followed, or neither
-/// (RFC 1034, 3.6.2; RFC 4592, 2.2.1 and 3.3.1). The case decides the answer.
+/// wildcard at its closest encloser, that has data, an alias of it is followed, or neither (RFC
+/// 1034, 3.6.2; RFC 4592, 2.2.1 and 3.3.1). The case decides the answer.
 pub fn names_are_in_one_case()
     ensures some { (look : Look) (left : ℕ) (kind : Kind) (name : Labels) → IsName name
         → NameCase look max_ancestors left kind name }
@@ -72,8 +76,8 @@ pub fn closest_enclosers_are_equal()
         → below ++ encloser ≡ further ++ other → encloser ≡ other }
 {}
 
-/// The lines of an event are one command, whatever is after them, and then its reply, if a page has one.
-/// The first line asks a session for what the event is.
+/// The lines of an event are one command, whatever is after them, and then its reply, if a page has
+/// one. The first line asks a session for what the event is.
 pub fn event_lines_are_one_command()
     ensures command { (event : Event) (rest : Octets) → IsEvent event
         → after_command (event_lines event ++ rest) ≡ Some (event_reply event ++ rest) }
@@ -103,4 +107,41 @@ pub fn page_texts_differ()
     printing_addresses_reads_back();
     printing_records_reads_back();
     printed_questions_read_back();
+}
+
+/// A plain machine that accepts an event other than the load of a zone carries its lines out again:
+/// the event's command, with the reply that a page has, leads it where the event does.
+pub fn accepted_events_are_carried_out_again()
+    ensures lines { (event : Event)
+        → event_lines event ≡ event_command event ++ event_reply event }
+    ensures repeats { (event : Event) (before : PlainState) → IsEvent event → LoadsNothing event
+        → Accepts before event → (told : Octets) × Repeats (record {
+          command = event_command event;
+          reply = event_reply event;
+          told = told;
+        })
+        before (plain_after event before) }
+{
+    printing_addresses_reads_back();
+    printing_records_reads_back();
+    printed_questions_read_back();
+    question_text_has_at_most_1030_octets();
+}
+
+/// The head of a page reads back as the number of its first event, the number of its events, and
+/// its client. The events of a page that loads no zone are carried out again by a machine that
+/// accepts them one after another.
+pub fn pages_without_loads_read_back()
+    ensures head { (first count : ℕ) (client : Octets) (events : List Event) → first < 2 ^ 64
+        → count < 2 ^ 64 → IsHead (body_text (page_head first count client) events) first count
+        client (flat_map event_lines events) }
+    ensures events { (events : List Event) (before : PlainState) → AllByRecursion IsEvent events
+        → LoadNothing events → AcceptsAll before events
+        → RepeatsSome (flat_map event_lines events) [] (length events) before
+        (all_after events before) }
+{
+    printing_addresses_reads_back();
+    printing_records_reads_back();
+    printed_questions_read_back();
+    question_text_has_at_most_1030_octets();
 }
