@@ -217,9 +217,10 @@ def a_log_that_no_one_reads_stops_no_session(checks: Checks, folder: pathlib.Pat
 
 
 def lines_told(text: bytes) -> int:
-    """How many of the lines about names that begin with `n` are whole in a log, and how many it says to be lost."""
+    """How many of the lines about names that begin with `n` are whole in a log, and how many it says to be lost: maybe
+    after a line that was written in part."""
     whole = re.findall(rb"^debug event=added name=n\d+\.example\.com\. .*ms=\d+\.\d{3}$", text, re.M)
-    return len(whole) + sum(int(it) for it in re.findall(rb"^warn event=lost lines=(\d+)$", text, re.M))
+    return len(whole) + sum(int(it) for it in re.findall(rb"warn event=lost lines=(\d+)$", text, re.M))
 
 
 def read_log(reader: int, client: Client, count: int) -> bytes:
