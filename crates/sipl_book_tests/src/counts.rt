@@ -29,12 +29,16 @@ fn play(rt: &impl Abort, alloc: Global, is_by_wildcard: bool) {
     let abilities = client(rt, alloc, &[Transport::Tcp, Transport::Udp], Families::V4);
     let mut book = Book::new(alloc, abilities, &Limits::greatest(), Held::Out);
     load(rt, alloc, &mut book, ZONE);
-    if is_by_wildcard {
-        wildcard(rt, alloc, &mut book);
-    } else {
-        lookups(rt, alloc, &mut book);
-    }
+    make(rt, alloc, &mut book, is_by_wildcard);
     drop(book);
+}
+
+fn make(rt: &impl Abort, alloc: Global, book: &mut Book, is_by_wildcard: bool) {
+    if is_by_wildcard {
+        wildcard(rt, alloc, book);
+    } else {
+        lookups(rt, alloc, book);
+    }
 }
 
 fn has_looks(rt: &impl Abort, book: &Book, looks: u64) {

@@ -30,23 +30,32 @@ fn are_in_order(rt: &impl Abort, pages: &[Page]) {
     }
 }
 
-fn third_of(rt: &impl Abort, book: &mut Book) -> Page {
+fn fill_third(rt: &impl Abort, book: &mut Book) {
     expects_equal(
         rt,
         &book.release(&ENDPOINT),
         &Ok(5),
         "the number of the event",
     );
-    turn(rt, book)
 }
 
-// Three pages with events, and an edit in the first alone.
-fn three_pages(rt: &impl Abort, alloc: Global, book: &mut Book) {
+fn keep(rt: &impl Abort, pages: &mut Vec<Page>, page: Page) {
+    pages.push(page).expect(rt, "out of memory");
+}
+
+// Turns three pages with events, and an edit in the first alone.
+fn turn_three(rt: &impl Abort, alloc: Global, book: &mut Book, pages: &mut Vec<Page>) {
     fill_first(rt, alloc, book);
-    let first = turn(rt, book);
+    keep(rt, pages, turn(rt, book));
     fill_second(rt, book);
-    let second = turn(rt, book);
-    let pages = [first, second, third_of(rt, book)];
+    keep(rt, pages, turn(rt, book));
+    fill_third(rt, book);
+    keep(rt, pages, turn(rt, book));
+}
+
+fn three_pages(rt: &impl Abort, alloc: Global, book: &mut Book) {
+    let mut pages = Vec::new(alloc);
+    turn_three(rt, alloc, book, &mut pages);
     are_in_order(rt, &pages);
     drop(pages);
 }
@@ -87,21 +96,21 @@ fn book_of(rt: &impl Abort, alloc: Global, form: Form) -> Book
     Book::new(alloc, abilities, &limits, form.held)
 }
 
-// The first page of a book, with a zone of its record, and the second one, taken as the book ends.
-fn pages_of(rt: &impl Abort, alloc: Global, form: Form) -> [Page; 2]
+// Appends the first page of a book, with a zone of its record, and the second one, taken as the book ends.
+fn push_pages(rt: &impl Abort, alloc: Global, pages: &mut Vec<Page>, form: Form)
     requires { form.first ≤ 2 ^ 52 - 2 ^ 20 }
 {
     let mut book = book_of(rt, alloc, form);
     load(rt, alloc, &mut book, b"");
     add(rt, alloc, &mut book, form.record);
-    let first = turn(rt, &mut book);
-    [first, book.into_page()]
+    keep(rt, pages, turn(rt, &mut book));
+    keep(rt, pages, book.into_page());
 }
 
-// Whether the last page of the one follows the first page of the other.
-fn follow(pages: &[Page], before: &[Page]) -> bool {
-    match (pages.last(), before.first()) {
-        (Some(last), Some(first)) => last.follows(first),
+// Whether the page at the one place follows that at the other.
+fn follows(pages: &[Page], place: usize, before: usize) -> bool {
+    match (pages.get(place), pages.get(before)) {
+        (Some(page), Some(before)) => page.follows(before),
         _ => false,
     }
 }
@@ -109,10 +118,10 @@ fn follow(pages: &[Page], before: &[Page]) -> bool {
 fn are_followed(rt: &impl Abort, alloc: Global, form: Form, expected: bool)
     requires { form.first ≤ 2 ^ 52 - 2 ^ 20 }
 {
-    let pages = pages_of(rt, alloc, form);
-    let plain = pages_of(rt, alloc, PLAIN);
-    let found = (follow(&pages, &plain), follow(&plain, &pages));
-    drop(plain);
+    let mut pages = Vec::new(alloc);
+    push_pages(rt, alloc, &mut pages, form);
+    push_pages(rt, alloc, &mut pages, PLAIN);
+    let found = (follows(&pages, 1, 2), follows(&pages, 3, 0));
     drop(pages);
     expects_equal(rt, &found, &(expected, expected), "the order of books");
 }

@@ -43,11 +43,17 @@ pub(crate) fn question(rt: &impl Abort, alloc: Global, uri: &[u8]) -> Question {
 }
 
 pub(crate) fn name(rt: &impl Abort, alloc: Global, text: &[u8]) -> Name {
-    Name::from_text(alloc, text, &Name::root(alloc)).expect(rt, "the name is refused")
+    let root = Name::root(alloc);
+    let name = Name::from_text(alloc, text, &root);
+    drop(root);
+    name.expect(rt, "the name is refused")
 }
 
 fn record(rt: &impl Abort, alloc: Global, text: &[u8]) -> Record {
-    read_record(alloc, text, &Name::root(alloc)).expect(rt, "the record is refused")
+    let root = Name::root(alloc);
+    let record = read_record(alloc, text, &root);
+    drop(root);
+    record.expect(rt, "the record is refused")
 }
 
 // The zone `example.com.` with this text.

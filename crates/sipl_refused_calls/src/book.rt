@@ -1,56 +1,109 @@
 // Calls of a book.
 ghost use Rattle.std.specs.Prelude.{◌≡◌, IfErr};
 
-use crate::call::{Call, Outcome, outcome_of, refused};
+use crate::call::{Outcome, outcome_again, outcome_of, refused};
 use crate::values::{
-    Asked, SETS, book, draws, finding, is_answer, is_bobs, new_book, question, question_of, zone,
+    Asked, SETS, book, draws, finding, finds, is_answer, is_bobs, new_book, question_of, record,
+    zone,
 };
-use sipl_book::{Book, BookFault, Edit, Uncommitted};
-use sipl_masterfile::{ZoneText, read_record};
-use sipl_names::Name;
+use sipl_book::{Book, BookFault, Edit, Handed, Uncommitted};
+use sipl_masterfile::ZoneText;
 use sipl_plans::Finding;
 use sipl_srv::Draws;
 use sipl_uri::Question;
 use std::alloc::Global;
-use std::sync::Wait;
 
-#[derive(Drop)]
-struct Change {
-    book: Box<Book>,
-    zone: ZoneText,
-}
-
-impl Call for Change {
-    fn make<R: Wait>(&mut self, _rt: &R, alloc: Global) -> Option<bool> {
-        let edit = Edit::Load(self.zone.dup(alloc).ok()?);
-        match self.book.change(edit) {
-            Ok(done) => Some(
-                done.number == 0 && done.changed == SETS as u64 && self.book.journal().len() == 1,
-            ),
-            Err(fault) => refused(fault.code(), self.book.journal().is_empty()),
+fn changes(alloc: Global, book: &mut Book, zone: &ZoneText) -> Option<bool> {
+    let edit = Edit::Load(zone.dup(alloc).ok()?);
+    match book.change(edit) {
+        Ok(done) => {
+            Some(done.number == 0 && done.changed == SETS as u64 && book.journal().len() == 1)
         }
+        Err(fault) => refused(fault.code(), book.journal().is_empty()),
     }
 }
 
-#[derive(Drop)]
-struct FindAnswer {
-    book: Box<Book>,
+fn changes_twice(alloc: Global, book: &mut Book, zone: &ZoneText) -> Outcome {
+    match changes(alloc, book, zone) {
+        Some(is_right) => outcome_of(is_right),
+        None => outcome_again(changes(alloc, book, zone)),
+    }
+}
+
+pub(crate) fn change_call(alloc: Global) -> Option<Outcome> {
+    let zone = zone(alloc)?;
+    let outcome = changes_new(alloc, &zone);
+    drop(zone);
+    outcome
+}
+
+fn changes_new(alloc: Global, zone: &ZoneText) -> Option<Outcome> {
+    let mut book = new_book(alloc)?;
+    let outcome = changes_twice(alloc, &mut book, zone);
+    drop(book);
+    Some(outcome)
+}
+
+fn is_found(
+    found: &Result<Handed, BookFault>,
+    book: &Book,
     asked: Asked,
-    question: Question,
-    draws: Draws,
-}
-
-impl Call for FindAnswer {
-    fn make<R: Wait>(&mut self, _rt: &R, alloc: Global) -> Option<bool> {
-        match self.book.find(self.question.dup(alloc).ok()?, &self.draws) {
-            Ok(handed) => Some(handed.number == 1 && is_answer(self.asked, &handed.answer)),
-            Err(fault) => {
-                let is_as_before = self.book.journal().len() == 1
-                    && self.book.entry(&self.question).is_none();
-                refused(fault.code(), is_as_before)
-            }
+    question: &Question,
+) -> Option<bool> {
+    match found {
+        Ok(handed) => Some(handed.number == 1 && is_answer(asked, &handed.answer)),
+        Err(fault) => {
+            let is_as_before = book.journal().len() == 1 && book.entry(question).is_none();
+            refused(fault.code(), is_as_before)
         }
     }
+}
+
+fn answers(
+    alloc: Global,
+    book: &mut Book,
+    asked: Asked,
+    question: &Question,
+    draws: &Draws,
+) -> Option<bool> {
+    let found = book.find(question.dup(alloc).ok()?, draws);
+    let made = is_found(&found, book, asked, question);
+    drop(found);
+    made
+}
+
+fn answers_twice(
+    alloc: Global,
+    book: &mut Book,
+    asked: Asked,
+    question: &Question,
+) -> Option<Outcome> {
+    let draws = draws()?;
+    match answers(alloc, book, asked, question, &draws) {
+        Some(is_right) => Some(outcome_of(is_right)),
+        None => Some(outcome_again(answers(alloc, book, asked, question, &draws))),
+    }
+}
+
+pub(crate) fn find_call(alloc: Global, asked: Asked) -> Option<Outcome> {
+    let question = question_of(alloc, asked)?;
+    let outcome = answers_by_book(alloc, asked, &question);
+    drop(question);
+    outcome
+}
+
+fn answers_by_book(alloc: Global, asked: Asked, question: &Question) -> Option<Outcome> {
+    let mut book = book(alloc)?;
+    let outcome = answers_twice(alloc, &mut book, asked, question);
+    drop(book);
+    outcome
+}
+
+// Whether it is Bob's answer, which has the second event.
+fn is_committed(handed: Handed) -> bool {
+    let is_so = handed.number == 1 && is_bobs(&handed.answer);
+    drop(handed);
+    is_so
 }
 
 // The first of the two commits has the finding, and gives it back where it is refused.
@@ -60,98 +113,89 @@ fn commit_found(book: &mut Book, finding: Finding, draws: &Draws) -> Result<bool
     ensures finding { IfErr result (λ uncommitted. uncommitted.finding ≡ finding) }
 {
     let handed = book.commit_checked(finding, draws)?;
-    Ok(handed.number == 1 && is_bobs(&handed.answer))
+    Ok(is_committed(handed))
 }
 
-fn commit(alloc: Global, book: &mut Book) -> anyhow::Result<Outcome> {
+fn commit(alloc: Global, book: &mut Book) -> Option<Outcome> {
     let draws = draws()?;
-    let finding = finding(alloc, book)?;
-    Ok(match commit_found(book, Box::into_inner(finding), &draws) {
-        Ok(true) => Outcome::Right,
-        Ok(false) => Outcome::Wrong,
-        Err(uncommitted) => commit_again(book, uncommitted, &draws),
-    })
+    match finding(alloc, book) {
+        Ok(finding) => Some(commit_twice(book, Box::into_inner(finding), &draws)),
+        Err(_) => None,
+    }
+}
+
+fn commit_twice(book: &mut Book, finding: Finding, draws: &Draws) -> Outcome
+    requires { finding.client ≡ book.old.client }
+{
+    match commit_found(book, finding, draws) {
+        Ok(is_right) => outcome_of(is_right),
+        Err(uncommitted) => commit_again(book, uncommitted, draws),
+    }
 }
 
 fn commit_again(book: &mut Book, uncommitted: Uncommitted, draws: &Draws) -> Outcome
     requires { uncommitted.finding.client ≡ book.old.client }
 {
     let Uncommitted { fault, finding } = uncommitted;
-    if fault != BookFault::Memory || book.journal().len() != 1 {
-        return Outcome::Wrong;
-    }
-    match commit_found(book, finding, draws) {
-        Ok(true) => Outcome::RightAfterRefusal,
-        _ => Outcome::Wrong,
-    }
+    let is_refused = fault == BookFault::Memory && book.journal().len() == 1;
+    let committed = commit_found(book, finding, draws);
+    let is_right = matches!(&committed, Ok(true));
+    drop(committed);
+    outcome_again(Some(is_refused && is_right))
 }
 
-// The book has an entry that is outdated.
-#[derive(Drop)]
-struct LeaseEntry {
-    book: Box<Book>,
-    question: Question,
+pub(crate) fn commit_call(alloc: Global) -> Option<Outcome> {
+    let mut book = book(alloc)?;
+    let outcome = commit(alloc, &mut book);
+    drop(book);
+    outcome
 }
 
-impl Call for LeaseEntry {
-    fn make<R: Wait>(&mut self, _rt: &R, _alloc: Global) -> Option<bool> {
-        let leased = match self.book.lease() {
-            Ok((lease, question)) => {
-                self.book.give_back(lease);
-                Ok(question == self.question)
-            }
-            Err(fault) => Err(fault),
-        };
-        match leased {
-            Ok(is_same) => Some(is_same),
-            Err(fault) => refused(fault.code(), self.book.queued() == 1),
+// The book has an entry that is outdated. Its lease is given back.
+fn leases(book: &mut Book, question: &Question) -> Option<bool> {
+    match book.lease() {
+        Ok((lease, leased)) => {
+            book.give_back(lease);
+            let is_same = leased == *question;
+            drop(leased);
+            Some(is_same)
         }
+        Err(fault) => refused(fault.code(), book.queued() == 1),
     }
 }
 
 // Keeps the answer, and makes it outdated.
-fn outdate(alloc: Global, book: &mut Book) -> anyhow::Result<()> {
-    book.find(question(alloc)?, &draws()?)?;
-    let record = read_record(
-        alloc,
-        b"server2.example.com. A 192.0.2.2",
-        &Name::root(alloc),
-    )?;
-    book.change(Edit::Remove(record))?;
-    Ok(())
+fn outdates(alloc: Global, book: &mut Book) -> bool {
+    finds(alloc, book, Asked::Bob) && removes(alloc, book)
 }
 
-fn new_lease(alloc: Global) -> anyhow::Result<LeaseEntry> {
-    let question = question(alloc)?;
+fn removes(alloc: Global, book: &mut Book) -> bool {
+    match record(alloc, b"server2.example.com. A 192.0.2.2") {
+        Some(record) => book.change(Edit::Remove(record)).is_ok(),
+        None => false,
+    }
+}
+
+fn leases_twice(alloc: Global, book: &mut Book, question: &Question) -> Option<Outcome> {
+    if !outdates(alloc, book) {
+        return None;
+    }
+    match leases(book, question) {
+        Some(is_right) => Some(outcome_of(is_right)),
+        None => Some(outcome_again(leases(book, question))),
+    }
+}
+
+pub(crate) fn lease_call(alloc: Global) -> Option<Outcome> {
+    let question = question_of(alloc, Asked::Bob)?;
+    let outcome = leases_entry(alloc, &question);
+    drop(question);
+    outcome
+}
+
+fn leases_entry(alloc: Global, question: &Question) -> Option<Outcome> {
     let mut book = book(alloc)?;
-    outdate(alloc, &mut book)?;
-    Ok(LeaseEntry { book, question })
-}
-
-pub(crate) fn change_call<R: Wait>(rt: &R, alloc: Global) -> anyhow::Result<Outcome> {
-    let zone = zone(alloc)?;
-    let book = new_book(alloc)?;
-    Ok(outcome_of(rt, alloc, &mut Change { book, zone }))
-}
-
-pub(crate) fn find_call<R: Wait>(rt: &R, alloc: Global, asked: Asked) -> anyhow::Result<Outcome> {
-    let (question, draws) = (question_of(alloc, asked)?, draws()?);
-    let book = book(alloc)?;
-    let mut call = FindAnswer {
-        book,
-        asked,
-        question,
-        draws,
-    };
-    Ok(outcome_of(rt, alloc, &mut call))
-}
-
-pub(crate) fn commit_call(alloc: Global) -> anyhow::Result<Outcome> {
-    let mut book = book(alloc)?;
-    commit(alloc, &mut book)
-}
-
-pub(crate) fn lease_call<R: Wait>(rt: &R, alloc: Global) -> anyhow::Result<Outcome> {
-    let mut call = new_lease(alloc)?;
-    Ok(outcome_of(rt, alloc, &mut call))
+    let outcome = leases_twice(alloc, &mut book, question);
+    drop(book);
+    outcome
 }

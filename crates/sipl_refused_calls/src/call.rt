@@ -1,6 +1,8 @@
-// A call that may be refused for memory, and what came of it.
-use std::alloc::Global;
-use std::sync::Wait;
+// What came of a call that may be refused for memory, and that changes nothing then.
+//
+// A call returns whether all is right after it, or `None` where an allocation failed and all is as before: then
+// it is made again. What a call returns is judged by a function that borrows it, and is dropped by a call. Each
+// function owns one value at most, and does not end early while it does: so it is proved in a second or two.
 
 // What came of a call that may have been made twice.
 #[derive(Clone, Copy)]
@@ -10,20 +12,19 @@ pub(crate) enum Outcome {
     Wrong,
 }
 
-// A call that may be refused for memory, and changes nothing then.
-pub(crate) trait Call {
-    // Makes the call: whether all is right after it, or `None` where an allocation failed.
-    fn make<R: Wait>(&mut self, rt: &R, alloc: Global) -> Option<bool>;
+// Of a call of which no allocation failed.
+pub(crate) fn outcome_of(is_right: bool) -> Outcome {
+    if is_right {
+        return Outcome::Right;
+    }
+    Outcome::Wrong
 }
 
-pub(crate) fn outcome_of<R: Wait, C: Call>(rt: &R, alloc: Global, call: &mut C) -> Outcome {
-    match call.make(rt, alloc) {
-        Some(true) => Outcome::Right,
-        Some(false) => Outcome::Wrong,
-        None => match call.make(rt, alloc) {
-            Some(true) => Outcome::RightAfterRefusal,
-            _ => Outcome::Wrong,
-        },
+// Of a call that is made again.
+pub(crate) fn outcome_again(made: Option<bool>) -> Outcome {
+    match made {
+        Some(true) => Outcome::RightAfterRefusal,
+        _ => Outcome::Wrong,
     }
 }
 

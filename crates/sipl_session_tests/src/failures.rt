@@ -29,41 +29,70 @@ impl Case<'_> {
     }
 }
 
-// Serves a session at a new book, or plays a script, with at most `limit` reads. Returns what that came to,
-// and how many events the book has.
-fn run(
-    alloc: Global,
-    case: &Case<'_>,
-    reader: Pieces<'_>,
-    writer: Paper,
+// The lengths of what is read and written at once, the read and the write that fail, from 1, how the write does,
+// and how many reads there may be. The streams are made of these where nothing can fail any more.
+#[derive(Clone, Copy)]
+struct Streams {
+    read_most: usize,
+    read_fails_at: u64,
+    write_most: usize,
+    write_fails_at: u64,
+    failing: Failing,
     limit: u64,
-) -> Result<(Served, Option<usize>), Fail> {
+}
+
+// Each octet is read by itself, and all is written at once.
+const WELL: Streams = Streams {
+    read_most: 1,
+    read_fails_at: 0,
+    write_most: usize::MAX,
+    write_fails_at: 0,
+    failing: Failing::Error,
+    limit: MAX_READS,
+};
+
+// Serves a session at a new book, or plays a script. Returns what that came to, and how many events the book
+// has.
+fn run(alloc: Global, case: &Case<'_>, streams: &Streams) -> Result<(Served, Option<usize>), Fail> {
     if case.events.is_none() {
-        return Ok((play(alloc, reader, writer, limit)?, None));
+        return Ok((play(alloc, case, streams)?, None));
     }
     let book = new_book(alloc, &Limits::greatest())?;
-    let (served, events) = serve_once(alloc, reader, writer, book, limit);
+    let (served, events) = serve_once(alloc, case, streams, book);
     Ok((served, Some(events)))
+}
+
+fn writer_of(alloc: Global, streams: &Streams) -> Paper {
+    Paper::new(
+        alloc,
+        streams.write_most,
+        streams.failing,
+        streams.write_fails_at,
+    )
 }
 
 fn serve_once(
     alloc: Global,
-    reader: Pieces<'_>,
-    writer: Paper,
+    case: &Case<'_>,
+    streams: &Streams,
     mut book: Box<Book>,
-    limit: u64,
 ) -> (Served, usize) {
-    let served = serve_at(alloc, reader, writer, &mut book, limit);
+    let input = &case.texts.input;
+    let reader = Pieces::new(input, streams.read_most, streams.read_fails_at);
+    let writer = writer_of(alloc, streams);
+    let served = serve_at(alloc, reader, writer, &mut book, streams.limit);
     let events = book.journal().len();
     drop(book);
     (served, events)
 }
 
-fn play(alloc: Global, reader: Pieces<'_>, writer: Paper, limit: u64) -> Result<Served, Fail> {
+fn play(alloc: Global, case: &Case<'_>, streams: &Streams) -> Result<Served, Fail> {
     let settings = Settings::from_toml(alloc, "transports = [\"tcp\", \"udp\"]")?;
-    let mut reader = Tapped::new(reader);
-    let mut writer = Tapped::new(writer);
-    let ended = play_script_within(alloc, &mut reader, &mut writer, settings, limit);
+    let input = &case.texts.input;
+    let pieces = Pieces::new(input, streams.read_most, streams.read_fails_at);
+    let mut reader = Tapped::new(pieces);
+    let mut writer = Tapped::new(writer_of(alloc, streams));
+    let ended = play_script_within(alloc, &mut reader, &mut writer, settings, streams.limit);
     Ok(Served::new(ended, reader, writer))
 }
 
@@ -105,18 +134,17 @@ fn ends_at_read(
     number: u64,
 ) -> Result<bool, Fail> {
     let is_failure = ended == ServeFault::Read;
-    let (fails_at, limit) = if is_failure {
-        (number, MAX_READS)
+    let (read_fails_at, limit, read) = if is_failure {
+        (number, MAX_READS, number.saturating_sub(1))
     } else {
-        (0, number)
+        (0, number, number)
     };
-    let read = if is_failure {
-        number.saturating_sub(1)
-    } else {
-        number
+    let streams = Streams {
+        read_fails_at,
+        limit,
+        ..WELL
     };
-    let reader = Pieces::new(&case.texts.input, 1, fails_at);
-    let (served, events) = run(alloc, case, reader, Paper::blank(alloc), limit)?;
+    let (served, events) = run(alloc, case, &streams)?;
     let replies = case.texts.replies_within(case.rows, read);
     let is_so = ended_after(&served, ended, number, replies);
     drop(served);
@@ -148,9 +176,13 @@ fn fails_at_write(
     failing: Failing,
     fails_at: u64,
 ) -> Result<bool, Fail> {
-    let writer = Paper::new(alloc, 1, failing, fails_at);
-    let reader = Pieces::new(&case.texts.input, 1, 0);
-    let (served, events) = run(alloc, case, reader, writer, MAX_READS)?;
+    let streams = Streams {
+        write_most: 1,
+        write_fails_at: fails_at,
+        failing,
+        ..WELL
+    };
+    let (served, events) = run(alloc, case, &streams)?;
     let is_so = failed_at_write(&served, fails_at, &case.texts.replies);
     drop(served);
     Ok(is_so && events == case.events_of(rows_before(case.rows, fails_at)))
@@ -176,9 +208,12 @@ fn fails_at_each_write(
 
 // Whether the case, read and written in pieces of this length, ends with its input, and has all replies.
 fn ends_in_pieces(alloc: Global, case: &Case<'_>, most: usize) -> Result<bool, Fail> {
-    let writer = Paper::new(alloc, most, Failing::Error, 0);
-    let reader = Pieces::new(&case.texts.input, most, 0);
-    let (served, _) = run(alloc, case, reader, writer, MAX_READS)?;
+    let streams = Streams {
+        read_most: most,
+        write_most: most,
+        ..WELL
+    };
+    let (served, _) = run(alloc, case, &streams)?;
     let is_so = ended_well(&served, &case.texts.replies);
     drop(served);
     Ok(is_so)

@@ -7,7 +7,7 @@ use sipl_evidence::Evidence;
 use sipl_lines::{Desk, Tapped, serve};
 use sipl_srv::Draws;
 use sipl_uri::Question;
-use std::alloc::Global;
+use std::alloc::{AllocError, Global};
 use std::process::Abort;
 use std::test::Fail;
 
@@ -102,11 +102,21 @@ impl Desk for CountingDesk {
 // Serves so many `repair` lines, read in pieces of `most` octets. Returns how many pauses there were,
 // and the maximum number of calls between two.
 fn pauses_of(alloc: Global, lines: usize, most: usize) -> Result<(u64, u64), Fail> {
-    let mut text = Vec::new(alloc);
-    push_times(&mut text, b"repair\n", lines)?;
+    let text = repairs(alloc, lines)?;
     let pauses = pauses_over(alloc, Pieces::new(&text, most, 0));
     drop(text);
     pauses
+}
+
+fn repairs(alloc: Global, lines: usize) -> Result<Vec<u8>, AllocError> {
+    let mut text = Vec::new(alloc);
+    match push_times(&mut text, b"repair\n", lines) {
+        Ok(()) => Ok(text),
+        Err(fault) => {
+            drop(text);
+            Err(fault)
+        }
+    }
 }
 
 // The same for lines that are read so.

@@ -17,8 +17,13 @@ impl Texts {
             input: Vec::new(alloc),
             replies: Vec::new(alloc),
         };
-        texts.push_each(rows)?;
-        Ok(texts)
+        match texts.push_each(rows) {
+            Ok(()) => Ok(texts),
+            Err(fault) => {
+                drop(texts);
+                Err(fault)
+            }
+        }
     }
 
     fn push_each(&mut self, rows: &[Row]) -> Result<(), AllocError> {
