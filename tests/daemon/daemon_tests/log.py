@@ -194,14 +194,13 @@ def a_log_that_no_one_reads_stops_no_session(checks: Checks, folder: pathlib.Pat
         end = time.monotonic() + PATIENCE
         os.set_blocking(reader, False)
         with Client(f"127.0.0.1:{port}") as client:
-            while b"event=lost" not in text and time.monotonic() < end:
+            while lines_lost(text) < dropped and time.monotonic() < end:
                 try:
                     text += os.read(reader, 1 << 16)
                 except BlockingIOError:
                     client.ask(f"drop n{len(text)}.")
                     time.sleep(0.01)
-        found = re.search(rb"^warn event=lost lines=(\d+)$", text, re.M)
-        checks.expect(found and int(found[1]) >= dropped, text[-300:])
+        checks.expect(lines_lost(text) >= dropped, text[-300:])
         # The rest is not read, and it ends all the same.
         begin = time.monotonic()
         subprocess.run([PROGRAM, "tell", f"unix:{folder}/c", "stop"], stdout=subprocess.DEVNULL, timeout=PATIENCE,
@@ -216,11 +215,15 @@ def a_log_that_no_one_reads_stops_no_session(checks: Checks, folder: pathlib.Pat
             process.stdout.close()
 
 
+def lines_lost(text: bytes) -> int:
+    """How many lines a log says to be lost: maybe after a line that was written in part."""
+    return sum(int(it) for it in re.findall(rb"warn event=lost lines=(\d+)\n", text))
+
+
 def lines_told(text: bytes) -> int:
-    """How many of the lines about names that begin with `n` are whole in a log, and how many it says to be lost: maybe
-    after a line that was written in part."""
+    """How many of the lines about names that begin with `n` are whole in a log, or said to be lost."""
     whole = re.findall(rb"^debug event=added name=n\d+\.example\.com\. .*ms=\d+\.\d{3}$", text, re.M)
-    return len(whole) + sum(int(it) for it in re.findall(rb"warn event=lost lines=(\d+)$", text, re.M))
+    return len(whole) + lines_lost(text)
 
 
 def read_log(reader: int, client: Client, count: int) -> bytes:
