@@ -71,7 +71,7 @@ _OPPOSITES = {"add": "del", "del": "add", "hold": "release", "release": "hold"}
 _MAX_BULK, _MAX_DEPTH = 1 << 29, 8
 #: The apex of a change, and the owner of one, which may be in parentheses or in quotes as in a master file.
 _APEX = re.compile(rb"[ \t]*(?:zone|drop)[ \t]+([^ \t\n]+)")
-_OWNER = re.compile(rb'[ \t]*(?:add|del)[ \t(]+(?:"((?:[^"\\\n]|\\.)*)"|((?:[^ \t\n()";\\]|\\.)+))')
+_OWNER = re.compile(rb'[ \t]*(?:add|del)[ \t()]+(?:"((?:[^"\\\n]|\\.)*)"|((?:[^ \t\n()";\\]|\\.)+))')
 
 
 class Fault(Exception):
