@@ -111,16 +111,17 @@ def labels_of(name: bytes) -> List[bytes]:
 
 def change_of(octets: bytes) -> Change:
     """A change of these octets. Raises `Fault` where they are none."""
-    first, *rest = octets.split(b"\n")
-    fields = re.findall(rb"[^ \t]+", first)
+    first, lines = octets.partition(b"\n")[0], octets.count(b"\n")
+    # (whoever has put it there may have made it of very many fields)
+    fields = re.findall(rb"[^ \t]+", first[:_MAX_LINE + 1])
     shown = first[:100].decode("utf-8", "backslashreplace")
     if not fields or fields[0] not in _FIELDS:
         raise Fault(f"not a change of zones, holds or the time: {shown!r}")
     least, most = _FIELDS[fields[0]]
     if not least <= len(fields) <= most or b"\r" in octets or len(first) > _MAX_LINE:
         raise Fault(f"its fields do not fit: {shown!r}")
-    if len(rest) != (zone_lines(fields) or 0):
-        raise Fault(f"it has {len(rest)} lines after the first: {shown!r}")
+    if lines != (zone_lines(fields) or 0):
+        raise Fault(f"it has {lines} lines after the first: {shown!r}")
     return Change(octets, fields[0].decode())
 
 
