@@ -32,11 +32,10 @@ def read(octets: bytes) -> Snapshot:
     """The snapshot of a text."""
     text = octets[:-commits.SEAL_LEN]
     first, *lines = text.split(b"\n")
-    is_whole = first.startswith(b"# at") and octets == commits.sealed(text)
-    marks, changes = without_marks([changelog.change_of(b"add" + first[1:])] if is_whole else [])
-    if not marks or changes:
+    mark = record_mark(first[2:].decode("latin-1")) if octets == commits.sealed(text) else None
+    if not mark:
         raise changelog.Fault("not a snapshot of tools/snapshot, or a damaged one: delete it, and publish another")
-    return Snapshot(marks[0], [change for _, change in changelog.changes_in(lines)])
+    return Snapshot(mark, [change for _, change in changelog.changes_in(lines)])
 
 
 def of_state(path: Path) -> Snapshot:
