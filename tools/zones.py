@@ -143,8 +143,8 @@ def read_record(line: str) -> Record:
 class Reply:
     """What `dig` prints, read line by line. The faults it tells of are gathered, and raised by `end`."""
 
-    def __init__(self, server: Server):
-        self.server, self.is_answer, self.is_signed = server, False, False
+    def __init__(self, server: Server, is_transfer: bool):
+        self.server, self.is_transfer, self.is_answer, self.is_signed = server, is_transfer, False, False
         self.faults: list[str] = []
 
     def read(self, line: str) -> Optional[Record]:
@@ -166,6 +166,8 @@ class Reply:
         elif flags:
             if "tc" in flags[1].split():
                 self.faults.append("the server's message is truncated")
+            if not self.is_transfer and not self.faults and "aa" not in flags[1].split():
+                self.faults.append("the answer is not that of a server of the zone (RFC 1035, 4.1.1: AA)")
         elif USUAL.match(line):
             self.is_answer = line.startswith(";; ANSWER")
         elif not re.match(r"; <<>> |; \(\d|;; global options", line):
@@ -186,7 +188,7 @@ def ask(server: Server, address: str, apex: str, question: list[str]) -> Iterato
     command = ["dig", "-r", f"@{address}", "-p", str(server.port), "-c", "IN",
                *(["-k", server.key] if server.key else []),
                *OPTIONS, f"+time={server.seconds}", "-q", apex, *question]
-    reply = Reply(server)
+    reply = Reply(server, "SOA" not in question)
     with temporary_file() as errors:
         try:
             dig = subprocess.Popen(command, stdin=subprocess.DEVNULL, stdout=subprocess.PIPE, stderr=errors)
@@ -234,20 +236,23 @@ def lines_of(output: IO[bytes], end: float, meanwhile: Callable[[], None]) -> It
                 yield f"{line.decode()}\n"
 
 
-def each_address(server: Server, call: Callable[[str], Answer]) -> Answer:
-    """What a call returns for the first of a server's addresses at which it succeeds."""
+def each_address(server: Server, call: Callable[[str], Answer]) -> Iterator[Answer]:
+    """What a call returns for each of a server's addresses at which it succeeds; a Fault where it does at none."""
     if server.key:
         try:
             open(server.key, "rb").close()
         except OSError as fault:
             raise Fault(f"the key {server.key} can't be read: {fault.strerror}") from None
-    faults = []
-    for address in server.addresses():
+    faults, addresses = [], server.addresses()
+    for address in addresses:
         try:
-            return call(address)
+            yield call(address)
+        except Unfit:
+            raise
         except Fault as fault:
             faults.append(f"{address}: {fault}" if address != server.host else str(fault))
-    raise Fault("; ".join(faults))
+    if len(faults) == len(addresses):
+        raise Fault("; ".join(faults))
 
 
 def serial_of(soa: Record) -> int:
@@ -453,6 +458,8 @@ def take(zone: Zone, soa: Record, records: Iterable[Record], before: Optional[Zo
     zone.add(soa)
     for record in records:
         zone.add(record)
+        if len(zone.read) > MAX_LINES:
+            raise Fault(f"siploc would be given more than {MAX_LINES} names, and a zone has at most so many lines (K1)")
     zone.check(zone.read, before.kept if before else lambda _: {})
     name_the_soa(zone, soa)
     return zone
@@ -465,7 +472,7 @@ def fetch(server: Server, apex: str, apart: Iterable[str] = (), truncate: bool =
         records = ask(server, address, apex, ["-t", "AXFR"])
         soa = begin(records, apex)
         return take(Zone(apex, apart, truncate, skip), soa, finish(records, soa, apex), before)
-    return each_address(server, at)
+    return next(each_address(server, at))
 
 
 # ---- changes
@@ -483,15 +490,23 @@ class Changes(NamedTuple):
     steps: list[Change]
 
 
-def ask_soa(server: Server, apex: str) -> Record:
-    """The SOA record that a server has of a zone."""
+def ask_soa(server: Server, zone: Zone) -> Record:
+    """The SOA record that a server has of a zone: the first that is newer than that of the zone, or else the newest one,
+    since at one of its addresses it may be behind."""
     def at(address: str) -> Record:
-        found = [*ask(server, address, apex, ["-t", "SOA", "+tcp"])]
-        soa = begin(iter(found), apex)
+        found = [*ask(server, address, zone.apex, ["-t", "SOA", "+tcp"])]
+        soa = begin(iter(found), zone.apex)
         if len(found) > 1:
             raise Fault("there is more than one SOA record")
         return soa
-    return each_address(server, at)
+    newest = None
+    for soa in each_address(server, at):
+        if newest is None or is_newer(serial_of(soa), serial_of(newest)):
+            newest = soa
+        if is_newer(serial_of(newest), zone.serial):
+            break
+    assert newest
+    return newest
 
 
 def read_differences(records: Iterator[Record], apex: str, soa: Record, serial: int) -> list[Change]:
@@ -530,7 +545,7 @@ def fetch_changes(server: Server, zone: Zone) -> Changes | Zone:
         if serial_of(second) != serial:
             raise Fault(f"the differences begin at serial {serial_of(second)}, and not at {serial}")
         return Changes(soa, read_differences(records, zone.apex, soa, serial))
-    return each_address(server, at)
+    return next(each_address(server, at))
 
 
 def apply(zone: Zone, changes: Changes) -> list[str]:

@@ -259,10 +259,10 @@ class Asked:
 class Scripted:
     """A server over TCP that sends what `reply` returns for a question, and closes the connection; None is silence."""
 
-    def __init__(self, reply: Callable[[Asked], Optional[bytes]]):
+    def __init__(self, reply: Callable[[Asked], Optional[bytes]], place: tuple[str, int] = ("127.0.0.1", 0)):
         self.reply = reply
         self.asked: list[int] = []
-        self.stream = socket.create_server(("127.0.0.1", 0))
+        self.stream = socket.create_server(place)
         self.port = self.stream.getsockname()[1]
         self.thread = threading.Thread(target=self.serve, daemon=True)
         self.thread.start()
@@ -297,8 +297,8 @@ class Scripted:
 
 
 @contextlib.contextmanager
-def scripted(reply: Callable[[Asked], Optional[bytes]]) -> Iterator[Scripted]:
-    server = Scripted(reply)
+def scripted(reply: Callable[[Asked], Optional[bytes]], *place: tuple[str, int]) -> Iterator[Scripted]:
+    server = Scripted(reply, *place)
     try:
         yield server
     finally:
