@@ -16,7 +16,7 @@ import zones
 
 # TCP connections at a time; a further one is closed.
 STREAMS = 16
-# Seconds until a name is looked up again for a sender that is not known.
+# Seconds until a name is looked up again for a sender that is not known, and until another one is told of.
 LOOK_UP = 60.0
 
 Place = tuple[str, int]
@@ -40,7 +40,7 @@ class Primary:
     def __init__(self, server: zones.Server, say: Callable[[str], None]):
         self.server, self.say = server, say
         self.addresses: set[str] = set()
-        self.next_look, self.ignored = 0.0, ""
+        self.next_look = self.next_word = 0.0
 
     def has(self, address: str) -> bool:
         # (at [::] one of IPv4 comes so)
@@ -49,8 +49,8 @@ class Primary:
             self.next_look = time.monotonic() + LOOK_UP
             with contextlib.suppress(zones.Fault):
                 self.addresses = {*self.server.addresses()}
-        if address not in self.addresses and address != self.ignored:
-            self.ignored = address
+        if address not in self.addresses and time.monotonic() >= self.next_word:
+            self.next_word = time.monotonic() + LOOK_UP
             self.say(f"a message from {address} is ignored, which is not an address of {self.server.host}")
         return address in self.addresses
 
