@@ -61,15 +61,18 @@ def read_apex(text: str) -> Name:
 
 
 def read_zone(apex: str, octets: bytes) -> Zone:
-    """The zone of a text. A `zone` line before it, as `tools/fetch-zone` prints one, is passed over."""
+    """The zone of a text. With a `zone` line before it, as `tools/fetch-zone` prints one, it is the lines of that."""
     name = read_apex(apex)
     first, _, rest = octets.partition(b"\n")
-    match = re.fullmatch(rb"zone[ \t]+(\S+)[ \t]+[0-9]+\r?", first)
+    match = re.fullmatch(rb"zone[ \t]+(\S+)[ \t]+([0-9]+)\r?", first)
     if not match:
         return Zone(name, octets, 0)
     if read_apex(match[1].decode(errors="replace")) != name:
         raise Fault(f"the input is the zone {match[1].decode(errors='replace')}, and not {apex}")
-    return Zone(name, rest, 1)
+    lines, count = rest.split(b"\n"), int(match[2])
+    if len(lines) - (not lines[-1]) < count:
+        raise Fault(f"the input ends before the {count} lines of the zone")
+    return Zone(name, b"\n".join(lines[:count]), 1)
 
 
 def state_of(given: Iterable[Zone], transports: Sequence[str], families: str) -> Any:
