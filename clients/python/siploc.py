@@ -79,7 +79,7 @@ MEANINGS: Dict[str, str] = {
     "A1": "the address is invalid",
     "V1": "there are more than 32 random words",
     "K1": "there is no such command, or its fields do not fit",
-    "K2": "a line has more than 65,536 octets",
+    "K2": "a line has more than 65,536 octets, or the lines of a zone more than `zone_octets`",
     "K3": "there is no call",
     "K4": "a call has not ended",
     "X1": "the time is before that of the call's last clock",
