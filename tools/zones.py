@@ -348,8 +348,8 @@ class Zone:
         return next((f"of {it} and below, which is loaded apart" for it in self.apart if is_within(record.owner, it)),
                     None)
 
-    def add(self, record: Record) -> None:
-        """Takes a record in; one that is there already is counted."""
+    def add(self, record: Record) -> bool:
+        """Takes a record in; one that is there already is counted, and false."""
         why = self.leaves_out(record)
         if why:
             self.left_out[why] += 1
@@ -358,14 +358,15 @@ class Zone:
             text = f"{record.kind} {record.data}"
             if text in kept:
                 self.left_out["that were there before"] += 1
-            elif len(kept) == MAX_NAME:
+                return False
+            if len(kept) == MAX_NAME:
                 raise Fault(f"{record.owner} has more records than messages can hold")
-            else:
-                kept.append(text)
+            kept.append(text)
         else:
             self.others[record.owner] = self.others.get(record.owner, 0) + 1
             text = f"{record.kind} {record.data}"
             self.samples.setdefault(record.owner, text if len(text) < MAX_LINE // 2 else record.kind)
+        return True
 
     def remove(self, record: Record) -> None:
         """Takes a record away; one that is not there is a KeyError."""
@@ -427,8 +428,6 @@ class Zone:
         """The lines to load, the SOA record first."""
         owners = dict.fromkeys([self.apex, *self.read, *self.others])
         made = [line for owner in owners for line in self.kept(owner).values()]
-        if len(made) > MAX_LINES:
-            raise Fault(f"siploc would be given {len(made)} records, and a zone has at most {MAX_LINES} lines (K1)")
         return sorted(made, key=lambda it: not it.startswith(f"{self.apex} SOA "))
 
     def omissions(self) -> list[str]:
@@ -548,20 +547,17 @@ def fetch_changes(server: Server, zone: Zone) -> Changes | Zone:
     return next(each_address(server, at))
 
 
-def apply(zone: Zone, changes: Changes) -> list[str]:
-    """Makes the changes, and returns the names that they are of. After a Fault the zone is as it was."""
+def apply(zone: Zone, changes: Changes) -> None:
+    """Makes the changes. After a Fault the zone is as it was."""
     owners = [*dict.fromkeys(it.record.owner for it in changes.steps)]
     before = {owner: zone.parts(owner) for owner in [*owners, zone.apex]}
     kept = {owner: zone.kept(owner) for owner in owners} if zone.skip else {}
     refused, instead = {**zone.refused}, {**zone.instead}
     try:
         for is_added, record in changes.steps:
-            there = zone.left_out["that were there before"]
-            if is_added:
-                zone.add(record)
-            else:
+            if not is_added:
                 zone.remove(record)
-            if zone.left_out["that were there before"] != there:
+            elif not zone.add(record):
                 raise KeyError
         zone.check(owners, kept.__getitem__)
     except (KeyError, Fault) as fault:
@@ -572,4 +568,3 @@ def apply(zone: Zone, changes: Changes) -> list[str]:
             raise
         raise Fault("the differences do not fit the zone that was transferred before") from None
     name_the_soa(zone, changes.soa)
-    return owners

@@ -3,7 +3,6 @@
 from __future__ import annotations
 
 import html
-import itertools
 import re
 import subprocess
 from typing import Any, Iterator, NamedTuple, Optional, Sequence
@@ -142,7 +141,7 @@ class Drawing:
     def in_order(self) -> None:
         """What is known without records: the order of reading."""
         path = ["uri", *self.ids.values()]
-        for source, to in itertools.pairwise(path):
+        for source, to in zip(path, path[1:]):
             self.edge(source, to, is_light=True)
         for place in range(1, min(len(self.told.targets), TARGETS) + 1):
             self.edge(path[-1], f"target{place}", is_light=True)
