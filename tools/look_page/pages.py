@@ -56,7 +56,9 @@ class Found(NamedTuple):
 
 
 class Quiet(werkzeug.serving.WSGIRequestHandler):
-    """Requests are not logged."""
+    """Requests are not logged, and one that does not come within ten seconds ends its connection."""
+
+    timeout = 10
 
     def log(self, *_: Any) -> None:
         pass
