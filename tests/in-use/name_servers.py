@@ -284,7 +284,7 @@ class Scripted:
                 self.asked.append(asked.kind)
                 octets = self.reply(asked)
                 if octets is not None:
-                    connection.settimeout(120)
+                    connection.settimeout(600)
                     connection.sendall(octets)
                     connection.shutdown(socket.SHUT_WR)
                 connection.recv(1)
