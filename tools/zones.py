@@ -8,6 +8,7 @@ from __future__ import annotations
 
 import argparse
 import collections
+import copy
 import itertools
 import os
 import re
@@ -16,7 +17,7 @@ import socket
 import subprocess
 import tempfile
 import time
-from typing import IO, Callable, Iterable, Iterator, NamedTuple, Optional, Sequence, TypeVar
+from typing import IO, Any, Callable, Iterable, Iterator, NamedTuple, Optional, Sequence, TypeVar
 
 # The types that siploc reads, and those by which no name exists: RRSIG and NSEC are never a name's only records
 # (RFC 4035, 2.3), and the owner of an NSEC3 record does not exist by it (RFC 5155, 7.2.8).
@@ -324,20 +325,16 @@ class Zone:
         refresh, retry, expire = map(int, self.soa.data.split()[3:6])
         return refresh, retry, expire
 
-    def parts(self, owner: str) -> tuple[Optional[list[str]], Optional[int], Optional[str]]:
-        """What there is of a name, for `put_back`."""
-        texts = self.read.get(owner)
-        return None if texts is None else [*texts], self.others.get(owner), self.samples.get(owner)
+    def tables(self) -> tuple[dict[str, Any], ...]:
+        """What there is by names."""
+        return self.read, self.others, self.samples
 
-    def put_back(self, owner: str, parts: tuple[Optional[list[str]], Optional[int], Optional[str]]) -> None:
-        texts, count, sample = parts
-        self.read.pop(owner, None)
-        self.others.pop(owner, None)
-        self.samples.pop(owner, None)
-        if texts is not None:
-            self.read[owner] = texts
-        if count is not None and sample is not None:
-            self.others[owner], self.samples[owner] = count, sample
+    def put_back(self, owner: str, parts: Sequence[Any]) -> None:
+        """Puts a name's parts of the tables back, where it had any."""
+        for table, part in zip(self.tables(), parts):
+            table.pop(owner, None)
+            if part is not None:
+                table[owner] = part
 
     def leaves_out(self, record: Record) -> Optional[str]:
         """Why a record is not taken in, if it is not."""
@@ -490,8 +487,8 @@ class Changes(NamedTuple):
 
 
 def ask_soa(server: Server, zone: Zone) -> Record:
-    """The SOA record that a server has of a zone: the first that is newer than that of the zone, or else the newest one,
-    since at one of its addresses it may be behind."""
+    """The SOA record that a server has of a zone: the first that is newer than that of the zone, or else the newest
+    one, since at one of its addresses it may be behind."""
     def at(address: str) -> Record:
         found = [*ask(server, address, zone.apex, ["-t", "SOA", "+tcp"])]
         soa = begin(iter(found), zone.apex)
@@ -550,7 +547,7 @@ def fetch_changes(server: Server, zone: Zone) -> Changes | Zone:
 def apply(zone: Zone, changes: Changes) -> None:
     """Makes the changes. After a Fault the zone is as it was."""
     owners = [*dict.fromkeys(it.record.owner for it in changes.steps)]
-    before = {owner: zone.parts(owner) for owner in [*owners, zone.apex]}
+    before = {owner: [copy.copy(table.get(owner)) for table in zone.tables()] for owner in [*owners, zone.apex]}
     kept = {owner: zone.kept(owner) for owner in owners} if zone.skip else {}
     refused, instead = {**zone.refused}, {**zone.instead}
     try:
