@@ -454,7 +454,7 @@ def take(zone: Zone, soa: Record, records: Iterable[Record], before: Optional[Zo
     zone.add(soa)
     for record in records:
         zone.add(record)
-        if len(zone.read) > MAX_LINES:
+        if max(len(zone.read), len(zone.others)) > MAX_LINES:
             raise Fault(f"siploc would be given more than {MAX_LINES} names, and a zone has at most so many lines (K1)")
     zone.check(zone.read, before.kept if before else lambda _: {})
     name_the_soa(zone, soa)
