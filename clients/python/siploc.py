@@ -116,7 +116,9 @@ _MAX_LINE = 65_536
 _MAX_ZONE_LINES = 1_048_576
 _MAX_REPLY_LINE = 4_096
 _MAX_REPLY_LINES = 65_536
-_CHUNK = 1 << 18
+_CHUNK = 1 << 16
+# The longest wait in seconds: what `poll` takes has 31 bits of milliseconds.
+_MAX_WAIT = 2_000_000.0
 # The seconds after which a Unix socket that is full is tried again.
 _PAUSE = 0.01
 
@@ -273,6 +275,9 @@ class Refused(Error):
         place = f" (line {line} of the zone)" if line is not None else ""
         super().__init__(f"{code}: {self.meaning}{place}: {command[:200]}")
 
+    def __reduce__(self) -> tuple:
+        return type(self), (self.code, self.command, self.line, self.changed, self.steps)
+
 
 class SessionBroken(Error):
     """The session has ended, and the connection is closed.
@@ -287,9 +292,12 @@ class SessionBroken(Error):
     sent: int
 
     def __init__(self, message: str, replies: Sequence[Reply] = (), sent: int = 0) -> None:
-        self.replies, self.sent = list(replies), sent
+        self._message, self.replies, self.sent = message, list(replies), sent
         doubt = "may have been" if self.may_be_done else "was not"
         super().__init__(f"{message} (after {len(self.replies)} replies; what came next {doubt} carried out)")
+
+    def __reduce__(self) -> tuple:
+        return type(self), (self._message, self.replies, self.sent)
 
     @property
     def may_be_done(self) -> bool:
@@ -452,8 +460,9 @@ class Reply:
 
     @property
     def counts(self) -> List[int]:
-        """The numbers of the last line, of a reply that begins with `ok`."""
-        return [int(field) for field in self.lines[-1].split(" ")[2:]]
+        """The numbers of the last line, of a reply that begins with `ok`; else none."""
+        word, *fields = self.lines[-1].split(" ")
+        return [int(field) for field in fields[1:]] if word == "ok" else []
 
     @property
     def reason(self) -> Optional[str]:
@@ -580,7 +589,7 @@ def _places(address: str) -> List[Tuple[int, Union[str, Tuple[str, int]]]]:
         if not 0 < len(_octets(address)) - len("unix:") <= 107 or "\0" in address:
             raise InvalidCommand(f"the path of a Unix socket has 1 to 107 octets: {address[:200]!r}")
         return [(socket.AF_UNIX, address[len("unix:"):])]
-    match = re.fullmatch(r"(?:\[([0-9A-Fa-f:.]+)\]|([0-9.]+)|(localhost)):([0-9]{1,5})", address)
+    match = re.fullmatch(r"(?:\[([0-9A-Fa-f:.]*:[0-9A-Fa-f:.]*)\]|([0-9.]+)|(localhost)):([0-9]{1,5})", address)
     try:
         texts = ["127.0.0.1", "::1"] if match and match[3] else [match[1] or match[2]] if match else []
         hosts = [ipaddress.ip_address(text) for text in texts]
@@ -619,7 +628,7 @@ def connect(address: str, timeout: float = 30.0) -> Session:
 def _connect(stream: socket.socket, place: object, timeout: float) -> None:
     """Connects a socket within a time."""
     end = time.monotonic() + timeout
-    stream.settimeout(timeout)
+    stream.settimeout(min(timeout, _MAX_WAIT))
     while True:
         try:
             return stream.connect(place)
@@ -766,7 +775,6 @@ class Session(BaseSession):
         # (the handler of a signal comes in too, where its thread is within a call)
         self._turn, self._is_busy = threading.RLock(), False
         self._poll = select.poll()
-        self._poll.register(stream, select.POLLIN)
 
     @property
     def is_open(self) -> bool:
@@ -775,6 +783,9 @@ class Session(BaseSession):
     def close(self) -> None:
         """Ends the session by `quit`, and closes the connection, after a call that another thread makes. Nothing is
         raised."""
+        if self._process != os.getpid():
+            self._end()
+            return
         with self._turn:
             if self._stream is not None:
                 self.timeout = min(self.timeout, 1.0)
@@ -791,16 +802,20 @@ class Session(BaseSession):
 
     def _exchange(self, commands: Sequence[_Command]) -> List[Reply]:
         """Sends commands and reads their replies. The session ends where this raises anything but an InvalidCommand."""
+        # (in the child of a fork a thread may have the turn that is not there)
+        if self._process != os.getpid():
+            raise NotConnected("the session is another process's")
         with self._turn:
-            if self._stream is None or not self.is_open:
-                raise NotConnected("the session has ended, or is another process's")
+            if self._stream is None:
+                raise NotConnected("the session has ended")
             if self._is_busy:
                 raise InvalidCommand("the call of a signal's handler within a call")
-            exchange = _Exchange(self._stream, self._poll, commands)
+            exchange = _Exchange(self._stream, commands)
             try:
                 self._is_busy = True
-                exchange.run(self.timeout)
-            except OSError as fault:
+                self._run(exchange)
+            except (OSError, ValueError) as fault:
+                # (ValueError: the handler of a signal has closed the session)
                 self._end()
                 raise exchange.lost(str(fault)) from fault
             except BaseException:
@@ -809,6 +824,19 @@ class Session(BaseSession):
             finally:
                 self._is_busy = False
         return exchange.replies
+
+    def _run(self, exchange: _Exchange) -> None:
+        """Sends all commands, and reads all replies."""
+        exchange.read_before()
+        end = time.monotonic() + self.timeout
+        while exchange.is_due():
+            if exchange.write():
+                end = time.monotonic() + self.timeout
+            self._poll.register(exchange.stream, select.POLLIN | (select.POLLOUT if exchange.has_output() else 0))
+            if not self._poll.poll(1000 * max(0.0, min(end - time.monotonic(), _MAX_WAIT))):
+                raise exchange.timed_out(self.timeout)
+            if exchange.read():
+                end = time.monotonic() + self.timeout
 
 
 class _Replies:
@@ -834,6 +862,10 @@ class _Replies:
         if self.lines or self.rest:
             return self.broken(HalfReply, f"{message}, within a reply")
         return self.broken(ConnectionLost, message)
+
+    def timed_out(self, timeout: float) -> SessionBroken:
+        """The error for a time that ran out."""
+        return self.broken(TimedOut, f"no progress for {timeout:g} seconds")
 
     def bad(self, text: str) -> SessionBroken:
         """The error for a line that is not one of the reply that is due."""
@@ -867,41 +899,21 @@ class _Replies:
 
 
 class _Exchange(_Replies):
-    """Commands on their way over a connection, and the replies that have come."""
+    """Commands on their way over a connection that does not block, and the replies that have come."""
 
-    def __init__(self, stream: socket.socket, poll: Optional[select.poll], commands: Sequence[_Command]) -> None:
+    def __init__(self, stream: socket.socket, commands: Sequence[_Command]) -> None:
         super().__init__(commands)
         self.stream = stream
-        self.poll = poll or select.poll()
         self.output = memoryview(b"".join(command.octets for command in commands))
         self.is_cut = False
-        self.events = select.POLLIN
 
-    def run(self, timeout: float) -> None:
-        """Sends all commands, and reads all replies."""
-        if self.commands and self.poll.poll(0):
-            self.read_before()
-        end = time.monotonic() + timeout
-        while len(self.replies) < len(self.commands):
-            if self.write():
-                end = time.monotonic() + timeout
-            self.wait_for(select.POLLIN | select.POLLOUT if self.has_output() else select.POLLIN)
-            events = self.poll.poll(max(0.0, end - time.monotonic()) * 1000)
-            if not events:
-                raise self.broken(TimedOut, f"no progress for {timeout:g} seconds")
-            if events[0][1] & ~select.POLLOUT and self.read():
-                end = time.monotonic() + timeout
-        self.wait_for(select.POLLIN)
+    def is_due(self) -> bool:
+        """Whether a reply is missing."""
+        return len(self.replies) < len(self.commands)
 
     def has_output(self) -> bool:
         """Whether there is more to send."""
         return self.sent < len(self.output) and not self.is_cut
-
-    def wait_for(self, events: int) -> None:
-        """Sets what the next wait is for."""
-        if events != self.events:
-            self.events = events
-            self.poll.modify(self.stream, events)
 
     def write(self) -> bool:
         """Sends what the connection takes; whether it took anything."""
@@ -927,12 +939,14 @@ class _Exchange(_Replies):
         return self.feed(octets)
 
     def read_before(self) -> None:
-        """What came before any command was sent."""
-        self.feed_before(self.stream.recv(_CHUNK))
-
-    def feed_before(self, octets: bytes) -> None:
         """Raises what octets mean that came before any command was sent: the end of the connection, or a refusal of the
         session."""
+        if not self.commands:
+            return
+        try:
+            octets = self.stream.recv(_CHUNK)
+        except BlockingIOError:
+            return
         if not octets:
             raise self.lost("the server has closed the connection")
         match = re.fullmatch(f"{_REFUSED.pattern}\n", octets.decode("latin-1"))

@@ -19,17 +19,14 @@ import socket
 from typing import Iterable, List, Optional, Sequence, Tuple, Union
 
 import siploc
-from siploc import Answer, Dependency, Loaded, NotConnected, Opened, Page, Reply, Step, Target, TimedOut, line, zone
+from siploc import Answer, Dependency, Loaded, NotConnected, Opened, Page, Reply, Step, Target, line, zone
 
 __all__ = ["Session", "connect"]
-
-# What is sent at once, at most.
-_CHUNK = 1 << 16
 
 
 async def connect(address: str, timeout: float = 30.0) -> Session:
     """A session with the server at an address, as `siploc.connect` takes one."""
-    fault: Optional[Exception] = None
+    fault: Optional[OSError] = None
     for family, place in siploc._places(address):
         try:
             stream = socket.socket(family, socket.SOCK_STREAM)
@@ -38,9 +35,9 @@ async def connect(address: str, timeout: float = 30.0) -> Session:
             continue
         stream.setblocking(False)
         try:
-            await asyncio.wait_for(_connect(stream, place), timeout)
+            await _connect(stream, place, timeout)
             siploc._prepare(stream)
-        except (OSError, asyncio.TimeoutError) as refused:
+        except OSError as refused:
             stream.close()
             fault = fault or refused
         except BaseException:
@@ -48,17 +45,42 @@ async def connect(address: str, timeout: float = 30.0) -> Session:
             raise
         else:
             return Session(stream, timeout)
-    raise NotConnected(f"{address}: {fault or 'timed out'}") from fault
+    raise NotConnected(f"{address}: {fault}") from fault
 
 
-async def _connect(stream: socket.socket, place: Union[str, Tuple[str, int]]) -> None:
-    if stream.family != socket.AF_UNIX:
-        return await asyncio.get_running_loop().sock_connect(stream, place)
-    # (the loop takes a Unix socket for connected at which as many clients wait as it takes)
-    while (code := stream.connect_ex(place)) == errno.EAGAIN:
+async def _connect(stream: socket.socket, place: Union[str, Tuple[str, int]], timeout: float) -> None:
+    """Connects a socket that does not block within a time."""
+    loop = asyncio.get_running_loop()
+    end = loop.time() + timeout
+    # (as many clients wait at a Unix socket as it takes: none waits for that by itself)
+    while (code := stream.connect_ex(place)) == errno.EAGAIN and loop.time() < end:
         await asyncio.sleep(siploc._PAUSE)
+    if code == errno.EINPROGRESS:
+        is_ready = await _is_ready(stream, True, end - loop.time())
+        code = stream.getsockopt(socket.SOL_SOCKET, socket.SO_ERROR) if is_ready else errno.ETIMEDOUT
     if code:
         raise OSError(code, os.strerror(code))
+
+
+async def _is_ready(stream: socket.socket, has_output: bool, seconds: float) -> bool:
+    """Waits until octets have come, or, where there is output, can be sent; whether that was within some seconds."""
+    loop = asyncio.get_running_loop()
+    ready = loop.create_future()
+
+    def end(is_ready: bool) -> None:
+        if not ready.done():
+            ready.set_result(is_ready)
+
+    timer = loop.call_later(min(seconds, siploc._MAX_WAIT), end, False)
+    try:
+        loop.add_reader(stream, end, True)
+        if has_output:
+            loop.add_writer(stream, end, True)
+        return await ready
+    finally:
+        timer.cancel()
+        loop.remove_reader(stream)
+        loop.remove_writer(stream)
 
 
 class Session:
@@ -159,9 +181,9 @@ class Session:
         """Sends commands and reads their replies. The session ends where this raises."""
         if self._stream is None:
             raise NotConnected("the session has ended")
-        exchange = siploc._Exchange(self._stream, None, commands)
+        exchange = siploc._Exchange(self._stream, commands)
         try:
-            await self._run(self._stream, exchange)
+            await self._run(exchange)
         except OSError as fault:
             self._end()
             raise exchange.lost(str(fault)) from fault
@@ -170,50 +192,15 @@ class Session:
             raise
         return exchange.replies
 
-    async def _run(self, stream: socket.socket, exchange: siploc._Exchange) -> None:
+    async def _run(self, exchange: siploc._Exchange) -> None:
+        """Sends all commands, and reads all replies."""
         loop = asyncio.get_running_loop()
-        if exchange.commands:
-            try:
-                exchange.feed_before(stream.recv(_CHUNK))
-            except BlockingIOError:
-                pass
-        progress = [loop.time()]
-        sender = asyncio.ensure_future(self._send(stream, exchange, progress))
-        try:
-            while len(exchange.replies) < len(exchange.commands):
-                wait = progress[0] + self.timeout - loop.time()
-                try:
-                    octets = await asyncio.wait_for(loop.sock_recv(stream, _CHUNK), max(wait, 0.001))
-                except asyncio.TimeoutError:
-                    if progress[0] + self.timeout <= loop.time():
-                        raise exchange.broken(TimedOut, f"no progress for {self.timeout:g} seconds") from None
-                    continue
-                if exchange.feed(octets):
-                    progress[0] = loop.time()
-        finally:
-            sender.cancel()
-            await asyncio.gather(sender, return_exceptions=True)
-
-    async def _send(self, stream: socket.socket, exchange: siploc._Exchange, progress: List[float]) -> None:
-        """Sends all commands. When the connection fails it ends, and what was replied before is still read."""
-        loop = asyncio.get_running_loop()
-        while exchange.sent < len(exchange.output):
-            try:
-                exchange.sent += stream.send(exchange.output[exchange.sent:exchange.sent + _CHUNK])
-                progress[0] = loop.time()
-                await asyncio.sleep(0)
-            except BlockingIOError:
-                await _writable(stream)
-            except OSError:
-                return
-
-
-async def _writable(stream: socket.socket) -> None:
-    """Waits until a socket takes octets, or has failed."""
-    loop = asyncio.get_running_loop()
-    ready = loop.create_future()
-    loop.add_writer(stream, lambda: ready.done() or ready.set_result(None))
-    try:
-        await ready
-    finally:
-        loop.remove_writer(stream)
+        exchange.read_before()
+        end = loop.time() + self.timeout
+        while exchange.is_due():
+            if exchange.write():
+                end = loop.time() + self.timeout
+            if not await _is_ready(exchange.stream, exchange.has_output(), end - loop.time()):
+                raise exchange.timed_out(self.timeout)
+            if exchange.read():
+                end = loop.time() + self.timeout

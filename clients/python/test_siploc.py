@@ -8,8 +8,10 @@ Replies are those of docs/use/FORMATS.md, and of the README's session. The last 
 
 import contextlib
 import json
+import math
 import os
 import pathlib
+import pickle
 import random
 import re
 import resource
@@ -467,6 +469,8 @@ class Faults(unittest.TestCase):
                 try:
                     got = session.batch([unescape(command).decode()])[0]
                     seen = got.refusal.code if got.refusal else "good"
+                    if got.refusal:
+                        self.assertEqual(got.counts, [])
                     self.assertEqual("".join(f"{text}\n" for text in got.lines).encode(), octets)
                     self.assertTrue(session.is_open)
                 except siploc.SessionBroken as error:
@@ -692,7 +696,7 @@ class Faults(unittest.TestCase):
         """What is no address, and one that nobody listens at."""
         for address in ("", "127.0.0.1", "localhost", "localhost:0", "localhosts:5099", "192.0.2.1:5099",
                         "[2001:db8::1]:5099", "127.0.0.1:0",
-                        "127.0.0.1:65536", "127.0.0.1:x", "::1:5099", "unix:", "unix:" + "x" * 108, "[127.0.0.1]:",
+                        "127.0.0.1:65536", "127.0.0.1:x", "::1:5099", "unix:", "unix:" + "x" * 108, "[127.0.0.1]:5099", "[]:5099",
                         "300.0.0.1:1"):
             with self.subTest(address), self.assertRaises(siploc.InvalidCommand):
                 siploc.connect(address)
@@ -769,6 +773,66 @@ class Faults(unittest.TestCase):
             with contextlib.suppress(siploc.Error):
                 session.close()
         self.assertEqual(last, [b"quit\n"])
+
+    def test_fork_within_a_call(self):
+        """The child does not wait for a call that another thread of its parent makes."""
+        ends = socket.socketpair()
+        with ends[1]:
+            session = siploc.Session(ends[0], 30)
+            thread = threading.Thread(target=session.repair)
+            thread.start()
+            self.assertEqual(ends[1].recv(100), b"repair\n")
+            child = os.fork()
+            if not child:
+                status = 1
+                try:
+                    signal.alarm(10)
+                    session.find("sip:a")
+                except siploc.NotConnected:
+                    session.close()
+                    status = 0
+                finally:
+                    os._exit(status)
+            self.assertEqual(os.waitpid(child, 0)[1], 0)
+            ends[1].sendall(b"ok repair\n")
+            thread.join()
+            self.assertTrue(session.is_open)
+            session._end()
+
+    def test_errors_of_other_processes(self):
+        """An error that was pickled, as by a pool of processes, is the same."""
+        for error in (siploc.Refused("Z4", "zone e. 2", line=2), siploc.Refused("O4", "got 1 503", steps=[Ack(1)]),
+                      siploc.TimedOut("none", [siploc.Reply("repair", ["ok repair"])], 2),
+                      siploc.NotConnected("nobody")):
+            copy = pickle.loads(pickle.dumps(error))
+            self.assertIs(type(copy), type(error))
+            self.assertEqual(str(copy), str(error))
+            self.assertEqual([repr(it) for it in copy.__dict__.items()], [repr(it) for it in error.__dict__.items()])
+
+    def test_session_that_is_closed_as_it_sends(self):
+        """The handler of a signal closes the session before the rest of a batch is sent."""
+        class Stream(socket.socket):
+            def send(self, octets):
+                if sent:
+                    session.close()
+                sent.append(len(octets))
+                return super().send(octets)
+
+        sent, ends = [], socket.socketpair()
+        with ends[1]:
+            threading.Timer(0.2, ends[1].recv, [1 << 20]).start()
+            session = siploc.Session(Stream(fileno=ends[0].detach()), 20)
+            with self.assertRaises(siploc.ConnectionLost) as caught:
+                session.batch(["find sip:" + "a" * 60_000] * 100)
+        self.assertEqual((caught.exception.may_be_done, session.is_open), (True, False))
+
+    def test_long_timeouts(self):
+        """A time that is longer than the system's calls take."""
+        for timeout in (1e7, 1e12, math.inf):
+            with fake(lambda stream: [read_lines(stream), stream.sendall(b"ok repair\n")]) as (address, _):
+                session = siploc.connect(address, timeout)
+                session.repair()
+                session._end()
 
     def test_call_within_a_call(self):
         """What a signal calls while a call is being made is refused, and the call goes on; it may be closed."""

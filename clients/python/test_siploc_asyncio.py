@@ -9,6 +9,8 @@ The last line is `N passed, M failed`.
 import asyncio
 import contextlib
 import inspect
+import math
+import select
 import socket
 import sys
 import threading
@@ -193,7 +195,7 @@ class Asyncio(unittest.IsolatedAsyncioTestCase):
     async def test_full_queue(self):
         """A Unix socket that has as many clients waiting as it takes is waited for, as long as is given."""
         with full_queue() as (address, listener):
-            with self.assertRaises(siploc.NotConnected):
+            with self.assertRaisesRegex(siploc.NotConnected, "temporarily"):
                 await siploc_asyncio.connect(address, 0.3)
             threading.Timer(0.3, accept_all, [listener]).start()
             session = await siploc_asyncio.connect(address, 20)
@@ -251,6 +253,28 @@ class Asyncio(unittest.IsolatedAsyncioTestCase):
                 await first
             self.assertFalse(session.is_open)
             await session.close()
+
+    async def test_cancelled_as_the_reply_comes(self):
+        """A task that is cancelled before it goes on is cancelled, whatever has come."""
+        cancelled = 0
+        for turns in range(12):
+            ends = socket.socketpair()
+            ends[0].setblocking(False)
+            session = siploc_asyncio.Session(ends[0], math.inf)
+            task = asyncio.ensure_future(session.repair())
+            with ends[1]:
+                while not select.select([ends[1]], [], [], 0)[0]:
+                    await asyncio.sleep(0)
+                ends[1].sendall(b"ok repair\n")
+                for _ in range(turns):
+                    await asyncio.sleep(0)
+                if task.cancel():
+                    cancelled += 1
+                    with self.subTest(turns), self.assertRaises(asyncio.CancelledError):
+                        await task
+                    self.assertFalse(session.is_open)
+                session._end()
+        self.assertIn(cancelled, range(1, 12))
 
 
 def main():
