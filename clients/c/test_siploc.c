@@ -757,7 +757,7 @@ static void replies(void)
         rows++;
     }
     free(text);
-    CHECK(rows == 134);
+    CHECK(rows == 135);
 }
 
 /* A reply to some lines, and where it is cut in how many connections: at each octet of it, in their order. */

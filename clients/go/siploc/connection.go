@@ -66,9 +66,6 @@ func dial(ctx context.Context, dialer net.Dialer, network, place string) (net.Co
 // New opens a session over a connection that is there, such as an end of a socket pair. The timeout is how long a call
 // waits without progress. Where it is 0, it is DefaultTimeout.
 func New(stream net.Conn, timeout time.Duration) *Session {
-	if timeout == 0 {
-		timeout = DefaultTimeout
-	}
 	return newSession(&connection{stream: stream, reader: bufio.NewReaderSize(stream, 1<<16)}, timeout)
 }
 
@@ -141,6 +138,10 @@ func (c *connection) exchange(ctx context.Context, commands []command, timeout t
 	exchange.progress()
 	if err := exchange.readBefore(); err != nil {
 		c.end()
+		var broken *BrokenError
+		if errors.As(err, &broken) {
+			broken.blame(ctx)
+		}
 		return nil, err
 	}
 	var writer sync.WaitGroup
@@ -160,14 +161,19 @@ func (c *connection) exchange(ctx context.Context, commands []command, timeout t
 	}
 	c.end() // The writer ends at once when the connection is closed.
 	writer.Wait()
-	if err := ctx.Err(); err != nil {
-		broken.Kind, broken.Cause = ErrConnectionLost, err
-		if err == context.DeadlineExceeded {
-			broken.Kind = ErrTimedOut
-		}
-	}
+	broken.blame(ctx)
 	broken.Replies, broken.Sent = replies, sentOf(commands, exchange.sent)
 	return nil, broken
+}
+
+// blame makes a context that has ended the cause.
+func (e *BrokenError) blame(ctx context.Context) {
+	if err := ctx.Err(); err != nil {
+		e.Kind, e.Cause = ErrConnectionLost, err
+		if err == context.DeadlineExceeded {
+			e.Kind = ErrTimedOut
+		}
+	}
 }
 
 // progress begins the time anew after which the session ends. Where it fails, so does the next read.

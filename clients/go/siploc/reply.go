@@ -181,11 +181,17 @@ func endpoint(fields []string) (Target, bool) {
 
 // isAddress returns whether an address is printed as the protocol has it.
 func isAddress(text string) bool {
-	address, err := netip.ParseAddr(text)
-	if err != nil || address.Is4() {
-		return err == nil
+	groups := strings.Split(text, ":")
+	if len(groups) == 1 {
+		address, err := netip.ParseAddr(text)
+		return err == nil && address.Is4()
 	}
-	return strings.Count(text, ":") == 7 && !strings.Contains(text, "::") && !strings.ContainsAny(text, "ABCDEF%.")
+	for _, group := range groups {
+		if group == "" || len(group) > 4 || strings.Trim(group, "0123456789abcdef") != "" {
+			return false
+		}
+	}
+	return len(groups) == 8
 }
 
 // isName returns whether a text is a printed name, as far as replies need it.

@@ -64,13 +64,18 @@ type carrier interface {
 
 func newSession(carrier carrier, timeout time.Duration) *Session {
 	session := &Session{carrier: carrier, turn: make(chan struct{}, 1)}
-	session.timeout.Store(int64(timeout))
+	session.SetTimeout(timeout)
 	session.turn <- struct{}{}
 	return session
 }
 
-// SetTimeout changes how long a call waits without progress.
-func (s *Session) SetTimeout(timeout time.Duration) { s.timeout.Store(int64(timeout)) }
+// SetTimeout changes how long a call waits without progress. Where it is 0, it is DefaultTimeout.
+func (s *Session) SetTimeout(timeout time.Duration) {
+	if timeout == 0 {
+		timeout = DefaultTimeout
+	}
+	s.timeout.Store(int64(timeout))
+}
 
 // Close ends the session by `quit`, within a second, and closes the connection. A call that is being made ends at once,
 // with an error; in this process Close waits for it. It returns nil, as an io.Closer whose connection may have been lost before.
@@ -219,15 +224,16 @@ func (s *Session) Batch(ctx context.Context, lines []string) ([]Reply, error) {
 		}
 		commands = append(commands, command)
 	}
-	if err := ctx.Err(); err != nil {
-		return nil, err
-	}
 	select {
 	case <-s.turn:
 	case <-ctx.Done():
 		return nil, ctx.Err()
 	}
 	defer func() { s.turn <- struct{}{} }()
+	// (the context may have ended as the turn came)
+	if err := ctx.Err(); err != nil {
+		return nil, err
+	}
 	return s.exchange(ctx, commands)
 }
 
@@ -244,11 +250,10 @@ func Line(fields ...string) (string, error) {
 
 // Zone returns a command that loads a zone, for Batch. The text is a master file, whose lines end with LF or CR LF.
 func Zone(apex, text string) (string, error) {
-	text = strings.TrimSuffix(strings.TrimSuffix(strings.ReplaceAll(text, "\r\n", "\n"), "\n"), "\r")
-	count := 0
-	if text != "" {
-		count = strings.Count(text, "\n") + 1
+	if text != "" && !strings.HasSuffix(text, "\n") {
+		text += "\n"
 	}
+	count := strings.Count(text, "\n")
 	if count > maxZoneLines {
 		return "", invalid("the zone %.200q has more than %d lines", apex, maxZoneLines)
 	}
@@ -256,7 +261,7 @@ func Zone(apex, text string) (string, error) {
 	if err != nil || count == 0 {
 		return line, err
 	}
-	return line + "\n" + text, nil
+	return line + "\n" + strings.TrimSuffix(strings.ReplaceAll(text, "\r\n", "\n"), "\n"), nil
 }
 
 func decimal(value uint64) string { return strconv.FormatUint(value, 10) }

@@ -15,6 +15,7 @@ import (
 	"path/filepath"
 	"reflect"
 	"regexp"
+	"runtime"
 	"strings"
 	"sync"
 	"syscall"
@@ -662,8 +663,10 @@ func TestInvalidCommandsAreNotSent(t *testing.T) {
 	is(err)
 	_, err = session.Load(ctx, "e. 0", "")
 	is(err)
-	_, err = session.Load(ctx, "e.", "a A\r192.0.2.1")
-	is(err)
+	for _, text := range []string{"a A\r192.0.2.1", "a A 192.0.2.1\r\r\n", "a A 192.0.2.1\r\r"} {
+		_, err = session.Load(ctx, "e.", text)
+		is(err)
+	}
 	is(session.Hold(ctx, Target{"udp", "a b", 1}, 1))
 	is(session.Release(ctx, Target{"udp", "", 1}))
 	_, err = session.Call(ctx, "invite x", 1, "sip:a", Draws{})
@@ -720,6 +723,9 @@ func TestTimeouts(t *testing.T) {
 		}
 	}
 	session := connect(t, start(t, 1, "").address, 200*time.Millisecond)
+	session.SetTimeout(0)
+	equal(t, session.Repair(ctx), nil)
+	session.SetTimeout(200 * time.Millisecond)
 	for turn := 0; turn < 2; turn++ {
 		equal(t, session.Repair(ctx), nil)
 		time.Sleep(400 * time.Millisecond)
@@ -907,6 +913,43 @@ func TestContextsOfWaitingCalls(t *testing.T) {
 	defer cancel()
 	equal(t, session.Repair(within), context.DeadlineExceeded)
 	equal(t, errors.Is(<-first, ErrTimedOut), true)
+}
+
+// A context that ends as its turn comes: nothing is sent, and the session goes on.
+func TestContextThatEndsAsItsTurnComes(t *testing.T) {
+	defer runtime.GOMAXPROCS(runtime.GOMAXPROCS(1))
+	session := connect(t, start(t, 1, "").address, 10*time.Second)
+	for turn := 0; turn < 10; turn++ {
+		<-session.turn
+		within, cancel := context.WithCancel(ctx)
+		ended := make(chan error, 1)
+		go func() { ended <- session.Repair(within) }()
+		time.Sleep(10 * time.Millisecond)
+		session.turn <- struct{}{}
+		cancel()
+		equal(t, <-ended, context.Canceled)
+		equal(t, session.Repair(ctx), nil)
+	}
+}
+
+// A connection that is looked at late.
+type late struct{ *net.TCPConn }
+
+func (l late) SyscallConn() (syscall.RawConn, error) {
+	time.Sleep(100 * time.Millisecond)
+	return l.TCPConn.SyscallConn()
+}
+
+// A context that ends before anything is sent is the cause, too.
+func TestContextThatEndsBeforeACommandIsSent(t *testing.T) {
+	stream := must[net.Conn](t)(net.Dial("tcp", silent(t)))
+	session := New(late{stream.(*net.TCPConn)}, time.Second)
+	within, cancel := context.WithTimeout(ctx, 20*time.Millisecond)
+	defer cancel()
+	err := session.Repair(within)
+	var broken *BrokenError
+	equal(t, errors.As(err, &broken) && errors.Is(err, ErrTimedOut) && errors.Is(err, context.DeadlineExceeded), true)
+	equal(t, broken.MayBeDone(), false)
 }
 
 // Close does not wait for a call, which ends.
