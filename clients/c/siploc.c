@@ -125,6 +125,7 @@ typedef struct array {
 
 struct siploc {
     int stream; /* -1 when the session has ended */
+    pid_t process;
     int timeout;
     bool is_busy; /* within a call, such as in the function that siploc_batch calls */
     array line;   /* the command of a call */
@@ -519,6 +520,12 @@ static siploc_status lost(siploc *s, int cause)
     return broken(s, is_half ? SIPLOC_HALF_REPLY : SIPLOC_LOST, cause, detail, strlen(detail));
 }
 
+static siploc_status no_memory(siploc *s)
+{
+    const char *detail = strerror(ENOMEM);
+    return broken(s, SIPLOC_LOST, ENOMEM, detail, strlen(detail));
+}
+
 static siploc_status bad(siploc *s, const char *line, size_t length)
 {
     return broken(s, SIPLOC_BAD_REPLY, 0, line, length);
@@ -561,8 +568,11 @@ static siploc_status read_before(siploc *s)
     if (count == 0)
         return lost(s, 0);
     const char *end = memchr(s->input, '\n', (size_t)count);
-    if (end == NULL || end + 1 < s->input + count || take_line(s, OTHER, s->input, (size_t)count - 1) != DONE ||
-        !finish_reply(s))
+    bool is_line = end != NULL && end + 1 == s->input + count;
+    taken taken = is_line ? take_line(s, OTHER, s->input, (size_t)count - 1) : BAD;
+    if (taken == NO_MEMORY || (taken == DONE && !finish_reply(s)))
+        return no_memory(s);
+    if (taken != DONE)
         return bad(s, s->input, (size_t)count);
     end_session(s);
     return SIPLOC_REFUSED;
@@ -581,7 +591,7 @@ static siploc_status take_replies(siploc *s, const command *commands, size_t cou
             return bad(s, line, length);
         s->begin += length + 1;
         if (taken == NO_MEMORY || (taken == DONE && !finish_reply(s)))
-            return lost(s, ENOMEM);
+            return no_memory(s);
         if (taken == DONE) {
             each(context, (*replied)++, &s->reply);
             if (*replied < count)
@@ -644,7 +654,7 @@ static siploc_status transfer(siploc *s, const char *output, size_t size, const 
 /* Sends commands and reads their replies. */
 static siploc_status exchange(siploc *s, const command *commands, size_t count, siploc_each *each, void *context)
 {
-    if (s->stream < 0)
+    if (s->stream < 0 || s->process != getpid())
         return SIPLOC_NOT_CONNECTED;
     if (count == 0)
         return SIPLOC_OK;
@@ -743,8 +753,6 @@ siploc_status siploc_batch(siploc *s, const char *const *texts, size_t count, si
 {
     if (s->is_busy)
         return SIPLOC_INVALID;
-    if (s->stream < 0)
-        return SIPLOC_NOT_CONNECTED;
     command *commands = malloc((count > 0 ? count : 1) * sizeof *commands);
     if (commands == NULL || count > SIZE_MAX / sizeof *commands) {
         free(commands);
@@ -767,8 +775,6 @@ siploc_status siploc_batch(siploc *s, const char *const *texts, size_t count, si
 static siploc_status ask(siploc *s, const siploc_reply **reply)
 {
     command command;
-    if (s->stream < 0)
-        return SIPLOC_NOT_CONNECTED;
     if (!append(&s->line, "", 1))
         return SIPLOC_NO_MEMORY;
     if (!prepare(s->line.items, &command))
@@ -1045,6 +1051,7 @@ static siploc_status connect_to(const char *address, int timeout, siploc **sessi
         return SIPLOC_NO_MEMORY;
     s->timeout = timeout;
     s->stream = -1;
+    s->process = getpid();
     s->input = malloc(INPUT);
     if (s->input == NULL) {
         free_session(s);
@@ -1075,8 +1082,12 @@ siploc_status siploc_connect(const char *address, int timeout, siploc **session)
     siploc_status status = connect_to(text, timeout, session);
     if (status != SIPLOC_NOT_CONNECTED)
         return status;
+    int cause = errno;
     snprintf(text, sizeof text, "[::1]:%s", address + length);
-    return connect_to(text, timeout, session);
+    status = connect_to(text, timeout, session);
+    if (status == SIPLOC_NOT_CONNECTED)
+        errno = cause;
+    return status;
 }
 
 void siploc_close(siploc *s)

@@ -10,8 +10,9 @@
  *         siploc_close(session);
  *     }
  *
- * A session is one connection, and is used by one thread at a time. Each call sends one command; siploc_batch
- * sends many. What a reply points to is the session's, until the next call. All texts end with NUL.
+ * A session is one connection, and is used by one thread at a time. The child of a fork can't use it, and connects
+ * anew; siploc_close frees it there, and ends nothing. Each call sends one command; siploc_batch sends many. What a
+ * reply points to is the session's, until the next call. All texts end with NUL.
  *
  * Two files, C11 and POSIX.1-2008, no other dependency.
  */
@@ -34,7 +35,8 @@ typedef enum siploc_status {
     SIPLOC_REFUSED,       /* the reply is `err CODE`: see its code; the session goes on */
     SIPLOC_INVALID,       /* the command would break the protocol: it was not sent, and the session goes on */
     SIPLOC_NO_MEMORY,     /* an allocation failed before anything was sent; the session goes on */
-    SIPLOC_NOT_CONNECTED, /* nobody listens at the address (see errno), or the session has ended before */
+    SIPLOC_NOT_CONNECTED, /* nobody listens at the address (see errno; of localhost, why 127.0.0.1 failed), or the
+                             session has ended before, or is another process's */
     /* With these the session has ended; siploc_broken says what may have been done. */
     SIPLOC_LOST,          /* the server has closed the connection between two replies, or the connection failed;
                              or there was no memory for a reply (the cause is ENOMEM) */

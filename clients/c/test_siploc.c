@@ -2,7 +2,8 @@
  * Tests of the client against servers that they start: the program that the environment names in SIPLOC, and some that
  * do what no server should. Replies are those of docs/use/FORMATS.md, and of the README's session.
  *
- *     cc -std=c11 -o test_siploc test_siploc.c siploc.c && SIPLOC=PROGRAM ./test_siploc TOP EXAMPLE
+ *     cc -std=c11 -Wl,--wrap=malloc -Wl,--wrap=calloc -Wl,--wrap=realloc -o test_siploc test_siploc.c siploc.c &&
+ *         SIPLOC=PROGRAM ./test_siploc TOP EXAMPLE
  *
  * TOP is the repository's folder, EXAMPLE the built example. The last line is `N passed, M failed`.
  */
@@ -36,6 +37,33 @@ static bool has_failed;
             return;                                                                                                   \
         }                                                                                                             \
     } while (0)
+
+/* How many allocations succeed before one fails; less than 0 where none does. */
+static int allocations = -1;
+
+static bool does_fail(void)
+{
+    return allocations >= 0 && allocations-- == 0;
+}
+
+void *__real_malloc(size_t size);
+void *__real_calloc(size_t count, size_t size);
+void *__real_realloc(void *at, size_t size);
+
+void *__wrap_malloc(size_t size)
+{
+    return does_fail() ? NULL : __real_malloc(size);
+}
+
+void *__wrap_calloc(size_t count, size_t size)
+{
+    return does_fail() ? NULL : __real_calloc(count, size);
+}
+
+void *__wrap_realloc(void *at, size_t size)
+{
+    return does_fail() ? NULL : __real_realloc(at, size);
+}
 
 static void pause_for(int milliseconds)
 {
@@ -964,6 +992,86 @@ static void lost_before_and_after(void)
     siploc_close(s);
 }
 
+static void serve_finds(int stream, const void *context)
+{
+    (void)context;
+    for (int i = 0; i < 2; i++) {
+        take_lines(stream, 1);
+        put(stream, "target 1 udp 192.0.2.1 5060\nok find 1\n", 38);
+    }
+    take_all(stream);
+}
+
+/* Each allocation fails in turn: before anything is sent the session goes on, after that it has ended. */
+static void allocations_that_fail(void)
+{
+    int lost = 0, unsent = 0;
+    for (bool has_failed_one = true; has_failed_one; end_children()) {
+        int port, listener = listen_somewhere(false, &port);
+        char address[32];
+        siploc *s;
+        snprintf(address, sizeof address, "127.0.0.1:%d", port);
+        if (start_child() == 0) {
+            serve_finds(accept(listener, NULL, NULL), NULL);
+            _exit(0);
+        }
+        close(listener);
+        allocations = lost + unsent;
+        siploc_status status = siploc_connect(address, 10000, &s);
+        CHECK(s != NULL ? status == SIPLOC_OK : status == SIPLOC_NO_MEMORY && allocations < 0);
+        if (s == NULL) {
+            unsent++;
+            continue;
+        }
+        const siploc_reply *reply;
+        status = siploc_find(s, "sip:a", NULL, &reply);
+        has_failed_one = allocations < 0;
+        allocations = -1;
+        if (status == SIPLOC_LOST) {
+            lost++;
+            CHECK(siploc_broken(s).cause == ENOMEM && siploc_broken(s).may_be_done);
+            CHECK(siploc_find(s, "sip:a", NULL, &reply) == SIPLOC_NOT_CONNECTED);
+        } else {
+            unsent += has_failed_one;
+            CHECK(status == (has_failed_one ? SIPLOC_NO_MEMORY : SIPLOC_OK));
+            CHECK(siploc_find(s, "sip:a", NULL, &reply) == SIPLOC_OK && reply->target_count == 1);
+        }
+        siploc_close(s);
+    }
+    CHECK(unsent > 3 && lost > 3);
+}
+
+static void serve_repair_and_quit(int stream, const void *context)
+{
+    char lines[32] = "";
+    (void)context;
+    for (size_t size = 0; size < 7; size += (size_t)(read(stream, lines + size, 7 - size)))
+        ;
+    put(stream, "ok repair\n", 10);
+    for (size_t size = 7; size < 12; size += (size_t)(read(stream, lines + size, 12 - size)))
+        ;
+    put(stream, "ok quit\n", 8);
+    if (strcmp(lines, "repair\nquit\n") != 0)
+        _exit(1);
+}
+
+/* The child of a fork sends nothing in its parent's session, nor ends it. */
+static void forks(void)
+{
+    siploc *s = connect_to_fake(serve_repair_and_quit, NULL, 10000);
+    CHECK(s != NULL);
+    pid_t server = children[0], child = start_child();
+    if (child == 0) {
+        bool is_right = siploc_find(s, "sip:a", NULL, NULL) == SIPLOC_NOT_CONNECTED;
+        siploc_close(s);
+        _exit(!is_right);
+    }
+    CHECK(wait_for_child(child) == 0);
+    CHECK(siploc_repair(s, NULL) == SIPLOC_OK);
+    siploc_close(s);
+    CHECK(wait_for_child(server) == 0);
+}
+
 static void serve_nothing(int stream, const void *context)
 {
     (void)stream;
@@ -1032,6 +1140,20 @@ static void addresses(void)
         close(listener);
         CHECK(siploc_connect(address, 200, &session) == SIPLOC_NOT_CONNECTED && errno == ECONNREFUSED);
     }
+    /* Of localhost the cause is that of 127.0.0.1, where so many clients wait that no more can. */
+    int port, full = listen_somewhere(false, &port), clients[2];
+    struct sockaddr_in v4 = {.sin_family = AF_INET, .sin_addr.s_addr = htonl(INADDR_LOOPBACK), .sin_port = htons((uint16_t)port)};
+    CHECK(listen(full, 0) == 0);
+    for (int i = 0; i < 2; i++) {
+        clients[i] = socket(AF_INET, SOCK_STREAM, 0);
+        fcntl(clients[i], F_SETFL, O_NONBLOCK);
+        connect(clients[i], (struct sockaddr *)&v4, sizeof v4);
+    }
+    snprintf(address, sizeof address, "localhost:%d", port);
+    CHECK(siploc_connect(address, 200, &session) == SIPLOC_NOT_CONNECTED && errno == ETIMEDOUT);
+    close(clients[0]);
+    close(clients[1]);
+    close(full);
 }
 
 /* A Unix socket that has as many clients waiting as it takes is waited for, as long as is given. */
@@ -1077,7 +1199,7 @@ int main(int count, char **words)
         TEST(readme_session_in_a_batch), TEST(readme_session_by_calls), TEST(other_calls), TEST(pages), TEST(each_refusal),
         TEST(refusals_by_calls), TEST(finds_in_batches), TEST(batch_of_more_than_the_sockets_hold),
         TEST(server_that_ends_in_the_midst), TEST(client_that_is_killed_in_a_zone), TEST(example_program), TEST(replies),
-        TEST(cut_at_each_octet), TEST(what_a_refused_find_names), TEST(garbage_without_end), TEST(invalid_commands_are_not_sent), TEST(lost_before_and_after), TEST(timeouts),
+        TEST(cut_at_each_octet), TEST(what_a_refused_find_names), TEST(garbage_without_end), TEST(invalid_commands_are_not_sent), TEST(lost_before_and_after), TEST(allocations_that_fail), TEST(forks), TEST(timeouts),
         TEST(addresses), TEST(full_queue)};
     int passed = 0, failed = 0;
     program = getenv("SIPLOC");
