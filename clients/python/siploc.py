@@ -511,7 +511,7 @@ def line(*fields: object) -> str:
 
 def _number(value: int, bits: int = 64) -> int:
     """A number of so many bits, as a field."""
-    number = operator.index(value)
+    number = int(operator.index(value))  # (before Python 3.10 it may be of a subclass, with a text of its own)
     if not 0 <= number < 1 << bits:
         raise InvalidCommand(f"a number is not within 0 to 2^{bits} - 1")
     return number

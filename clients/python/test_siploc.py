@@ -7,6 +7,7 @@ Replies are those of docs/use/FORMATS.md, and of the README's session. The last 
 """
 
 import contextlib
+import http
 import json
 import math
 import os
@@ -616,8 +617,8 @@ class Faults(unittest.TestCase):
                 self.assertEqual(session.page(), (3, 0))
                 session.clock(7)
                 session.call("invite", 1, "sip:a", seed=0)
-                session.got(1, 200)
-                session.got(2, 503, retry=0)
+                session.got(1, http.HTTPStatus.OK)
+                session.got(2, 503, retry=False)
                 session.broke()
         self.assertEqual(received, [
             b"zone e. 2\na A 192.0.2.1\na A 192.0.2.2\n", b"drop e.\n", b"hold tcp 192.0.2.1 5060 5000\n",
