@@ -932,11 +932,13 @@ func TestContextThatEndsAsItsTurnComes(t *testing.T) {
 	}
 }
 
-// A connection that is looked at late.
+// A connection that is looked at once it is closed.
 type late struct{ *net.TCPConn }
 
 func (l late) SyscallConn() (syscall.RawConn, error) {
-	time.Sleep(100 * time.Millisecond)
+	for l.SetDeadline(time.Time{}) == nil {
+		time.Sleep(time.Millisecond)
+	}
 	return l.TCPConn.SyscallConn()
 }
 
