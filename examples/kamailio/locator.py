@@ -1,4 +1,5 @@
-"""What kamailio.cfg asks a locator for: `locate` and `failed`, for python_exec of the module app_python3.
+"""What kamailio.cfg asks a locator for, by python_exec of the module app_python3: `locate`, and how to go on after a
+failure.
 
 Each process of Kamailio has a session of its own with the locator at SIPLOC_ADDRESS. Where it is away, `locate` says so
 at once, and each process tries a new connection once a second. With SIPLOC_STREAM, a Redis stream, and SIPLOC_REDIS,
@@ -24,8 +25,8 @@ import changelog  # noqa: E402
 import siploc  # noqa: E402
 
 ADDRESS = os.environ.get("SIPLOC_ADDRESS", "127.0.0.1:5099")
-# How long a server that said nothing is left out, in milliseconds.
-HOLD = int(os.environ.get("SIPLOC_HOLD", "30000"))
+# How long a server that can't be reached is held, and one that says for how long at most, in milliseconds.
+HOLD, LONGEST = int(os.environ.get("SIPLOC_HOLD", "30000")), 3_600_000
 STREAM, REDIS = os.environ.get("SIPLOC_STREAM"), os.environ.get("SIPLOC_REDIS", "127.0.0.1:6379")
 # How long a request waits for the locator before Kamailio's own resolver takes its place, in seconds.
 PATIENCE = 0.5
@@ -147,22 +148,31 @@ class Locator:
         go_to([" ".join(map(str, target)) + named for target in answer.targets[:MOST]])
         return LOCATED
 
-    def failed_by_reply(self, message: object) -> int:
-        """The same as `failed`, for the time of the reply's Retry-After."""
-        return self.failed(message, text_of("$T_rpl($hdr(Retry-After))") or "")
+    def failed(self, _message: object) -> int:
+        """Goes on after a target to which a request can't be sent."""
+        return self.go_on(HOLD)
 
-    def failed(self, _message: object, retry_after: str = "") -> int:
-        """Holds the target that has failed, and sets $du to the next one, where there is one."""
+    def busy(self, _message: object) -> int:
+        """Goes on after a 503. Its target is held where it says for how long (RFC 3261, 21.5.4)."""
+        match = re.match(r"\s*0*([0-9]+)\s*(?:[;(]|$)", text_of("$T_rpl($hdr(Retry-After))") or "", re.ASCII)
+        return self.go_on(min(int(match[1][:9]) * 1000, LONGEST) if match else 0)
+
+    def silent(self, _message: object) -> int:
+        """Goes on after a target that said nothing. It is held where an INVITE has no 100 (RFC 3261, 17.2.1), unless it
+        has replied to others since. To another request a proxy may say nothing in this time (RFC 4320, 4.1)."""
+        sent, replied = (text_of(it) or "" for it in ("$avp(sent)", "$sht(replied=>$avp(target))"))
+        return self.go_on(HOLD if text_of("$rm") == "INVITE" and replied < sent else 0)
+
+    def go_on(self, wait: int) -> int:
+        """Holds the target that has failed for so many milliseconds, and sets $du to the next one, where there is one."""
         targets = KSR.pv.get(TARGETS)
         if not targets:
             # The locator was away when they were asked for.
             return FAILED
         first, *others = targets.split(",")
         transport, address, port, *named = first.split(" ")
-        match = re.match(r"\s*([0-9]{1,9})\s*(?:[;(]|$)", retry_after, re.ASCII)
-        wait = match and int(match[1]) * 1000 or HOLD
         try:
-            if not named or self.has_place():
+            if wait and (not named or self.has_place()):
                 self.hold(siploc.Target(transport, address, int(port)), wait)
         except (Away, changelog.Fault, siploc.Error) as fault:
             KSR.warn(f"siploc: {fault}: {first} is not held\n")
@@ -170,7 +180,6 @@ class Locator:
             return FAILED
         go_to(others)
         return LOCATED
-
 
     def has_place(self) -> bool:
         """Whether this process holds one more endpoint whose port is a URI's."""
@@ -210,6 +219,9 @@ def go_to(targets: List[str]) -> None:
     host = f"[{address}]" if ":" in address else address
     KSR.pv.sets("$du", f"sip:{host}:{port};transport={transport}")
     KSR.pv.sets(TARGETS, ",".join(targets))
+    # (by these `silent` knows whether it has replied since)
+    KSR.pv.sets("$avp(target)", f"{transport} {address} {port}")
+    KSR.pv.sets("$avp(sent)", f"{time.time():.6f}")
 
 
 def mod_init() -> Locator:
