@@ -78,12 +78,16 @@ class Holds:
             return [self.memory[it:it + HOLD].decode().rstrip() for it in starts]
 
 
+# What all processes share, also when each of them has loaded this file again (app_python.reload).
+SHARED: Holds = globals().get("SHARED") or Holds()
+
+
 class Embedded(locator.Locator):
     """A book as one process of Kamailio has it."""
 
     def __init__(self) -> None:
         super().__init__()
-        self.holds = Holds()
+        self.holds = SHARED
         # What each file was when it was loaded, or refused.
         self.loaded: Dict[str, Tuple[int, int, int]] = {}
         self.refused: Set[str] = set()
