@@ -8,7 +8,7 @@ import pathlib
 import socket
 import subprocess
 
-from daemon_tests.support import PATIENCE, PROGRAM, TOP, Checks, test, until
+from daemon_tests.support import PATIENCE, PROGRAM, TOP, Checks, started, stopped, test, until
 
 # Users and groups that nobody has: of the daemon, of the proxy, of another program; the group that the unit names.
 DAEMON, PROXY, OTHER, NAMED = 64_101, 64_102, 64_103, 64_104
@@ -44,6 +44,25 @@ def the_unit_starts_it_again_for_as_long_as_it_takes(checks: Checks, _folder: pa
     checks.expect(int(unit["Service"].get("RestartSec", "0")) >= 1, "it is started again at once, and again")
 
 
+def unit_stop(unit: configparser.ConfigParser) -> list[str]:
+    """The words of the unit's ExecStop, without the `-` that has systemd pass over its failure."""
+    return unit["Service"]["ExecStop"].removeprefix("-").split(" ")
+
+
+@test
+def a_stop_by_hand_is_no_failure_of_the_unit(checks: Checks, folder: pathlib.Path) -> None:
+    """Where the process has ended by itself with status 0, systemd runs ExecStop all the same: if that failed, the unit
+    would have failed, and be started again."""
+    unit = read_unit()
+    with started(checks, folder) as daemon:
+        stopped(checks, daemon)
+    words = [PROGRAM, *unit_stop(unit)[1:]]
+    words[words.index("tell") + 1] = daemon.control
+    ran = subprocess.run(words, capture_output=True, timeout=PATIENCE, check=False)
+    checks.expect(ran.returncode == 0 or unit["Service"]["ExecStop"].startswith("-"),
+                  f"the unit's stop once more: status {ran.returncode}, {ran.stderr!r}")
+
+
 @test
 def the_unit_lets_the_proxy_in(checks: Checks, folder: pathlib.Path) -> None:
     unit = read_unit()
@@ -59,18 +78,18 @@ def the_unit_lets_the_proxy_in(checks: Checks, folder: pathlib.Path) -> None:
         os.chown(path, DAEMON, group)
     text = (TOP / "examples/siplocd.toml").read_text().replace("127.0.0.1:5099", "127.0.0.1:0")
     text = text.replace("/run/siplocd/", f"{run}/").replace("/var/lib/siplocd/", f"{state}/")
-    stop = unit["Service"]["ExecStop"].replace("/run/siplocd/", f"{run}/").replace("/var/lib/siplocd/", f"{state}/")
+    stop = [it.replace("/run/siplocd/", f"{run}/").replace("/var/lib/siplocd/", f"{state}/") for it in unit_stop(unit)]
     process = subprocess.Popen([PROGRAM, text], user=DAEMON, group=group, extra_groups=[], stdout=subprocess.DEVNULL,
                                cwd="/")
     try:
-        lines, control = run / "lines.sock", pathlib.Path(stop.split("unix:")[1].split(" ")[0])
+        lines, control = run / "lines.sock", pathlib.Path(stop[2].removeprefix("unix:"))
         checks.expect(until(lambda: lines.exists() and control.exists()),
                       f"it does not listen at {lines} and {control}")
         members = [group] if group == NAMED else []
         checks.expect(may_connect(lines, PROXY, members), "the proxy can't connect")
         checks.expect(not may_connect(lines, OTHER, []), "another program can connect")
         checks.expect(not may_connect(control, PROXY, members), "the proxy can connect to the control address")
-        words = [PROGRAM, *stop.split(" ")[1:]]
+        words = [PROGRAM, *stop[1:]]
         checks.equal(subprocess.run(words, user=DAEMON, group=group, extra_groups=[], stdout=subprocess.PIPE, text=True,
                                     timeout=PATIENCE, check=False).stdout, "ok stop\n", "the unit's stop")
         checks.equal(process.wait(PATIENCE), 0, "its status")
