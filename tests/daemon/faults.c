@@ -3,7 +3,8 @@
 //
 //   FAULT_FOLDER   the folder whose files are meant, with a `/` at its end
 //   FAULT_LOG      a file in which each operation gets a line, `OPERATION NAME`, with a `!` before the one that is chosen
-//   FAULT          `OPERATION NAME COUNT ACTION`: the so manieth operation of this kind on this name is chosen
+//   FAULT          `OPERATION NAME COUNT ACTION`: the so manieth operation of this kind on this name is chosen; and after
+//                  it, as the next four words, the same of a second one
 //   FAULT_SYNCED   a folder, with a `/` at its end, that gets what outlasts the end of the machine: the octets of each
 //                  file as they were synced, by the number of its inode, and in `names` and `names-archive` the name and
 //                  inode of each file of a folder when that was synced
@@ -33,21 +34,29 @@
 
 enum { NAMES = 4096 };
 
-static char folder[NAMES], synced[NAMES], chosen[NAMES], action[64];
-static long count;
+// An operation that is chosen, and what becomes of it.
+struct fault {
+    char chosen[NAMES], action[64];
+    long count;
+    _Atomic long met;
+};
+
+static char folder[NAMES], synced[NAMES];
+static struct fault faults[2];
 static int trace = -1;
-static _Atomic long met;
 static _Atomic int is_full;
 
 __attribute__((constructor)) static void begin(void) {
-    const char *path = getenv("FAULT_LOG"), *top = getenv("FAULT_FOLDER"), *fault = getenv("FAULT");
+    const char *path = getenv("FAULT_LOG"), *top = getenv("FAULT_FOLDER"), *text = getenv("FAULT");
     char kind[64] = "", name[1024] = "";
+    int len = 0;
     if (path == NULL || top == NULL || strlen(top) >= sizeof folder)
         return;
     strcpy(folder, top);
     snprintf(synced, sizeof synced, "%s", getenv("FAULT_SYNCED") ? getenv("FAULT_SYNCED") : "");
-    if (fault != NULL && sscanf(fault, "%63s %1023s %ld %63s", kind, name, &count, action) == 4)
-        snprintf(chosen, sizeof chosen, "%s %s\n", kind, name);
+    for (struct fault *it = faults; text != NULL && it < faults + 2; it++, text += len)
+        if (sscanf(text, "%63s %1023s %ld %63s%n", kind, name, &it->count, it->action, &len) == 4)
+            snprintf(it->chosen, sizeof it->chosen, "%s %s\n", kind, name);
     int file = open(path, O_WRONLY | O_CREAT | O_APPEND | O_CLOEXEC, 0666);
     // (a number that leaves the small ones to the program)
     trace = file < 0 ? -1 : fcntl(file, F_DUPFD_CLOEXEC, 500);
@@ -73,34 +82,37 @@ static const char *name_of(const char *path) {
     return strncmp(path + len, "archive/0", 9) == 0 ? "archive/page" : path + len;
 }
 
-// Whether an operation is the one that is chosen; it has its line.
-static int is_chosen(const char *kind, const char *name) {
+// What becomes of an operation where it is chosen, else NULL; it has its line.
+static const char *action_of(const char *kind, const char *name) {
     char line[NAMES];
+    const char *action = NULL;
     if (name == NULL)
-        return 0;
+        return NULL;
     int len = snprintf(line + 1, sizeof line - 1, "%s %s\n", kind, name);
-    int is = strcmp(line + 1, chosen) == 0 && atomic_fetch_add(&met, 1) + 1 == count;
+    for (struct fault *it = faults; it < faults + 2; it++)
+        if (strcmp(line + 1, it->chosen) == 0 && atomic_fetch_add(&it->met, 1) + 1 == it->count)
+            action = it->action;
     line[0] = '!';
-    syscall(SYS_write, trace, is ? line : line + 1, is ? len + 1 : len);
-    return is;
+    syscall(SYS_write, trace, action ? line : line + 1, action ? len + 1 : len);
+    return action;
 }
 
-static int is_action(const char *word) {
-    return strcmp(action, word) == 0;
+static int is_action(const char *action, const char *word) {
+    return action != NULL && strcmp(action, word) == 0;
 }
 
-// An operation that is chosen: whether it fails, and before that the end of the process, if that is to be.
-static int fails(int is) {
-    if (!is)
+// Whether an operation fails, and before that the end of the process, if that is to be.
+static int fails(const char *action) {
+    if (action == NULL)
         return 0;
-    if (is_action("before"))
+    if (is_action(action, "before"))
         end();
     errno = atoi(action);
     return errno != 0;
 }
 
-static long done(int is, long result) {
-    if (is && is_action("after"))
+static long done(const char *action, long result) {
+    if (is_action(action, "after"))
         end();
     return result;
 }
@@ -124,11 +136,11 @@ static int has_no_space(void) {
 
 #define ON_FILE(kind, file, call) \
     char path[NAMES]; \
-    int is = is_chosen(kind, path_of(file, path)); \
-    return fails(is) ? -1 : done(is, call)
+    const char *action = action_of(kind, path_of(file, path)); \
+    return fails(action) ? -1 : done(action, call)
 #define ON_PATH(kind, path, call) \
-    int is = is_chosen(kind, name_of(path)); \
-    return fails(is) ? -1 : done(is, call)
+    const char *action = action_of(kind, name_of(path)); \
+    return fails(action) ? -1 : done(action, call)
 
 static int open_path(const char *path, int flags, mode_t mode) {
     ON_PATH("open", path, syscall(SYS_openat, AT_FDCWD, path, flags, mode));
@@ -156,23 +168,22 @@ static ssize_t write_half(int file, const void *octets, size_t size) {
 
 ssize_t write(int file, const void *octets, size_t size) {
     char path[NAMES];
-    const char *name = path_of(file, path);
-    int is = is_chosen("write", name);
-    if (fails(is))
+    const char *name = path_of(file, path), *action = action_of("write", name);
+    if (fails(action))
         return -1;
-    if (is && is_action("half")) {
+    if (is_action(action, "half")) {
         write_half(file, octets, size);
         end();
     }
-    if (is && is_action("full"))
+    if (is_action(action, "full"))
         atomic_store(&is_full, 1);
-    if (is && (is_action("short") || is_action("full")))
+    if (is_action(action, "short") || is_action(action, "full"))
         return write_half(file, octets, size);
     if (name != NULL && strcmp(name, "socket") != 0 && has_no_space()) {
         errno = ENOSPC;
         return -1;
     }
-    return done(is, syscall(SYS_write, file, octets, size));
+    return done(action, syscall(SYS_write, file, octets, size));
 }
 
 ssize_t read(int file, void *octets, size_t size) {
@@ -225,9 +236,8 @@ static int keep_synced(int result, int file, const char *path, const char *name)
 
 static int sync_by(long call, const char *kind, int file) {
     char path[NAMES];
-    const char *name = path_of(file, path);
-    int is = is_chosen(kind, name);
-    return fails(is) ? -1 : done(is, keep_synced(syscall(call, file), file, path, name));
+    const char *name = path_of(file, path), *action = action_of(kind, name);
+    return fails(action) ? -1 : done(action, keep_synced(syscall(call, file), file, path, name));
 }
 
 int fsync(int file) {
@@ -292,5 +302,5 @@ ssize_t send(int file, const void *octets, size_t size, int flags) {
 
 int pthread_create(pthread_t *thread, const pthread_attr_t *with, void *(*run)(void *), void *of) {
     int (*next)(pthread_t *, const pthread_attr_t *, void *(*)(void *), void *) = dlsym(RTLD_NEXT, "pthread_create");
-    return fails(is_chosen("thread", trace < 0 ? NULL : "new")) ? errno : next(thread, with, run, of);
+    return fails(action_of("thread", trace < 0 ? NULL : "new")) ? errno : next(thread, with, run, of);
 }

@@ -59,9 +59,10 @@ class Fault(NamedTuple):
 
 
 class Run(NamedTuple):
-    """What a daemon with a fault did: its operations, whether it met the one that has the fault, and what is wrong."""
+    """What a daemon with faults did: its operations, how many it met of those that have the faults, and what is
+    wrong."""
     operations: list[str]
-    is_met: bool
+    met: int
     wrong: list[str]
 
 
@@ -353,13 +354,25 @@ class Faults:
         seen: set[tuple[str, str, str]] = set()
         return sorted(found, key=lambda it: (it[:3] in seen, seen.add(it[:3]))[0])
 
-    def run(self, fault: Fault) -> Run:
-        """Runs a daemon with a fault, and then one without."""
+    def find_pairs(self, count: int, scenes: Sequence[str]) -> list[tuple[Fault, ...]]:
+        """So many pairs of faults by chance: the first is one that a daemon may go on after. More operations follow it
+        than there are without it."""
+        found, chance = [it for it in self.find(8, scenes) if it.name != "socket"], random.Random(SEED)
+        firsts = [it for it in found if it.action not in ENDS]
+        pairs: list[tuple[Fault, ...]] = []
+        while len(pairs) < count:
+            first, second = chance.choice(firsts), chance.choice(found)
+            if first.scene == second.scene and first[:4] != second[:4]:
+                pairs.append((first, second._replace(count=second.count + chance.choice([0, 0, 1, 2]))))
+        return pairs
+
+    def run(self, *faults: Fault) -> Run:
+        """Runs a daemon with one fault or two of a scene, and then one without."""
         folder = pathlib.Path(tempfile.mkdtemp(prefix="", dir=self.folder))
-        scene, trace, synced = self.scenes[fault.scene], folder.with_suffix(".trace"), folder.with_suffix(".synced")
+        scene, trace, synced = self.scenes[faults[0].scene], folder.with_suffix(".trace"), folder.with_suffix(".synced")
         scene.put(folder, synced)
         environment = {"LD_PRELOAD": str(self.library), "FAULT_FOLDER": f"{folder}/", "FAULT_LOG": str(trace),
-                       "FAULT_SYNCED": f"{synced}/", "FAULT": " ".join(str(it) for it in fault[1:])}
+                       "FAULT_SYNCED": f"{synced}/", "FAULT": " ".join(str(it) for fault in faults for it in fault[1:])}
         clients = Clients([*scene.edits, Loads()])
         daemon = begin(folder, scene.settings, environment)
         try:
@@ -367,19 +380,19 @@ class Faults:
                 # (a disk that is full is emptied after some time)
                 emptied = threading.Timer(1, (folder / "emptied").touch)
                 emptied.start()
-                load(daemon, clients, fault.scene)
+                load(daemon, clients, scene.name)
                 emptied.cancel()
-                if is_gone_on(fault) and daemon.process.poll() is not None:
+                if all(map(is_gone_on, faults)) and daemon.process.poll() is not None:
                     clients.wrong.append("it does not go on")
                 daemon.stop()
             status, last = daemon.end()
             lines = trace.read_text().splitlines()
-            is_met = any(it[0] == "!" for it in lines)
-            if not is_end(fault, is_met, status, last, daemon.said()):
+            met = sum(it[0] == "!" for it in lines)
+            if not is_end(faults, met, status, last, daemon.said()):
                 clients.wrong.append(f"ended with {status}, {last!r}, {daemon.said()!r}")
             if status == 0 and last != "closed 0":
                 clients.replay(folder, last.removeprefix("closed "))
-            if is_outlived(fault) and any(len(it) > 1 for it in clients.may_be):
+            if all(map(is_outlived, faults)) and any(len(it) > 1 for it in clients.may_be):
                 clients.wrong.append(f"changes without a reply: {clients.may_be}")
             # As the process left it, and as the end of the machine may have left it then.
             for name, left in ("names that are not synced are lost", left_by_machine(folder, synced, False)), \
@@ -391,12 +404,12 @@ class Faults:
             daemon.process.kill()
         for path in folder, synced, folder.with_suffix(".old"), folder.with_suffix(".new"):
             shutil.rmtree(path)
-        return Run(lines, is_met, [f"{fault}: {it}" for it in clients.wrong])
+        return Run(lines, met, [f"{'; '.join(map(str, faults))}: {it}" for it in clients.wrong])
 
-    def run_all(self, faults: Sequence[Fault]) -> Iterator[Run]:
-        """Runs a daemon with each fault, some side by side."""
+    def run_all(self, faults: Sequence[tuple[Fault, ...]]) -> Iterator[Run]:
+        """Runs a daemon with each fault, or pair of faults, some side by side."""
         with concurrent.futures.ThreadPoolExecutor(AT_ONCE) as pool:
-            yield from pool.map(self.run, faults)
+            yield from pool.map(lambda it: self.run(*it), faults)
 
 
 def is_outlived(fault: Fault) -> bool:
@@ -412,11 +425,12 @@ def is_gone_on(fault: Fault) -> bool:
     return fault.scene == "goes on" and fault.action not in ENDS
 
 
-def is_end(fault: Fault, is_met: bool, status: Optional[int], last: str, said: str) -> bool:
-    """Whether a daemon with a fault has ended as it may: by the fault, well, or with what it says."""
-    if is_met and fault.action in ENDS:
+def is_end(faults: Sequence[Fault], met: int, status: Optional[int], last: str, said: str) -> bool:
+    """Whether a daemon with faults has ended as it may: by one of them, well, or with what it says."""
+    may_be_killed = met > 0 and any(it.action in ENDS for it in faults)
+    if may_be_killed and (met == len(faults) or status == -9):
         return status == -9
-    if status == 0 or is_outlived(fault):
+    if status == 0 or all(map(is_outlived, faults)):
         return status == 0 and last.startswith("closed ") and SAID.fullmatch(said or "siplocd: -\n") is not None
     return status == 1 and SAID.fullmatch(said) is not None
 
@@ -442,10 +456,10 @@ def check_some(checks: Checks, scenes: Sequence[str], count: int) -> None:
     room = "/dev/shm" if os.access("/dev/shm", os.W_OK) else None
     with tempfile.TemporaryDirectory(prefix="siplocd-", dir=room) as folder:
         faults = Faults(pathlib.Path(folder))
-        runs = [*faults.run_all(faults.find(MOST, scenes)[:count])]
+        runs = [*faults.run_all([(it,) for it in faults.find(MOST, scenes)[:count]])]
     for run in runs:
         checks.expect(not run.wrong, run.wrong)
-    met = sum(run.is_met for run in runs)
+    met = sum(run.met for run in runs)
     checks.expect(met >= len(runs) * 3 // 4, f"only {met} of {len(runs)} operations were met")
 
 
