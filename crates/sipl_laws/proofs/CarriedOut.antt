@@ -1,13 +1,11 @@
--- The plain machine carries events out again.
-use Rattle.std.proofs.Common.{◌≡◌, ℕ, ◌≤◌, Bool, true, false, not, ◌&&◌, List, [], ◌∷◌, ◌++◌, length, None, Result, Ok, Err, inl, refl, sym, ap, subst, ◌∙◌, arith, append_assoc, append-nil, nat_eq, codes, decimal}
+-- The plain machine carries out again events of one line.
+use Rattle.std.proofs.Common.{◌≡◌, ℕ, ◌≤◌, Bool, true, false, not, ◌&&◌, List, [], ◌∷◌, ◌++◌, length, None, Result, Ok, Err, inl, refl, sym, ap, subst, ◌∙◌, append_assoc, append-nil, nat_eq, codes, decimal}
 use Rattle.std.specs.Prelude.{◌||◌, ◌==◌, if◌then◌else◌}
 use Rattle.std.specs.List.{starts_with}
-use Rattle.std.proofs.lemmas.Bool.Decides.{nat_tests}
 use lib.Pointwise.{pointwise, bytes_decides}
 use Rattle.sipl_names.specs.Labels.{Octets}
 use Rattle.sipl_names.proofs.Public.{name_of-text_of}
 use Rattle.sipl_records.specs.Fields.{fields_of}
-use Rattle.sipl_records.specs.Parts.{parts, prepend_to_first}
 use Rattle.sipl_records.specs.declared.record.Record.{Record}
 use Rattle.sipl_masterfile.specs.ZoneFault.{code_of as zone_code}
 use Rattle.sipl_masterfile.specs.declared.fault.ZoneFault.{ZoneFault}
@@ -27,8 +25,7 @@ use Rattle.sipl_book.specs.declared.event.Event.TheVariants.{Change, Hold, Relea
 use Rattle.sipl_book.specs.declared.outcome.Done.{Done}
 use Rattle.sipl_book.specs.declared.outcome.Handed.{Handed}
 use Rattle.sipl_lines.specs.Commands.{AnswersUri, Edits, Refuses, Unloads}
-use Rattle.sipl_lines.specs.Items.{end_of_input, items_of, line, line_items}
-use Rattle.sipl_lines.specs.Lines.{lines_among}
+use Rattle.sipl_lines.specs.Items.{end_of_input, items_of, line}
 use Rattle.sipl_lines.specs.Replies.{Serves}
 use Rattle.sipl_lines.specs.ReplyText.{answer_text, counts_line}
 use Rattle.sipl_lines.specs.Requests.{request_of}
@@ -38,31 +35,22 @@ use Rattle.sipl_archive.specs.Plain.{MakesEdit, MakesMove, PlainState, plain_rul
 use Rattle.sipl_archive.specs.Replay.{Repeats, is_expected}
 use Rattle.sipl_archive.specs.Text.{endpoint_text, event_lines, words_field}
 use Rattle.sipl_laws.specs.Asked.{event_reply, event_request}
-use Rattle.sipl_laws.specs.Carried.{Accepts, LoadsNothing, edited, event_command, moved, plain_after}
+use Rattle.sipl_laws.specs.Carried.{Accepts, edited, event_command, moved, plain_after}
 use Rattle.sipl_laws.specs.Events.{IsEvent}
-use Rattle.sipl_laws.proofs.Cuts.{From}
-use Rattle.sipl_laws.proofs.Cutting.{no-cr, one-line}
+use Rattle.sipl_laws.proofs.Cutting.{one-line}
 use Rattle.sipl_laws.proofs.EventReads.{asks, by-word, from-line, taken, word, words_after}
 use Rattle.sipl_laws.proofs.FieldLists.{line-before}
+use Rattle.sipl_laws.proofs.Gathers.{item-first, serves-end}
 use Rattle.sipl_laws.proofs.SameEvents.{Readers}
 
--- a text of one line
-
-parts-before : (text rest : Octets) → From 32 text → parts 10 (text ++ 10 ∷ rest) ≡ text ∷ parts 10 rest
-parts-before [] rest all = refl
-parts-before (c ∷ text) rest all =
-    let least = all.0 in
-    let test : (c == 10) ≡ false = grind (arith, nat_tests) in
-    rw test (ap (prepend_to_first c) (parts-before text rest all.1))
-
-one-item : (text : Octets) → From 32 text → items_of (text ++ 10 ∷ []) ≡ line text ∷ end_of_input ∷ []
-one-item text all =
-    ap (λ (ps : List Octets). line_items (lines_among ps) ++ end_of_input ∷ []) (parts-before text [] all)
-    ∙ ap (λ (t : Octets). line t ∷ end_of_input ∷ []) (no-cr text all)
+-- the event loads no zone, so its command is one line
+abbrev pub LoadsNothing : Event → Type 0
+LoadsNothing (Change (Load zone)) = ⊥
+LoadsNothing _ = Unit {0}
 
 -- a session at the plain machine
 
-abbrev at : PlainState → SessionState PlainState
+abbrev pub at : PlainState → SessionState PlainState
 at plain = new_session plain
 
 -- a line that does something, and then the end, are served
@@ -73,14 +61,7 @@ serves-line text told before after performs = record {
   replies = [];
   between = at after;
   first = (at before, ([], refl), (tt, inl performs));
-  others = record {
-    reply = [];
-    replies = [];
-    between = at after;
-    first = (at after, ([], refl), (tt, (refl, refl)));
-    others = (refl, ([], refl));
-    joined = refl;
-  };
+  others = serves-end plain_rules after;
   joined = sym (append-nil told);
 }
 
@@ -92,7 +73,7 @@ makes-move event before none = record {
   others = refl;
 }
 
-makes-edit : (edit : Edit) (before : PlainState) (it : Done) → store_refusal (zone_edit edit) before.store ≡ None → MakesEdit {A = Done} edit before (edited edit before) (Ok it)
+pub makes-edit : (edit : Edit) (before : PlainState) (it : Done) → store_refusal (zone_edit edit) before.store ≡ None → MakesEdit {A = Done} edit before (edited edit before) (Ok it)
 makes-edit edit before it none = record {
   store = record { accepted = none; after = refl; next = refl; refused = tt; memory = tt; unchanged = tt; limit = refl };
   others = refl;
@@ -100,7 +81,7 @@ makes-edit edit before it none = record {
 
 -- what each event's request does
 
-abbrev nothing_changed : Done
+abbrev pub nothing_changed : Done
 nothing_changed = record { number = 0; changed = 0 }
 
 abbrev handed : Answer → Handed
@@ -116,7 +97,7 @@ hold-command a b c = simp append_assoc
 
 -- the reply to an event
 abbrev pub told : Event → Octets
-told (Change (Load zone)) = []
+told (Change (Load zone)) = counts_line (codes "ok zone") (length zone.records ∷ 0 ∷ 0 ∷ 0 ∷ [])
 told (Change (Unload apex)) = counts_line (codes "ok drop") (0 ∷ [])
 told (Change (Add r)) = counts_line (codes "ok add") (0 ∷ [])
 told (Change (Remove r)) = counts_line (codes "ok del") (0 ∷ [])
@@ -182,29 +163,29 @@ is_no_error (Targets []) = refl
 is_no_error (Targets (t ∷ ts)) = refl
 is_no_error (no_targets reason) = refl
 
-module _ (reads : Readers) (before : PlainState) where
-  expects : (e : Event) → LoadsNothing e → is_expected (word e ++ 32 ∷ words_after e) (event_reply e) (told e) ≡ true
-  expects e none =
-      ap (λ (b : Bool). if b then length (event_reply e) == 0 && starts_with nat_eq (told e) (codes "ok ") else is_find (word e ++ 32 ∷ words_after e) && pointwise nat_eq (event_reply e) (told e) && not (starts_with nat_eq (told e) (codes "err"))) (by-word (λ w. edits w || moves w) e)
-      ∙ ap (λ (b : Bool). if edits (word e) || moves (word e) then length (event_reply e) == 0 && starts_with nat_eq (told e) (codes "ok ") else b && pointwise nat_eq (event_reply e) (told e) && not (starts_with nat_eq (told e) (codes "err"))) (by-word (λ w. pointwise nat_eq w (codes "find")) e)
-      ∙ by e none
-    where
-      by : (x : Event) → LoadsNothing x → (if edits (word x) || moves (word x) then length (event_reply x) == 0 && starts_with nat_eq (told x) (codes "ok ") else pointwise nat_eq (word x) (codes "find") && pointwise nat_eq (event_reply x) (told x) && not (starts_with nat_eq (told x) (codes "err"))) ≡ true
-      by (Change (Load zone)) loads = absurd loads
-      by (Change (Unload apex)) loads = refl
-      by (Change (Add r)) loads = refl
-      by (Change (Remove r)) loads = refl
-      by (Hold endpoint ms) loads = refl
-      by (Release endpoint) loads = refl
-      by (Advance to) loads = refl
-      by (Answered question words answer) loads =
-          let same : pointwise nat_eq (answer_text answer) (answer_text answer) ≡ true = (bytes_decides (answer_text answer) (answer_text answer)).1 refl in
-          ap (λ (b : Bool). b && not (starts_with nat_eq (answer_text answer) (codes "err"))) same ∙ ap not (is_no_error answer)
+pub expects : (e : Event) → is_expected (word e ++ 32 ∷ words_after e) (event_reply e) (told e) ≡ true
+expects e =
+    ap (λ (b : Bool). if b then length (event_reply e) == 0 && starts_with nat_eq (told e) (codes "ok ") else is_find (word e ++ 32 ∷ words_after e) && pointwise nat_eq (event_reply e) (told e) && not (starts_with nat_eq (told e) (codes "err"))) (by-word (λ w. edits w || moves w) e)
+    ∙ ap (λ (b : Bool). if edits (word e) || moves (word e) then length (event_reply e) == 0 && starts_with nat_eq (told e) (codes "ok ") else b && pointwise nat_eq (event_reply e) (told e) && not (starts_with nat_eq (told e) (codes "err"))) (by-word (λ w. pointwise nat_eq w (codes "find")) e)
+    ∙ by e
+  where
+    by : (x : Event) → (if edits (word x) || moves (word x) then length (event_reply x) == 0 && starts_with nat_eq (told x) (codes "ok ") else pointwise nat_eq (word x) (codes "find") && pointwise nat_eq (event_reply x) (told x) && not (starts_with nat_eq (told x) (codes "err"))) ≡ true
+    by (Change (Load zone)) = refl
+    by (Change (Unload apex)) = refl
+    by (Change (Add r)) = refl
+    by (Change (Remove r)) = refl
+    by (Hold endpoint ms) = refl
+    by (Release endpoint) = refl
+    by (Advance to) = refl
+    by (Answered question words answer) =
+        let same : pointwise nat_eq (answer_text answer) (answer_text answer) ≡ true = (bytes_decides (answer_text answer) (answer_text answer)).1 refl in
+        ap (λ (b : Bool). b && not (starts_with nat_eq (answer_text answer) (codes "err"))) same ∙ ap not (is_no_error answer)
 
-  -- a machine that accepts an event carries it out
-  pub repeats : (short : (question : Question) → IsAskable question → length (question_text question) ≤ 1030) (e : Event) → IsEvent e → LoadsNothing e → Accepts before e
+module _ (reads : Readers) (before : PlainState) where
+  -- a machine that accepts an event of one line carries it out
+  pub repeats-line : (short : (question : Question) → IsAskable question → length (question_text question) ≤ 1030) (e : Event) → IsEvent e → LoadsNothing e → Accepts before e
       → Repeats (record { command = event_command e; reply = event_reply e; told = told e }) before (plain_after e before)
-  repeats short e is none accepts =
+  repeats-line short e is none accepts =
       let text : Octets = word e ++ 32 ∷ words_after e in
       let own : event_command e ≡ text ++ 10 ∷ [] = command-line e none in
       record {
@@ -213,9 +194,9 @@ module _ (reads : Readers) (before : PlainState) where
           session = at (plain_after e before);
           desk = refl;
           serves = subst (λ items. Serves (session_protocol plain_rules) (at before) items (told e) (at (plain_after e before)))
-              (sym (ap items_of own ∙ one-item text (from-line e is)))
+              (sym (ap items_of own ∙ item-first text [] (from-line e is)))
               (serves-line text (told e) before (plain_after e before)
               (subst (λ request. Performs plain_rules request (at before) (told e) (at (plain_after e before))) (sym (asks short reads.addresses e is)) (performs reads before e is none accepts)));
         };
-        expected = ap (λ (t : Octets). is_expected t (event_reply e) (told e)) (ap first_line own ∙ line-before text [] (from-line e is)) ∙ expects e none;
+        expected = ap (λ (t : Octets). is_expected t (event_reply e) (told e)) (ap first_line own ∙ line-before text [] (from-line e is)) ∙ expects e;
       }

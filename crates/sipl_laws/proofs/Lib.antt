@@ -15,6 +15,13 @@ mod EventRequests
 mod Cutting
 mod EventCuts
 mod EventReads
+mod LineTokens
+mod LineEntries
+mod TakenIn
+mod ZoneReads
+mod Gathers
 mod CarriedOut
+mod LoadedAgain
+mod PageNames
 mod PageReads
 mod Instances

@@ -1,8 +1,8 @@
 -- Events that the plain machine carries out.
 use Rattle.std.specs.Prelude.{◌≡◌, ◌++◌, ◌∷◌, [], List, None, codes}
-use Rattle.std.specs.List.{AllByRecursion}
 use Rattle.sipl_names.specs.Labels.{Octets}
 use Rattle.sipl_records.specs.Sets.{set_of}
+use Rattle.sipl_masterfile.specs.Zones.{IsZone}
 use Rattle.sipl_uri.specs.QuestionText.{question_text}
 use Rattle.sipl_outages.specs.Holds.{BoardEvent, refusal_of, after as after_event}
 use Rattle.sipl_outages.specs.Holds.BoardEvent.{Hold as HoldFor, Release as ReleaseOf, Advance as AdvanceTo}
@@ -28,10 +28,10 @@ event_command (Hold endpoint ms) = event_lines (Hold endpoint ms)
 event_command (Release endpoint) = event_lines (Release endpoint)
 event_command (Advance to) = event_lines (Advance to)
 
--- the event loads no zone
-abbrev pub LoadsNothing : Event → Type 0
-LoadsNothing (Change (Load zone)) = ⊥
-LoadsNothing _ = Unit {0}
+-- a zone that the event loads is one: what holds of each zone's text holds of it
+abbrev pub LoadsZone : Event → Type 0
+LoadsZone (Change (Load zone)) = IsZone zone
+LoadsZone _ = Unit {0}
 
 -- no fault applies to a change of the machine, and an answer is that of its records and holds
 abbrev pub Accepts : PlainState → Event → Type 0
@@ -67,10 +67,6 @@ plain_after (Hold endpoint ms) plain = moved (HoldFor endpoint ms) plain
 plain_after (Release endpoint) plain = moved (ReleaseOf endpoint) plain
 plain_after (Advance to) plain = moved (AdvanceTo to) plain
 plain_after (Answered question words answer) plain = record plain { store = looked plain.store }
-
--- none of the events loads a zone
-abbrev pub LoadNothing : List Event → Type 0
-LoadNothing events = AllByRecursion LoadsNothing events
 
 -- each event is accepted by the machine after those before it
 abbrev pub AcceptsAll : PlainState → List Event → Type 0

@@ -19,22 +19,23 @@ ghost use Rattle.sipl_plans.specs.declared.answer.Reason.{Reason};
 ghost use Rattle.sipl_book.specs.Pages.{PageState};
 ghost use Rattle.sipl_book.specs.declared.event.Event.{Event};
 ghost use Rattle.sipl_lines.specs.Requests.{request_of};
-ghost use Rattle.sipl_archive.specs.Archive.{IsHead, body_text, file_text, page_head, page_text};
+ghost use Rattle.sipl_archive.specs.Archive.{IsHead, body_text, file_text, page_head, page_name, page_text};
 ghost use Rattle.sipl_archive.specs.Commands.{after_command, after_kept_reply, first_line};
 ghost use Rattle.sipl_archive.specs.Plain.{PlainState};
 ghost use Rattle.sipl_archive.specs.Replay.{Repeats, RepeatsSome};
 ghost use Rattle.sipl_archive.specs.Text.{event_lines};
 ghost use Rattle.sipl_laws.specs.Asked.{event_reply, event_request};
-ghost use Rattle.sipl_laws.specs.Carried.{Accepts, AcceptsAll, LoadNothing, LoadsNothing};
+ghost use Rattle.sipl_laws.specs.Carried.{Accepts, AcceptsAll, LoadsZone};
 ghost use Rattle.sipl_laws.specs.Carried.{all_after, event_command, plain_after};
 ghost use Rattle.sipl_laws.specs.Events.{IsEvent, IsPage, kept_event};
 ghost use Rattle.sipl_laws.specs.NameCases.{NameCase, answer_in, number_of};
+ghost use Rattle.sipl_laws.specs.ReadBack.{ReadsBack};
 
 use sipl_evidence::laws::{
     absent_names_are_answered_at_the_wildcard, answers_are_those_at_the_first_alias,
 };
-use sipl_masterfile::laws::printing_records_reads_back;
-use sipl_records::laws::printing_addresses_reads_back;
+use sipl_masterfile::laws::{joining_texts_joins_entries, printing_records_reads_back};
+use sipl_records::laws::{conflicts_are_mutual, printing_addresses_reads_back};
 use sipl_uri::laws::{printed_questions_read_back, question_text_has_at_most_1030_octets};
 
 /// Where held endpoints are tried last, the targets are those that there are where nothing is held:
@@ -109,12 +110,12 @@ pub fn page_texts_differ()
     printed_questions_read_back();
 }
 
-/// A plain machine that accepts an event other than the load of a zone carries its lines out again:
-/// the event's command, with the reply that a page has, leads it where the event does.
+/// A plain machine that accepts an event carries its lines out again: the event's command, with the
+/// reply that a page has, leads it where the event does.
 pub fn accepted_events_are_carried_out_again()
     ensures lines { (event : Event)
         → event_lines event ≡ event_command event ++ event_reply event }
-    ensures repeats { (event : Event) (before : PlainState) → IsEvent event → LoadsNothing event
+    ensures repeats { (event : Event) (before : PlainState) → IsEvent event → LoadsZone event
         → Accepts before event → (told : Octets) × Repeats (record {
           command = event_command event;
           reply = event_reply event;
@@ -122,24 +123,34 @@ pub fn accepted_events_are_carried_out_again()
         })
         before (plain_after event before) }
 {
+    conflicts_are_mutual();
+    joining_texts_joins_entries();
     printing_addresses_reads_back();
     printing_records_reads_back();
     printed_questions_read_back();
     question_text_has_at_most_1030_octets();
 }
 
-/// The head of a page reads back as the number of its first event, the number of its events, and
-/// its client. The events of a page that loads no zone are carried out again by a machine that
-/// accepts them one after another.
-pub fn pages_without_loads_read_back()
+/// Each page reads back. Its head does as the number of its first event, the number of its events,
+/// and its client. Its events are carried out again by a machine that accepts them one after
+/// another. Its file has the name of its run and first event, and as its last line the digest of
+/// all before.
+pub fn pages_read_back()
     ensures head { (first count : ℕ) (client : Octets) (events : List Event) → first < 2 ^ 64
         → count < 2 ^ 64 → IsHead (body_text (page_head first count client) events) first count
         client (flat_map event_lines events) }
     ensures events { (events : List Event) (before : PlainState) → AllByRecursion IsEvent events
-        → LoadNothing events → AcceptsAll before events
+        → AllByRecursion LoadsZone events → AcceptsAll before events
         → RepeatsSome (flat_map event_lines events) [] (length events) before
         (all_after events before) }
+    ensures file { (run : ℕ) (client : Octets) (page : PageState) (before : PlainState)
+        → run < 10 ^ 6 → page.first < 10 ^ 16 → IsPage page
+        → AllByRecursion LoadsZone page.events → AcceptsAll before page.events
+        → ReadsBack (page_name run page.first) (file_text client page) run client page before
+        (all_after page.events before) }
 {
+    conflicts_are_mutual();
+    joining_texts_joins_entries();
     printing_addresses_reads_back();
     printing_records_reads_back();
     printed_questions_read_back();
