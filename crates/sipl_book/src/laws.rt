@@ -43,8 +43,8 @@ pub fn looks_never_fall()
         → old.store.looks ≤ new.store.looks }
 {}
 
-/// The number that a call returns, less that of the journal's first event, is the place of its event in
-/// the journal.
+/// The number that an edit, a hold, a release, a move of the clock or an answer returns, less that of the
+/// journal's first event, is the place of its event in the journal.
 pub fn numbers_are_places()
     ensures edits { (edit : Edit) (old new : BookState) (done : Done)
         → IsChanged edit old new (Ok done)

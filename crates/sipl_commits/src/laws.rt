@@ -26,14 +26,14 @@ pub fn no_log_is_refused()
         → LogFails fault octets p → fault ≡ Memory }
 {}
 
-/// A write of a commit that was cut anywhere is torn, and no damage.
+/// A write of a commit that was cut anywhere before its end is torn, where the body has no tab.
 pub fn cut_writes_are_torn()
     ensures { (p : Point) (body : Octets) (n : ℕ) → IsPlain body → n < length (written p body)
         → IsTorn p (take n (written p body)) }
 {}
 
-/// A write of a commit of which any octets are missing is torn, and no damage, unless all of it is there, or its line and
-/// another text have one digest.
+/// A write of a commit of which octets were lost, at its end or as zeros, is torn, where the body has no tab, unless the
+/// commit is read there, or its line and another text have one digest.
 pub fn unfinished_writes_are_torn()
     ensures { (p : Point) (body left : Octets) → IsPlain body → IsLeftOf (written p body) left
         → HasNoNext p left
@@ -41,7 +41,7 @@ pub fn unfinished_writes_are_torn()
         → IsTorn p left }
 {}
 
-/// A log that was cut anywhere after its head is one of its first commits.
+/// A log that was cut anywhere after its head is a log of some of its first commits, where no body has a tab.
 pub fn cut_logs_have_their_first_commits()
     ensures { (p : Point) (bodies : List Octets) (n : ℕ) → AllByRecursion IsPlain bodies
         → length (log_head p) ≤ n → ReadsSome (take n (log_text p bodies)) p bodies }
@@ -53,14 +53,14 @@ pub fn cut_heads_are_refused()
         → LogFails Head (take n (log_head p)) p }
 {}
 
-/// A commit that is not whole, and has one after it, is damaged.
+/// Octets that do not begin with the next commit, and have a commit after their first octet, are damaged.
 pub fn commits_before_others_are_damaged()
     ensures { (p q : Point) (before body rest : Octets) → 0 < length before
         → HasNoNext p (before ++ written q body ++ rest)
         → IsDamaged p (before ++ written q body ++ rest) }
 {}
 
-/// A commit whose body is another one is read where two texts have one digest, and nowhere else.
+/// A commit whose body was replaced by another of the same length is read only where two texts have one digest.
 pub fn other_bodies_have_one_digest()
     ensures { (p : Point) (body other found rest more : Octets) → length other ≡ length body
         → length body < 2 ^ 64 → length found < 2 ^ 64
@@ -69,7 +69,8 @@ pub fn other_bodies_have_one_digest()
         → sha256 (link_text p body) ≡ sha256 (link_text p other) }
 {}
 
-/// The digest of the last commit stands for all of them, unless two of their texts have one digest.
+/// After one point, the digest of the last of so many commits stands for all of them, unless two of their texts have one
+/// digest.
 pub fn last_digest_stands_for_all()
     ensures { (p : Point) (bodies others : List Octets) → length p.digest ≡ 32
         → length bodies ≡ length others

@@ -13,7 +13,7 @@ use sipl_uri::Question;
 use std::alloc::Global;
 
 /// The maximum length in octets of the reply to a refused command: the longest has a code, a name of
-/// at most 1,020 octets, and a kind.
+/// at most 1,004 octets, and a kind.
 pub const MAX_REFUSAL_LEN: usize = 1_040;
 
 /// Where a session's commands are carried out, such as at a book. What the calls do is in its

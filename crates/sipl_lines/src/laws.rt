@@ -8,9 +8,9 @@ ghost use Rattle.sipl_lines.specs.Replies.{Serves};
 ghost use Rattle.sipl_lines.specs.Session.{MayReply, SessionState, new_session, session_protocol};
 ghost use Rattle.sipl_lines.specs.Takes.{HasTaken, Takes};
 
-/// At a book an item has one reply, and leaves one state: two replies to one item from one state,
-/// of which neither ends with `err Memory`, are equal. So are the states after them, but that one
-/// may have lost the lines of the zone that is being taken, which have no reply yet.
+/// At the plain machine an item has one reply, and leaves one state: two replies to one item from one
+/// state, of which neither ends with `err Memory`, are equal. So are the states after them, but that
+/// one may have lost the lines of the zone that is being taken, which have no reply yet.
 pub fn items_have_one_reply()
     ensures text { (item : Item) (before a b : SessionState PlainState) (t u : Octets)
         → MayReply plain_rules before item t a → MayReply plain_rules before item u b
@@ -20,8 +20,8 @@ pub fn items_have_one_reply()
         → (EndsInMemory t → ⊥) → (EndsInMemory u → ⊥) → AreEqualOrLost a b }
 {}
 
-/// At a book a session has one text: two that have the same input, and begin at the same state, have
-/// equal texts and lead to equal states, where `err Memory` is a reply in neither.
+/// At the plain machine a session has one text: two that have the same input, and begin at the same
+/// state, have equal texts and lead to equal states, where `err Memory` is a reply in neither.
 pub fn sessions_have_one_text()
     ensures text { (input t u : Octets) (before : PlainState) (a b : SessionState PlainState)
         → Serves (session_protocol plain_rules) (new_session before) (items_of input) t a
@@ -33,7 +33,7 @@ pub fn sessions_have_one_text()
         → (TellsMemory t → ⊥) → (TellsMemory u → ⊥) → a ≡ b }
 {}
 
-/// At a book the octets of a talk may be cut anywhere into pieces: the replies are those to the complete
+/// At the plain machine the octets of a talk may be cut anywhere: the replies are those to the complete
 /// lines of all its octets, which are what `serve` replies to whatever comes after them. That holds of no
 /// octets, and of each piece that is taken after octets of which it holds.
 pub fn pieces_have_the_replies_of_the_whole()

@@ -36,7 +36,8 @@ impl Service {
     ///
     /// The fault is the first one: the service was stopped, or the gate stopped the run (L6), the
     /// pass is another service's (L2), the book is for another client or policy (L7), a full journal
-    /// (B3), a set changed in each of the tries (L1). Then nothing changes, and no event is recorded.
+    /// (B3), a set changed in each of the tries (L1). Then nothing changes but the count of looks, and no
+    /// event is recorded.
     pub fn lookup<R: Wait, G: Gate>(
         &self,
         rt: &R,

@@ -34,7 +34,8 @@ pub fn no_number_is_taken_twice()
 {}
 
 /// After any list of edits from an empty state, a number is 0 exactly where the set is empty, the
-/// next number is above all that were taken, and two sets with one number have one key.
+/// next number is above those of all record sets, and two record sets with one number, which is not
+/// 0, have one key.
 pub fn numbers_tell_sets()
     ensures { (max_records next : ℕ) (edits : List Edit) → 1 ≤ next → next ≤ 2 ^ 52 + 1
         → let state = after_edits max_records edits (numbered_from next)
