@@ -5,7 +5,8 @@ ghost use Rattle.sipl_archive.specs.Archive.{WritesPiece, client_text, digest_li
 ghost use Rattle.sipl_archive.specs.Archive.{greatest_run, held_text, page_head, page_name, page_text, quoted};
 ghost use Rattle.sipl_archive.specs.Archive.{run_named, setting_line, transports_line, transports_text};
 
-use crate::runs::{list, read_name};
+use crate::folder::list;
+use crate::runs::read_name;
 use crate::text::{write_event, write_number};
 use sha2::{Digest, Sha256};
 use sipl_book::{Event, Extent, Page};

@@ -3,6 +3,7 @@
 #![tactic(auto)]
 
 mod archive;
+mod folder;
 mod items;
 mod plain;
 mod record_text;
@@ -12,6 +13,7 @@ mod text;
 mod zones;
 
 pub use archive::Archive;
+pub use folder::is_passed_over;
 pub use items::{replies_to, split_line, taken_by};
 pub use runs::{ReplayFault, Replayed, replay};
 pub use state::{Made, find_mark, made_of, mark_of, state_text, whole_len};

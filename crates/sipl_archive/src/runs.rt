@@ -10,6 +10,7 @@ ghost use Rattle.sipl_archive.specs.Runs.{BeginsRun, Follows, GoesOn, IsBegun, I
 ghost use Rattle.sipl_archive.specs.Runs.{begins_run, counted, number_of_last};
 
 use crate::archive::digest_line;
+use crate::folder::list;
 use crate::items::{event_of, is_change, is_find, replies_to, split_line};
 use crate::plain::Plain;
 use memchr::memmem;
@@ -135,39 +136,13 @@ pub fn replay<R: Files>(rt: &R, alloc: Global, folder: &str) -> Result<Vec<Repla
     Ok(ended)
 }
 
-// The names of the files in a folder, in the order of their octets, but for that of a page that was being
-// written.
+// The names of what is in a folder and may be a page, in the order of their octets.
 fn page_names<R: Files>(rt: &R, alloc: Global, folder: &str) -> Result<Vec<String>, ReplayFault> {
     let mut names = Vec::new(alloc);
     match list(rt, alloc, folder, &mut names) {
         Ok(()) => Ok(names),
         Err(error) => Err(ReplayFault::File(String::from_str(alloc, folder)?, error)),
     }
-}
-
-/// Appends the names of the files in a folder, but for that of a page that was being written, and sorts them all.
-pub(crate) fn list<R: Files>(
-    rt: &R,
-    alloc: Global,
-    folder: &str,
-    names: &mut Vec<String>,
-) -> io::Result<()> {
-    for entry in fs::read_dir(&(rt, alloc), folder)? {
-        push_name(alloc, entry?.path().as_str(), names)?;
-    }
-    names.sort()?;
-    Ok(())
-}
-
-// Appends the name of a file, by its path, unless it is that of a page that was being written.
-fn push_name(alloc: Global, path: &str, names: &mut Vec<String>) -> Result<(), AllocError> {
-    let name = path.rsplit('/').next().unwrap_or(path);
-    if name == "new" {
-        return Ok(());
-    }
-    let name = String::from_str(alloc, name)?;
-    names.push(name)?;
-    Ok(())
 }
 
 impl Runs {

@@ -2,7 +2,7 @@
 //! without end, and what is in the way of a page be seen only with the first page.
 use crate::fault::Fault;
 use crate::host::Host;
-use sipl_archive::ReplayFault;
+use sipl_archive::{ReplayFault, is_passed_over};
 use sipl_settings::GivenFault;
 use std::alloc::Global;
 use std::fs::{File, Metadata, OpenOptions};
@@ -47,7 +47,7 @@ pub(crate) fn expect_folder<H: Host>(host: &H, alloc: Global, path: &str) -> Res
     }
 }
 
-/// Checks that what is in an archive is files, but for a page that is being written.
+/// Checks that what is in an archive is files, but for what is passed over as no page.
 pub(crate) fn expect_pages<H: Host>(host: &H, alloc: Global, folder: &str) -> Result<(), Fault> {
     match check_pages(host, alloc, folder) {
         Ok(None) => Ok(()),
@@ -83,7 +83,7 @@ fn check_pages<H: Host>(
     for entry in fs::read_dir(&(host, alloc), folder)? {
         let entry = entry?;
         let path = entry.path().as_str();
-        if path.ends_with("/new") {
+        if is_passed_over(host, path) {
             continue;
         }
         if let Err(error) = expect_file_at(host, path) {

@@ -81,6 +81,41 @@ def replays_no_pipe_and_no_device(checks: Checks, folder: pathlib.Path) -> None:
 
 
 @test
+def replays_an_archive_at_the_top_of_a_disk(checks: Checks, folder: pathlib.Path) -> None:
+    archive, page = folder / "archive", "000001-0000000000000000"
+    # What file systems have there: folders with what was found, and with what was; and a page that was removed while
+    # it was read.
+    for name in "lost+found", ".snapshot", ".zfs":
+        (archive / name).mkdir(mode=0o700, parents=True)
+        (archive / name / page).write_text("another one")
+    (archive / ".nfs000000000c0ffee000000001").write_text("cut off")
+    before = sorted(archive.iterdir())
+    with started(checks, folder, f'archive = "{archive}"') as daemon:
+        with Client(daemon.address) as client:
+            client.ask("find sip:192.0.2.1")
+        stopped(checks, daemon, 1)
+    checks.equal(sorted(archive.iterdir()), sorted([*before, archive / page]), "what is there")
+
+    def replayed() -> tuple[int, str]:
+        ran = subprocess.run([PROGRAM, "replay", str(archive)], capture_output=True, text=True, timeout=PATIENCE,
+                             check=False)
+        return ran.returncode, ran.stdout + ran.stderr
+
+    checks.equal(replayed(), (0, "run 000001 1\nreplayed 1\n"), "with what file systems have there")
+    # All else is told: what a copy left of a page, files of such names, other folders, and links to folders.
+    (archive / "lost+found" / page).unlink()
+    (archive / "lost+found").rmdir()
+    for name in f".{page[:-1]}1.Xy1Z2a", f"{page}.bak", "lost+found", ".hidden", "news", "new~":
+        (archive / name).write_bytes((archive / page).read_bytes())
+        checks.equal(replayed(), (1, f"siplocd: replay {archive}/{name}: misnamed\n"), f"a file {name}")
+        (archive / name).unlink()
+    for make in (archive / "found").mkdir, lambda: (archive / "lost+found").symlink_to(folder):
+        make()
+        checks.expect(replayed()[1].endswith("found: not a regular file\n"), replayed())
+        (archive / "found").rmdir() if (archive / "found").is_dir() else (archive / "lost+found").unlink()
+
+
+@test
 def settings_may_come_from_an_open_pipe(checks: Checks, folder: pathlib.Path) -> None:
     for text, wanted in (b"idle = 5\n", (0, b"ok\n", b"")), (b"idle = 0\n", (1, b"", None)):
         ran = subprocess.run([PROGRAM, "check", "--config", "/dev/stdin"], input=text, capture_output=True,

@@ -1,0 +1,51 @@
+//! The folder of an archive: which names in it may be those of pages.
+use std::alloc::{AllocError, Global};
+use std::rt::Files;
+use std::{fs, io};
+
+/// Appends the names of what is in a folder and may be a page, and sorts them all.
+pub(crate) fn list<R: Files>(
+    rt: &R,
+    alloc: Global,
+    folder: &str,
+    names: &mut Vec<String>,
+) -> io::Result<()> {
+    for entry in fs::read_dir(&(rt, alloc), folder)? {
+        let entry = entry?;
+        let path = entry.path().as_str();
+        if !is_passed_over(rt, path) {
+            push_name(alloc, path, names)?;
+        }
+    }
+    names.sort()?;
+    Ok(())
+}
+
+// Appends the name of what is at a path.
+fn push_name(alloc: Global, path: &str, names: &mut Vec<String>) -> Result<(), AllocError> {
+    let name = String::from_str(alloc, name_of(path))?;
+    names.push(name)?;
+    Ok(())
+}
+
+/// Whether what is at a path in an archive is no page, and is passed over: a page that is being written, a folder that
+/// the file system has there, whose name is hidden or `lost+found`, or a file that NFS keeps while it is open.
+pub fn is_passed_over<R: Files>(rt: &R, path: &str) -> bool {
+    let name = name_of(path);
+    if name == "new" || name.starts_with(".nfs") {
+        return true;
+    }
+    (name == "lost+found" || name.starts_with(".")) && is_folder(rt, path)
+}
+
+fn name_of(path: &str) -> &str {
+    path.rsplit('/').next().unwrap_or(path)
+}
+
+// Whether there is a folder at a path, and no link to one.
+fn is_folder<R: Files>(rt: &R, path: &str) -> bool {
+    match fs::symlink_metadata(rt, path) {
+        Ok(found) => found.is_dir(),
+        Err(_) => false,
+    }
+}
