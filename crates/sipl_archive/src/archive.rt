@@ -82,29 +82,47 @@ impl Archive {
         if page.events().is_empty() {
             return Ok(());
         }
+        let to = page_path(self.alloc, self.folder.as_str(), self.run, page)?;
         let path = new_path(self.alloc, self.folder.as_str())?;
-        self.write_file(rt, path.as_str(), page)?;
-        self.take_place(rt, path.as_str(), page)?;
-        self.file.sync_all()
+        let file = open_new(rt, path.as_str())?;
+        match self.put(rt, file, path.as_str(), to.as_str(), page) {
+            Ok(()) => self.file.sync_all(),
+            Err(error) => {
+                // What is left of it has the space that others need.
+                let _ = fs::remove_file(rt, path.as_str());
+                Err(error)
+            }
+        }
     }
 
-    // Writes a page into a new file.
-    fn write_file<R: Files<File = File>>(&self, rt: &R, path: &str, page: &Page) -> io::Result<()> {
-        let mut file = OpenOptions::new()
-            .write(true)
-            .create(true)
-            .truncate(true)
-            .mode(0o600)
-            .open(rt, path)?;
+    // Writes a page into a new file, which is at a path, and moves it to its place.
+    fn put<R: Files<File = File>>(
+        &self,
+        rt: &R,
+        file: File,
+        path: &str,
+        to: &str,
+        page: &Page,
+    ) -> io::Result<()> {
+        self.write_file(file, page)?;
+        fs::rename(rt, path, to)
+    }
+
+    // Writes a page into a new file, and closes it.
+    fn write_file(&self, mut file: File, page: &Page) -> io::Result<()> {
         write_page(self.alloc, &mut file, &self.client, page)?;
         file.sync_all()
     }
+}
 
-    // Moves the file of a page to its place.
-    fn take_place<R: Files<File = File>>(&self, rt: &R, from: &str, page: &Page) -> io::Result<()> {
-        let path = page_path(self.alloc, self.folder.as_str(), self.run, page)?;
-        fs::rename(rt, from, path.as_str())
-    }
+// Opens the file of a page that is to be written.
+fn open_new<R: Files<File = File>>(rt: &R, path: &str) -> io::Result<File> {
+    OpenOptions::new()
+        .write(true)
+        .create(true)
+        .truncate(true)
+        .mode(0o600)
+        .open(rt, path)
 }
 
 // Writes a page of a client, which is as settings.

@@ -59,8 +59,8 @@ pub(crate) fn expect_pages<H: Host>(host: &H, alloc: Global, folder: &str) -> Re
     }
 }
 
-/// Checks that the next page of an archive, whose lock is taken, finds no other than a file in its way, and where that
-/// is asked for that it can be made.
+/// Checks that the next page of an archive, whose lock is taken, finds no other than a file in its way, which is
+/// removed, and where that is asked for that it can be made.
 pub(crate) fn expect_page<H: Host>(
     host: &H,
     alloc: Global,
@@ -158,6 +158,8 @@ fn check_folder<R: Files>(rt: &R, path: &str) -> io::Result<()> {
 fn check_page<R: Files<File = File>>(rt: &R, path: &str, is_made: bool) -> io::Result<()> {
     expect_file_or_none(rt, path)?;
     if !is_made {
+        // What a kill has left of a page has the space that others need.
+        let _ = fs::remove_file(rt, path);
         return Ok(());
     }
     let file = OpenOptions::new()

@@ -210,6 +210,54 @@ def pages_wait_until_they_are_archived(checks: Checks, folder: pathlib.Path) -> 
 
 
 @test
+def leaves_no_part_of_a_page(checks: Checks, folder: pathlib.Path) -> None:
+    """What can't be written whole, or moved to its place, has no space; and nothing else is removed."""
+    library = folder / "faults.so"
+    subprocess.run(["cc", "-O2", "-shared", "-fPIC", "-o", library, TOP / "tests/daemon/faults.c"], check=True)
+    first, second = "000001-0000000000000000", "000002-0000000000000000"
+    for place, (operation, action) in enumerate((
+            ("write archive/new", "full"), ("write archive/new", errno.EIO), ("fsync archive/new", errno.EIO),
+            ("rename archive/page", errno.EIO), ("open archive/new", errno.EACCES), ("fsync archive", errno.EIO))):
+        inner = folder / f"{place}"
+        archive = inner / "archive"
+        archive.mkdir(parents=True)
+        settings = f'archive = "{archive}"\non_failure = '
+        with started(checks, inner, f'{settings}"end"') as daemon, Client(daemon.address) as client:
+            client.ask("find sip:192.0.2.1:1")
+            stopped(checks, daemon, 1)
+        (archive / "news").write_text("of an operator")
+        whole = (archive / first).read_bytes()
+        # (the first opening of a page is that of the start)
+        count = 2 if operation.startswith("open") else 1
+        environment = {"LD_PRELOAD": str(library), "FAULT_FOLDER": f"{inner}/", "FAULT_LOG": f"{folder}/trace-{place}",
+                       "FAULT": f"{operation} {count} {action}"}
+        with started(checks, inner, f'{settings}"end"', environment=environment) as daemon, \
+                Client(daemon.address) as client:
+            client.ask("find sip:192.0.2.1:1")
+            status, _, _ = daemon.stop()
+            checks.expect(status == 1 and daemon.said().startswith("siplocd: archive: ")
+                          and daemon.said().count("\n") == 1, (operation, action, status, daemon.said()))
+        left = [first, *[second] * (operation == "fsync archive"), "news"]
+        checks.equal(sorted(it.name for it in archive.iterdir()), left, f"what is there after {operation} {action}")
+        checks.equal((archive / first).read_bytes(), whole, f"the page before it, after {operation} {action}")
+    # Where the page waits the disk has the space that it had.
+    inner = folder / "waits"
+    archive = inner / "archive"
+    archive.mkdir(parents=True)
+    environment |= {"FAULT_FOLDER": f"{inner}/", "FAULT": "write archive/new 1 full"}
+    settings = f'archive = "{archive}"\non_failure = "read"\nclock = "lines"'
+    with started(checks, inner, settings, environment=environment) as daemon, Client(daemon.address) as client:
+        checks.equal(client.ask("find sip:192.0.2.1:1")[-1:], ["ok find 1"], "find")
+        daemon.tell("page")
+        checks.expect(until(lambda: daemon.said().endswith(": pages wait\n")), daemon.said())
+        checks.expect(until(lambda: not [*archive.iterdir()]), [*archive.iterdir()])
+        (inner / "emptied").touch()
+        checks.expect(until(lambda: daemon.said().endswith("siplocd: archive: written again\n")), daemon.said())
+        stopped(checks, daemon, 1)
+    checks.equal([it.name for it in archive.iterdir()], [first], "the page that waited")
+
+
+@test
 def says_where_no_thread_can_be_made(checks: Checks, folder: pathlib.Path) -> None:
     library = folder / "faults.so"
     subprocess.run(["cc", "-O2", "-shared", "-fPIC", "-o", library, TOP / "tests/daemon/faults.c"], check=True)

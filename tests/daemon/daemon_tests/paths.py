@@ -150,12 +150,15 @@ def refuses_an_archive_that_takes_no_page(checks: Checks, folder: pathlib.Path) 
     status, said = ended_start(folder, 'archive = "/proc"')
     checks.expect(status == 1 and said.startswith("siplocd: archive /proc/new: ") and said.count("\n") == 1,
                   (status, said))
-    (archive / "new").write_text("cut off")
-    with started(checks, folder, f'archive = "{archive}"') as daemon:
-        with Client(daemon.address) as client:
-            client.ask("find sip:192.0.2.1")
-        stopped(checks, daemon, 1)
-    checks.equal(sorted(it.name for it in archive.iterdir()), ["000001-0000000000000000"], "its files")
+    for run, on_failure in enumerate(("end", "read"), 1):
+        (archive / "new").write_text("cut off")
+        with started(checks, folder, f'{settings}"{on_failure}"') as daemon:
+            checks.expect(not (archive / "new").exists(), f"what a kill left has space: {on_failure}")
+            with Client(daemon.address) as client:
+                client.ask("find sip:192.0.2.1")
+            stopped(checks, daemon, 1)
+        checks.equal(sorted(it.name for it in archive.iterdir()),
+                     [f"{it:06}-0000000000000000" for it in range(1, run + 1)], "its files")
 
 
 @test
