@@ -1,6 +1,6 @@
 -- The lines of a text: which of them are one command.
-use Rattle.std.specs.Prelude.{◌≡◌, ◌≤◌, ◌+◌, ◌++◌, ℕ, zero, suc, Bool, false, ◌||◌, Some, option_and_then, ◌==◌, ◌^◌, ◌-◌, List, [], ◌∷◌, length, drop, codes, nat_eq, nat_lt, Option, None, unwrap_or, if◌then◌else◌}
-use Rattle.std.specs.List.{starts_with}
+use Rattle.std.specs.Prelude.{◌≡◌, ◌≢◌, ◌≤◌, ◌+◌, ◌++◌, ℕ, zero, suc, Bool, false, ◌||◌, Some, option_and_then, ◌==◌, ◌^◌, ◌-◌, List, [], ◌∷◌, length, drop, codes, nat_eq, nat_lt, Option, None, unwrap_or, if◌then◌else◌}
+use Rattle.std.specs.List.{All, starts_with}
 use lib.Pointwise.{pointwise}
 use Rattle.sipl_names.specs.Labels.{Octets}
 use Rattle.sipl_records.specs.Fields.{fields_of}
@@ -126,10 +126,23 @@ pub record IsWhole (text : Octets) (len : ℕ) : Type 0 where
   pub begins : Begins commands text (drop len text)
   pub last : after_command (drop len text) ≡ None
 
--- a text has a mark of this number after whole commands, and then there is the rest
+-- none of these commands is a mark of this number
+abbrev pub HasNone : ℕ → List Octets → Type 0
+HasNone mark commands = All (λ command. mark_in (first_line command) ≢ Some mark) commands
+
+-- the first mark of this number in a text is after whole commands, and then there is the rest
 pub record HasMark (mark : ℕ) (text rest : Octets) : Type 0 where
   pub commands : List Octets
   pub marked : Octets
   pub begins : Begins commands text marked
+  pub others : HasNone mark commands
   pub number : mark_in (first_line marked) ≡ Some mark
   pub after : after_command marked ≡ Some rest
+
+-- no whole command of a text is a mark of this number
+pub record LacksMark (mark : ℕ) (text : Octets) : Type 0 where
+  pub commands : List Octets
+  pub rest : Octets
+  pub begins : Begins commands text rest
+  pub others : HasNone mark commands
+  pub last : after_command rest ≡ None

@@ -1,6 +1,6 @@
 //! The text of a state, and the changes after it.
 ghost use Rattle.std.specs.Prelude.{◌≡◌, ◌≤◌, ◌++◌, drop, length, None, Some, IfOk, IfSome, MatchOption, OnOk};
-ghost use Rattle.sipl_archive.specs.Commands.{HasMark, IsWhole, mark_in};
+ghost use Rattle.sipl_archive.specs.Commands.{HasMark, IsWhole, LacksMark, mark_in};
 ghost use Rattle.sipl_archive.specs.Restoring.{IsMade, after_made};
 ghost use Rattle.sipl_archive.specs.Text.{state_text};
 
@@ -102,7 +102,8 @@ fn made_reply_of(line: &[u8], replies: &[u8]) -> Option<usize>
 /// How many octets and lines there are up to the first mark of this number, with it.
 pub fn find_mark(text: &[u8], mark: u64) -> Option<(usize, u64)>
     ensures within { IfSome result (λ found. found.0 ≤ length text.now) }
-    ensures marked { IfSome result (λ found. HasMark mark text.now (drop found.0 text.now)) }
+    ensures marked { MatchOption result (LacksMark mark text.now)
+        (λ found. HasMark mark text.now (drop found.0 text.now)) }
 {
     let mut octets = 0;
     let mut lines = 0u64;

@@ -1,15 +1,26 @@
-use Rattle.std.proofs.Common.{◌∷◌, [], ◌++◌, take, drop, length-drop, arith}
+use Rattle.std.proofs.Common.{◌≡◌, ◌∷◌, [], ◌++◌, ◌∙◌, ℕ, false, Option, Some, ap, sym, take, drop, length-drop, arith}
+use Rattle.std.specs.Prelude.{nat_eq}
+use Rattle.std.specs.Option.{option_eq}
 use Rattle.std.proofs.lemmas.List.{take_rest}
-use Rattle.sipl_archive.proofs.Beginning.{begins_more}
+use Rattle.sipl_archive.specs.Commands.{first_line, mark_in}
+use Rattle.sipl_archive.proofs.Beginning.{begins_more, has_none_more}
 use Rattle.sipl_archive.proofs.state.find_mark.Goals as goal
 
 pub loop-len-preserved : goal.loop-len-preserved
 loop-len-preserved c =
     let text = c.args.text.now in
     let octets = c.loop-len.octets in
-    let begins = c.loop-len.invariant.begins in
+    let len = c.in-Some.len in
+    let commands = c.loop-len.invariant.commands in
     let found = rw (take_rest text octets) at c.in-Some.ensures.octets in
+    let line = rw (take_rest text octets) at c.split_line.ensures.line in
+    let differs : false ≡ option_eq nat_eq (mark_in (first_line (drop octets text))) (Some c.args.mark) =
+    sym c.if-is_mark.false ∙ c.eq-is_mark.ensures ∙ ap (λ (m : Option ℕ). option_eq nat_eq m (Some c.args.mark)) (c.mark_of.ensures ∙ ap mark_in line) in
     record {
       within = omega (arith, found.1, length-drop octets text, c.loop-len.invariant.within);
-      begins = (begins.0 ++ take c.in-Some.len (drop octets text) ∷ [], begins_more begins.0 text octets c.in-Some.len begins.1 found.2);
+      commands = (
+        commands.0 ++ take len (drop octets text) ∷ [],
+        begins_more commands.0 text octets len commands.1 found.2,
+        has_none_more c.args.mark commands.0 text octets len commands.2 found.2 differs,
+      );
     }

@@ -1,14 +1,14 @@
 use Rattle.std.proofs.Common.{◌-◌, ◌≤◌, List, drop, length}
 use Rattle.sipl_names.specs.Labels.{Octets}
-use Rattle.sipl_archive.specs.Commands.{Begins}
+use Rattle.sipl_archive.specs.Commands.{Begins, HasNone}
 use Rattle.sipl_archive.proofs.state.find_mark.Given as goal
 
--- the octets so far are whole commands
+-- the octets so far are whole commands, and none of them is the mark
 abbrev pub invariant-loop-len : goal.invariant-loop-len
 invariant-loop-len l =
     record {
       within : l.octets ≤ length l.text;
-      begins : (commands : List Octets) × Begins commands l.text (drop l.octets l.text);
+      commands : (commands : List Octets) × Begins commands l.text (drop l.octets l.text) × HasNone l.mark commands;
     }
 
 abbrev pub decreases-loop-len : goal.decreases-loop-len
