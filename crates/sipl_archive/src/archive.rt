@@ -13,7 +13,7 @@ use sipl_book::{Event, Extent, Page};
 use sipl_choice::{Abilities, Families, Transport};
 use sipl_outages::Held;
 use std::alloc::{AllocError, Global};
-use std::fs::{File, OpenOptions};
+use std::fs::{File, OpenOptions, TryLockError};
 use std::io::{ErrorKind, Write};
 use std::os::unix::fs::OpenOptionsExt;
 use std::rt::Files;
@@ -38,7 +38,7 @@ pub struct Archive {
 }
 
 impl Archive {
-    /// The archive in a folder, of a service for this client and policy.
+    /// The archive in a folder, of a service for this client and policy: `ResourceBusy` where another process has it.
     pub fn open<R: Files<File = File>>(
         rt: &R,
         alloc: Global,
@@ -47,8 +47,10 @@ impl Archive {
         held: Held,
     ) -> io::Result<Archive> {
         let file = File::open(rt, folder)?;
-        if file.try_lock().is_err() {
-            return Err(io::Error::from(ErrorKind::ResourceBusy));
+        match file.try_lock() {
+            Ok(()) => {}
+            Err(TryLockError::WouldBlock) => return Err(io::Error::from(ErrorKind::ResourceBusy)),
+            Err(TryLockError::Error(error)) => return Err(error),
         }
         let mut archive = Archive {
             alloc,

@@ -258,6 +258,20 @@ def leaves_no_part_of_a_page(checks: Checks, folder: pathlib.Path) -> None:
 
 
 @test
+def says_why_an_archive_is_not_locked(checks: Checks, folder: pathlib.Path) -> None:
+    library, archive = folder / "faults.so", folder / "archive"
+    subprocess.run(["cc", "-O2", "-shared", "-fPIC", "-o", library, TOP / "tests/daemon/faults.c"], check=True)
+    archive.mkdir()
+    for error, text in (errno.EWOULDBLOCK, "resource busy"), (errno.ENOLCK, "os error 37"), (errno.EIO, "os error 5"):
+        environment = {"LD_PRELOAD": str(library), "FAULT_FOLDER": f"{folder}/", "FAULT_LOG": f"{folder}/trace",
+                       "FAULT": f"flock archive 1 {error}"}
+        daemon = Daemon(folder, f'archive = "{archive}"', environment=environment, waits=False)
+        status, _ = daemon.end()
+        checks.expect(status == 1 and daemon.said().startswith(f"siplocd: archive {archive}: ")
+                      and text in daemon.said() and daemon.said().count("\n") == 1, (error, status, daemon.said()))
+
+
+@test
 def says_where_no_thread_can_be_made(checks: Checks, folder: pathlib.Path) -> None:
     library = folder / "faults.so"
     subprocess.run(["cc", "-O2", "-shared", "-fPIC", "-o", library, TOP / "tests/daemon/faults.c"], check=True)
