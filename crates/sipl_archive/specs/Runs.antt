@@ -1,5 +1,5 @@
 -- The runs of an archive: pages that follow one another.
-use Rattle.std.specs.Prelude.{◌≡◌, ℕ, ◌+◌, Bool, ◌&&◌, List, [], ◌∷◌, ◌++◌, Option, None, Some, nat_lt, ◌==◌}
+use Rattle.std.specs.Prelude.{◌≡◌, ℕ, ◌+◌, Bool, ◌&&◌, List, [], ◌∷◌, ◌++◌, Option, None, Some, nat_lt, ◌==◌, if◌then◌else◌}
 use Rattle.std.specs.Bool.{OnTrue, OnFalse}
 use Rattle.sha2.specs.Sha256.{sha256}
 use Rattle.sipl_names.specs.Labels.{Octets}
@@ -28,6 +28,11 @@ counted (Some run) = record { number = run.number; events = run.next } ∷ []
 -- whether a page of this run and first event begins its run: the first one of a later run than the last
 abbrev pub begins_run : ℕ → ℕ → Option Run → Bool
 begins_run number first last = first == 0 && nat_lt (number_of_last last) number
+
+-- the runs that a page of this run and first event ends, as they are counted: the last one, if it begins another
+abbrev pub ended_by : Option (ℕ × ℕ) → Option Run → List Replayed
+ended_by None last = []
+ended_by (Some page) last = if begins_run page.0 page.1 last then counted last else []
 
 -- the last run is one that begins where the page begins it, and else the one before
 pub record BeginsRun (number first : ℕ) (client : Octets) (old new : Option Run) : Type 0 where

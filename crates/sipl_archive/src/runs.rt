@@ -1,13 +1,13 @@
 //! The replay of an archive: its pages follow one another, each event is accepted, and each answer is that
 //! of the plain machine.
-ghost use Rattle.std.specs.Prelude.{◌≡◌, ◌≤◌, ◌+◌, [], ◌++◌, length, IfOk, IfSome, OnOk};
+ghost use Rattle.std.specs.Prelude.{◌≡◌, ◌≤◌, ◌+◌, [], ◌++◌, length, Some, IfOk, IfSome, OnOk};
 ghost use Rattle.std.specs.Bool.{Decides};
 ghost use Rattle.sha2.specs.Sha256.{sha256};
 ghost use Rattle.sipl_records.specs.Fields.{fields_of};
 ghost use Rattle.sipl_archive.specs.Archive.{IsHead, digest_line, extent_in, page_named};
 ghost use Rattle.sipl_archive.specs.Replay.{RepeatsFirst, RepeatsSome, IsFresh, is_expected};
 ghost use Rattle.sipl_archive.specs.Runs.{BeginsRun, Follows, GoesOn, IsBegun, IsNext, ReplaysEvents, ReplaysPage};
-ghost use Rattle.sipl_archive.specs.Runs.{begins_run, counted, number_of_last};
+ghost use Rattle.sipl_archive.specs.Runs.{begins_run, counted, ended_by, number_of_last};
 
 use crate::archive::digest_line;
 use crate::folder::list;
@@ -207,7 +207,9 @@ impl Runs {
 
     // Replays a page after those of its run.
     fn replay_page(&mut self, alloc: Global, name: &str, text: &[u8]) -> Result<(), PageFault>
-        ensures { OnOk result (ReplaysPage name.now text.now self.old.last self.new.last) }
+        ensures last { OnOk result (ReplaysPage name.now text.now self.old.last self.new.last) }
+        ensures ended { OnOk result (self.new.ended.items
+            ≡ self.old.ended.items ++ ended_by (page_named name.now) self.old.last) }
     {
         let Some((number, first)) = read_name(name) else {
             return Err(PageFault::Misnamed);
@@ -226,8 +228,10 @@ impl Runs {
 
     // Begins the run of a page, if it is a later one than the last. The page has to be the next of its run.
     fn follow(&mut self, alloc: Global, number: u64, head: &Head<'_>) -> Result<(), PageFault>
-        ensures { OnOk result (Follows number head.now.first head.now.client.now
+        ensures last { OnOk result (Follows number head.now.first head.now.client.now
             self.old.last self.new.last) }
+        ensures ended { OnOk result (self.new.ended.items
+            ≡ self.old.ended.items ++ ended_by (Some (number, head.now.first)) self.old.last) }
     {
         self.begin(alloc, number, head)?;
         match &self.last {
@@ -238,8 +242,10 @@ impl Runs {
 
     // Begins the run of a page that is the first one of a later run than the last.
     fn begin(&mut self, alloc: Global, number: u64, head: &Head<'_>) -> Result<(), PageFault>
-        ensures { OnOk result (BeginsRun number head.now.first head.now.client.now
+        ensures last { OnOk result (BeginsRun number head.now.first head.now.client.now
             self.old.last self.new.last) }
+        ensures ended { OnOk result (self.new.ended.items
+            ≡ self.old.ended.items ++ ended_by (Some (number, head.now.first)) self.old.last) }
     {
         if self.begins(number, head) {
             let run = new_run(alloc, number, head.client)?;
@@ -268,8 +274,9 @@ impl Runs {
 
     // Replays the events of a page of the last run.
     fn replay_events(&mut self, alloc: Global, head: &Head<'_>) -> Result<(), PageFault>
-        ensures { OnOk result (ReplaysEvents head.now.events.now head.now.count
+        ensures last { OnOk result (ReplaysEvents head.now.events.now head.now.count
             self.old.last self.new.last) }
+        ensures ended { self.new.ended ≡ self.old.ended }
     {
         match &mut self.last {
             Some(run) => run.replay_events(alloc, head),
