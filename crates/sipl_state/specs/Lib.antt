@@ -1,1 +1,3 @@
 pub mod Holding
+pub mod Places
+pub mod Turning

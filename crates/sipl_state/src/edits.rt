@@ -1,8 +1,9 @@
 //! The changes of the zones, the holds and the time: each is made, and is in the file of changes when its
 //! reply is sent.
-ghost use Rattle.std.specs.Prelude.{◌≤◌, ◌^◌, OnOk};
+ghost use Rattle.std.specs.Prelude.{◌≡◌, ◌≤◌, ◌^◌, ◌++◌, OnErr, OnOk};
 ghost use Rattle.sipl_book.specs.declared.event.Event.TheVariants.{Change, Hold, Release, Advance};
 ghost use Rattle.sipl_service.specs.Passes.{GetsReceipt};
+ghost use Rattle.sipl_state.specs.Places.{place_after};
 
 use crate::pending::Pending;
 use crate::source::Source;
@@ -126,8 +127,13 @@ impl Source {
         pending: &mut Pending,
         place: &AtomicU64,
     ) -> Result<Done, ServiceFault>
-        ensures { GetsReceipt (λ done. done.number) (λ done. Change edit)
+        ensures receipt { GetsReceipt (λ done. done.number) (λ done. Change edit)
             pass.old pass.new result }
+        ensures appended { OnOk result
+            (pending.new.text.items ≡ pending.old.text.items ++ text.now) }
+        ensures place { OnOk result (pending.new.end ≡ place_after pending.old.end text.now) }
+        ensures refused { OnErr result (pending.new.text.items ≡ pending.old.text.items) }
+        ensures same { OnErr result (pending.new ≡ record pending.old { text = pending.new.text }) }
     {
         pending.reserve(text.len())?;
         let done = self.service.edit(rt, pass, edit)?;

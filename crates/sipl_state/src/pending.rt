@@ -2,6 +2,7 @@
 ghost use Rattle.std.specs.Prelude.{◌≡◌, ◌≤◌, ◌+◌, ◌++◌, [], if◌then◌else◌, length, nat_lt};
 ghost use Rattle.std.specs.Prelude.{IfOk, OnOk, vec_len, vec_capacity};
 ghost use Rattle.sipl_archive.specs.Text.{clock_line};
+ghost use Rattle.sipl_state.specs.Places.{place_after};
 
 use sipl_archive::{clock_text, mark_text};
 use std::alloc::{AllocError, Global};
@@ -76,6 +77,7 @@ impl Pending {
         ensures space { OnOk result
             (vec_len self.new.text + len ≤ vec_capacity self.new.text) }
         ensures text { self.new.text.items ≡ self.old.text.items }
+        ensures others { self.new ≡ record self.old { text = self.new.text } }
     {
         self.text.reserve(len)
     }
@@ -85,7 +87,8 @@ impl Pending {
     pub(crate) fn push(&mut self, text: &[u8]) -> u64
         requires space { vec_len self.old.text + length text.now ≤ vec_capacity self.old.text }
         ensures text { self.new.text.items ≡ self.old.text.items ++ text.now }
-        ensures place { result ≡ self.new.end }
+        ensures place { result ≡ place_after self.old.end text.now }
+        ensures others { self.new ≡ record self.old { text = self.new.text; end = result } }
     {
         self.text.extend_from_slice(text).unwrap();
         self.end = self.end.saturating_add(text.len() as u64);
@@ -96,8 +99,9 @@ impl Pending {
     pub(crate) fn push_at(&mut self, time: u64, text: &[u8]) -> u64
         requires space { vec_len self.old.text + length text.now ≤ vec_capacity self.old.text }
         ensures text { self.new.text.items ≡ self.old.text.items ++ text.now }
-        ensures place { result ≡ self.new.end }
-        ensures time { self.new.time ≡ time }
+        ensures place { result ≡ place_after self.old.end text.now }
+        ensures others { self.new
+            ≡ record self.old { text = self.new.text; end = result; time = time } }
     {
         let end = self.push(text);
         self.time = time;
@@ -134,7 +138,10 @@ impl Pending {
 
     /// Takes the octets that are not in the file. Returns them, and the place after them.
     pub(crate) fn take(&mut self) -> (Vec<u8>, u64)
-        ensures { result.0.items ≡ self.old.text.items }
+        ensures text { result.0.items ≡ self.old.text.items }
+        ensures place { result.1 ≡ self.old.end }
+        ensures empty { self.new.text.items ≡ [] }
+        ensures others { self.new ≡ record self.old { text = self.new.text } }
     {
         (mem::replace(&mut self.text, Vec::new(self.alloc)), self.end)
     }

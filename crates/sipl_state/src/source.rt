@@ -1,6 +1,7 @@
 //! A service whose changes are kept.
-ghost use Rattle.std.specs.Prelude.{IfOk};
+ghost use Rattle.std.specs.Prelude.{IfErr, IfOk};
 ghost use Rattle.sipl_book.specs.Pages.{IsPage};
+ghost use Rattle.sipl_state.specs.Turning.{IsUnturned};
 
 use crate::changes::Changes;
 use crate::pending::Mark;
@@ -62,7 +63,8 @@ impl Source {
         rt: &R,
         space: Option<Vec<Event>>,
     ) -> Result<Turned, ServiceFault>
-        ensures { IfOk result (λ turned. IsPage turned.page) }
+        ensures page { IfOk result (λ turned. IsPage turned.page) }
+        ensures refused { IfErr result IsUnturned }
     {
         let Some(changes) = &self.changes else {
             let page = self.service.turn_page_into(rt, space)?;
