@@ -1,5 +1,5 @@
 -- What the desk of a daemon's session does: the calls are those of the service, with the session's pass.
-use Rattle.std.specs.Prelude.{◌≡◌, ◌⊎◌, ℕ, [], Bool, true, false, Result, Ok, Err, IfOk, OnErr, codes}
+use Rattle.std.specs.Prelude.{◌≡◌, ◌⊎◌, ℕ, [], Bool, true, false, Result, Ok, Err, IfErr, IfOk, codes}
 use Rattle.std.specs.Result.{result_map_both}
 use Rattle.sipl_names.specs.Labels.{Octets}
 use Rattle.sipl_outages.specs.Holds.{BoardEvent}
@@ -13,6 +13,7 @@ use Rattle.sipl_book.specs.declared.outcome.Extent.{Extent}
 use Rattle.sipl_service.specs.Passes.{GetsReceipt, PassState}
 use Rattle.sipl_service.specs.Telling.{AreToldDependencies, ToldState}
 use Rattle.sipl_service.specs.declared.fault.ServiceFault.{ServiceFault}
+use Rattle.sipl_state.specs.Turning.{IsUnturned}
 use Rattle.sipl_lines.specs.Desk.{DeskRules}
 use Rattle.sipl_lines.specs.ServiceDesk.{CallerState, IsTold, KeepsOthers, handed_of, service_text}
 use Rattle.sipl_daemon.specs.declared.fault.DeskFault.{DeskFault}
@@ -26,6 +27,10 @@ pub record SessionState : Type 0 where
 -- the result of a call of the service, as the desk returns it
 abbrev pub of_service : {A : Type 0} → Result A ServiceFault → Result A DeskFault
 of_service result = result_map_both (λ value. value) Service result
+
+-- a refusal is the service's
+abbrev pub IsOfService : DeskFault → Type 0
+IsOfService fault = (cause : ServiceFault) × (fault ≡ Service cause)
 
 -- all but the pass is as it was
 pub record KeepsSession (old new : SessionState) : Type 0 where
@@ -73,6 +78,10 @@ MovesBoard (Release endpoint) old outcome new =
 abbrev pub IsExtent : Extent → Type 0
 IsExtent extent = (page : PageState) × IsPage page × (extent ≡ extent_of page)
 
+-- a page that is not turned is refused as the service refuses it
+abbrev pub IsPageRefused : DeskFault → Type 0
+IsPageRefused fault = (cause : ServiceFault) × IsUnturned cause × (fault ≡ Service cause)
+
 -- the pass has no receipts left, or all that it had; its front is as it was
 abbrev pub IsHandedOver : PassState → PassState → Type 0
 IsHandedOver old new = (new ≡ old) ⊎ (new ≡ record { receipts = []; front = old.front })
@@ -100,10 +109,12 @@ session_rules =
           (MakesEdit edit old new outcome ⊎ IsNotKept old new outcome));
       Moves = λ event old outcome new. MovesBoard event old outcome new;
       Depends = λ question old outcome new.
-          IfOk outcome (AreToldDependencies question old.caller.client) × (new ≡ old);
-      Repairs = λ old outcome new. IsRefused old new outcome ⊎ ((old.asks_only ≡ false) × (new ≡ old));
+          IfOk outcome (AreToldDependencies question old.caller.client) × IfErr outcome IsOfService × (new ≡ old);
+      Repairs = λ old outcome new.
+          IsRefused old new outcome ⊎ ((old.asks_only ≡ false) × IfErr outcome IsOfService × (new ≡ old));
       Pages = λ old outcome new.
-          IsRefused old new outcome ⊎ ((old.asks_only ≡ false) × IfOk outcome IsExtent × (new ≡ old));
+          IsRefused old new outcome ⊎ ((old.asks_only ≡ false) × IfOk outcome IsExtent
+          × IfErr outcome IsPageRefused × (new ≡ old));
       Pauses = λ old new. HandsOver old new;
       IsTime = λ caller now. Unit {0};
       fault_text = desk_text;

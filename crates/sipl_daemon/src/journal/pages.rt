@@ -1,6 +1,8 @@
 //! The journal of the daemon's service, which rolls: pages are turned before they are full, and each is
 //! claimed when the receipts of its events are in.
-ghost use Rattle.std.specs.Prelude.{IfOk};
+ghost use Rattle.std.specs.Bool.{OnFalse, OnTrue};
+ghost use Rattle.std.specs.Prelude.{◌≡◌, [], IfErr, IfOk};
+ghost use Rattle.sipl_state.specs.Turning.{IsUnturned};
 ghost use Rattle.sipl_daemon.specs.SessionDesk.{IsExtent, IsHandedOver};
 
 use crate::journal::spaces::Spaces;
@@ -117,7 +119,8 @@ impl Pages {
 
     /// Turns the page.
     pub(crate) fn turn<R: Wait>(&self, rt: &R, source: &Source) -> Result<Extent, ServiceFault>
-        ensures { IfOk result IsExtent }
+        ensures page { IfOk result IsExtent }
+        ensures refused { IfErr result IsUnturned }
     {
         let mut turned = self.turned.lock(rt);
         self.push_page(rt, source, &mut turned)
@@ -130,7 +133,8 @@ impl Pages {
         source: &Source,
         turned: &mut VecDeque<Turned>,
     ) -> Result<Extent, ServiceFault>
-        ensures { IfOk result IsExtent }
+        ensures page { IfOk result IsExtent }
+        ensures refused { IfErr result IsUnturned }
     {
         turned.reserve(1)?;
         let next = source.turn_page(rt, self.spaces.take_journal(rt))?;
@@ -146,7 +150,9 @@ impl Pages {
     /// Hands the receipts of a caller over, to be claimed. Returns whether it has none left: where an
     /// allocation fails it keeps them.
     pub(crate) fn hand_over<R: Wait>(&self, rt: &R, pass: &mut Pass) -> bool
-        ensures { IsHandedOver pass.old pass.new }
+        ensures handed { IsHandedOver pass.old pass.new }
+        ensures none_left { OnTrue result (pass.new.receipts ≡ []) }
+        ensures kept { OnFalse result (pass.new ≡ pass.old) }
     {
         if pass.receipts().is_empty() {
             return true;
