@@ -14,9 +14,10 @@ use sipl_process::{
 use sipl_settings::{Call, DaemonSettings, Given};
 use sipl_state::{Restored, StateFault, real_path, restore};
 use std::alloc::Global;
+use std::fs::File;
 use std::io::ErrorKind;
 use std::process::ExitCode;
-use std::rt::Env;
+use std::rt::{Env, Files};
 use std::sync::Arc;
 use std::sync::atomic::AtomicU64;
 use std::time::Duration;
@@ -171,6 +172,7 @@ where
         let Restored { changes, found } = open_state(
             host,
             rt.alloc(),
+            settings,
             daemon,
             claims,
             path.as_str(),
@@ -184,33 +186,50 @@ where
     Ok(())
 }
 
-// The changes after the state of a path, from which the daemon goes on.
+// The changes after the state of a path, from which the daemon goes on. It is read once clients can connect: the archive
+// may have pages of it then, at each start that is tried.
 fn open_state<H: Host>(
     host: &H,
     alloc: Global,
+    settings: &DaemonSettings,
     daemon: &Daemon,
     claims: &mut Claims,
     path: &str,
 ) -> Result<Restored, Fault> {
-    match restore_at(host, alloc, daemon, claims, path) {
+    let (real, lock) = match lock_state(host, alloc, path) {
+        Ok(locked) => locked,
+        Err(error) => return Err(Fault::State(String::from_str(alloc, path)?, error)),
+    };
+    Listeners::check(host, alloc, settings)?;
+    match restore_at(host, alloc, daemon, claims, real.as_str(), lock) {
         Ok(restored) => Ok(restored),
         Err(fault) => Err(state_fault(alloc, path, fault)?),
     }
 }
 
-// Takes the lock of a state, and reads it. A symbolic link has the lock of the file to which it leads.
+// Takes the lock of a state. Returns where it is, too: a symbolic link has the lock of the file to which it leads.
+fn lock_state<R: Files<File = File>>(
+    rt: &R,
+    alloc: Global,
+    path: &str,
+) -> io::Result<(String, File)> {
+    let path = real_path(rt, alloc, path)?;
+    let lock = take_lock(rt, format!(in alloc; "{path}.lock")?.as_str())?;
+    Ok((path, lock))
+}
+
+// Reads the state of a path, of which this file has the lock.
 fn restore_at<H: Host>(
     host: &H,
     alloc: Global,
     daemon: &Daemon,
     claims: &mut Claims,
     path: &str,
+    lock: File,
 ) -> Result<Restored, StateFault> {
-    let path = real_path(host, alloc, path)?;
-    let lock = take_lock(host, format!(in alloc; "{path}.lock")?.as_str())?;
     let place = AtomicU64::new(0);
     let mut desk = RestoringDesk::new(host, daemon, &place, claims);
-    let restored = restore(host, alloc, path.as_str(), lock, &mut desk);
+    let restored = restore(host, alloc, path, lock, &mut desk);
     desk.end();
     restored
 }

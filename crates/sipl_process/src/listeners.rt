@@ -1,11 +1,15 @@
 //! All the sockets of a daemon.
 use crate::fault::Fault;
 use crate::host::Host;
-use sipl_listen::Listener;
+use sipl_listen::{Address, Listener, take_lock};
 use sipl_observed::Observed;
 use sipl_settings::{DaemonSettings, Entrance};
 use std::alloc::Global;
-use std::io;
+use std::fs::File;
+use std::io::ErrorKind;
+use std::os::unix::fs::FileTypeExt;
+use std::rt::Files;
+use std::{fs, io};
 
 /// The sockets at which a daemon accepts clients, and that of control lines, if it has one.
 #[derive(Drop)]
@@ -20,7 +24,66 @@ pub struct Listeners {
     pub metrics: Option<Listener>,
 }
 
+// The addresses that are tried before a start: sockets of TCP, and the locks of the paths of Unix sockets.
+#[derive(Drop)]
+struct Tried {
+    sockets: Vec<Listener>,
+    locks: Vec<File>,
+}
+
+impl Tried {
+    fn try_all<H: Host>(
+        &mut self,
+        host: &H,
+        alloc: Global,
+        settings: &DaemonSettings,
+    ) -> Result<(), Fault> {
+        for entrance in &settings.listen {
+            self.try_at(host, alloc, entrance)?;
+        }
+        for entrance in &settings.find {
+            self.try_at(host, alloc, entrance)?;
+        }
+        if let Some(entrance) = &settings.control {
+            self.try_at(host, alloc, entrance)?;
+        }
+        if let Some(entrance) = &settings.metrics {
+            self.try_at(host, alloc, entrance)?;
+        }
+        Ok(())
+    }
+
+    fn try_at<H: Host>(
+        &mut self,
+        host: &H,
+        alloc: Global,
+        entrance: &Entrance,
+    ) -> Result<(), Fault> {
+        let address = &entrance.address;
+        match address {
+            Address::Tcp(_) => self.sockets.push(listen_at(host, alloc, entrance, 0)?)?,
+            Address::Unix(path) => {
+                self.locks
+                    .push(lock_at(host, alloc, address, path.as_str())?)?;
+            }
+        }
+        Ok(())
+    }
+}
+
 impl Listeners {
+    /// Checks that a daemon can listen at all addresses of the settings, before it reads its state: the archive may have
+    /// pages of that. None of the addresses is taken afterwards, and no socket is seen at a path.
+    pub fn check<H: Host>(host: &H, alloc: Global, settings: &DaemonSettings) -> Result<(), Fault> {
+        let mut tried = Tried {
+            sockets: Vec::new(alloc),
+            locks: Vec::new(alloc),
+        };
+        let outcome = tried.try_all(host, alloc, settings);
+        drop(tried);
+        outcome
+    }
+
     /// Listens at all addresses of the settings, and says so: on standard output, and in the log, which has edits from
     /// then on.
     pub fn open<R, H>(
@@ -150,5 +213,28 @@ fn listen_at<H: Host>(
     match Listener::bind(host, alloc, address, entrance.mode.unwrap_or(mode)) {
         Ok(listener) => Ok(listener),
         Err(error) => Err(Fault::Listen(address.dup(alloc)?, error)),
+    }
+}
+
+// Takes the lock of a path where a Unix socket can be.
+fn lock_at<H: Host>(host: &H, alloc: Global, address: &Address, path: &str) -> Result<File, Fault> {
+    match lock_path(host, alloc, path) {
+        Ok(lock) => Ok(lock),
+        Err(error) => Err(Fault::Listen(address.dup(alloc)?, error)),
+    }
+}
+
+fn lock_path<R: Files<File = File>>(rt: &R, alloc: Global, path: &str) -> io::Result<File> {
+    expect_socket_or_none(rt, path)?;
+    take_lock(rt, format!(in alloc; "{path}.lock")?.as_str())
+}
+
+// Checks that there is a socket at a path, which may be left over, or nothing.
+fn expect_socket_or_none<R: Files>(rt: &R, path: &str) -> io::Result<()> {
+    match fs::symlink_metadata(rt, path) {
+        Ok(found) if found.file_type().is_socket() => Ok(()),
+        Ok(_) => Err(io::Error::from(ErrorKind::AlreadyExists)),
+        Err(error) if error.kind() == ErrorKind::NotFound => Ok(()),
+        Err(error) => Err(error),
     }
 }

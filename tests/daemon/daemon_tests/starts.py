@@ -13,6 +13,7 @@ import struct
 import subprocess
 
 import siploc
+from commits import log_of, state_of
 from daemon_tests.support import (
     PATIENCE,
     PROGRAM,
@@ -27,6 +28,7 @@ from daemon_tests.support import (
     test,
     until,
 )
+from started import free_ports
 
 
 def first_session() -> list[tuple[str, list[str]]]:
@@ -218,3 +220,37 @@ def a_socket_has_its_mode_from_the_first_moment(checks: Checks, folder: pathlib.
             finally:
                 daemon.kill()
             path.unlink()
+
+
+@test
+def a_start_at_a_taken_address_leaves_no_page(checks: Checks, folder: pathlib.Path) -> None:
+    archive, state, file = folder / "archive", folder / "state", folder / "file"
+    archive.mkdir()
+    state.write_bytes(state_of(b"# page 0\nzone example.com. 1\na.example.com. A 192.0.2.1\n"))
+    adds = [f"add n{number}.example.com. A 192.0.2.1\n".encode() for number in range(300)]
+    (folder / "state.log").write_bytes(log_of(state.read_bytes(), [b"".join(adds)]))
+    file.write_text("a file")
+    # (pages of fewer events than there are changes)
+    settings = f'archive = "{archive}"\nstate = "{state}"\njournal = 60\nclock = "lines"\n'
+    with socket.create_server(("127.0.0.1", 0)) as listener, started(checks, folder, unix=f"unix:{folder}/s") as other:
+        taken, free = f"127.0.0.1:{listener.getsockname()[1]}", f"127.0.0.1:{free_ports(1)[0]}"
+        live = other.addresses[2]
+        for name, address in ("listen", f'["{taken}"]'), ("find", f'["{taken}"]'), ("control", f'"{taken}"'), \
+                ("metrics", f'"{taken}"'), ("listen", f'["{free}", "{live}"]'), ("listen", f'["unix:{file}"]'), \
+                ("listen", f'["unix:{folder}/none/s"]'), ("listen", f'["{free}", "{free}"]'), \
+                ("find", f'["unix:{folder}/f", "unix:{folder}/f"]'):
+            inner = folder / "inner"
+            inner.mkdir(exist_ok=True)
+            status, said = ended_start(inner, f"{settings}{name} = {address}")
+            checks.expect(status == 1 and said.startswith("siplocd: listen ") and said.count("\n") == 1,
+                          (name, address, status, said))
+            checks.equal(list(archive.iterdir()), [], f"pages of a start at {name} = {address}")
+        with Client(live) as client:
+            checks.equal(client.ask("repair"), ["ok repair"], "the other daemon")
+    checks.equal((file.read_text(), (folder / "f").exists()), ("a file", False), "what is at paths")
+    with started(checks, folder, settings) as daemon:
+        checks.equal(daemon.tell("zones"), ["zone example.com. 301", "ok zones 1"], "zones")
+        stopped(checks, daemon, 301)
+    ran = subprocess.run([PROGRAM, "replay", str(archive)], capture_output=True, text=True, timeout=PATIENCE,
+                         check=False)
+    checks.equal((ran.returncode, ran.stdout, ran.stderr), (0, "run 000001 301\nreplayed 301\n", ""), "replay")
