@@ -2,6 +2,7 @@
 
 from __future__ import annotations
 
+import contextlib
 import errno
 import pathlib
 import subprocess
@@ -17,6 +18,19 @@ TOLD = "siplocd: state: {}: changes are refused\nsiplocd: state: written again, 
 LONG = "x" * 255
 LONG_ZONE = "zone example.com. 1401\na A 192.0.2.1" + "".join(f'\nn{n} NAPTR 1 1 "{LONG}" "{LONG}" "{LONG}" .'
                                                               for n in range(1_400))
+
+
+class Faults:
+    """What a preloaded library (tests/daemon/faults.c) does to the operations of a daemon on the files of a folder."""
+
+    def __init__(self, folder: pathlib.Path) -> None:
+        self.folder, self.library = folder, folder / "faults.so"
+        subprocess.run(["cc", "-O2", "-shared", "-fPIC", "-o", self.library, TOP / "tests/daemon/faults.c"], check=True)
+
+    def environment(self, fault: str) -> dict[str, str]:
+        """The environment of a daemon that meets a fault."""
+        return {"LD_PRELOAD": str(self.library), "FAULT_FOLDER": f"{self.folder}/",
+                "FAULT_LOG": f"{self.folder}/trace", "FAULT": fault}
 
 
 def target(number: int) -> list[str]:
@@ -202,7 +216,9 @@ def pages_wait_until_they_are_archived(checks: Checks, folder: pathlib.Path) -> 
         for _ in range(40):
             if client.ask("find sip:a.example.com:1") is None:
                 break
-            daemon.tell("page")
+            # (it may end between the two)
+            with contextlib.suppress(OSError):
+                daemon.tell("page")
         checks.equal(daemon.end()[0], 1, "its status")
         checks.expect(daemon.said().endswith("siplocd: archive: No space left on device (os error 28)\n"),
                       daemon.said())
@@ -272,15 +288,45 @@ def says_why_an_archive_is_not_locked(checks: Checks, folder: pathlib.Path) -> N
 
 
 @test
+def pages_of_a_start_wait_until_they_are_archived(checks: Checks, folder: pathlib.Path) -> None:
+    # The disk is full from the first page on, until there is a file `emptied`. Each page has some fifty events.
+    full = "siplocd: archive: No space left on device (os error 28)"
+    for changes, on_failure, goes_on in (350, "read", True), (900, "read", False), (120, "end", False):
+        inner = folder / f"{changes}-{on_failure}"
+        archive, state = inner / "archive", inner / "state"
+        archive.mkdir(parents=True)
+        state.write_bytes(state_of(b"# page 0\nzone example.com. 1\na.example.com. A 192.0.2.1\n"))
+        adds = [f"add n{number}.example.com. A 192.0.2.1\n".encode() for number in range(changes)]
+        (inner / "state.log").write_bytes(log_of(state.read_bytes(), [b"".join(adds)]))
+        environment = Faults(inner).environment("write archive/new 1 full")
+        settings = f'archive = "{archive}"\nstate = "{state}"\njournal = 60\nclock = "lines"\n' \
+            f'on_failure = "{on_failure}"'
+        daemon = Daemon(inner, settings, listen=[f"unix:{inner}/lines"], environment=environment)
+        try:
+            if not goes_on:
+                checks.equal((daemon.end()[0], daemon.said().splitlines()[-1:]), (1, [full]), (changes, on_failure))
+                continue
+            checks.expect(daemon.is_ready(), f"{changes}: {daemon.lines}, {daemon.process.poll()}, {daemon.said()!r}")
+            with Client(daemon.address) as client:
+                checks.equal(client.ask("find sip:a.example.com:1"), target(1), f"{changes}: a question meanwhile")
+            checks.equal(daemon.said(), f"{full}: pages wait\n", changes)
+            (inner / "emptied").touch()
+            checks.expect(until(lambda: daemon.said().endswith("siplocd: archive: written again\n")), daemon.said())
+            stopped(checks, daemon, changes + 2)
+        finally:
+            daemon.kill()
+        ran = subprocess.run([PROGRAM, "replay", str(archive)], capture_output=True, text=True, timeout=60, check=False)
+        checks.equal((ran.returncode, ran.stdout, ran.stderr),
+                     (0, f"run 000001 {changes + 2}\nreplayed {changes + 2}\n", ""), f"{changes}: replay")
+
+
+@test
 def says_where_no_thread_can_be_made(checks: Checks, folder: pathlib.Path) -> None:
-    library = folder / "faults.so"
-    subprocess.run(["cc", "-O2", "-shared", "-fPIC", "-o", library, TOP / "tests/daemon/faults.c"], check=True)
     # Those of the input, of the log and of the workers are the first three; without them it goes on.
     for count, on_failure in (4, "end"), (5, "end"), (6, "end"), (7, "end"), (6, "read"), (8, "read"):
         inner = folder / f"{count}-{on_failure}"
         inner.mkdir()
-        environment = {"LD_PRELOAD": str(library), "FAULT_FOLDER": f"{inner}/", "FAULT_LOG": f"{inner}/trace",
-                       "FAULT": f"thread new {count} {errno.EAGAIN}"}
+        environment = Faults(inner).environment(f"thread new {count} {errno.EAGAIN}")
         settings = f'workers = 0\non_failure = "{on_failure}"'
         daemon = Daemon(inner, settings, listen=[f"unix:{inner}/lines"], environment=environment, waits=False)
         status, last = daemon.end()

@@ -32,13 +32,21 @@ pub(crate) fn claim_pages<H: Host>(host: &H, daemon: &Daemon, claims: &mut Claim
     }
 }
 
-/// Claims the pages that were turned, but for those whose receipts are on their way.
+/// Claims the pages that were turned, but for those whose receipts are on their way. Where one could not be archived they
+/// wait until clients are served, unless too many do.
 pub(crate) fn claim_turned<R: Files<File = File> + Wait + Clock>(
     rt: &R,
     daemon: &Daemon,
     claims: &mut Claims,
 ) {
     for _ in rt.forever() {
+        if claims.has_unarchived() && may_wait(rt, daemon) {
+            break;
+        }
+        if let Some(turned) = claims.take_unarchived() {
+            keep_or_wait(rt, daemon, claims, turned, true);
+            continue;
+        }
         match claims.claim_next(rt, &daemon.pages) {
             Ok(Claimed::Page) => keep_claimed(rt, daemon, claims),
             Ok(Claimed::NotYet | Claimed::Nothing) => break,
@@ -54,6 +62,7 @@ pub(crate) fn claim_turned<R: Files<File = File> + Wait + Clock>(
 // before it.
 fn claim_once<H: Host>(host: &H, daemon: &Daemon, claims: &mut Claims) {
     if let Some(turned) = claims.take_unarchived() {
+        daemon.stop.pause(host, Duration::from_millis(AGAIN));
         keep_or_wait(host, daemon, claims, turned, true);
         return;
     }
@@ -63,52 +72,11 @@ fn claim_once<H: Host>(host: &H, daemon: &Daemon, claims: &mut Claims) {
         .observed
         .see_pages(host, daemon.pages.claimed(), waiting);
     match claimed {
-        Ok(Claimed::Page) => {
-            if let Some(turned) = claims.take() {
-                keep_or_wait(host, daemon, claims, turned, false);
-            }
-        }
+        Ok(Claimed::Page) => keep_claimed(host, daemon, claims),
         Ok(Claimed::NotYet) => daemon.stop.pause(host, Duration::from_millis(PATIENCE)),
         Ok(Claimed::Nothing) => daemon.pages.wait_for_page(host),
         Err(fault) => fail(host, daemon, claims, CloseFault::Claim(fault)),
     }
-}
-
-// Keeps a page that was claimed. Where it can't be archived, and the daemon is to go on then, it is kept until that is
-// tried again.
-fn keep_or_wait<H: Host>(
-    host: &H,
-    daemon: &Daemon,
-    claims: &mut Claims,
-    turned: Turned,
-    has_waited: bool,
-) {
-    match keep(host, daemon, &turned) {
-        Ok(()) => {
-            use_again(host, daemon, turned);
-            if has_waited {
-                daemon.pages.hold_up(false);
-                daemon.observed.say(host, ARCHIVED);
-            }
-        }
-        Err(CloseFault::Archive(error)) if may_wait(host, daemon) => {
-            if !has_waited {
-                daemon.observed.say_waiting(host, &error);
-            }
-            claims.put_unarchived(turned);
-            daemon.pages.hold_up(true);
-            daemon.stop.pause(host, Duration::from_millis(AGAIN));
-        }
-        Err(fault) => {
-            drop(turned);
-            fail(host, daemon, claims, fault);
-        }
-    }
-}
-
-// Whether a page may wait until it can be archived.
-fn may_wait<H: Host>(host: &H, daemon: &Daemon) -> bool {
-    daemon.on_failure == OnFailure::Read && daemon.pages.waiting(host) < MAX_WAITING
 }
 
 // Keeps the page that was claimed.
@@ -118,14 +86,44 @@ fn keep_claimed<R: Files<File = File> + Wait + Clock>(
     claims: &mut Claims,
 ) {
     if let Some(turned) = claims.take() {
-        match keep(rt, daemon, &turned) {
-            Ok(()) => use_again(rt, daemon, turned),
-            Err(fault) => {
-                drop(turned);
-                fail(rt, daemon, claims, fault);
+        keep_or_wait(rt, daemon, claims, turned, false);
+    }
+}
+
+// Keeps a page that was claimed. Where it can't be archived, and the daemon is to go on then, it is kept until that is
+// tried again.
+fn keep_or_wait<R: Files<File = File> + Wait + Clock>(
+    rt: &R,
+    daemon: &Daemon,
+    claims: &mut Claims,
+    turned: Turned,
+    has_waited: bool,
+) {
+    match keep(rt, daemon, &turned) {
+        Ok(()) => {
+            use_again(rt, daemon, turned);
+            if has_waited {
+                daemon.pages.hold_up(false);
+                daemon.observed.say(rt, ARCHIVED);
             }
         }
+        Err(CloseFault::Archive(error)) if may_wait(rt, daemon) => {
+            if !has_waited {
+                daemon.observed.say_waiting(rt, &error);
+            }
+            claims.put_unarchived(turned);
+            daemon.pages.hold_up(true);
+        }
+        Err(fault) => {
+            drop(turned);
+            fail(rt, daemon, claims, fault);
+        }
     }
+}
+
+// Whether a page may wait until it can be archived.
+fn may_wait<R: Wait>(rt: &R, daemon: &Daemon) -> bool {
+    daemon.on_failure == OnFailure::Read && daemon.pages.waiting(rt) < MAX_WAITING
 }
 
 // Keeps the space of a page that was claimed and kept.

@@ -59,6 +59,11 @@ impl Claims {
         drop(self.unarchived.replace(turned));
     }
 
+    /// Whether there is one.
+    pub(crate) fn has_unarchived(&self) -> bool {
+        self.unarchived.is_some()
+    }
+
     /// Takes that page out, if there is one.
     pub(crate) fn take_unarchived(&mut self) -> Option<Turned> {
         self.unarchived.take()
