@@ -54,6 +54,14 @@ impl Observed {
         }
     }
 
+    /// Says why a state can't be written, and that its log goes on.
+    pub fn say_going_on<R: Wait>(&self, rt: &R, error: &io::Error) {
+        match format!(in self.alloc; "siplocd: state: {error}: the log goes on") {
+            Ok(text) => self.say(rt, text.as_str()),
+            Err(_) => self.say(rt, "siplocd: state: the log goes on"),
+        }
+    }
+
     /// Says why a page can't be archived, and that pages wait.
     pub fn say_waiting<R: Wait>(&self, rt: &R, error: &io::Error) {
         match format!(in self.alloc; "siplocd: archive: {error}: pages wait") {

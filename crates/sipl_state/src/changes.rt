@@ -1,5 +1,5 @@
 //! The changes since the last state, in a file: each is there before its reply is sent.
-use crate::files::{open_to_append, write_new};
+use crate::files::{open_to_append, remove_new, write_new};
 use crate::pending::{Mark, Pending, long_after};
 use crate::state_files::{Base, StateFiles, point_after};
 use crate::written::Written;
@@ -119,7 +119,7 @@ impl Changes {
     }
 
     /// Writes the state after a mark, and begins the log anew with the changes after it. First the mark is in the
-    /// old log.
+    /// old log. Where the state can't be written, before it takes its place, the old log goes on.
     pub fn write_state<R: Files<File = File> + Wait>(
         &self,
         rt: &R,
@@ -127,13 +127,8 @@ impl Changes {
         state: &State,
     ) -> io::Result<()> {
         self.sync(rt, mark.begin)?;
-        match self.write_new_state(rt, mark, state) {
-            Ok(digest) => self.begin_log(rt, mark, &digest),
-            Err(error) => {
-                let mut written = self.written.lock(rt);
-                self.keep_failure(&mut written, Err(error))
-            }
-        }
+        let digest = self.write_new_state(rt, mark, state)?;
+        self.begin_log(rt, mark, &digest)
     }
 
     /// Writes the log anew, with all changes, where something failed that was done to the files. Then changes can be
@@ -229,8 +224,8 @@ impl Changes {
         self.long_at.store(pending.long_at(), Ordering::SeqCst);
     }
 
-    // Begins the log anew after a state of this digest, which takes its place. Where that fails the file in hand may be
-    // none of the folder's any more, so nothing is written to it from then on.
+    // Begins the log anew after a state of this digest, which takes its place, or is removed. Where that fails the file in
+    // hand may be none of the folder's any more, so nothing is written to it from then on.
     fn begin_log<R: Files<File = File> + Wait>(
         &self,
         rt: &R,
@@ -239,6 +234,9 @@ impl Changes {
     ) -> io::Result<()> {
         let mut written = self.written.lock(rt);
         let begun = self.begin_written(rt, &mut written, mark, digest);
+        if begun.is_err() {
+            remove_new(rt, self.alloc, self.files.state.as_str());
+        }
         self.keep_failure(&mut written, begun)
     }
 

@@ -40,14 +40,31 @@ pub(crate) fn new_path(alloc: Global, path: &str) -> Result<String, AllocError> 
     format!(in alloc; "{path}.new")
 }
 
-/// Makes a file of a text, and syncs it.
+/// Removes the file that was to take the place of another one, where it does not: it would take the space of what comes
+/// next.
+pub(crate) fn remove_new<R: Files<File = File>>(rt: &R, alloc: Global, path: &str) {
+    if let Ok(path) = new_path(alloc, path) {
+        let _ = fs::remove_file(rt, path.as_str());
+    }
+}
+
+/// Makes a file of a text, and syncs it. Where that fails there is no part of it.
 pub(crate) fn write_file<R: Files<File = File>>(rt: &R, path: &str, text: &[u8]) -> io::Result<()> {
-    let mut file = OpenOptions::new()
+    let file = OpenOptions::new()
         .write(true)
         .create(true)
         .truncate(true)
         .mode(0o600)
         .open(rt, path)?;
+    let written = write_synced(file, text);
+    if written.is_err() {
+        let _ = fs::remove_file(rt, path);
+    }
+    written
+}
+
+fn write_synced(file: File, text: &[u8]) -> io::Result<()> {
+    let mut file = file;
     file.write_all(text)?;
     file.sync_all()
 }

@@ -1,6 +1,6 @@
 //! The zones and the holds of a daemon, read again from their files: a state, and the log of the changes since then.
 use crate::changes::{Changes, Extent};
-use crate::files::{read_file, take_place, write_new};
+use crate::files::{read_file, remove_new, take_place, write_new};
 use crate::first_format::FirstFormat;
 use crate::state_files::{FoundLog, StateFiles, point_after};
 use sipl_archive::{Made, made_of, mark_of, replies_to, split_line, whole_len};
@@ -205,10 +205,14 @@ fn begin<R: Files<File = File>>(
 ) -> Result<Extent, StateFault> {
     let mut text = Vec::new(alloc);
     let digest = write_state(alloc, &mut text, body)?;
-    write_new(rt, alloc, files.state.as_str(), &text)?;
     let first = point_after(&digest);
     let (octets, last) = log_of(alloc, &first, &[])?;
-    files.begin(rt, alloc, &octets)?;
+    write_new(rt, alloc, files.state.as_str(), &text)?;
+    let begun = files.begin(rt, alloc, &octets);
+    if begun.is_err() {
+        remove_new(rt, alloc, files.state.as_str());
+    }
+    begun?;
     Ok(Extent {
         state_len: text.len() as u64,
         len: 0,

@@ -1,6 +1,7 @@
 //! The files of a state: where they are, and which of them belong together.
 use crate::files::{
-    new_path, open_to_append, read_file, sync_folder, take_place, truncate, write_file, write_new,
+    new_path, open_to_append, read_file, remove_new, sync_folder, take_place, truncate, write_file,
+    write_new,
 };
 use sipl_commits::{Point, StateFault, read_state, write_head};
 use std::alloc::{AllocError, Global};
@@ -48,17 +49,32 @@ impl StateFiles {
     }
 
     /// Begins a log with these octets: the new one is there, also after a loss of power, before its state takes its
-    /// place, and takes its own after that. What a kill leaves between the two is finished at the next start.
+    /// place, and takes its own after that. What a kill leaves between the two is finished at the next start. Where the
+    /// state may have taken its place the new log stays.
     pub(crate) fn begin<R: Files<File = File>>(
         &self,
         rt: &R,
         alloc: Global,
         log: &[u8],
     ) -> io::Result<()> {
-        write_new(rt, alloc, self.log.as_str(), log)?;
-        sync_folder(rt, self.state.as_str())?;
+        self.write_new_log(rt, alloc, log)?;
         take_place(rt, alloc, self.state.as_str())?;
         take_place(rt, alloc, self.log.as_str())
+    }
+
+    // Writes the log that is to take its place with a state, and keeps its name.
+    fn write_new_log<R: Files<File = File>>(
+        &self,
+        rt: &R,
+        alloc: Global,
+        log: &[u8],
+    ) -> io::Result<()> {
+        write_new(rt, alloc, self.log.as_str(), log)?;
+        let synced = sync_folder(rt, self.state.as_str());
+        if synced.is_err() {
+            remove_new(rt, alloc, self.log.as_str());
+        }
+        synced
     }
 
     /// Writes a log anew, which takes the place of the old one. Returns it, to append to.
@@ -69,7 +85,11 @@ impl StateFiles {
         log: &[u8],
     ) -> io::Result<File> {
         write_new(rt, alloc, self.log.as_str(), log)?;
-        take_place(rt, alloc, self.log.as_str())?;
+        let moved = take_place(rt, alloc, self.log.as_str());
+        if moved.is_err() {
+            remove_new(rt, alloc, self.log.as_str());
+        }
+        moved?;
         open_to_append(rt, self.log.as_str())
     }
 

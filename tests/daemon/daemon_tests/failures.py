@@ -321,6 +321,79 @@ def pages_of_a_start_wait_until_they_are_archived(checks: Checks, folder: pathli
 
 
 @test
+def leaves_no_part_of_a_file_that_could_not_be_written(checks: Checks, folder: pathlib.Path) -> None:
+    # The first ones are of the start, the second ones of a trim. A disk that is full is so until there is `emptied`.
+    refused, goes_on = "changes are refused\n", "the log goes on\n"
+    trims = ("write state.new 2 full", goes_on), (f"fsync state.new 2 {errno.EIO}", goes_on), \
+        ("write state.log.new 2 full", refused), (f"rename state 2 {errno.EIO}", refused)
+    for place, (fault, said) in enumerate(trims):
+        inner = folder / f"{place}"
+        inner.mkdir()
+        settings = f'state = "{inner}/state"\non_failure = "read"\nclock = "lines"'
+        (inner / "state.old").write_text("of somebody else")
+        with started(checks, inner, settings, listen=[f"unix:{inner}/lines"],
+                     environment=Faults(inner).environment(fault)) as daemon, Client(daemon.address) as client:
+            checks.equal(client.ask(LONG_ZONE), ["ok zone 1401 0 0 1401"], fault)
+            checks.expect(until(lambda: daemon.said().endswith(said)), f"{fault}: {daemon.said()!r}")
+            checks.expect(until(lambda: not (inner / "state.new").exists()), f"{fault}: state.new is left")
+            if "full" in fault:
+                checks.expect(not (inner / "state.log.new").exists(), f"{fault}: state.log.new is left")
+            (inner / "emptied").touch()
+            if said == goes_on:
+                checks.equal(client.ask("add b.example.com. A 192.0.2.2"), ["ok add 1"], f"{fault}: a change after it")
+                # Once the log is as long again a state is written.
+                more = LONG_ZONE.replace("example.com.", "example.net.")
+                checks.equal(client.ask(more), ["ok zone 1401 0 0 1401"], f"{fault}: a zone after it")
+                checks.expect(until(lambda: (inner / "state.log").stat().st_size < 1_000), f"{fault}: a long log")
+            else:
+                checks.expect(accepts(client, "add b.example.com. A 192.0.2.2"), f"{fault}: refused for ever")
+            daemon.kill()
+        checks.equal((inner / "state.old").read_text(), "of somebody else", fault)
+        with started(checks, inner, settings, listen=[f"unix:{inner}/lines"]) as daemon, \
+                Client(daemon.address) as client:
+            for host, number in ("a", 1), ("b", 2):
+                checks.equal(client.ask(f"find sip:{host}.example.com:1"), target(number), f"{host} after {fault}")
+            stopped(checks, daemon)
+
+
+@test
+def a_start_that_fails_leaves_no_part_of_a_file(checks: Checks, folder: pathlib.Path) -> None:
+    old = b"# page 0\nzone example.com. 1\na.example.com. A 192.0.2.1\n"
+    settings, listen, faults = f'state = "{folder}/state"', [f"unix:{folder}/lines"], Faults(folder)
+    # The files of the first format are written in the second.
+    (folder / "state").write_bytes(old)
+    (folder / "state.log").write_bytes(b"# page 0\n")
+    for fault in f"write state.new 1 {errno.ENOSPC}", f"fsync state.new 1 {errno.EIO}", \
+            f"write state.log.new 1 {errno.ENOSPC}", f"fsync . 1 {errno.EIO}", f"rename state 1 {errno.EIO}":
+        daemon = Daemon(folder, settings, listen=listen, waits=False, environment=faults.environment(fault))
+        status, _ = daemon.end()
+        checks.expect(status == 1 and daemon.said().startswith("siplocd: state "), (fault, status, daemon.said()))
+        left = {it.name for it in folder.iterdir() if it.name.startswith("state")}
+        # (a system may have moved what it says it has not: then the new log is the state's)
+        stays = {"state.log.new"} if fault.startswith("rename") else set()
+        checks.equal(left, {"state", "state.log", "state.lock"} | stays, f"after {fault}")
+    with started(checks, folder, settings, listen=listen) as daemon:
+        checks.equal(daemon.tell("zones"), ["zone example.com. 1", "ok zones 1"], "a start after them")
+        stopped(checks, daemon)
+
+
+@test
+def keeps_no_part_of_a_torn_tail(checks: Checks, folder: pathlib.Path) -> None:
+    state, log, torn = folder / "state", folder / "state.log", folder / "state.log.torn"
+    state.write_bytes(state_of(b"# page 0\nzone example.com. 1\na.example.com. A 192.0.2.1\n"))
+    whole = log_of(state.read_bytes(), [b"add b.example.com. A 192.0.2.2\n"])
+    for fault, wanted in (f"write state.log.torn 1 {errno.ENOSPC}", None), (f"open state.log.torn 1 {errno.EACCES}",
+                                                                          b"an earlier one"), ("none none 1 0", b"torn"):
+        log.write_bytes(whole + b"torn")
+        torn.write_bytes(b"an earlier one")
+        with started(checks, folder, f'state = "{state}"', listen=[f"unix:{folder}/lines"],
+                     environment=Faults(folder).environment(fault)) as daemon:
+            checks.equal(log.read_bytes(), whole, f"the log after {fault}")
+            checks.equal(torn.read_bytes() if torn.exists() else None, wanted, f"the tail after {fault}")
+            daemon.kill()
+
+
+@test
 def says_where_no_thread_can_be_made(checks: Checks, folder: pathlib.Path) -> None:
     # Those of the input, of the log and of the workers are the first three; without them it goes on.
     for count, on_failure in (4, "end"), (5, "end"), (6, "end"), (7, "end"), (6, "read"), (8, "read"):

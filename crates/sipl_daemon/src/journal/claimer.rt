@@ -143,7 +143,8 @@ fn fail<R: Files<File = File> + Wait + Clock>(
     daemon.stop.ask(rt);
 }
 
-// Archives a page that was claimed, and writes the state after it, if these are to be.
+// Archives a page that was claimed, and writes the state after it, if these are to be. Where that fails, and the daemon is
+// to go on then, changes are refused only where the log is not as it was.
 fn keep<R: Files<File = File> + Wait + Clock>(
     rt: &R,
     daemon: &Daemon,
@@ -160,6 +161,11 @@ fn keep<R: Files<File = File> + Wait + Clock>(
             Ok(())
         }
         Err(error) if daemon.on_failure == OnFailure::End => Err(CloseFault::State(error)),
-        Err(_) => Ok(()),
+        Err(error) => {
+            if !changes.has_failed() {
+                daemon.observed.say_going_on(rt, &error);
+            }
+            Ok(())
+        }
     }
 }
