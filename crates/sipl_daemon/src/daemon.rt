@@ -15,14 +15,14 @@ use sipl_process::Places;
 use sipl_service::{OpenGate, Pass, Service, ServiceFault, Told};
 use sipl_settings::{Clocks, DaemonSettings, OnFailure};
 use sipl_srv::Draws;
-use sipl_state::{Changes, HostTime, Source};
+use sipl_state::{Changes, FoundFiles, HostTime, Source};
 use sipl_uri::Question;
 use std::alloc::Global;
 use std::io;
 use std::rt::Files;
 use std::sync::atomic::{AtomicBool, AtomicU64, Ordering};
 use std::sync::{Arc, Mutex, Wait};
-use std::time::Clock;
+use std::time::{Clock, Instant};
 
 /// What the threads of a daemon share.
 #[derive(Drop)]
@@ -276,6 +276,21 @@ impl Daemon {
             claimed: self.pages.claimed(),
             waiting: self.pages.waiting(rt) as u64,
             resident: resident(rt, self.alloc),
+        }
+    }
+
+    // Tells what was read of the files of the state from a time on, or that there are none.
+    pub(crate) fn tell_read<R: Wait + Clock>(
+        &self,
+        rt: &R,
+        found: &FoundFiles,
+        begun: Option<Instant>,
+    ) {
+        if found.are_there {
+            let totals = self.totals(rt);
+            self.observed.tell_read(rt, begun, totals, found.commits);
+        } else {
+            self.observed.tell_empty(rt);
         }
     }
 

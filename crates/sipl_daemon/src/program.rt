@@ -20,7 +20,7 @@ use std::process::ExitCode;
 use std::rt::{Env, Files};
 use std::sync::Arc;
 use std::sync::atomic::AtomicU64;
-use std::time::Duration;
+use std::time::{Duration, Instant};
 use std::{io, mem};
 
 // How long the end waits for the log to be written, in milliseconds.
@@ -169,6 +169,7 @@ where
     if let Some(path) = &settings.state {
         let real = real_path(host, rt.alloc(), path.as_str());
         expect_state(host, rt.alloc(), path.as_str(), real)?;
+        let begun = Instant::now(host).ok();
         let Restored { changes, found } = open_state(
             host,
             rt.alloc(),
@@ -182,6 +183,7 @@ where
             daemon.observed.tell_torn(host, path.as_str(), octet)?;
         }
         daemon.restart_time(host)?;
+        daemon.tell_read(host, &found, begun);
     }
     Ok(())
 }

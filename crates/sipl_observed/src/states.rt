@@ -27,6 +27,37 @@ impl Observed {
         self.log.push(rt, with_time(rt, line, begun));
     }
 
+    /// Tells what was read of a state from a time on: how many zones, records and holds it has with the changes after
+    /// it, and how many commits these were.
+    pub fn tell_read<R: Wait + Clock>(
+        &self,
+        rt: &R,
+        begun: Option<Instant>,
+        totals: (u64, u64, u64),
+        commits: u64,
+    ) {
+        let Some(path) = &self.state else {
+            return;
+        };
+        let (zones, records, held) = totals;
+        let line = self
+            .line(Level::Info, "read")
+            .text("path", path.as_str())
+            .number("zones", zones)
+            .number("records", records)
+            .number("held", held)
+            .number("commits", commits);
+        self.log.push(rt, with_time(rt, line, begun));
+    }
+
+    /// Tells that there is no state, so that nothing is loaded or held.
+    pub fn tell_empty<R: Wait + Clock>(&self, rt: &R) {
+        if let Some(path) = &self.state {
+            let line = self.line(Level::Warn, "empty").text("path", path.as_str());
+            self.log.push(rt, line);
+        }
+    }
+
     /// Says that a log had a write that did not end, at this octet, before anything else is done.
     pub fn tell_torn<R: Wait + Clock>(
         &self,

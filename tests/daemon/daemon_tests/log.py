@@ -107,6 +107,30 @@ def logs_edits_and_states(checks: Checks, folder: pathlib.Path) -> None:
 
 
 @test
+def logs_what_a_start_reads(checks: Checks, folder: pathlib.Path) -> None:
+    state = str(folder / "state")
+    settings = f'state = "{state}"\nclock = "lines"'
+    with started(checks, folder, settings) as daemon, Client(daemon.address) as client:
+        empty = wait_for(checks, daemon, "empty")
+        checks.equal(empty and (empty.level, empty.of), ("warn", {"event": "empty", "path": state}), "no state")
+        checks.equal(lines(daemon, "read"), [], "what is read of no state")
+        for line in ZONE.rstrip(), "zone example.org. 1\na A 192.0.2.3", "hold udp 192.0.2.9 5060 100000":
+            checks.expect((client.ask(line) or [""])[-1].startswith("ok "), line)
+        daemon.kill()
+    # (each of the three had a reply before the next was sent, so each is a commit)
+    for commits in 3, 0:
+        with started(checks, folder, settings) as daemon:
+            read = wait_for(checks, daemon, "read")
+            wanted = {"event": "read", "path": state, "zones": "2", "records": "3", "held": "1", "commits": str(commits)}
+            checks.expect(read and re.fullmatch(r"\d+\.\d{3}", read.of.pop("ms")), read and read.text)
+            checks.equal(read and (read.level, read.of), ("info", wanted), f"{commits} commits")
+            checks.equal(lines(daemon, "empty"), [], f"a state and {commits} commits")
+            order = [Line(it).of["event"] for it in daemon.log()]
+            checks.equal(order[:3], ["start", "read", "ready"], "the first lines")
+            stopped(checks, daemon)
+
+
+@test
 def logs_why_a_client_is_closed(checks: Checks, folder: pathlib.Path) -> None:
     def logs(daemon: Daemon, cause: str, level: str) -> None:
         line = wait_for(checks, daemon, "closed", cause=cause)
