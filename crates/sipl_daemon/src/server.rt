@@ -134,7 +134,7 @@ fn accept_clients<H: Host>(host: &H, daemon: &Daemon, listener: &Listener, asks_
     })
 }
 
-// Accepts a client, if there is a place for it. One that is refused is told of.
+// Accepts a client, if there is a place for it. One that is refused is told of, and so is an accept that failed.
 fn accept_client<H: Host>(host: &H, daemon: &Daemon, listener: &Listener) -> Option<Client> {
     let (alloc, clients) = (daemon.alloc, &daemon.clients);
     match next_client(host, alloc, &daemon.stop, listener, clients) {
@@ -145,7 +145,12 @@ fn accept_client<H: Host>(host: &H, daemon: &Daemon, listener: &Listener) -> Opt
                 .refuse(host, Cause::Busy, listener.address());
             None
         }
-        Accepted::Nothing => None,
+        Accepted::Nothing => {
+            if !daemon.stop.is_asked() {
+                daemon.observed.tell_unaccepted(host, listener.address());
+            }
+            None
+        }
     }
 }
 

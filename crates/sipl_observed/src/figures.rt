@@ -133,6 +133,11 @@ impl Figures {
             "Clients that had a session.",
             count(&clients.accepted),
         )?;
+        out.counter(
+            "siploc_failed_accepts_total",
+            "Accepts of clients that failed.",
+            count(&clients.unaccepted),
+        )?;
         let name = "siploc_refused_clients_total";
         out.begin(
             name,

@@ -15,6 +15,8 @@ use std::time::{Clock, Instant};
 pub struct ClientCounts {
     /// How many had a session.
     pub accepted: AtomicU64,
+    /// How many accepts failed.
+    pub unaccepted: AtomicU64,
     busy: AtomicU64,
     threads: AtomicU64,
     idle: AtomicU64,
@@ -26,6 +28,7 @@ impl ClientCounts {
     fn new() -> ClientCounts {
         ClientCounts {
             accepted: AtomicU64::new(0),
+            unaccepted: AtomicU64::new(0),
             busy: AtomicU64::new(0),
             threads: AtomicU64::new(0),
             idle: AtomicU64::new(0),
@@ -61,6 +64,8 @@ pub struct Observed {
     is_open: AtomicBool,
     // How many pages waited when that was told last.
     waiting: AtomicU64,
+    // Whether an accept failed, and no client had a session since.
+    accepts_fail: AtomicBool,
     // The path of the state, if there is one.
     pub(crate) state: Option<String>,
 }
@@ -88,6 +93,7 @@ impl Observed {
             batches,
             is_open: AtomicBool::new(false),
             waiting: AtomicU64::new(0),
+            accepts_fail: AtomicBool::new(false),
             state,
         })
     }
@@ -110,6 +116,18 @@ impl Observed {
     /// Counts a client that has a session.
     pub fn count_accepted(&self) {
         self.clients.accepted.fetch_add(1, Ordering::SeqCst);
+        self.accepts_fail.store(false, Ordering::SeqCst);
+    }
+
+    /// Tells of an accept that failed at an address: once until a client has a session.
+    pub fn tell_unaccepted<R: Wait + Clock>(&self, rt: &R, at: &Address) {
+        self.clients.unaccepted.fetch_add(1, Ordering::SeqCst);
+        if self.accepts_fail.load(Ordering::SeqCst) {
+            return;
+        }
+        self.accepts_fail.store(true, Ordering::SeqCst);
+        let line = self.line(Level::Warn, "failed").text("what", "accept");
+        self.log.push(rt, self.with_address(line, at));
     }
 
     /// Tells of a client that is refused at an address.

@@ -225,6 +225,8 @@ def waits_while_no_descriptor_is_left(checks: Checks, folder: pathlib.Path) -> N
         for place, other in enumerate(others):
             checks.equal(other.reply(), ["target 1 udp 192.0.2.1 9", "ok find 1"], f"number {place} that waited")
         checks.equal(daemon.stats()["clients"], 6, "clients")
+        told = [it for it in daemon.log() if " what=accept " in it]
+        checks.equal(told, [f"warn event=failed what=accept at={daemon.address}"], "what is told of them all")
         stopped(checks, daemon)
 
 
