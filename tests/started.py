@@ -3,9 +3,7 @@
 from __future__ import annotations
 
 import contextlib
-import itertools
 import os
-import random
 import socket
 import subprocess
 import sys
@@ -16,11 +14,9 @@ from typing import Callable, Dict, Iterator, List, Optional, Sequence
 TOP = Path(__file__).resolve().parent.parent
 # Where Debian has the programs of servers.
 os.environ["PATH"] = f"{os.environ.get('PATH', '')}:/usr/sbin"
-sys.path.insert(0, str(TOP / "clients/python"))
+sys.path[:0] = [str(TOP / "clients/python"), str(TOP / "tools")]
+import ports as own  # noqa: E402
 import siploc  # noqa: E402
-
-# In the order of chance, since other processes look for ports too.
-PORTS = itertools.cycle(random.SystemRandom().sample(range(16_384, 32_768), 16_384))
 
 
 class Failed(Exception):
@@ -51,11 +47,10 @@ def daemon_beside(path: str) -> str:
 
 
 def free_ports(count: int, kind: int = socket.SOCK_STREAM) -> List[int]:
-    """Ports of 127.0.0.1 that nobody has, each given once by this process. They are below those that the system gives
-    to sockets without one, so that none is taken before it is used."""
+    """Ports of 127.0.0.1 that nobody has, each given once by this process (tools/ports.py)."""
     ports: List[int] = []
     while len(ports) < count:
-        port = next(PORTS)
+        port = next(own.PORTS)
         with socket.socket(socket.AF_INET, kind) as probe, contextlib.suppress(OSError):
             probe.bind(("127.0.0.1", port))
             ports.append(port)

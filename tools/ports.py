@@ -6,8 +6,27 @@ import random
 import socket
 
 # Below those that the system gives to sockets without one: so none is taken before it is used, and no client that comes
-# before the program listens is connected to itself. In the order of chance, since other processes look for ports too.
-PORTS = itertools.cycle(random.SystemRandom().sample(range(16_384, 32_768), 16_384))
+# before the program listens is connected to itself.
+FIRST, LAST, BLOCK = 16_384, 32_768, 64
+LOCKS = []
+
+
+def own_ports():
+    """The ports of blocks that no other process takes while this one runs: neither its programs nor its clients meet
+    others'. In the order of chance, since programs without this module have ports too."""
+    chance = random.SystemRandom()
+    for first in chance.sample(range(FIRST, LAST, BLOCK), (LAST - FIRST) // BLOCK):
+        lock = socket.socket(socket.AF_UNIX)
+        try:
+            lock.bind(f"\0siploc-ports-{first}")
+        except OSError:
+            lock.close()
+            continue
+        LOCKS.append(lock)
+        yield from chance.sample(range(first, first + BLOCK), BLOCK)
+
+
+PORTS = itertools.cycle(own_ports())
 
 
 def free_port() -> int:

@@ -10,9 +10,13 @@ import signal
 import socket
 import struct
 import subprocess
+import sys
 import threading
 import time
 from typing import Callable, Iterable, Iterator, Optional, Sequence
+
+sys.path.insert(0, str(pathlib.Path(__file__).resolve().parent.parent.parent / "tools"))
+import ports  # noqa: E402
 
 SECRET = base64.b64encode(b"a secret of 32 octets for tests.").decode()
 OTHER_SECRET = base64.b64encode(b"another one of 32 octets, wrong.").decode()
@@ -20,13 +24,11 @@ OTHER_SECRET = base64.b64encode(b"another one of 32 octets, wrong.").decode()
 
 def free_port() -> int:
     """A port of 127.0.0.1 that is free for TCP and for UDP."""
-    for _ in range(100):
-        with socket.socket() as stream, socket.socket(type=socket.SOCK_DGRAM) as datagrams:
-            stream.bind(("127.0.0.1", 0))
-            with contextlib.suppress(OSError):
-                datagrams.bind(stream.getsockname())
-                return int(stream.getsockname()[1])
-    raise RuntimeError("no port is free")
+    while True:
+        port = ports.free_port()
+        with socket.socket(type=socket.SOCK_DGRAM) as datagrams, contextlib.suppress(OSError):
+            datagrams.bind(("127.0.0.1", port))
+            return port
 
 
 def wait_until(is_so: Callable[[], bool], seconds: float = 20.0) -> bool:
