@@ -85,6 +85,13 @@ def is_within(name: str, apex: str) -> bool:
     return (len(head) - len(head.rstrip("\\"))) % 2 == 0
 
 
+def names_above(name: str) -> Iterator[str]:
+    """A name as `read_name` prints it, and those above it: as what is after `*.`, where the root has no octet."""
+    yield name
+    for dot in re.finditer(r"(?:[^.\\]|\\\d{3}|\\\D)+\.", name):
+        yield name[dot.end():]
+
+
 # ---- transfers
 
 
