@@ -97,7 +97,7 @@ def made_app(site: Site) -> flask.Flask:
 
     @app.errorhandler(Fault)
     def is_away(fault: Fault) -> Any:
-        return flask.render_template("fault.html", site=site, title="The daemon is away", text=str(fault)), 503
+        return flask.render_template("fault.html", site=site, title="The daemon is away", text=str(fault), is_away=True), 503
 
     @app.errorhandler(werkzeug.exceptions.HTTPException)
     def is_none(fault: Any) -> Any:
