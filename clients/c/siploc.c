@@ -592,6 +592,10 @@ static siploc_status take_replies(siploc *s, const command *commands, size_t cou
         s->begin += length + 1;
         if (taken == NO_MEMORY || (taken == DONE && !finish_reply(s)))
             return no_memory(s);
+        if (taken == DONE && *replied == 0 && s->reply.code != NULL && strcmp(s->reply.code, "Busy") == 0) {
+            end_session(s);
+            return SIPLOC_REFUSED;
+        }
         if (taken == DONE) {
             each(context, (*replied)++, &s->reply);
             if (*replied < count)
@@ -670,11 +674,13 @@ static siploc_status exchange(siploc *s, const command *commands, size_t count, 
     begin_reply(s);
     size_t sent = 0, replied = 0, start = 0;
     siploc_status status = read_before(s);
-    if (status == SIPLOC_REFUSED)
-        each(context, 0, &s->reply);
     if (status == SIPLOC_OK)
         status = transfer(s, output.items, output.size, commands, count, &sent, &replied, each, context);
     free(output.items);
+    if (status == SIPLOC_REFUSED) {
+        each(context, 0, &s->reply);
+        sent = 0; /* None of what was on its way was carried out. */
+    }
     s->doubt.replied = replied;
     for (size_t i = 0; i < count && start < sent; i++) {
         s->doubt.sent++;

@@ -32,7 +32,7 @@ typedef struct siploc siploc;
 /* How a call ends. */
 typedef enum siploc_status {
     SIPLOC_OK,
-    SIPLOC_REFUSED,       /* the reply is `err CODE`: see its code; the session goes on */
+    SIPLOC_REFUSED,       /* the reply is `err CODE`: see its code; the session goes on, but after Busy */
     SIPLOC_INVALID,       /* the command would break the protocol: it was not sent, and the session goes on */
     SIPLOC_NO_MEMORY,     /* an allocation failed before anything was sent; the session goes on */
     SIPLOC_NOT_CONNECTED, /* nobody listens at the address (see errno; of localhost, why 127.0.0.1 failed), or the
@@ -172,7 +172,8 @@ typedef void siploc_each(void *context, size_t place, const siploc_reply *reply)
 /*
  * Sends many commands at once, and reads their replies as they come, while commands are sent; a refusal is a reply
  * as any other. A command is a line of the protocol without its end, or a `zone` line and its lines, joined by LF.
- * All are checked before the first is sent. SIPLOC_REFUSED: the server has refused the session, before any command.
+ * All are checked before the first is sent. SIPLOC_REFUSED: the server has refused the session, whose
+ * first reply is `err CODE`: it has ended, and no command was carried out.
  */
 siploc_status siploc_batch(siploc *session, const char *const *commands, size_t count, siploc_each *each,
                            void *context);

@@ -971,6 +971,11 @@ static void serve_octet(int stream, const void *context)
         put(stream, context, strlen(context));
 }
 
+static void keep_code(void *context, size_t place, const siploc_reply *reply)
+{
+    snprintf(context, 128, "%zu %s", place, reply->code);
+}
+
 /* A session that the server has closed or refused: a command that is sent later was not done; one that was read may
  * be. */
 static void lost_before_and_after(void)
@@ -989,6 +994,23 @@ static void lost_before_and_after(void)
     pause_for(200);
     CHECK(s != NULL && siploc_add(s, "a.e. A 192.0.2.1", &reply) == SIPLOC_REFUSED);
     CHECK(strcmp(reply->code, "Busy") == 0 && siploc_repair(s, NULL) == SIPLOC_NOT_CONNECTED);
+    siploc_close(s);
+}
+
+/* A session that is refused as commands are on their way: none was carried out. */
+static void refused_as_commands_come(void)
+{
+    const char *const commands[] = {"repair", "repair", "repair"};
+    const siploc_reply *reply;
+    char seen[128] = "";
+    siploc *s = connect_to_fake(serve_octet, "err Busy\n", 10000);
+    CHECK(s != NULL && siploc_add(s, "a.e. A 192.0.2.1", &reply) == SIPLOC_REFUSED);
+    CHECK(strcmp(reply->code, "Busy") == 0 && siploc_repair(s, NULL) == SIPLOC_NOT_CONNECTED);
+    siploc_close(s);
+    s = connect_to_fake(serve_octet, "err Busy\n", 10000);
+    CHECK(s != NULL && siploc_batch(s, commands, 3, keep_code, seen) == SIPLOC_REFUSED);
+    CHECK(strcmp(seen, "0 Busy") == 0 && !siploc_broken(s).may_be_done);
+    CHECK(siploc_repair(s, NULL) == SIPLOC_NOT_CONNECTED);
     siploc_close(s);
 }
 
@@ -1199,7 +1221,7 @@ int main(int count, char **words)
         TEST(readme_session_in_a_batch), TEST(readme_session_by_calls), TEST(other_calls), TEST(pages), TEST(each_refusal),
         TEST(refusals_by_calls), TEST(finds_in_batches), TEST(batch_of_more_than_the_sockets_hold),
         TEST(server_that_ends_in_the_midst), TEST(client_that_is_killed_in_a_zone), TEST(example_program), TEST(replies),
-        TEST(cut_at_each_octet), TEST(what_a_refused_find_names), TEST(garbage_without_end), TEST(invalid_commands_are_not_sent), TEST(lost_before_and_after), TEST(allocations_that_fail), TEST(forks), TEST(timeouts),
+        TEST(cut_at_each_octet), TEST(what_a_refused_find_names), TEST(garbage_without_end), TEST(invalid_commands_are_not_sent), TEST(lost_before_and_after), TEST(refused_as_commands_come), TEST(allocations_that_fail), TEST(forks), TEST(timeouts),
         TEST(addresses), TEST(full_queue)};
     int passed = 0, failed = 0;
     program = getenv("SIPLOC");

@@ -253,7 +253,8 @@ class NotConnected(Error):
 class Refused(Error):
     """The server has refused a command: the reply is `err CODE`. The session goes on.
 
-    A server that refuses a session sends `err CODE` before any command: then the session has ended.
+    A server that refuses a session sends `err CODE` before any command, or `err Busy` as its first reply: then the
+    session has ended, and no command was carried out.
     """
 
     #: The code, and what it means.
@@ -839,6 +840,11 @@ class Session(BaseSession):
                 end = time.monotonic() + self.timeout
 
 
+def _refused_session(code: str) -> Refused:
+    """The error for a server that refuses the session."""
+    return Refused(code, "(the session)")
+
+
 class _Replies:
     """The replies that have come to commands."""
 
@@ -892,6 +898,8 @@ class _Replies:
         if text.startswith(("ok", "none", "err")):
             if not command.form.ends(self.lines):
                 raise self.bad(text)
+            if text == "err Busy" and not self.replies:
+                raise _refused_session("Busy")  # (the commands were on their way)
             self.replies.append(Reply(command.text, self.lines))
             self.lines = []
         elif not command.form.has(len(self.lines), text) or len(self.lines) > _MAX_REPLY_LINES:
@@ -951,5 +959,5 @@ class _Exchange(_Replies):
             raise self.lost("the server has closed the connection")
         match = re.fullmatch(f"{_REFUSED.pattern}\n", octets.decode("latin-1"))
         if match:
-            raise Refused(match[1], "(the session)")
+            raise _refused_session(match[1])
         raise self.bad(octets.decode("latin-1"))

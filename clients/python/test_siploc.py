@@ -659,13 +659,21 @@ class Faults(unittest.TestCase):
                 self.assertTrue(caught.exception.may_be_done)
 
     def test_refused_session(self):
-        """A server that refuses a session says so before any command."""
-        with fake(lambda stream: stream.sendall(b"err Busy\n")) as (address, _):
-            session = siploc.connect(address)
-            wait_for_octets(session)
-            with self.assertRaises(siploc.Refused) as caught:
-                session.add("a.e. A 192.0.2.1")
-            self.assertEqual((caught.exception.code, session.is_open), ("Busy", False))
+        """A server that refuses a session says so before any command, or in place of the first reply."""
+        def serve(stream):
+            if is_late:
+                read_lines(stream)
+            stream.sendall(b"err Busy\n")
+
+        for is_late, commands in ((False, 1), (True, 1), (True, 3)):
+            with self.subTest(is_late=is_late, commands=commands), fake(serve) as (address, _):
+                session = siploc.connect(address)
+                if not is_late:
+                    wait_for_octets(session)
+                with self.assertRaises(siploc.Refused) as caught:
+                    session.batch(["add a.e. A 192.0.2.1"] * commands)[0].check()
+                self.assertEqual((caught.exception.code, caught.exception.command), ("Busy", "(the session)"))
+                self.assertFalse(session.is_open)
 
     def test_timeouts(self):
         """No reply, a reply that comes too slowly, and a server that takes nothing."""

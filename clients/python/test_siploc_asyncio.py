@@ -187,6 +187,17 @@ class Asyncio(unittest.IsolatedAsyncioTestCase):
             with self.assertRaises(siploc.Refused):
                 await session.repair()
             self.assertFalse(session.is_open)
+
+        async def refuses_late(reader, writer):
+            await reader.readline()
+            writer.write(b"err Busy\n")
+            writer.close()
+
+        async with fake(refuses_late) as address:
+            session = await siploc_asyncio.connect(address)
+            with self.assertRaises(siploc.Refused) as caught:
+                await session.batch(["repair"] * 3)
+            self.assertEqual((caught.exception.command, session.is_open), ("(the session)", False))
         with self.assertRaises(siploc.NotConnected):
             await siploc_asyncio.connect("unix:/nonexistent/socket")
         with self.assertRaises(siploc.InvalidCommand):

@@ -155,6 +155,11 @@ func (c *connection) exchange(ctx context.Context, commands []command, timeout t
 		}()
 	}
 	replies, broken := incoming{c.reader, exchange.progress}.read(commands)
+	if len(replies) > 0 && replies[0].Lines[0] == "err Busy" {
+		c.end()
+		writer.Wait()
+		return nil, refusedSession("Busy")
+	}
 	if broken == nil {
 		writer.Wait()
 		return replies, nil
@@ -224,7 +229,9 @@ func (e *exchange) readBefore() error {
 	}
 	line := strings.TrimSuffix(string(octets[:count]), "\n")
 	if code := strings.TrimPrefix(line, "err "); len(line) < count && code != line && isCode(code) {
-		return &RefusedError{Code: code, Command: "(the session)"}
+		return refusedSession(code)
 	}
 	return bad(line)
 }
+
+func refusedSession(code string) error { return &RefusedError{Code: code, Command: "(the session)"} }

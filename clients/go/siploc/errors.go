@@ -24,7 +24,8 @@ var (
 
 // A RefusedError is the reply `err CODE`: the server has refused a command. The session goes on.
 //
-// A server that refuses a session sends `err CODE` before any command: then the session has ended.
+// A server that refuses a session sends `err CODE` before any command, or `err Busy` as its first reply: then the
+// session has ended, and no command was carried out.
 type RefusedError struct {
 	// Code is such as S3.
 	Code string

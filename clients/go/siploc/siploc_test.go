@@ -686,13 +686,23 @@ func TestLostBeforeAndAfter(t *testing.T) {
 	session = connect(t, fake(t, func(stream net.Conn) { _, _ = stream.Read(make([]byte, 1)) }), 10*time.Second)
 	_, err = session.Add(ctx, "a.e. A 192.0.2.1")
 	equal(t, errors.As(err, &broken) && broken.Kind == ErrConnectionLost && broken.MayBeDone(), true)
-	session = connect(t, fake(t, func(stream net.Conn) { _, _ = io.WriteString(stream, "err Busy\n") }), 10*time.Second)
-	time.Sleep(200 * time.Millisecond)
-	_, err = session.Add(ctx, "a.e. A 192.0.2.1")
-	var refused *RefusedError
-	equal(t, errors.As(err, &refused) && refused.Code == "Busy", true)
-	_, err = session.Add(ctx, "a.e. A 192.0.2.1")
-	equal(t, errors.Is(err, ErrNotConnected), true)
+	for place, commands := range [][]string{{"repair"}, {"repair"}, {"repair", "repair", "repair"}} {
+		isLate := place > 0 // The commands are on their way.
+		session = connect(t, fake(t, func(stream net.Conn) {
+			if isLate {
+				_, _ = bufio.NewReader(stream).ReadString('\n')
+			}
+			_, _ = io.WriteString(stream, "err Busy\n")
+		}), 10*time.Second)
+		if !isLate {
+			time.Sleep(200 * time.Millisecond)
+		}
+		_, err = session.Batch(ctx, commands)
+		var refused *RefusedError
+		equal(t, errors.As(err, &refused) && refused.Code == "Busy" && refused.Command == "(the session)", true)
+		_, err = session.Add(ctx, "a.e. A 192.0.2.1")
+		equal(t, errors.Is(err, ErrNotConnected), true)
+	}
 }
 
 // No reply, one that comes too slowly, and a server that takes nothing; and a session that was idle for longer.
