@@ -121,6 +121,8 @@ _CHUNK = 1 << 16
 _MAX_WAIT = 2_000_000.0
 # The seconds after which a Unix socket that is full is tried again.
 _PAUSE = 0.01
+# A connection that was closed is an error of `send`, and no signal, where the system has that.
+_SEND_FLAGS = getattr(socket, "MSG_NOSIGNAL", 0)
 
 
 class Target(NamedTuple):
@@ -621,6 +623,9 @@ def connect(address: str, timeout: float = 30.0) -> Session:
         except OSError as refused:
             stream.close()
             fault = fault or refused
+        except BaseException:
+            stream.close()
+            raise
         else:
             return Session(stream, timeout)
     raise NotConnected(f"{address}: {fault}") from fault
@@ -928,7 +933,7 @@ class _Exchange(_Replies):
         if not self.has_output():
             return False
         try:
-            count = self.stream.send(self.output[self.sent:self.sent + _CHUNK])
+            count = self.stream.send(self.output[self.sent:self.sent + _CHUNK], _SEND_FLAGS)
         except BlockingIOError:
             return False
         except OSError:

@@ -821,11 +821,11 @@ class Faults(unittest.TestCase):
     def test_session_that_is_closed_as_it_sends(self):
         """The handler of a signal closes the session before the rest of a batch is sent."""
         class Stream(socket.socket):
-            def send(self, octets):
+            def send(self, octets, flags=0):
                 if sent:
                     session.close()
                 sent.append(len(octets))
-                return super().send(octets)
+                return super().send(octets, flags)
 
         sent, ends = [], socket.socketpair()
         with ends[1]:
@@ -873,6 +873,41 @@ class Faults(unittest.TestCase):
                 self.assertFalse(session.is_open)
         finally:
             signal.signal(signal.SIGUSR1, before)
+
+    def test_signal_of_a_closed_connection(self):
+        """A program that a closed pipe ends, as others of a shell, is not ended by a closed connection."""
+        script = ("import signal, socket, siploc\n"
+                  "class Stream(socket.socket):\n"
+                  "    def recv(self, size):\n"
+                  "        try: return super().recv(size)\n"
+                  "        finally: other.close()  # (before anything is sent)\n"
+                  "signal.signal(signal.SIGPIPE, signal.SIG_DFL)\n"
+                  "ours, other = socket.socketpair()\n"
+                  "session = siploc.Session(Stream(fileno=ours.detach()), 10)\n"
+                  "try: session.repair()\n"
+                  "except siploc.ConnectionLost as fault: print(fault.may_be_done)\n")
+        ran = subprocess.run([sys.executable, "-c", script], capture_output=True, text=True, cwd=HERE, timeout=60)
+        self.assertEqual((ran.returncode, ran.stdout, ran.stderr), (0, "False\n", ""))
+
+    def test_connection_that_is_given_up(self):
+        """What a signal's handler raises while this process connects leaves no descriptor."""
+        def give_up(*_):
+            raise KeyboardInterrupt
+
+        before = signal.signal(signal.SIGALRM, give_up)
+        try:
+            with full_queue() as (address, _):
+                open_before = os.listdir("/proc/self/fd")
+                signal.setitimer(signal.ITIMER_REAL, 0.2)
+                try:
+                    siploc.connect(address, 20)
+                except KeyboardInterrupt:
+                    # (while it is kept, and with it what the call had)
+                    self.assertEqual(os.listdir("/proc/self/fd"), open_before)
+                else:
+                    self.fail("it was not raised")
+        finally:
+            signal.signal(signal.SIGALRM, before)
 
     def test_no_descriptor(self):
         """Where this process may open no more it is not connected."""
