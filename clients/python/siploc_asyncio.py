@@ -6,8 +6,9 @@
         for target in await session.find("sip:bob@example.com"):
             print(target.transport, target.address, target.port)
 
-Tasks may share a session: their calls are made one after another. A task that is cancelled within its call ends the
-session with it, since the reply that was due would be taken for that of the next command.
+Tasks may share a session: their calls are made one after another. The child of a fork can't, and connects anew. A task
+that is cancelled within its call ends the session with it, since the reply that was due would be taken for that of the
+next command.
 """
 
 from __future__ import annotations
@@ -93,6 +94,7 @@ class Session:
         """A session over a connected socket that does not block."""
         self.timeout = timeout
         self._stream: Optional[socket.socket] = stream
+        self._process = os.getpid()
         self._turn = asyncio.Lock()
 
     async def __aenter__(self) -> Session:
@@ -104,11 +106,14 @@ class Session:
     @property
     def is_open(self) -> bool:
         """Whether the session has neither ended nor been closed, as far as is known."""
-        return self._stream is not None
+        return self._stream is not None and self._process == os.getpid()
 
     async def close(self) -> None:
         """Ends the session by `quit`, and closes the connection; a call that is being made comes to its end before.
         Nothing is raised."""
+        if self._process != os.getpid():
+            self._end()
+            return
         async with self._turn:
             if self._stream is not None:
                 self.timeout = min(self.timeout, 1.0)
@@ -166,6 +171,9 @@ class Session:
     async def batch(self, commands: Iterable[str]) -> List[Reply]:
         """Sends many commands at once, and returns their replies in order; a refusal is a reply as any other."""
         prepared = [siploc._prepared(command) for command in commands]
+        # (in the child of a fork a task may have the turn that is not there)
+        if self._process != os.getpid():
+            raise NotConnected("the session is another process's")
         async with self._turn:
             return await self._exchange(prepared)
 

@@ -10,6 +10,7 @@ import asyncio
 import contextlib
 import inspect
 import math
+import os
 import select
 import socket
 import sys
@@ -237,6 +238,45 @@ class Asyncio(unittest.IsolatedAsyncioTestCase):
             finally:
                 session._end()
                 thread.join()
+
+    async def test_fork(self):
+        """The child of a fork sends nothing in its parent's session, nor ends it, nor waits for a call in it."""
+        lines = []
+
+        async def serve(reader, writer):
+            while text := await reader.readline():
+                lines.append(text)
+                if text != b"page\n":
+                    writer.write(b"ok " + text)
+
+        async def ask_and_close():
+            with contextlib.suppress(siploc.NotConnected):
+                await asyncio.wait_for(session.repair(), 5)
+                return 1
+            await asyncio.wait_for(session.close(), 5)
+            return int(session.is_open)
+
+        async with fake(serve) as address:
+            session = await siploc_asyncio.connect(address)
+            for is_within_a_call in (False, True):
+                if is_within_a_call:
+                    call = asyncio.ensure_future(session.page())
+                    await asyncio.sleep(0.1)
+                child = os.fork()
+                if not child:
+                    status = 1
+                    try:
+                        status = asyncio.run(ask_and_close())
+                    finally:
+                        os._exit(status)
+                # (no thread waits for it: the next fork would be of a process with threads)
+                while not (ended := os.waitpid(child, os.WNOHANG))[0]:
+                    await asyncio.sleep(0.01)
+                self.assertEqual((ended[1], session.is_open), (0, True))
+                if not is_within_a_call:
+                    await session.repair()
+            call.cancel()
+            self.assertEqual(lines, [b"repair\n", b"page\n"])
 
     async def test_no_descriptor(self):
         """Where this process may open no more it is not connected."""
