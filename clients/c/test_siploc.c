@@ -1140,7 +1140,7 @@ static void addresses(void)
     memset(path + 5, 'x', 108);
     const char *const wrong[] = {"", "127.0.0.1", "localhost:0", "localhost:999999", "192.0.2.1:5099", "[2001:db8::1]:5099", "127.0.0.1:0",
                                  "127.0.0.1:65536", "127.0.0.1:x", "::1:5099", "unix:", path, "[127.0.0.1]:5099",
-                                 "300.0.0.1:1", ":1", "[]:1", "[::1:5099"};
+                                 "300.0.0.1:1", ":1", "[]:1", "[::1:5099", "[::ffff:127.0.0.1]:5099", "[::1%lo]:5099"};
     for (size_t i = 0; i < sizeof wrong / sizeof wrong[0]; i++)
         CHECK(siploc_connect(wrong[i], 1000, &session) == SIPLOC_INVALID);
     snprintf(address, sizeof address, "127.0.0.1:%d", free_port(false));

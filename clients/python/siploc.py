@@ -598,7 +598,9 @@ def _places(address: str) -> List[Tuple[int, Union[str, Tuple[str, int]]]]:
         hosts = [ipaddress.ip_address(text) for text in texts]
     except ValueError:
         hosts = []
-    if not match or not hosts or not hosts[0].is_loopback or not 1 <= int(match[4]) <= 65_535:
+    # (from Python 3.13 on an IPv4 address that is mapped is one of loopback, too)
+    is_loopback = bool(hosts) and hosts[0].is_loopback and not getattr(hosts[0], "ipv4_mapped", None)
+    if not match or not is_loopback or not 1 <= int(match[4]) <= 65_535:
         raise InvalidCommand(f"neither a loopback address with a port nor `unix:` and a path: {address[:200]!r}")
     return [(socket.AF_INET if it.version == 4 else socket.AF_INET6, (str(it), int(match[4]))) for it in hosts]
 

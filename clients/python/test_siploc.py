@@ -706,7 +706,7 @@ class Faults(unittest.TestCase):
         for address in ("", "127.0.0.1", "localhost", "localhost:0", "localhosts:5099", "192.0.2.1:5099",
                         "[2001:db8::1]:5099", "127.0.0.1:0",
                         "127.0.0.1:65536", "127.0.0.1:x", "::1:5099", "unix:", "unix:" + "x" * 108, "[127.0.0.1]:5099", "[]:5099",
-                        "300.0.0.1:1"):
+                        "300.0.0.1:1", "[::ffff:127.0.0.1]:5099", "[::1%lo]:5099"):
             with self.subTest(address), self.assertRaises(siploc.InvalidCommand):
                 siploc.connect(address)
         for address in (f"127.0.0.1:{free_port()}", f"[::1]:{free_port()}", f"localhost:{free_port()}",

@@ -85,7 +85,8 @@ func placesOf(address string) (string, []string, error) {
 		places = []string{"127.0.0.1:" + port, "[::1]:" + port}
 	}
 	port, err := netip.ParseAddrPort(places[0])
-	if err != nil || !port.Addr().IsLoopback() || port.Port() == 0 || port.Addr().Is4In6() {
+	if err != nil || !port.Addr().IsLoopback() || port.Port() == 0 || port.Addr().Is4In6() ||
+		port.Addr().Zone() != "" {
 		return "", nil, invalid("neither a loopback address with a port nor `unix:` and a path: %.200q", address)
 	}
 	return "tcp", places, nil

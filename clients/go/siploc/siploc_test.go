@@ -764,7 +764,7 @@ func TestGoroutines(t *testing.T) {
 func TestAddresses(t *testing.T) {
 	for _, address := range []string{"", "127.0.0.1", "localhost", "localhost:0", "192.0.2.1:5099", "[2001:db8::1]:5099",
 		"127.0.0.1:0", "127.0.0.1:65536", "127.0.0.1:x", "::1:5099", "unix:", "unix:" + strings.Repeat("x", 108),
-		"[127.0.0.1]:5099", "300.0.0.1:1", "unix:/tmp\x00/socket", "unix:\x00socket"} {
+		"[127.0.0.1]:5099", "300.0.0.1:1", "[::ffff:127.0.0.1]:5099", "[::1%lo]:5099", "unix:/tmp\x00/socket", "unix:\x00socket"} {
 		_, err := Connect(ctx, address, time.Second)
 		if !errors.Is(err, ErrInvalidCommand) {
 			t.Errorf("%s: %v", address, err)
