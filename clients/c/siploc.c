@@ -16,12 +16,20 @@
 #include <time.h>
 #include <unistd.h>
 
+/* A program that another thread starts meanwhile does not have the socket, where the system has that. */
+#ifdef SOCK_CLOEXEC
+#define CLOEXEC SOCK_CLOEXEC
+#else
+#define CLOEXEC 0
+#endif
+
 enum {
     MAX_LINE = 65536,
     MAX_ZONE_LINES = 1048576,
     MAX_REPLY_LINE = 4096,
     MAX_REPLY_LINES = 65536,
     MAX_FIELDS = 7,
+    MAX_KEPT = 1 << 17,
     INPUT = 1 << 18
 };
 
@@ -842,10 +850,16 @@ static siploc_status add_draws(siploc *s, siploc_status status, const siploc_dra
     return SIPLOC_OK;
 }
 
-/* Asks, if the command could be made. */
+/* Asks, if the command could be made. What a long one has taken is given back. */
 static siploc_status ask_if(siploc *s, siploc_status status, const siploc_reply **reply)
 {
-    return status == SIPLOC_OK ? ask(s, reply) : status;
+    if (status == SIPLOC_OK)
+        status = ask(s, reply);
+    if (s->line.capacity > MAX_KEPT) {
+        free(s->line.items);
+        s->line = (array){NULL, 0, 0};
+    }
+    return status;
 }
 
 siploc_status siploc_find(siploc *s, const char *uri, const siploc_draws *draws, const siploc_reply **reply)
@@ -871,7 +885,7 @@ siploc_status siploc_load(siploc *s, const char *apex, const char *text, const s
         if (kept > 0 && text[kept - 1] == '\r')
             kept--;
         if (!append(&s->line, "\n", 1) || !append(&s->line, text, kept))
-            return SIPLOC_NO_MEMORY;
+            status = SIPLOC_NO_MEMORY;
         text += text[length] == '\n' ? length + 1 : length;
     }
     return ask_if(s, status, reply);
@@ -1063,7 +1077,7 @@ static siploc_status connect_to(const char *address, int timeout, siploc **sessi
         free_session(s);
         return SIPLOC_NO_MEMORY;
     }
-    s->stream = socket(place.any.sa_family, SOCK_STREAM, 0);
+    s->stream = socket(place.any.sa_family, SOCK_STREAM | CLOEXEC, 0);
     if (s->stream < 0 || !connect_within(s->stream, &place, size, timeout)) {
         int cause = errno;
         free_session(s);

@@ -2,7 +2,8 @@
  * Tests of the client against servers that they start: the program that the environment names in SIPLOC, and some that
  * do what no server should. Replies are those of docs/use/FORMATS.md, and of the README's session.
  *
- *     cc -std=c11 -Wl,--wrap=malloc -Wl,--wrap=calloc -Wl,--wrap=realloc -o test_siploc test_siploc.c siploc.c &&
+ *     cc -std=c11 -Wl,--wrap=malloc -Wl,--wrap=calloc -Wl,--wrap=realloc -Wl,--wrap=fcntl \
+ *         -o test_siploc test_siploc.c siploc.c &&
  *         SIPLOC=PROGRAM ./test_siploc TOP EXAMPLE
  *
  * TOP is the repository's folder, EXAMPLE the built example. The last line is `N passed, M failed`.
@@ -63,6 +64,21 @@ void *__wrap_calloc(size_t count, size_t size)
 void *__wrap_realloc(void *at, size_t size)
 {
     return does_fail() ? NULL : __real_realloc(at, size);
+}
+
+/* Whether a descriptor was looked at that a program has which another thread starts meanwhile. */
+static bool was_inherited;
+
+int __real_fcntl(int descriptor, int command, ...);
+
+int __wrap_fcntl(int descriptor, int command, ...)
+{
+    va_list values;
+    va_start(values, command);
+    int value = command == F_GETFL || command == F_GETFD ? 0 : va_arg(values, int);
+    va_end(values);
+    was_inherited |= (__real_fcntl(descriptor, F_GETFD) & FD_CLOEXEC) == 0;
+    return __real_fcntl(descriptor, command, value);
 }
 
 static void pause_for(int milliseconds)
@@ -1178,6 +1194,71 @@ static void addresses(void)
     close(full);
 }
 
+/* A program that is started at any moment has no descriptor of a session. */
+static void programs_that_are_started(void)
+{
+    const char *const kinds[] = {"127.0.0.1:%d", "[::1]:%d"};
+    for (int i = 0; i < 2; i++) {
+        int port, listener = listen_somewhere(i == 1, &port);
+        char address[32];
+        siploc *session;
+        snprintf(address, sizeof address, kinds[i], port);
+        was_inherited = false;
+        CHECK(siploc_connect(address, 1000, &session) == SIPLOC_OK);
+        CHECK(!was_inherited);
+        siploc_set_timeout(session, 1);
+        siploc_close(session);
+        close(listener);
+    }
+}
+
+enum { ZONE_LINES = 1000000 };
+
+static void serve_zone(int stream, const void *context)
+{
+    static char octets[1 << 20];
+    (void)context;
+    for (size_t lines = 0; lines < ZONE_LINES + 1;) {
+        ssize_t count = read(stream, octets, sizeof octets);
+        for (ssize_t i = 0; i < count; i++)
+            lines += octets[i] == '\n';
+        if (count <= 0)
+            return;
+    }
+    put(stream, "ok zone 0 0 0 0\n", 16);
+    take_all(stream);
+}
+
+/* How many octets of memory this process has, used or not. */
+static size_t memory(void)
+{
+    char text[128] = "";
+    FILE *file = fopen("/proc/self/statm", "r");
+    size_t pages = 0;
+    if (file == NULL || fread(text, 1, sizeof text - 1, file) == 0 || sscanf(text, "%zu", &pages) != 1)
+        abort();
+    fclose(file);
+    return pages * (size_t)sysconf(_SC_PAGESIZE);
+}
+
+/* A session that has loaded a large zone does not keep its memory. */
+static void memory_of_a_large_zone(void)
+{
+    static char text[ZONE_LINES * 41 + 1];
+    for (size_t i = 0; i < ZONE_LINES; i++)
+        memcpy(text + i * 41, "a A 192.0.2.1 ; 456789012345678901234567\n", 41);
+    siploc *session = connect_to_fake(serve_zone, NULL, 60000);
+    CHECK(session != NULL);
+    size_t before = memory();
+    CHECK(siploc_load(session, "e.", text, NULL) == SIPLOC_OK);
+    size_t after = memory();
+    siploc_close(session);
+#ifndef __SANITIZE_ADDRESS__ /* (which keeps for a while what was freed) */
+    CHECK(after < before + (1 << 24));
+#endif
+    (void)before, (void)after;
+}
+
 /* A Unix socket that has as many clients waiting as it takes is waited for, as long as is given. */
 static void full_queue(void)
 {
@@ -1222,7 +1303,7 @@ int main(int count, char **words)
         TEST(refusals_by_calls), TEST(finds_in_batches), TEST(batch_of_more_than_the_sockets_hold),
         TEST(server_that_ends_in_the_midst), TEST(client_that_is_killed_in_a_zone), TEST(example_program), TEST(replies),
         TEST(cut_at_each_octet), TEST(what_a_refused_find_names), TEST(garbage_without_end), TEST(invalid_commands_are_not_sent), TEST(lost_before_and_after), TEST(refused_as_commands_come), TEST(allocations_that_fail), TEST(forks), TEST(timeouts),
-        TEST(addresses), TEST(full_queue)};
+        TEST(addresses), TEST(programs_that_are_started), TEST(memory_of_a_large_zone), TEST(full_queue)};
     int passed = 0, failed = 0;
     program = getenv("SIPLOC");
     if (count < 3 || program == NULL)
