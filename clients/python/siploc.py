@@ -278,7 +278,7 @@ class Refused(Error):
         place = f" (line {line} of the zone)" if line is not None else ""
         super().__init__(f"{code}: {self.meaning}{place}: {command[:200]}")
 
-    def __reduce__(self) -> tuple:
+    def __reduce__(self) -> Tuple[type, Tuple[object, ...]]:
         return type(self), (self.code, self.command, self.line, self.changed, self.steps)
 
 
@@ -299,7 +299,7 @@ class SessionBroken(Error):
         doubt = "may have been" if self.may_be_done else "was not"
         super().__init__(f"{message} (after {len(self.replies)} replies; what came next {doubt} carried out)")
 
-    def __reduce__(self) -> tuple:
+    def __reduce__(self) -> Tuple[type, Tuple[object, ...]]:
         return type(self), (self._message, self.replies, self.sent)
 
     @property
@@ -586,7 +586,11 @@ def _prepared(command: str) -> _Command:
     return _Command(text, octets + b"\n", _FORMS.get(fields[0].decode("latin-1"), _UNKNOWN))
 
 
-def _places(address: str) -> List[Tuple[int, Union[str, Tuple[str, int]]]]:
+#: A place of the system: a path, or a host and a port.
+_Place = Union[str, Tuple[str, int]]
+
+
+def _places(address: str) -> List[Tuple[int, _Place]]:
     """The families and places of an address, in the order in which they are tried."""
     if address.startswith("unix:"):
         if not 0 < len(_octets(address)) - len("unix:") <= 107 or "\0" in address:
@@ -633,7 +637,7 @@ def connect(address: str, timeout: float = 30.0) -> Session:
     raise NotConnected(f"{address}: {fault}") from fault
 
 
-def _connect(stream: socket.socket, place: object, timeout: float) -> None:
+def _connect(stream: socket.socket, place: _Place, timeout: float) -> None:
     """Connects a socket within a time."""
     end = time.monotonic() + timeout
     stream.settimeout(min(timeout, _MAX_WAIT))

@@ -49,7 +49,7 @@ async def connect(address: str, timeout: float = 30.0) -> Session:
     raise NotConnected(f"{address}: {fault}") from fault
 
 
-async def _connect(stream: socket.socket, place: Union[str, Tuple[str, int]], timeout: float) -> None:
+async def _connect(stream: socket.socket, place: siploc._Place, timeout: float) -> None:
     """Connects a socket that does not block within a time."""
     loop = asyncio.get_running_loop()
     end = loop.time() + timeout
@@ -66,7 +66,7 @@ async def _connect(stream: socket.socket, place: Union[str, Tuple[str, int]], ti
 async def _is_ready(stream: socket.socket, has_output: bool, seconds: float) -> bool:
     """Waits until octets have come, or, where there is output, can be sent; whether that was within some seconds."""
     loop = asyncio.get_running_loop()
-    ready = loop.create_future()
+    ready: asyncio.Future[bool] = loop.create_future()
 
     def end(is_ready: bool) -> None:
         if not ready.done():
