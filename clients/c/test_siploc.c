@@ -1144,7 +1144,7 @@ static void timeouts(void)
         siploc_doubt doubt = siploc_broken(s);
         siploc_close(s);
         double seconds = (double)(end.tv_sec - begin.tv_sec) + (double)(end.tv_nsec - begin.tv_nsec) / 1e9;
-        CHECK(status == SIPLOC_TIMED_OUT && seconds > 0.39 && seconds < 5);
+        CHECK(status == SIPLOC_TIMED_OUT && seconds > 0.39 && seconds < 15);
         CHECK(doubt.may_be_done && doubt.replied == 0 && doubt.sent < 1000);
     }
 }
