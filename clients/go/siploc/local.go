@@ -23,7 +23,7 @@ type Local interface {
 // NewLocal opens a session over one in this process, which is the Session's to close. A call does not wait: neither
 // the timeout nor the end of its context ends it.
 func NewLocal(session Local) *Session {
-	return newSession(&local{session: session, incoming: incoming{bufio.NewReader(session), func() {}}}, 0)
+	return newSession(&local{session: session, incoming: incoming{bufio.NewReaderSize(session, 1<<16), func() {}}}, 0)
 }
 
 type local struct {

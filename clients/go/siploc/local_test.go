@@ -3,6 +3,7 @@ package siploc
 import (
 	"bytes"
 	"errors"
+	"strings"
 	"testing"
 )
 
@@ -12,6 +13,12 @@ type scarce struct {
 	most    []int
 	replies []string
 	closed  bool
+	reads   int
+}
+
+func (s *scarce) Read(room []byte) (int, error) {
+	s.reads++
+	return s.Buffer.Read(room)
 }
 
 func (s *scarce) Put(lines []byte) int {
@@ -43,6 +50,17 @@ func TestLocalOutOfMemory(t *testing.T) {
 	equal(t, local.closed, true)
 	_, err := session.Find(ctx, "x", Draws{})
 	equal(t, errors.Is(err, ErrNotConnected), true)
+}
+
+// Each time that replies are taken, those that stay are moved: so they are taken in large pieces.
+func TestLocalTakesMuchAtOnce(t *testing.T) {
+	reply := strings.Repeat("dep a.example.com. A 1\n", 20_000) + "ok deps 20000\n"
+	local := &scarce{replies: []string{reply}}
+	session := NewLocal(local)
+	sets, err := session.Deps(ctx, "sip:a.example.com")
+	equal(t, err, nil)
+	equal(t, len(sets), 20_000)
+	equal(t, local.reads <= len(reply)>>16+2, true)
 }
 
 // Where it runs out within a zone, the session ends.
