@@ -107,10 +107,16 @@ def watch(stream: changelog.Stream) -> None:
     stream.ask([[b"WATCH", key_of(stream)]])
 
 
-def publish(stream: changelog.Stream, snapshot: Snapshot, trims: bool) -> int:
-    """Publishes a snapshot, and takes out all entries before it where that is wanted: how many there were."""
-    first = changelog.id_of(snapshot.mark.place).encode()
-    trim = [[b"XTRIM", changelog.octets_of(stream.key), b"MINID", first]] if trims else []
+def publish(stream: changelog.Stream, snapshot: Snapshot, keep: Optional[int] = None) -> int:
+    """Publishes a snapshot. Where it is said for how many seconds before it entries are kept, those before them are taken
+    out: how many there were. One more is left, since whoever was given it lacks none."""
+    key, trim = changelog.octets_of(stream.key), []
+    if keep is not None:
+        time_of, number = snapshot.mark.place
+        place = (max(0, time_of - 1000 * keep), number)
+        entries = stream.ask([[b"XREVRANGE", key, changelog.id_of(place).encode(), b"-", b"COUNT", b"1"]])[0]
+        if entries:
+            trim = [[b"XTRIM", key, b"MINID", changelog.bytes_of(entries[0][0])]]  # type: ignore[index]
     done = stream.transact([[b"SET", key_of(stream), snapshot.octets()], *trim])
     if not done:
         raise changelog.Fault("another snapshot was published meanwhile")
