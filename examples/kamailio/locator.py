@@ -15,7 +15,7 @@ import re
 import secrets
 import sys
 import time
-from typing import Callable, List, Optional, TypeVar
+from typing import Callable, Dict, List, Optional, TypeVar
 
 import KSR
 
@@ -32,6 +32,9 @@ STREAM, REDIS = os.environ.get("SIPLOC_STREAM"), os.environ.get("SIPLOC_REDIS", 
 PATIENCE = 0.5
 # What Record-Routes are signed with, here and in other proxies that have it; a script that is loaded again has it too.
 SECRET = os.environ["SIPLOC_SECRET"] = os.environ.get("SIPLOC_SECRET") or secrets.token_hex(32)
+# For how many seconds a process does not hold an endpoint again: of a server that is down each request fails, and each
+# hold is an event of the journal, and in a cluster one of all machines.
+AGAIN = 1.0
 # How many targets of an answer are tried at most.
 MOST = 4
 # How many endpoints a process holds, in the time of a hold, whose port is a URI's: else strangers could name as many as
@@ -83,7 +86,8 @@ class Locator:
         self.session: Optional[siploc.BaseSession] = None
         self.next_try = 0.0
         self.stream = Stream()
-        # When endpoints were held whose port is a URI's.
+        # When endpoints were held, and when those whose port is a URI's.
+        self.held: Dict[siploc.Target, float] = {}
         self.named: List[float] = []
         self.chance = random.SystemRandom()
 
@@ -171,15 +175,23 @@ class Locator:
             return FAILED
         first, *others = targets.split(",")
         transport, address, port, *named = first.split(" ")
+        target = siploc.Target(transport, address, int(port))
         try:
-            if wait and (not named or self.has_place()):
-                self.hold(siploc.Target(transport, address, int(port)), wait)
+            if wait and self.is_due(target) and (not named or self.has_place()):
+                self.hold(target, wait)
+                self.held[target] = time.monotonic()
         except (Away, changelog.Fault, siploc.Error) as fault:
             KSR.warn(f"siploc: {fault}: {first} is not held\n")
         if not others:
             return FAILED
         go_to(others)
         return LOCATED
+
+    def is_due(self, target: siploc.Target) -> bool:
+        """Whether this process has not held an endpoint just now."""
+        start = time.monotonic() - AGAIN
+        self.held = {it: held for it, held in self.held.items() if held > start}
+        return target not in self.held
 
     def has_place(self) -> bool:
         """Whether this process holds one more endpoint whose port is a URI's."""
