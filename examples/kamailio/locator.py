@@ -180,7 +180,10 @@ class Locator:
             if wait and self.is_due(target) and (not named or self.has_place()):
                 self.hold(target, wait)
                 self.held[target] = time.monotonic()
-        except (Away, changelog.Fault, siploc.Error) as fault:
+        except Away:
+            # (the cause was said within the last second)
+            pass
+        except (changelog.Fault, siploc.Error) as fault:
             KSR.warn(f"siploc: {fault}: {first} is not held\n")
         if not others:
             return FAILED
