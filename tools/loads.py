@@ -48,7 +48,8 @@ def add_words(parser: argparse.ArgumentParser) -> None:
     parser.add_argument("server", metavar="SERVER[@PORT]",
                         help="the name server: an address or a name; port 53 if none is given")
     parser.add_argument("apex", metavar="APEX", help="the zone's name")
-    parser.add_argument("children", metavar="CHILD", nargs="*", help="a zone below it, which is in the same load")
+    parser.add_argument("children", metavar="CHILD", nargs="*", default=[],
+                        help="a zone below it, which is in the same load")
     parser.add_argument("--tsig", metavar="FILE", help="a file with the key that signs the transfer, as BIND's "
                         "tsig-keygen prints it; an answer that is not signed by it is refused")
     parser.add_argument("--apart", metavar="CHILD", action="append", default=[],

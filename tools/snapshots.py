@@ -51,6 +51,8 @@ def state_lines(path: Path) -> List[bytes]:
     path = Path(os.path.realpath(path))
     if path.exists() and not path.is_file():
         raise changelog.Fault(f"{path}: not a file")
+    if not any(it.exists() for it in (path, Path(f"{path}.log"))):
+        raise changelog.Fault(f"{path}: no such file")
     for _ in range(100):
         state, log = (it.read_bytes() if it.exists() else b"" for it in (path, Path(f"{path}.log")))
         lines = commits.lines_of(state, log)
