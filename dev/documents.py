@@ -61,8 +61,10 @@ def text_of(path: str) -> str:
 
 def refuse(what: str, known: set[str], written: set[str]) -> None:
     """Refuses a table that has not got all words of the crates, or has others."""
-    if known != written:
-        raise SystemExit(f"{what}: {', '.join(sorted(known ^ written))} in the crates or in the table alone")
+    said = [f"{', '.join(sorted(words))} {'are' if len(words) > 1 else 'is'} {wrong}"
+            for words, wrong in ((known - written, "missing"), (written - known, "not known")) if words]
+    if said:
+        raise SystemExit(f"{what}: {'; '.join(said)}")
 
 
 # ---- tables

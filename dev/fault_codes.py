@@ -59,4 +59,7 @@ def messages_of(fault: str, body: str, text: str) -> list[tuple[str, str]]:
     found = re.findall(r'#\[error\("(.*?)"\)\]\n +(\w+)', declaration(fault))
     errors = {variant: message for message, variant in found}
     pairs = re.findall(rf'{fault}::(\w+)\b.*? => "(\w+)"', body)
+    for variant, _ in pairs:
+        if variant not in errors:
+            raise SystemExit(f"{fault}::{variant} has a code, and no `#[error(..)]`")
     return [(code, re.sub(r"\{\w*\}", "..", errors[variant])) for variant, code in pairs]
