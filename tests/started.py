@@ -27,7 +27,7 @@ def program(words: Sequence[str]) -> str:
     """The locator's program: the first word, or SIPLOC, or the one that was built here."""
     path = Path(words[0] if words else os.environ.get("SIPLOC", TOP / "crates/siploc/out/siploc")).resolve()
     if not os.access(path, os.X_OK):
-        raise Failed(f"{path}: there is no program; name one, or build it (README, Install and first run)")
+        raise Failed(f"{path}: there is no program; name one, such as dev/try --program makes (README, Install and run)")
     return str(path)
 
 

@@ -141,7 +141,9 @@ def words(most: Optional[int] = None, options: Sequence[str] = (), least: int = 
 def program(words: Sequence[str], name: str = "siploc") -> str:
     """The program that the first of these words names, or without one that which the gate has built."""
     path = pathlib.Path(words[0] if words else TOP / f"crates/{name}/out/{name}").absolute()
-    return str(path) if path.is_file() and os.access(path, os.X_OK) else wrong(f"{path}: no such program")
+    if not (path.is_file() and os.access(path, os.X_OK)):
+        wrong(f"{path}: no such program; dev/try --program {name} FILE makes one")
+    return str(path)
 
 
 def number(word: str) -> int:
