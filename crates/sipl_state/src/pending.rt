@@ -1,8 +1,8 @@
 //! The changes that are not in their file yet.
-ghost use Rattle.std.specs.Prelude.{◌≡◌, ◌≤◌, ◌+◌, ◌++◌, [], if◌then◌else◌, length, nat_lt};
-ghost use Rattle.std.specs.Prelude.{IfOk, OnOk, vec_len, vec_capacity};
-ghost use Rattle.sipl_archive.specs.Text.{clock_line};
-ghost use Rattle.sipl_state.specs.Places.{place_after};
+ghost use Rattle.std.specs.Prelude.{◌≡◌, ◌<◌, ◌≤◌, ◌+◌, ◌++◌, ◌↔◌, [], if◌then◌else◌, length, nat_lt};
+ghost use Rattle.std.specs.Prelude.{IfOk, IsTrue, OnErr, OnOk, vec_len, vec_capacity};
+ghost use Rattle.sipl_archive.specs.Text.{clock_line, mark_line};
+ghost use Rattle.sipl_state.specs.Places.{long_end, number_after, place_after};
 
 use sipl_archive::{clock_text, mark_text};
 use std::alloc::{AllocError, Global};
@@ -38,7 +38,18 @@ pub(crate) struct Pending {
 impl Pending {
     /// Nothing, after a state and changes of so many octets, of which the last mark is this one, and which lead to this
     /// time.
-    pub(crate) fn new(alloc: Global, state_len: u64, len: u64, mark: u64, time: u64) -> Pending {
+    pub(crate) fn new(alloc: Global, state_len: u64, len: u64, mark: u64, time: u64) -> Pending
+        ensures text { result.text.items ≡ [] }
+        ensures others { result ≡ record {
+          alloc = alloc;
+          text = result.text;
+          end = len;
+          mark = mark;
+          begin = 0;
+          state_len = state_len;
+          time = time;
+        } }
+    {
         Pending {
             alloc,
             text: Vec::new(alloc),
@@ -109,22 +120,42 @@ impl Pending {
     }
 
     /// How long the state is that was written.
-    pub(crate) fn set_state_len(&mut self, len: u64) {
+    pub(crate) fn set_state_len(&mut self, len: u64)
+        ensures { self.new ≡ record self.old { state_len = len } }
+    {
         self.state_len = len;
     }
 
     /// Whether a state is to be written.
-    pub(crate) fn is_long(&self) -> bool {
+    pub(crate) fn is_long(&self) -> bool
+        ensures { IsTrue result ↔ (long_end self.now.begin self.now.state_len < self.now.end) }
+    {
         self.end > self.long_at()
     }
 
     /// The place after which a state is to be written.
-    pub(crate) fn long_at(&self) -> u64 {
+    pub(crate) fn long_at(&self) -> u64
+        ensures { result ≡ long_end self.now.begin self.now.state_len }
+    {
         long_after(self.begin, self.state_len)
     }
 
     /// Appends a mark. Returns its number, and the place after it.
-    pub(crate) fn push_mark(&mut self) -> Result<Mark, AllocError> {
+    pub(crate) fn push_mark(&mut self) -> Result<Mark, AllocError>
+        ensures number { IfOk result (λ mark. mark.number ≡ number_after self.old.mark) }
+        ensures text { IfOk result
+            (λ mark. self.new.text.items ≡ self.old.text.items ++ mark_line mark.number) }
+        ensures place { IfOk result
+            (λ mark. mark.begin ≡ place_after self.old.end (mark_line mark.number)) }
+        ensures others { IfOk result (λ mark. self.new ≡ record self.old {
+          text = self.new.text;
+          end = mark.begin;
+          begin = mark.begin;
+          mark = mark.number;
+        }) }
+        ensures refused { OnErr result (self.new.text.items ≡ self.old.text.items) }
+        ensures same { OnErr result (self.new ≡ record self.old { text = self.new.text }) }
+    {
         let mark = self.mark.saturating_add(1);
         let text = mark_text(self.alloc, mark)?;
         self.reserve(text.len())?;
@@ -149,6 +180,8 @@ impl Pending {
 
 /// The place after which a state is to be written, where the changes after the last mark begin at this place, and the
 /// last state has so many octets.
-pub(crate) fn long_after(begin: u64, state_len: u64) -> u64 {
+pub(crate) fn long_after(begin: u64, state_len: u64) -> u64
+    ensures { result ≡ long_end begin state_len }
+{
     begin.saturating_add(state_len.max(MIN_LEN))
 }
