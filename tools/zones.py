@@ -462,7 +462,7 @@ def take(zone: Zone, soa: Record, records: Iterable[Record], before: Optional[Zo
     for record in records:
         zone.add(record)
         if max(len(zone.read), len(zone.others)) > MAX_LINES:
-            raise Fault(f"siploc would be given more than {MAX_LINES} names, and a zone has at most so many lines (K1)")
+            raise Unfit(f"siploc would be given more than {MAX_LINES} names, and a zone has at most so many lines (K1)")
     zone.check(zone.read, before.kept if before else lambda _: {})
     name_the_soa(zone, soa)
     return zone
