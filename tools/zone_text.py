@@ -61,8 +61,11 @@ def read_apex(text: str) -> Name:
 
 
 def read_zone(apex: str, octets: bytes) -> Zone:
-    """The zone of a text. With a `zone` line before it, as `tools/fetch-zone` prints one, it is the lines of that."""
+    """The zone of a text. With a `zone` line before it, as `tools/fetch-zone` prints one, it is the lines of that. Where
+    that fails it prints nothing, which is no zone."""
     name = read_apex(apex)
+    if not octets.strip():
+        raise Fault("the input is empty")
     first, _, rest = octets.partition(b"\n")
     match = re.fullmatch(rb"zone[ \t]+(\S+)[ \t]+([0-9]+)\r?", first)
     if not match:
