@@ -14,18 +14,20 @@ from typing import NamedTuple, Optional
 # Each algorithm by its name, with that of its digest.
 DIGESTS = {"hmac-md5": "md5", "hmac-md5.sig-alg.reg.int": "md5",
            **{f"hmac-{it}": it for it in ("sha1", "sha224", "sha256", "sha384", "sha512")}}
-BADSIG, BADKEY, BADTIME = 16, 17, 18
+BADSIG, BADKEY, BADTIME, BADTRUNC = 16, 17, 18, 22
 NOTAUTH = 9
 FUDGE = 300
 TYPE = struct.pack(">HHI", 250, 255, 0)
 
 
 class Key(NamedTuple):
-    """A key: its name and that of its algorithm in wire form and lower case, the digest, and the secret."""
+    """A key: its name and that of its algorithm in wire form and lower case, the digest, the secret, and the octets of a
+    signature that is truncated (RFC 8945, 5.2.2.1)."""
     name: bytes
     algorithm: bytes
     digest: str
     secret: bytes
+    size: Optional[int] = None
 
 
 def wire(name: str) -> bytes:
@@ -41,8 +43,10 @@ def read_key(path: str) -> Optional[Key]:
         secret = re.search(r'secret\s+"?([A-Za-z0-9+/=]+)"?\s*;', text)
         if not match or not algorithm or not secret:
             return None
-        name = "hmac-md5.sig-alg.reg.int" if algorithm[1].lower() == "hmac-md5" else algorithm[1].lower().rstrip(".")
-        return Key(wire(match[1]), wire(name), DIGESTS[name], base64.b64decode(secret[1], validate=True))
+        name, _, bits = re.sub(r"-(?=[0-9]+$)", " ", algorithm[1].lower().rstrip(".")).partition(" ")
+        name = "hmac-md5.sig-alg.reg.int" if name == "hmac-md5" else name
+        return Key(wire(match[1]), wire(name), DIGESTS[name], base64.b64decode(secret[1], validate=True),
+                   int(bits) // 8 if bits else None)
     except (OSError, ValueError, KeyError, binascii.Error):
         return None
 
@@ -62,9 +66,12 @@ class Signature(NamedTuple):
         """The error of a request's signature; 0 where it is that of the key."""
         if key is None or (self.key, self.algorithm) != (key.name, key.algorithm):
             return BADKEY
-        if not hmac.compare_digest(self.mac, mac_of(key, self.message, self.time, self.fudge, self.error, self.other)):
+        whole = mac_of(key, self.message, self.time, self.fudge, self.error, self.other)
+        if len(self.mac) < 10 or not hmac.compare_digest(self.mac, whole[:len(self.mac)]):
             return BADSIG
-        return 0 if abs(now - self.time) <= self.fudge else BADTIME
+        if abs(now - self.time) > self.fudge:
+            return BADTIME
+        return 0 if len(self.mac) >= len(whole[:key.size]) else BADTRUNC
 
 
 def mac_of(key: Key, octets: bytes, seconds: int, fudge: int, error: int, other: bytes) -> bytes:
@@ -122,8 +129,8 @@ def signed(reply: bytes, asked: Signature, key: Optional[Key], error: int) -> by
     other = now.to_bytes(6, "big") if error == BADTIME else b""
     seconds = asked.time if error == BADTIME else now
     mac = b""
-    if key and error in (0, BADTIME):
-        mac = mac_of(key, struct.pack(">H", len(asked.mac)) + asked.mac + reply, seconds, FUDGE, error, other)
+    if key and error in (0, BADTIME, BADTRUNC):
+        mac = mac_of(key, struct.pack(">H", len(asked.mac)) + asked.mac + reply, seconds, FUDGE, error, other)[:key.size]
     data = asked.algorithm + seconds.to_bytes(6, "big") + struct.pack(">2H", FUDGE, len(mac)) + mac + reply[:2] + \
         struct.pack(">2H", error, len(other)) + other
     count, = struct.unpack(">H", reply[10:12])
