@@ -47,10 +47,10 @@ def daemon_beside(path: str) -> str:
 
 
 def free_ports(count: int, kind: int = socket.SOCK_STREAM) -> List[int]:
-    """Ports of 127.0.0.1 that nobody has, each given once by this process (tools/ports.py)."""
+    """Ports of 127.0.0.1 that nobody has, none given twice (tools/ports.py)."""
     ports: List[int] = []
     while len(ports) < count:
-        port = next(own.PORTS)
+        port = own.free_port()
         with socket.socket(socket.AF_INET, kind) as probe, contextlib.suppress(OSError):
             probe.bind(("127.0.0.1", port))
             ports.append(port)
