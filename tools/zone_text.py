@@ -65,7 +65,7 @@ def read_zone(apex: str, octets: bytes) -> Zone:
     that fails it prints nothing, which is no zone."""
     name = read_apex(apex)
     if not octets.strip():
-        raise Fault("the input is empty")
+        raise Fault(f"the text of the zone {apex} is empty")
     first, _, rest = octets.partition(b"\n")
     match = re.fullmatch(rb"zone[ \t]+(\S+)[ \t]+([0-9]+)\r?", first)
     if not match:
