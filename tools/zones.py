@@ -547,6 +547,8 @@ def fetch_changes(server: Server, zone: Zone) -> Changes | Zone:
                         finish(itertools.chain([second], records), soa, zone.apex), zone)
         if serial_of(second) != serial:
             raise Fault(f"the differences begin at serial {serial_of(second)}, and not at {serial}")
+        if not is_newer(serial_of(soa), serial):
+            raise Fault(f"the differences go back from serial {serial} to {serial_of(soa)}")
         return Changes(soa, read_differences(records, zone.apex, soa, serial))
     return next(each_address(server, at))
 
