@@ -252,6 +252,11 @@ class NotConnected(Error):
     """Nobody listens at the address, the session has ended before, or it is another process's. Nothing was sent."""
 
 
+def _printable(text: str) -> str:
+    """A text that can be written to any log: what is not printable is escaped."""
+    return "".join(it if it.isprintable() else ascii(it)[1:-1] for it in text)
+
+
 class Refused(Error):
     """The server has refused a command: the reply is `err CODE`. The session goes on.
 
@@ -276,7 +281,7 @@ class Refused(Error):
         self.code, self.command, self.line, self.changed, self.steps = code, command, line, changed, list(steps)
         self.meaning = MEANINGS.get(code, "a code that this client does not know")
         place = f" (line {line} of the zone)" if line is not None else ""
-        super().__init__(f"{code}: {self.meaning}{place}: {command[:200]}")
+        super().__init__(f"{code}: {self.meaning}{place}: {_printable(command[:200])}")
 
     def __reduce__(self) -> Tuple[type, Tuple[object, ...]]:
         return type(self), (self.code, self.command, self.line, self.changed, self.steps)

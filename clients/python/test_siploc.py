@@ -924,8 +924,10 @@ class Faults(unittest.TestCase):
                     call()
             # One that stands for an octet is sent.
             with self.assertRaises(siploc.Refused) as caught:
-                session.find("sip:\udcff@192.0.2.1:5060")
+                session.find("sip:\udcff\x1b[2J\u00e9@192.0.2.1:5060")
             self.assertEqual(caught.exception.code, "U7")
+            # What the error says can be written to any log.
+            self.assertTrue(str(caught.exception).endswith(": find sip:\\udcff\\x1b[2J\u00e9@192.0.2.1:5060"))
 
     def test_all_codes_are_known(self):
         """Each code that a session may have has a meaning, and no other."""

@@ -48,7 +48,7 @@ func (e *RefusedError) Meaning() string {
 }
 
 func (e *RefusedError) Error() string {
-	return fmt.Sprintf("siploc: %s: %s: %.200s", e.Code, e.Meaning(), e.Command)
+	return fmt.Sprintf("siploc: %s: %s: %.200q", e.Code, e.Meaning(), e.Command)
 }
 
 // A NotConnectedError is an ErrNotConnected.

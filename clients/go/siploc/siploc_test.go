@@ -364,6 +364,9 @@ func TestRefusalsByMethods(t *testing.T) {
 	is(err, "K2")
 	_, err = session.Find(ctx, "sip:a;"+strings.Repeat(";", 65_525), Draws{})
 	is(err, "U7")
+	// What the error says can be written to any log.
+	_, err = session.Find(ctx, "sip:\xff\x1b[2J@192.0.2.1:5060", Draws{})
+	equal(t, strings.HasSuffix(is(err, "U7").Error(), `: "find sip:\xff\x1b[2J@192.0.2.1:5060"`), true)
 	_, err = session.Load(ctx, "example.com.", "a A 192.0.2.1\na A 192.0.2.2")
 	equal(t, err, nil)
 	_, err = session.Call(ctx, "invite", 1, "sip:a.example.com:5060", Draws{})
