@@ -508,8 +508,11 @@ class _Command(NamedTuple):
 def line(*fields: object) -> str:
     """A command of these fields, for `batch`: `line("hold", *target, 30000)`.
 
-    Raises `InvalidCommand` where a field is empty, or has a blank or a line end.
+    Raises `InvalidCommand` where a field is empty, or has a blank or a line end, and `TypeError` where it is no text.
     """
+    for field in fields:
+        if field is None or isinstance(field, (bytes, bytearray)):
+            raise TypeError(f"a field is a text or a number, and not {type(field).__name__}")
     texts = [str(field) for field in fields]
     for text in texts:
         if not text or _BLANK.search(text):
@@ -589,6 +592,13 @@ def _prepared(command: str) -> _Command:
     if fields == [b"quit"]:
         raise InvalidCommand("a session ends by close()")
     return _Command(text, octets + b"\n", _FORMS.get(fields[0].decode("latin-1"), _UNKNOWN))
+
+
+def _all_prepared(commands: Iterable[str]) -> List[_Command]:
+    """The commands of a batch."""
+    if isinstance(commands, str):
+        raise TypeError("a batch has a list of commands, and not one text")
+    return [_prepared(command) for command in commands]
 
 
 #: A place of the system: a path, or a host and a port.
@@ -709,11 +719,11 @@ class BaseSession:
 
     def add(self, record: str) -> int:
         """Adds a record, such as `a.example.com. A 192.0.2.1`; the number of record sets that changed."""
-        return self._ask(f"add {record}").counts[0]
+        return self._ask("add " + record).counts[0]
 
     def remove(self, record: str) -> int:
         """Deletes a record; the number of record sets that changed."""
-        return self._ask(f"del {record}").counts[0]
+        return self._ask("del " + record).counts[0]
 
     def repair(self) -> None:
         """Looks up again all kept answers that edits outdated, before anyone asks."""
@@ -766,7 +776,7 @@ class BaseSession:
         lines, as `zone` makes one. All are checked before the first is sent. Replies are read while commands
         are sent. On a `SessionBroken` those that came are in its `replies`.
         """
-        return self._exchange([_prepared(command) for command in commands])
+        return self._exchange(_all_prepared(commands))
 
     def _ask(self, command: str) -> Reply:
         return self._exchange([_prepared(command)])[0].check()

@@ -136,10 +136,10 @@ class Session:
         return (await self._ask(line("drop", apex))).counts[0]
 
     async def add(self, record: str) -> int:
-        return (await self._ask(f"add {record}")).counts[0]
+        return (await self._ask("add " + record)).counts[0]
 
     async def remove(self, record: str) -> int:
-        return (await self._ask(f"del {record}")).counts[0]
+        return (await self._ask("del " + record)).counts[0]
 
     async def repair(self) -> None:
         await self._ask("repair")
@@ -170,7 +170,7 @@ class Session:
 
     async def batch(self, commands: Iterable[str]) -> List[Reply]:
         """Sends many commands at once, and returns their replies in order; a refusal is a reply as any other."""
-        prepared = [siploc._prepared(command) for command in commands]
+        prepared = siploc._all_prepared(commands)
         # (in the child of a fork a task may have the turn that is not there)
         if self._process != os.getpid():
             raise NotConnected("the session is another process's")

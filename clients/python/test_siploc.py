@@ -581,7 +581,11 @@ class Faults(unittest.TestCase):
                          lambda: session.got(1, 2**16), lambda: session.got(1, 503, retry=2**32)):
                 with self.assertRaises(siploc.InvalidCommand):
                     call()
-            for call in (lambda: session.clock("1\nquit"), lambda: session.find("sip:a", words=["1 2"])):
+            for call in (lambda: session.clock("1\nquit"), lambda: session.find("sip:a", words=["1 2"]),
+                         lambda: session.find(b"sip:a"), lambda: session.find(None), lambda: session.drop(b"e."),
+                         lambda: session.load(b"e.", ""), lambda: session.hold(("udp", None, 5060), 1),
+                         lambda: session.add(b"a.e. A 192.0.2.1"), lambda: session.remove(None),
+                         lambda: session.batch("repair")):
                 with self.assertRaises(TypeError):
                     call()
             self.assertTrue(session.is_open)

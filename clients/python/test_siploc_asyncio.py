@@ -91,6 +91,9 @@ class Asyncio(unittest.IsolatedAsyncioTestCase):
                 for command in ("quit", "find sip:a\nfind sip:b", "", "find sip:\ud800"):
                     with self.subTest(command), self.assertRaises(siploc.InvalidCommand):
                         await session.batch([command])
+                for call in (lambda: session.add(b"a.e. A 192.0.2.1"), lambda: session.batch("repair")):
+                    with self.assertRaises(TypeError):
+                        await call()
             self.assertFalse(session.is_open)
             with self.assertRaises(siploc.NotConnected):
                 await session.repair()
