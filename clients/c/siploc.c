@@ -1010,10 +1010,36 @@ static socklen_t read_place(const char *address, place *place)
     return is_loopback ? sizeof place->v6 : 0;
 }
 
+/* Whether a TCP socket is connected with itself: where nobody listens, the system may choose the very port for it. */
+static bool is_own(int stream, const place *other)
+{
+    place own;
+    socklen_t size = sizeof own;
+    if (getsockname(stream, &own.any, &size) < 0)
+        return false;
+    if (other->any.sa_family == AF_INET)
+        return own.v4.sin_port == other->v4.sin_port && own.v4.sin_addr.s_addr == other->v4.sin_addr.s_addr;
+    return own.v6.sin6_port == other->v6.sin6_port; /* (both are of ::1) */
+}
+
+/* A TCP connection that ends before its time is reset, also where this process is killed. Else the server would see
+ * the end of the input, and take half a line as a line, and half a zone as a zone. */
+static bool prepare_stream(int stream, const place *place)
+{
+    int yes = 1;
+    struct linger linger = {.l_onoff = 1, .l_linger = 0};
+    if (is_own(stream, place)) {
+        errno = ECONNREFUSED;
+        return false;
+    }
+    return setsockopt(stream, IPPROTO_TCP, TCP_NODELAY, &yes, sizeof yes) == 0 &&
+           setsockopt(stream, SOL_SOCKET, SO_LINGER, &linger, sizeof linger) == 0;
+}
+
 /* Connects a socket that does not block, within a time. */
 static bool connect_within(int stream, const place *place, socklen_t size, int timeout)
 {
-    int flags = fcntl(stream, F_GETFL), cause = 0, yes = 1;
+    int flags = fcntl(stream, F_GETFL), cause = 0;
     int64_t end = now() + timeout;
     socklen_t cause_size = sizeof cause;
     if (flags < 0 || fcntl(stream, F_SETFL, flags | O_NONBLOCK) < 0 || fcntl(stream, F_SETFD, FD_CLOEXEC) < 0)
@@ -1040,13 +1066,7 @@ static bool connect_within(int stream, const place *place, socklen_t size, int t
             return false;
         }
     }
-    if (place->any.sa_family == AF_UNIX)
-        return true;
-    /* A connection that ends before its time is reset, also where this process is killed. Else the server would see
-     * the end of the input, and take half a line as a line, and half a zone as a zone. */
-    struct linger linger = {.l_onoff = 1, .l_linger = 0};
-    return setsockopt(stream, IPPROTO_TCP, TCP_NODELAY, &yes, sizeof yes) == 0 &&
-           setsockopt(stream, SOL_SOCKET, SO_LINGER, &linger, sizeof linger) == 0;
+    return place->any.sa_family == AF_UNIX || prepare_stream(stream, place);
 }
 
 static void free_session(siploc *s)

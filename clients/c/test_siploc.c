@@ -2,7 +2,7 @@
  * Tests of the client against servers that they start: the program that the environment names in SIPLOC, and some that
  * do what no server should. Replies are those of docs/use/FORMATS.md, and of the README's session.
  *
- *     cc -std=c11 -Wl,--wrap=malloc -Wl,--wrap=calloc -Wl,--wrap=realloc -Wl,--wrap=fcntl \
+ *     cc -std=c11 -Wl,--wrap=malloc -Wl,--wrap=calloc -Wl,--wrap=realloc -Wl,--wrap=fcntl -Wl,--wrap=connect \
  *         -o test_siploc test_siploc.c siploc.c &&
  *         SIPLOC=PROGRAM ./test_siploc TOP EXAMPLE
  *
@@ -79,6 +79,18 @@ int __wrap_fcntl(int descriptor, int command, ...)
     va_end(values);
     was_inherited |= (__real_fcntl(descriptor, F_GETFD) & FD_CLOEXEC) == 0;
     return __real_fcntl(descriptor, command, value);
+}
+
+/* Whether sockets connect from the port to which they connect. */
+static bool is_bound;
+
+int __real_connect(int stream, const struct sockaddr *place, socklen_t size);
+
+int __wrap_connect(int stream, const struct sockaddr *place, socklen_t size)
+{
+    if (is_bound && bind(stream, place, size) < 0)
+        return -1;
+    return __real_connect(stream, place, size);
 }
 
 static void pause_for(int milliseconds)
@@ -1194,6 +1206,22 @@ static void addresses(void)
     close(full);
 }
 
+/* Where nobody listens, the system may choose the port itself for the client, which is then its own server. */
+static void connection_with_itself(void)
+{
+    const char *const kinds[] = {"127.0.0.1:%d", "[::1]:%d"};
+    for (int i = 0; i < 2; i++) {
+        char address[32];
+        siploc *session;
+        snprintf(address, sizeof address, kinds[i], free_port(i == 1));
+        is_bound = true;
+        siploc_status status = siploc_connect(address, 1000, &session);
+        int cause = errno;
+        is_bound = false;
+        CHECK(status == SIPLOC_NOT_CONNECTED && session == NULL && cause == ECONNREFUSED);
+    }
+}
+
 /* A program that is started at any moment has no descriptor of a session. */
 static void programs_that_are_started(void)
 {
@@ -1303,7 +1331,7 @@ int main(int count, char **words)
         TEST(refusals_by_calls), TEST(finds_in_batches), TEST(batch_of_more_than_the_sockets_hold),
         TEST(server_that_ends_in_the_midst), TEST(client_that_is_killed_in_a_zone), TEST(example_program), TEST(replies),
         TEST(cut_at_each_octet), TEST(what_a_refused_find_names), TEST(garbage_without_end), TEST(invalid_commands_are_not_sent), TEST(lost_before_and_after), TEST(refused_as_commands_come), TEST(allocations_that_fail), TEST(forks), TEST(timeouts),
-        TEST(addresses), TEST(programs_that_are_started), TEST(memory_of_a_large_zone), TEST(full_queue)};
+        TEST(addresses), TEST(connection_with_itself), TEST(programs_that_are_started), TEST(memory_of_a_large_zone), TEST(full_queue)};
     int passed = 0, failed = 0;
     program = getenv("SIPLOC");
     if (count < 3 || program == NULL)

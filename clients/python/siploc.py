@@ -640,7 +640,7 @@ def connect(address: str, timeout: float = 30.0) -> Session:
             continue
         try:
             _connect(stream, place, timeout)
-            _prepare(stream)
+            _prepare(stream, place)
         except OSError as refused:
             stream.close()
             fault = fault or refused
@@ -666,10 +666,13 @@ def _connect(stream: socket.socket, place: _Place, timeout: float) -> None:
         time.sleep(_PAUSE)
 
 
-def _prepare(stream: socket.socket) -> None:
+def _prepare(stream: socket.socket, place: _Place) -> None:
     """A TCP connection that ends before its time is reset, also where this process is killed. Else the server would
     see the end of the input, and take half a line as a line, and half a zone as a zone."""
     if stream.family != socket.AF_UNIX:
+        if stream.getsockname()[:2] == place:
+            # The system has chosen the very port for this end, which is so connected with itself.
+            raise ConnectionRefusedError(errno.ECONNREFUSED, os.strerror(errno.ECONNREFUSED))
         stream.setsockopt(socket.IPPROTO_TCP, socket.TCP_NODELAY, 1)
         stream.setsockopt(socket.SOL_SOCKET, socket.SO_LINGER, struct.pack("ii", 1, 0))
 

@@ -37,7 +37,7 @@ async def connect(address: str, timeout: float = 30.0) -> Session:
         stream.setblocking(False)
         try:
             await _connect(stream, place, timeout)
-            siploc._prepare(stream)
+            siploc._prepare(stream, place)
         except OSError as refused:
             stream.close()
             fault = fault or refused

@@ -26,6 +26,7 @@ import tempfile
 import threading
 import time
 import unittest
+from unittest import mock
 
 import siploc
 from siploc import Ack, Deliver, Dependency, Exhausted, Hold, Resend, Send, Target
@@ -69,6 +70,18 @@ def full_queue():
                 client.setblocking(False)
                 client.connect(f"{folder}/s")
         yield f"unix:{folder}/s", listener
+
+
+class Bound(socket.socket):
+    """A socket that connects from the port to which it connects."""
+
+    def connect(self, place):
+        self.bind(place)
+        super().connect(place)
+
+    def connect_ex(self, place):
+        self.bind(place)
+        return super().connect_ex(place)
 
 
 def accept_all(listener):
@@ -718,6 +731,14 @@ class Faults(unittest.TestCase):
             with self.subTest(address), self.assertRaises(siploc.NotConnected) as caught:
                 siploc.connect(address)
             self.assertIn(address, str(caught.exception))
+
+    def test_connection_with_itself(self):
+        """Where nobody listens, the system may choose the port itself for the client, which is then its own server."""
+        with mock.patch("socket.socket", Bound):
+            for address in (f"127.0.0.1:{free_port()}", f"[::1]:{free_port()}"):
+                with self.assertRaises(siploc.NotConnected) as caught:
+                    siploc.connect(address, 5)
+                self.assertIsInstance(caught.exception.__cause__, ConnectionRefusedError)
 
     def test_full_queue(self):
         """A Unix socket that has as many clients waiting as it takes is waited for, as long as is given."""

@@ -17,11 +17,12 @@ import sys
 import threading
 import time
 import unittest
+from unittest import mock
 
 import siploc
 import siploc_asyncio
 from siploc import Target
-from test_siploc import FIRST, SECOND, TOP, ZONE, Server, accept_all, full_queue, no_descriptors
+from test_siploc import FIRST, SECOND, TOP, ZONE, Bound, Server, accept_all, free_port, full_queue, no_descriptors
 
 
 @contextlib.asynccontextmanager
@@ -206,6 +207,13 @@ class Asyncio(unittest.IsolatedAsyncioTestCase):
             await siploc_asyncio.connect("unix:/nonexistent/socket")
         with self.assertRaises(siploc.InvalidCommand):
             await siploc_asyncio.connect("192.0.2.1:5099")
+
+    async def test_connection_with_itself(self):
+        """Where nobody listens, the system may choose the port itself for the client, which is then its own server."""
+        with mock.patch("socket.socket", Bound):
+            for address in (f"127.0.0.1:{free_port()}", f"[::1]:{free_port()}"):
+                with self.assertRaises(siploc.NotConnected):
+                    await siploc_asyncio.connect(address, 5)
 
     async def test_full_queue(self):
         """A Unix socket that has as many clients waiting as it takes is waited for, as long as is given."""
