@@ -117,9 +117,8 @@ typedef struct siploc_draws {
 
 /*
  * A session with the server at an address: `127.0.0.1:5099`, `[::1]:5099`, `localhost:5099`, which is one of these,
- * or `unix:/run/siplocd.sock`. The timeout
- * is that of the connection, and later how many milliseconds a call waits without progress: without a complete
- * reply, and without the server taking further octets.
+ * or `unix:/run/siplocd.sock`. The timeout is that of the connection, and later how many milliseconds a call waits
+ * without progress: without a complete reply, and without the server taking further octets.
  */
 siploc_status siploc_connect(const char *address, int timeout, siploc **session);
 
@@ -166,14 +165,15 @@ siploc_status siploc_got(siploc *session, uint32_t attempt, uint16_t code, const
                          const siploc_reply **reply);
 siploc_status siploc_broke(siploc *session, const siploc_reply **reply);
 
-/* What siploc_batch calls with the reply to the command at a place. It must not call into the session. */
+/* What siploc_batch calls with the reply to the command at a place, which lasts until it returns. It must not call into
+ * the session. */
 typedef void siploc_each(void *context, size_t place, const siploc_reply *reply);
 
 /*
  * Sends many commands at once, and reads their replies as they come, while commands are sent; a refusal is a reply
  * as any other. A command is a line of the protocol without its end, or a `zone` line and its lines, joined by LF.
- * All are checked before the first is sent. SIPLOC_REFUSED: the server has refused the session, whose
- * first reply is `err CODE`: it has ended, and no command was carried out.
+ * All are checked before the first is sent. SIPLOC_REFUSED: the server has refused the session, with `err CODE` as the
+ * first reply; it has ended, and no command was carried out.
  */
 siploc_status siploc_batch(siploc *session, const char *const *commands, size_t count, siploc_each *each,
                            void *context);
