@@ -666,7 +666,7 @@ static siploc_status transfer(siploc *s, const char *output, size_t size, const 
 /* Sends commands and reads their replies. */
 static siploc_status exchange(siploc *s, const command *commands, size_t count, siploc_each *each, void *context)
 {
-    if (s->stream < 0 || s->process != getpid())
+    if (!siploc_is_open(s))
         return SIPLOC_NOT_CONNECTED;
     if (count == 0)
         return SIPLOC_OK;
@@ -1144,6 +1144,11 @@ void siploc_close(siploc *s)
 void siploc_set_timeout(siploc *s, int timeout)
 {
     s->timeout = timeout;
+}
+
+bool siploc_is_open(const siploc *s)
+{
+    return s->stream >= 0 && s->process == getpid();
 }
 
 siploc_doubt siploc_broken(const siploc *s)

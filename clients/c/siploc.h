@@ -127,6 +127,9 @@ void siploc_close(siploc *session);
 
 void siploc_set_timeout(siploc *session, int timeout);
 
+/* Whether the session has not ended, as far as is known. */
+bool siploc_is_open(const siploc *session);
+
 /* What is known after SIPLOC_LOST, SIPLOC_TIMED_OUT, SIPLOC_BAD_REPLY and SIPLOC_HALF_REPLY. */
 siploc_doubt siploc_broken(const siploc *session);
 

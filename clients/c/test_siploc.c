@@ -1032,8 +1032,9 @@ static void refused_as_commands_come(void)
     const siploc_reply *reply;
     char seen[128] = "";
     siploc *s = connect_to_fake(serve_octet, "err Busy\n", 10000);
-    CHECK(s != NULL && siploc_add(s, "a.e. A 192.0.2.1", &reply) == SIPLOC_REFUSED);
-    CHECK(strcmp(reply->code, "Busy") == 0 && siploc_repair(s, NULL) == SIPLOC_NOT_CONNECTED);
+    CHECK(s != NULL && siploc_is_open(s) && siploc_add(s, "a.e. A 192.0.2.1", &reply) == SIPLOC_REFUSED);
+    CHECK(strcmp(reply->code, "Busy") == 0 && !siploc_is_open(s));
+    CHECK(siploc_repair(s, NULL) == SIPLOC_NOT_CONNECTED);
     siploc_close(s);
     s = connect_to_fake(serve_octet, "err Busy\n", 10000);
     CHECK(s != NULL && siploc_batch(s, commands, 3, keep_code, seen) == SIPLOC_REFUSED);
@@ -1112,12 +1113,12 @@ static void forks(void)
     CHECK(s != NULL);
     pid_t server = children[0], child = start_child();
     if (child == 0) {
-        bool is_right = siploc_find(s, "sip:a", NULL, NULL) == SIPLOC_NOT_CONNECTED;
+        bool is_right = siploc_find(s, "sip:a", NULL, NULL) == SIPLOC_NOT_CONNECTED && !siploc_is_open(s);
         siploc_close(s);
         _exit(!is_right);
     }
     CHECK(wait_for_child(child) == 0);
-    CHECK(siploc_repair(s, NULL) == SIPLOC_OK);
+    CHECK(siploc_repair(s, NULL) == SIPLOC_OK && siploc_is_open(s));
     siploc_close(s);
     CHECK(wait_for_child(server) == 0);
 }

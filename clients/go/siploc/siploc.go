@@ -95,6 +95,9 @@ func (s *Session) Close() error {
 	return nil
 }
 
+// IsOpen returns whether the session has neither ended nor been closed, as far as is known.
+func (s *Session) IsOpen() bool { return !s.carrier.hasEnded() }
+
 // Draws are the random words by which servers of equal priority are ordered. The zero value stands for words of 0.
 type Draws struct{ text string }
 

@@ -353,6 +353,7 @@ func TestRefusalsByMethods(t *testing.T) {
 	_, err = session.Deps(ctx, "sip:-")
 	is(err, "U2")
 	is(session.Hold(ctx, first, 1), "O4")
+	equal(t, session.IsOpen(), true)
 	is(session.Release(ctx, first), "O3")
 	_, err = session.Clock(ctx, 1<<52+1)
 	is(err, "O2")
@@ -703,6 +704,7 @@ func TestLostBeforeAndAfter(t *testing.T) {
 		_, err = session.Batch(ctx, commands)
 		var refused *RefusedError
 		equal(t, errors.As(err, &refused) && refused.Code == "Busy" && refused.Command == "(the session)", true)
+		equal(t, session.IsOpen(), false)
 		_, err = session.Add(ctx, "a.e. A 192.0.2.1")
 		equal(t, errors.Is(err, ErrNotConnected), true)
 	}
