@@ -670,6 +670,7 @@ static siploc_status exchange(siploc *s, const command *commands, size_t count, 
         return SIPLOC_NOT_CONNECTED;
     if (count == 0)
         return SIPLOC_OK;
+    static const char early[] = "a reply before its command was sent";
     array output = {NULL, 0, 0};
     for (size_t i = 0; i < count; i++) {
         if (!append(&output, commands[i].text, commands[i].length) || !append(&output, "\n", 1)) {
@@ -685,6 +686,8 @@ static siploc_status exchange(siploc *s, const command *commands, size_t count, 
     if (status == SIPLOC_OK)
         status = transfer(s, output.items, output.size, commands, count, &sent, &replied, each, context);
     free(output.items);
+    if (status == SIPLOC_OK && sent < output.size) /* What is sent next would be taken for the rest. */
+        status = bad(s, early, sizeof early - 1);
     if (status == SIPLOC_REFUSED) {
         each(context, 0, &s->reply);
         sent = 0; /* None of what was on its way was carried out. */

@@ -947,6 +947,28 @@ static void garbage_without_end(void)
     }
 }
 
+static void serve_at_once(int stream, const void *context)
+{
+    char octet;
+    if (read(stream, &octet, 1) == 1)
+        put(stream, context, strlen(context));
+    pause_for(20000);
+}
+
+/* A reply to a zone of which lines are still to be sent: what was sent next would be taken for them. */
+static void reply_before_its_command(void)
+{
+    static char text[60000000];
+    memset(text, 'x', sizeof text - 1);
+    for (size_t i = 59999; i < sizeof text; i += 60000)
+        text[i] = '\n';
+    text[sizeof text - 1] = '\0';
+    siploc *session = connect_to_fake(serve_at_once, "ok zone 1 0 0 1\n", 10000);
+    CHECK(session != NULL && siploc_load(session, "e.", text, NULL) == SIPLOC_BAD_REPLY);
+    CHECK(siploc_broken(session).sent == 1 && !siploc_is_open(session));
+    siploc_close(session);
+}
+
 static void serve_one_line(int stream, const void *context)
 {
     char octets[64];
@@ -1331,7 +1353,7 @@ int main(int count, char **words)
         TEST(readme_session_in_a_batch), TEST(readme_session_by_calls), TEST(other_calls), TEST(pages), TEST(each_refusal),
         TEST(refusals_by_calls), TEST(finds_in_batches), TEST(batch_of_more_than_the_sockets_hold),
         TEST(server_that_ends_in_the_midst), TEST(client_that_is_killed_in_a_zone), TEST(example_program), TEST(replies),
-        TEST(cut_at_each_octet), TEST(what_a_refused_find_names), TEST(garbage_without_end), TEST(invalid_commands_are_not_sent), TEST(lost_before_and_after), TEST(refused_as_commands_come), TEST(allocations_that_fail), TEST(forks), TEST(timeouts),
+        TEST(cut_at_each_octet), TEST(what_a_refused_find_names), TEST(garbage_without_end), TEST(reply_before_its_command), TEST(invalid_commands_are_not_sent), TEST(lost_before_and_after), TEST(refused_as_commands_come), TEST(allocations_that_fail), TEST(forks), TEST(timeouts),
         TEST(addresses), TEST(connection_with_itself), TEST(programs_that_are_started), TEST(memory_of_a_large_zone), TEST(full_queue)};
     int passed = 0, failed = 0;
     program = getenv("SIPLOC");

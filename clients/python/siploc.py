@@ -973,7 +973,11 @@ class _Exchange(_Replies):
             octets = self.stream.recv(_CHUNK)
         except BlockingIOError:
             return False
-        return self.feed(octets)
+        is_complete = self.feed(octets)
+        if not self.is_due() and self.sent < len(self.output):
+            # (what is sent next would be taken for the rest)
+            raise self.broken(BadReply, "a reply before its command was sent")
+        return is_complete
 
     def read_before(self) -> None:
         """Raises what octets mean that came before any command was sent: the end of the connection, or a refusal of the

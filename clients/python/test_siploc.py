@@ -692,6 +692,21 @@ class Faults(unittest.TestCase):
                 self.assertEqual((caught.exception.code, caught.exception.command), ("Busy", "(the session)"))
                 self.assertFalse(session.is_open)
 
+    def test_reply_before_its_command(self):
+        """A reply to a zone of which lines are still to be sent: what was sent next would be taken for them."""
+        def serve(stream):
+            stream.recv(1)
+            stream.sendall(b"ok zone 1 0 0 1\n")
+            done.wait(20)
+
+        done = threading.Event()
+        with fake(serve) as (address, _):
+            session = siploc.connect(address, timeout=5)
+            with self.assertRaises(siploc.BadReply) as caught:
+                session.load("e.", ["x" * 60_000] * 1_000)
+            done.set()
+            self.assertEqual((session.is_open, caught.exception.sent), (False, 1))
+
     def test_timeouts(self):
         """No reply, a reply that comes too slowly, and a server that takes nothing."""
         done = threading.Event()

@@ -163,7 +163,11 @@ func (c *connection) exchange(ctx context.Context, commands []command, timeout t
 	}
 	if broken == nil {
 		writer.Wait()
-		return replies, nil
+		if exchange.sent == len(exchange.output) {
+			return replies, nil
+		}
+		// (what is sent next would be taken for the rest)
+		broken = &BrokenError{Kind: ErrBadReply, Cause: errors.New("a reply before its command was sent")}
 	}
 	c.end() // The writer ends at once when the connection is closed.
 	writer.Wait()

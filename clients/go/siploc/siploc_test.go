@@ -623,6 +623,21 @@ func TestCutAtEachOctet(t *testing.T) {
 	}
 }
 
+// A reply to a zone of which lines are still to be sent: what was sent next would be taken for them.
+func TestReplyBeforeItsCommand(t *testing.T) {
+	done := make(chan bool)
+	session := connect(t, fake(t, func(stream net.Conn) {
+		_, _ = stream.Read(make([]byte, 1))
+		_, _ = io.WriteString(stream, "ok zone 1 0 0 1\n")
+		<-done
+	}), time.Second)
+	_, err := session.Load(ctx, "e.", strings.Repeat(strings.Repeat("x", 60_000)+"\n", 1_000))
+	close(done)
+	var broken *BrokenError
+	equal(t, errors.As(err, &broken) && errors.Is(err, ErrBadReply) && broken.Sent == 1, true)
+	equal(t, session.IsOpen(), false)
+}
+
 func TestGarbageWithoutEnd(t *testing.T) {
 	for _, octets := range []string{strings.Repeat("x", 1_000_000), strings.Repeat("dep a. A 1\n", 100_000)} {
 		session := connect(t, fake(t, func(stream net.Conn) {
