@@ -75,6 +75,9 @@ class Stream:
             raise Away
         self.next_try = time.monotonic() + 1
         stream = changelog.Stream(REDIS, STREAM or "", PATIENCE)
+        if stream.extent().last == (0, 0):
+            # (to one that nobody reads it would be added for ever)
+            raise changelog.Fault(f"{STREAM}: there is no such stream")
         stream.append([change])
         self.stream = stream
 
