@@ -18,6 +18,8 @@ from typing import Callable, Iterable, Iterator, Optional, Sequence
 sys.path.insert(0, str(pathlib.Path(__file__).resolve().parent.parent.parent / "tools"))
 import ports  # noqa: E402
 
+# For how long a busy machine is waited for, in seconds.
+PATIENCE = 120.0
 SECRET = base64.b64encode(b"a secret of 32 octets for tests.").decode()
 OTHER_SECRET = base64.b64encode(b"another one of 32 octets, wrong.").decode()
 
@@ -31,7 +33,7 @@ def free_port() -> int:
             return port
 
 
-def wait_until(is_so: Callable[[], bool], seconds: float = 20.0) -> bool:
+def wait_until(is_so: Callable[[], bool], seconds: float = PATIENCE) -> bool:
     """Whether something becomes so within some seconds."""
     end = time.monotonic() + seconds
     while time.monotonic() < end:
