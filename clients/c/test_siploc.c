@@ -1032,7 +1032,7 @@ static void lost_before_and_after(void)
 {
     const siploc_reply *reply;
     siploc *s = connect_to_fake(serve_text, "", 10000);
-    pause_for(200);
+    wait_for_child(children[child_count - 1]); /* (the server has closed the connection) */
     CHECK(s != NULL && siploc_add(s, "a.e. A 192.0.2.1", NULL) == SIPLOC_LOST);
     CHECK(!siploc_broken(s).may_be_done && siploc_broken(s).sent == 0);
     siploc_close(s);
@@ -1041,7 +1041,7 @@ static void lost_before_and_after(void)
     CHECK(siploc_broken(s).may_be_done && siploc_broken(s).replied == 0);
     siploc_close(s);
     s = connect_to_fake(serve_text, "err Busy\n", 10000);
-    pause_for(200);
+    wait_for_child(children[child_count - 1]);
     CHECK(s != NULL && siploc_add(s, "a.e. A 192.0.2.1", &reply) == SIPLOC_REFUSED);
     CHECK(strcmp(reply->code, "Busy") == 0 && siploc_repair(s, NULL) == SIPLOC_NOT_CONNECTED);
     siploc_close(s);

@@ -697,8 +697,9 @@ func TestInvalidCommandsAreNotSent(t *testing.T) {
 // A session that the server has closed or refused: a command that is sent later was not done; one that was read
 // may be.
 func TestLostBeforeAndAfter(t *testing.T) {
-	session := connect(t, fake(t, func(net.Conn) {}), 10*time.Second)
-	time.Sleep(200 * time.Millisecond)
+	done := make(chan bool, 1)
+	session := connect(t, fake(t, func(stream net.Conn) { done <- stream.Close() == nil }), 10*time.Second)
+	<-done
 	_, err := session.Add(ctx, "a.e. A 192.0.2.1")
 	var broken *BrokenError
 	equal(t, errors.As(err, &broken) && broken.Kind == ErrConnectionLost && !broken.MayBeDone(), true)
@@ -711,15 +712,19 @@ func TestLostBeforeAndAfter(t *testing.T) {
 			if isLate {
 				_, _ = bufio.NewReader(stream).ReadString('\n')
 			}
-			_, _ = io.WriteString(stream, "err Busy\n")
+			_, err := io.WriteString(stream, "err Busy\n")
+			done <- err == nil
 		}), 10*time.Second)
 		if !isLate {
-			time.Sleep(200 * time.Millisecond)
+			<-done
 		}
 		_, err = session.Batch(ctx, commands)
 		var refused *RefusedError
 		equal(t, errors.As(err, &refused) && refused.Code == "Busy" && refused.Command == "(the session)", true)
 		equal(t, session.IsOpen(), false)
+		if isLate {
+			<-done
+		}
 		_, err = session.Add(ctx, "a.e. A 192.0.2.1")
 		equal(t, errors.Is(err, ErrNotConnected), true)
 	}
