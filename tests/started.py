@@ -4,6 +4,7 @@ from __future__ import annotations
 
 import contextlib
 import os
+import signal
 import socket
 import subprocess
 import sys
@@ -66,6 +67,16 @@ def wait_for(what: str, is_so: Callable[[], object], seconds: float = 60.0, paus
         time.sleep(pause)
 
 
+def children_of(pid: int) -> List[int]:
+    """The processes that a process has started, and that run."""
+    found = []
+    for path in Path("/proc").glob("[0-9]*/stat"):
+        with contextlib.suppress(OSError, IndexError):
+            if int(path.read_text().rsplit(")", 1)[1].split()[1]) == pid:
+                found.append(int(path.parent.name))
+    return found
+
+
 class Started:
     """A program that was started here. What it prints goes to a file of its name."""
 
@@ -95,9 +106,13 @@ class Started:
                 self.kill()
 
     def kill(self) -> None:
-        """Ends it at once."""
+        """Ends it at once, and the processes that it has started: those of Kamailio would go on without it."""
+        children = children_of(self.process.pid) if self.process.poll() is None else []
         self.process.kill()
         self.process.wait()
+        for it in children:
+            with contextlib.suppress(ProcessLookupError):
+                os.kill(it, signal.SIGKILL)
 
 
 class Locator(Started):
