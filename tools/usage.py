@@ -11,6 +11,7 @@ from __future__ import annotations
 
 import atexit
 import errno
+import io
 import os
 import pathlib
 import re
@@ -25,6 +26,11 @@ if sys.stderr is None:
     sys.stderr = open(os.devnull, "w")
 if sys.stdin is None:
     sys.stdin = open(os.open(os.devnull, os.O_WRONLY))
+# With PYTHONUNBUFFERED a write that a signal interrupts leaves its rest out, and nothing says so.
+if sys.stdout is not None and isinstance(getattr(sys.stdout, "buffer", None), io.RawIOBase):
+    names = sys.stdout.encoding, sys.stdout.errors
+    whole = io.BufferedWriter(sys.stdout.detach())  # type: ignore[arg-type]
+    sys.stdout = sys.__stdout__ = io.TextIOWrapper(whole, *names, line_buffering=True)  # type: ignore[misc]
 
 
 class Ended(BaseException):
