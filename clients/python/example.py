@@ -1,5 +1,5 @@
 #!/usr/bin/env python3
-"""Asks for targets, and holds the first: example.py ADDRESS, such as 127.0.0.1:5099."""
+"""Asks for targets, and holds each as if it had failed: example.py ADDRESS, such as 127.0.0.1:5099."""
 import sys
 
 import siploc

@@ -1,4 +1,4 @@
-// Asks for the targets of a URI, and holds the first: example ADDRESS, such as 127.0.0.1:5099.
+// Asks for the targets of a URI: example ADDRESS, such as 127.0.0.1:5099.
 package main
 
 import (
