@@ -847,6 +847,8 @@ class Session(BaseSession):
             except (OSError, ValueError) as fault:
                 # (ValueError: the handler of a signal has closed the session)
                 self._end()
+                if isinstance(fault, OSError) and fault.errno is None:
+                    raise  # (as one by which such a handler bounds a call's time)
                 raise exchange.lost(str(fault)) from fault
             except BaseException:
                 self._end()

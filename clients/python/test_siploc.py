@@ -949,6 +949,23 @@ class Faults(unittest.TestCase):
         finally:
             signal.signal(signal.SIGALRM, before)
 
+    def test_call_that_a_signal_ends(self):
+        """What a signal's handler raises in a call, as one that bounds its time, is raised as it is."""
+        def end(*_):
+            raise TimeoutError("too long")
+
+        before = signal.signal(signal.SIGALRM, end)
+        ours, other = socket.socketpair()
+        try:
+            with other:
+                session = siploc.Session(ours, 20)
+                signal.setitimer(signal.ITIMER_REAL, 0.2)
+                with self.assertRaisesRegex(TimeoutError, "too long"):
+                    session.repair()
+                self.assertFalse(session.is_open)
+        finally:
+            signal.signal(signal.SIGALRM, before)
+
     def test_no_descriptor(self):
         """Where this process may open no more it is not connected."""
         with no_descriptors(), self.assertRaises(siploc.NotConnected) as caught:
