@@ -334,7 +334,7 @@ def leaves_no_part_of_a_file_that_could_not_be_written(checks: Checks, folder: p
         with started(checks, inner, settings, listen=[f"unix:{inner}/lines"],
                      environment=Faults(inner).environment(fault)) as daemon, Client(daemon.address) as client:
             checks.equal(client.ask(LONG_ZONE), ["ok zone 1401 0 0 1401"], fault)
-            checks.expect(until(lambda: daemon.said().endswith(said)), f"{fault}: {daemon.said()!r}")
+            checks.expect(until(lambda: said in daemon.said()), f"{fault}: {daemon.said()!r}")
             checks.expect(until(lambda: not (inner / "state.new").exists()), f"{fault}: state.new is left")
             if "full" in fault:
                 checks.expect(not (inner / "state.log.new").exists(), f"{fault}: state.log.new is left")
