@@ -57,6 +57,13 @@ end
 redis.call('SET', KEYS[2], last .. ' ' .. place, 'EX', 86400)
 return place"""
 
+#: Appends a `clock`, unless there is one after a place, or more than can be looked at; its place, or nothing.
+_CLOCK = b"""local later = redis.call('XRANGE', KEYS[1], '(' .. ARGV[1], '+', 'COUNT', 1024)
+for _, entry in ipairs(later) do
+    if #later == 1024 or string.sub(entry[2][2], 1, 6) == 'clock ' then return nil end
+end
+return redis.call('XADD', KEYS[1], '*', 'change', ARGV[2])"""
+
 #: The seconds after which a publisher begins to count anew.
 _RESTED = 3_600
 
@@ -317,6 +324,11 @@ class Stream:
         """Appends changes in order, all or none; the place of the last one."""
         replies = self.transact([[b"XADD", octets_of(self.key), b"*", b"change", it.octets] for it in changes])
         return place_of(bytes_of(replies[-1]))
+
+    def append_clock(self, change: Change, place: Place) -> bool:
+        """Appends a `clock`, unless somebody else has done so since the entry at a place; whether it did."""
+        words = [b"EVAL", _CLOCK, b"1", octets_of(self.key), id_of(place).encode(), change.octets]
+        return self.ask([words])[0] is not None
 
     def append_once(self, changes: Sequence[Change], token: str, first: int) -> Place:
         """Appends changes in order, all or none, if that was not done before; the place of the last one. A publisher's
