@@ -179,7 +179,9 @@ pub const CLOCK: Row = Row {
 /// Whoever may connect may `stop`; over TCP that is everyone on the machine.
 pub const CONTROL: Row = Row {
     key: "control",
-    values: Values::Words("an address, as \"unix:/run/siplocd/control\" or \"127.0.0.1:5098\""),
+    values: Values::Words(
+        "an address of the loopback or a Unix socket, as \"unix:/run/siplocd/control\" or \"127.0.0.1:5098\"",
+    ),
     default: DefaultValue::Nothing,
 };
 
@@ -207,7 +209,10 @@ pub const FAMILIES: Row = Row {
 /// Their calls hold what they find failing: use another daemon for those whom you don't trust.
 pub const FIND: Row = Row {
     key: "find",
-    values: Values::List(0, "a list of addresses, as [\"127.0.0.1:5097\"]"),
+    values: Values::List(
+        0,
+        "a list of addresses of the loopback or Unix sockets, as [\"127.0.0.1:5097\"]",
+    ),
     default: DefaultValue::Texts(&[]),
 };
 
@@ -255,7 +260,7 @@ pub const LISTEN: Row = Row {
     key: "listen",
     values: Values::List(
         1,
-        "a list of addresses, not empty, as [\"127.0.0.1:5099\", \"unix:/run/siplocd/lines\"]",
+        "a list, not empty, of addresses of the loopback or Unix sockets, as [\"127.0.0.1:5099\", \"unix:/run/siplocd/lines\"]",
     ),
     default: DefaultValue::Texts(&["127.0.0.1:5099"]),
 };
@@ -274,7 +279,7 @@ pub const LOG: Row = Row {
 /// Also `GET /healthz`.
 pub const METRICS: Row = Row {
     key: "metrics",
-    values: Values::Words("an address, as \"127.0.0.1:9464\""),
+    values: Values::Words("an address of the loopback or a Unix socket, as \"127.0.0.1:9464\""),
     default: DefaultValue::Nothing,
 };
 
@@ -283,7 +288,7 @@ pub const METRICS: Row = Row {
 /// It says who may connect.
 pub const MODE: Row = Row {
     key: "mode",
-    values: Values::Words("0 to 511 (0o777)"),
+    values: Values::Words("0 to 511, as 0o660"),
     default: DefaultValue::Number(0o600),
 };
 

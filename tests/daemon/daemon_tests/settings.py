@@ -43,6 +43,12 @@ def says_what_is_wrong_in_a_file(checks: Checks, folder: pathlib.Path) -> None:
         ('clients = 1\n\n[control]\nat = "unix:c"\nmode = 512\n', "3: control: G3: ", "address"),
         ('log = "loud"\n', "1: log: G3: ", '"debug"'),
         ('metrics = "192.0.2.1:9464"\n', "1: metrics: G3: ", "127.0.0.1:9464"),
+        # (it says where it may listen, and not that this is no address)
+        ('listen = ["0.0.0.0:5099"]\n', "1: listen: G3: ", "of the loopback or Unix sockets"),
+        ('find = ["192.0.2.1:5097"]\n', "1: find: G3: ", "of the loopback or Unix sockets"),
+        ('control = "[::]:5098"\n', "1: control: G3: ", "of the loopback or a Unix socket"),
+        ('metrics = "0.0.0.0:9464"\n', "1: metrics: G3: ", "of the loopback or a Unix socket"),
+        ("mode = 512\n", "1: mode: G3: ", "0 to 511, as 0o660"),
         ('\r\ntransports = ["udp", "udp"]\r\n', "2: transports: G3: ", "none twice"),
         ("idle = 1\nunknown = 1\n", "2: unknown: G2: ", "zone_octets"),
         ("sessions = 1\n", "1: sessions: G2: ", "no such key"),
