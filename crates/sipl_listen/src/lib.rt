@@ -17,7 +17,7 @@ pub use address::Address;
 pub use clients::{Client, Clients};
 pub use descriptors::max_clients;
 pub use fault::ConnectionFault;
-pub use listener::Listener;
+pub use listener::{Listener, expect_socket_or_none};
 pub use lock::take_lock;
 pub use stop::Stop;
 pub use stream::Stream;

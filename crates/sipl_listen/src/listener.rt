@@ -107,7 +107,7 @@ fn bind_at<R: Files<File = File> + Net>(
     path: &str,
     mode: u32,
 ) -> io::Result<UnixListener> {
-    check_free(rt, path)?;
+    expect_socket_or_none(rt, path)?;
     let folder = format!(in alloc; "{path}.d")?;
     let bound = format!(in alloc; "{path}.d/s")?;
     make_folder(rt, folder.as_str(), bound.as_str())?;
@@ -146,11 +146,14 @@ fn bind_in<R: Files<File = File> + Net>(
     UnixListener::bind(rt, path.as_str())
 }
 
-// Checks that there is nothing at a path, or a socket.
-fn check_free<R: Files>(rt: &R, path: &str) -> io::Result<()> {
+/// Checks that there is a socket at a path, which may be left over, or nothing.
+pub fn expect_socket_or_none<R: Files>(rt: &R, path: &str) -> io::Result<()> {
     match fs::symlink_metadata(rt, path) {
         Ok(found) if found.file_type().is_socket() => Ok(()),
-        Ok(_) => Err(io::Error::from(ErrorKind::AlreadyExists)),
+        Ok(_) => Err(io::Error::new(
+            ErrorKind::AlreadyExists,
+            "a file that is no socket is there",
+        )),
         Err(error) if error.kind() == ErrorKind::NotFound => Ok(()),
         Err(error) => Err(error),
     }

@@ -16,7 +16,9 @@ pub fn take_lock<R: Files<File = File>>(rt: &R, path: &str) -> io::Result<File> 
         .open(rt, path)?;
     match file.try_lock() {
         Ok(()) => {}
-        Err(TryLockError::WouldBlock) => return Err(io::Error::from(ErrorKind::ResourceBusy)),
+        Err(TryLockError::WouldBlock) => {
+            return Err(io::Error::new(ErrorKind::ResourceBusy, "another siplocd has it"));
+        }
         Err(TryLockError::Error(error)) => return Err(error),
     }
     Ok(file)

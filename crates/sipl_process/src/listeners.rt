@@ -1,15 +1,13 @@
 //! All the sockets of a daemon.
 use crate::fault::Fault;
 use crate::host::Host;
-use sipl_listen::{Address, Listener, take_lock};
+use sipl_listen::{Address, Listener, expect_socket_or_none, take_lock};
 use sipl_observed::Observed;
 use sipl_settings::{DaemonSettings, Entrance};
 use std::alloc::Global;
 use std::fs::File;
-use std::io::ErrorKind;
-use std::os::unix::fs::FileTypeExt;
+use std::io;
 use std::rt::Files;
-use std::{fs, io};
 
 /// The sockets at which a daemon accepts clients, and that of control lines, if it has one.
 #[derive(Drop)]
@@ -227,14 +225,4 @@ fn lock_at<H: Host>(host: &H, alloc: Global, address: &Address, path: &str) -> R
 fn lock_path<R: Files<File = File>>(rt: &R, alloc: Global, path: &str) -> io::Result<File> {
     expect_socket_or_none(rt, path)?;
     take_lock(rt, format!(in alloc; "{path}.lock")?.as_str())
-}
-
-// Checks that there is a socket at a path, which may be left over, or nothing.
-fn expect_socket_or_none<R: Files>(rt: &R, path: &str) -> io::Result<()> {
-    match fs::symlink_metadata(rt, path) {
-        Ok(found) if found.file_type().is_socket() => Ok(()),
-        Ok(_) => Err(io::Error::from(ErrorKind::AlreadyExists)),
-        Err(error) if error.kind() == ErrorKind::NotFound => Ok(()),
-        Err(error) => Err(error),
-    }
 }

@@ -49,8 +49,8 @@ def reads_its_log(checks: Checks, folder: pathlib.Path) -> None:
         checks.equal(client.ask("find sip:e.example.com:1"), ["target 1 udp 192.0.2.5 1", "ok find 1"], "after a stop")
         checks.equal(client.ask("find sip:192.0.2.9;transport=tcp"), ["none AllHeld"], "a hold after a stop")
         checks.expect(int(daemon.tell("now")[0].split(" ")[2]) >= 6000, daemon.tell("now"))
-        status, said = ended_start(folder, state)
-        checks.expect(status == 1 and f"{folder}/state" in said, ("a state that another has", status, said))
+        checks.equal(ended_start(folder, state), (1, f"siplocd: state {folder}/state: another siplocd has it\n"),
+                     "a state that another has")
         stopped(checks, daemon)
 
 

@@ -135,8 +135,10 @@ def its_sockets_are_its_own(checks: Checks, folder: pathlib.Path) -> None:
         checks.equal(oct(stat.S_IMODE(path.stat().st_mode)), "0o600", "mode")
         other = folder / "other"
         other.mkdir()
-        status, said = ended_start(other, f'listen = ["{unix}"]')
-        checks.expect(status == 1 and said.startswith("siplocd:") and str(path) in said, ("live", status, said))
+        # (with a state all addresses are tried before it is read)
+        for state in "", f'state = "{other}/state"\n':
+            checks.equal(ended_start(other, f'{state}listen = ["{unix}"]'),
+                         (1, f"siplocd: listen {unix}: another siplocd has it\n"), f"live, {state}")
         with Client(unix) as client:
             checks.equal(client.ask("repair"), ["ok repair"], "after another start")
         daemon.kill()
@@ -152,8 +154,10 @@ def its_sockets_are_its_own(checks: Checks, folder: pathlib.Path) -> None:
         checks.equal(client.ask("repair"), ["ok repair"], "at the longest path")
         stopped(checks, daemon, 0)
     path.write_text("a file")
-    status, said = ended_start(folder, f'listen = ["{unix}"]')
-    checks.expect(status == 1 and str(path) in said and path.read_text() == "a file", ("no socket", status, said))
+    for state in "", f'state = "{folder}/state"\n':
+        checks.equal(ended_start(folder, f'{state}listen = ["{unix}"]'),
+                     (1, f"siplocd: listen {unix}: a file that is no socket is there\n"), f"no socket, {state}")
+        checks.equal(path.read_text(), "a file", f"what was there, {state}")
 
 
 @test
