@@ -6,15 +6,15 @@ use std::net::Shutdown;
 use std::sync::{Arc, Condvar, CondvarTimeouts, Mutex, Wait};
 use std::time::{Clock, Duration};
 
-// The turn of a place that is free.
+// What a place that is free has in place of the number of a line.
 const FREE: u64 = u64::MAX;
 
-// The places of the clients: each is free, or has the stream of one, and the turn of the last line of it that was
-// heard.
+// The places of the clients: each is free, or has the stream of one, and the number of its last line among the lines of
+// all that were heard.
 #[derive(Drop)]
 struct Places {
     streams: Vec<Option<Arc<Stream, Global>>>,
-    turns: Vec<u64>,
+    last_lines: Vec<u64>,
     next: u64,
     taken: u64,
 }
@@ -32,12 +32,12 @@ impl Places {
         Some(place)
     }
 
-    // The next turn is that of a place.
+    // The next line is of the client at a place.
     fn hear(&mut self, place: usize)
         ensures as_many { vec_len self.new.streams ≡ vec_len self.old.streams }
     {
-        if let Some(turn) = self.turns.get_mut(place) {
-            *turn = self.next;
+        if let Some(last) = self.last_lines.get_mut(place) {
+            *last = self.next;
             self.next = self.next.saturating_add(1);
         }
     }
@@ -50,8 +50,8 @@ impl Places {
             *it = None;
             self.taken = self.taken.saturating_sub(1);
         }
-        if let Some(turn) = self.turns.get_mut(place) {
-            *turn = FREE;
+        if let Some(last) = self.last_lines.get_mut(place) {
+            *last = FREE;
         }
     }
 
@@ -62,9 +62,9 @@ impl Places {
     // Ends the reads and writes of the client that was not heard for longest.
     fn shut_silent(&self) {
         let (mut silent, mut least) = (0usize, FREE);
-        for (place, turn) in self.turns.iter().enumerate() {
-            if *turn < least {
-                (silent, least) = (place, *turn);
+        for (place, last) in self.last_lines.iter().enumerate() {
+            if *last < least {
+                (silent, least) = (place, *last);
             }
         }
         if let Some(Some(stream)) = self.streams.get(silent) {
@@ -101,11 +101,11 @@ impl Clients {
         for _ in 0..max {
             streams.push(None)?;
         }
-        let turns = vec![in alloc; FREE; max]?;
+        let last_lines = vec![in alloc; FREE; max]?;
         Ok(Clients {
             places: Mutex::new(Places {
                 streams,
-                turns,
+                last_lines,
                 next: 0,
                 taken: 0,
             }),
