@@ -294,6 +294,14 @@ impl Daemon {
         }
     }
 
+    /// Tells where there may be fewer clients at a time than this, which the settings have.
+    pub(crate) fn tell_fewer_clients<R: Wait + Clock>(&self, rt: &R, wanted: usize) {
+        let (wanted, allowed) = (wanted as u64, self.clients.max(rt));
+        if allowed < wanted {
+            self.observed.tell_fewer_clients(rt, wanted, allowed);
+        }
+    }
+
     // How many zones there are, how many records they have, and how many endpoints are held.
     fn totals<R: Wait>(&self, rt: &R) -> (u64, u64, u64) {
         let tally = self.source.tally.lock(rt);

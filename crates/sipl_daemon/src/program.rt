@@ -149,6 +149,7 @@ where
     H: Host,
 {
     go_on(rt, host, settings, daemon, claims)?;
+    daemon.tell_fewer_clients(host, settings.clients);
     serve_at(rt, host, input, settings, daemon, claims, stop)
 }
 

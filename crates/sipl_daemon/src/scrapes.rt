@@ -43,7 +43,7 @@ pub(crate) fn end_scrapes<H: Host>(host: &H, daemon: &Daemon, listener: &Listene
 }
 
 fn accept_scraper<H: Host>(host: &H, daemon: &Daemon, listener: &Listener) -> Option<Client> {
-    let stream = next_stream(host, &daemon.scrapes_end, listener)?;
+    let stream = next_stream(host, &daemon.scrapes_end, listener).ok()?;
     let stream = Arc::new(daemon.alloc, stream).ok()?;
     daemon.scrapers.enter(host, &stream)
 }

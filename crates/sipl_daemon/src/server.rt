@@ -145,9 +145,11 @@ fn accept_client<H: Host>(host: &H, daemon: &Daemon, listener: &Listener) -> Opt
                 .refuse(host, Cause::Busy, listener.address());
             None
         }
-        Accepted::Nothing => {
+        Accepted::Failed(error) => {
             if !daemon.stop.is_asked() {
-                daemon.observed.tell_unaccepted(host, listener.address());
+                daemon
+                    .observed
+                    .tell_unaccepted(host, listener.address(), &error);
             }
             None
         }

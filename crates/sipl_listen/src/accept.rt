@@ -5,7 +5,8 @@ use crate::listener::Listener;
 use crate::stop::Stop;
 use crate::stream::Stream;
 use std::alloc::Global;
-use std::io::Write;
+use std::io;
+use std::io::{ErrorKind, Write};
 use std::sync::{Arc, Wait};
 use std::time::{Clock, Duration};
 
@@ -17,7 +18,7 @@ pub enum Accepted {
     /// There was no place for the client, who was told so.
     Refused(ConnectionFault),
     /// The accept failed, or an allocation.
-    Nothing,
+    Failed(io::Error),
 }
 
 // How long a refused accept is waited out, in milliseconds.
@@ -35,8 +36,9 @@ pub fn next_client_making_room<R: Wait + Clock>(
     listener: &Listener,
     clients: &Clients,
 ) -> Accepted {
-    let Some(stream) = next_stream(rt, stop, listener) else {
-        return Accepted::Nothing;
+    let stream = match next_stream(rt, stop, listener) {
+        Ok(stream) => stream,
+        Err(error) => return Accepted::Failed(error),
     };
     clients.make_room(rt, Duration::from_millis(LEAVING));
     enter(rt, alloc, stream, clients)
@@ -52,15 +54,15 @@ pub fn next_client<R: Wait + Clock>(
     clients: &Clients,
 ) -> Accepted {
     match next_stream(rt, stop, listener) {
-        Some(stream) => enter(rt, alloc, stream, clients),
-        None => Accepted::Nothing,
+        Ok(stream) => enter(rt, alloc, stream, clients),
+        Err(error) => Accepted::Failed(error),
     }
 }
 
 // Gives a place to a client. One for whom there is none is told so.
 fn enter<R: Wait>(rt: &R, alloc: Global, stream: Stream, clients: &Clients) -> Accepted {
     let Ok(stream) = Arc::new(alloc, stream) else {
-        return Accepted::Nothing;
+        return Accepted::Failed(io::Error::from(ErrorKind::OutOfMemory));
     };
     match clients.enter(rt, &stream) {
         Some(client) => Accepted::Client(client),
@@ -72,14 +74,16 @@ fn enter<R: Wait>(rt: &R, alloc: Global, stream: Stream, clients: &Clients) -> A
 }
 
 /// Accepts a connection. A refused accept is waited out, at most until the stop.
-pub fn next_stream<R: Wait + Clock>(rt: &R, stop: &Stop, listener: &Listener) -> Option<Stream> {
-    match listener.accept() {
-        Ok(stream) => Some(stream),
-        Err(_) => {
-            stop.pause(rt, Duration::from_millis(REFUSED));
-            None
-        }
+pub fn next_stream<R: Wait + Clock>(
+    rt: &R,
+    stop: &Stop,
+    listener: &Listener,
+) -> io::Result<Stream> {
+    let accepted = listener.accept();
+    if accepted.is_err() {
+        stop.pause(rt, Duration::from_millis(REFUSED));
     }
+    accepted
 }
 
 // Tells a client that there is no place.

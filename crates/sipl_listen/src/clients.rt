@@ -143,6 +143,11 @@ impl Clients {
         self.left.notify_all();
     }
 
+    /// How many there may be at a time.
+    pub fn max<R: Wait>(&self, rt: &R) -> u64 {
+        self.places.lock(rt).streams.len() as u64
+    }
+
     /// How many there are.
     pub fn count<R: Wait>(&self, rt: &R) -> u64 {
         self.places.lock(rt).taken

@@ -6,6 +6,7 @@ use sipl_log::{Level, Line, Log};
 use sipl_metrics::Histogram;
 use sipl_settings::DaemonSettings;
 use std::alloc::{AllocError, Global};
+use std::io;
 use std::sync::atomic::{AtomicBool, AtomicU64, Ordering};
 use std::sync::{Arc, Wait};
 use std::time::{Clock, Instant};
@@ -119,15 +120,16 @@ impl Observed {
         self.accepts_fail.store(false, Ordering::SeqCst);
     }
 
-    /// Tells of an accept that failed at an address: once until a client has a session.
-    pub fn tell_unaccepted<R: Wait + Clock>(&self, rt: &R, at: &Address) {
+    /// Tells of an accept that failed at an address, and why: once until a client has a session.
+    pub fn tell_unaccepted<R: Wait + Clock>(&self, rt: &R, at: &Address, error: &io::Error) {
         self.clients.unaccepted.fetch_add(1, Ordering::SeqCst);
         if self.accepts_fail.load(Ordering::SeqCst) {
             return;
         }
         self.accepts_fail.store(true, Ordering::SeqCst);
         let line = self.line(Level::Warn, "failed").text("what", "accept");
-        self.log.push(rt, self.with_address(line, at));
+        let line = self.with_address(line, at);
+        self.log.push(rt, self.with_cause(line, error));
     }
 
     /// Tells of a client that is refused at an address.
@@ -161,6 +163,17 @@ impl Observed {
         self.log.push(rt, self.with_address(line, at));
     }
 
+    /// Tells that there may be fewer clients at a time than the settings have: the system's limit of descriptors allows
+    /// no more.
+    pub fn tell_fewer_clients<R: Wait + Clock>(&self, rt: &R, wanted: u64, allowed: u64) {
+        let line = self
+            .line(Level::Warn, "lowered")
+            .text("what", "clients")
+            .number("from", wanted)
+            .number("to", allowed);
+        self.log.push(rt, line);
+    }
+
     /// Tells an event.
     pub fn tell<R: Wait + Clock>(&self, rt: &R, level: Level, event: &str) {
         self.log.push(rt, self.line(level, event));
@@ -170,6 +183,14 @@ impl Observed {
     fn with_address(&self, line: Line, at: &Address) -> Line {
         match format!(in self.alloc; "{at}") {
             Ok(text) => line.text("at", text.as_str()),
+            Err(_) => line,
+        }
+    }
+
+    // The line with the cause of a failure more.
+    pub(crate) fn with_cause(&self, line: Line, error: &io::Error) -> Line {
+        match format!(in self.alloc; "{error}") {
+            Ok(text) => line.text("cause", text.as_str()),
             Err(_) => line,
         }
     }

@@ -104,11 +104,7 @@ impl Observed {
     /// Tells that changes could not be written.
     pub fn tell_unsynced<R: Wait + Clock>(&self, rt: &R, error: &io::Error) {
         let line = self.line(Level::Error, "failed").text("what", "changes");
-        let line = match format!(in self.alloc; "{error}") {
-            Ok(text) => line.text("cause", text.as_str()),
-            Err(_) => line,
-        };
-        self.log.push(rt, line);
+        self.log.push(rt, self.with_cause(line, error));
     }
 }
 

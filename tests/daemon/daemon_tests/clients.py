@@ -4,7 +4,9 @@ from __future__ import annotations
 
 import concurrent.futures
 import contextlib
+import errno
 import itertools
+import os
 import pathlib
 import random
 import re
@@ -171,6 +173,8 @@ def bounds_its_descriptors(checks: Checks, folder: pathlib.Path) -> None:
             wanted = [["ok repair"]] if place < 32 else [["err Busy"], None]
             checks.expect((got := client.reply()) in wanted, f"number {place} of 150: {got}")
         checks.equal(daemon.stats()["clients"], 32, "clients of 64 descriptors")
+        told = [it for it in daemon.log() if " event=lowered " in it]
+        checks.equal(told, ["warn event=lowered what=clients from=512 to=32"], "what is told of that")
         checks.equal(clients[1].ask("hold udp 192.0.2.1 5060 1000000"), ["ok hold"], "a change while no place is left")
         for client in clients:
             client.stream.close()
@@ -226,7 +230,9 @@ def waits_while_no_descriptor_is_left(checks: Checks, folder: pathlib.Path) -> N
             checks.equal(other.reply(), ["target 1 udp 192.0.2.1 9", "ok find 1"], f"number {place} that waited")
         checks.equal(daemon.stats()["clients"], 6, "clients")
         told = [it for it in daemon.log() if " what=accept " in it]
-        checks.equal(told, [f"warn event=failed what=accept at={daemon.address}"], "what is told of them all")
+        cause = f'cause="{os.strerror(errno.EMFILE)} (os error {errno.EMFILE})"'
+        checks.equal(told, [f"warn event=failed what=accept at={daemon.address} {cause}"], "what is told of them all")
+        checks.expect(not any(" event=lowered " in it for it in daemon.log()), "no lower limit at the start")
         stopped(checks, daemon)
 
 
