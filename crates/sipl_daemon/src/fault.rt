@@ -53,12 +53,22 @@ pub(crate) fn state_fault(
 ) -> Result<Fault, AllocError> {
     let text = match fault {
         StateFault::File(error) => return Ok(Fault::State(String::from_str(alloc, path)?, error)),
-        StateFault::State(line) => format!(in alloc; "siplocd: state {path}: line {line}"),
+        StateFault::Log(error) => {
+            return Ok(Fault::State(format!(in alloc; "{path}.log")?, error));
+        }
+        // (the first line of a state or of a log has no change that could be refused)
+        StateFault::State(1) => format!(in alloc; "siplocd: state {path}: line 1: not a state"),
+        StateFault::State(line) => format!(in alloc; "siplocd: state {path}: line {line}: refused"),
         StateFault::Digest => format!(in alloc; "siplocd: state {path}: not as it was written"),
-        StateFault::Line(line) => format!(in alloc; "siplocd: state {path}.log: line {line}"),
-        StateFault::Octet(place) => format!(in alloc; "siplocd: state {path}.log: octet {place}"),
+        StateFault::Line(1) => format!(in alloc; "siplocd: state {path}.log: line 1: not a log"),
+        StateFault::Line(line) => {
+            format!(in alloc; "siplocd: state {path}.log: line {line}: refused")
+        }
+        StateFault::Octet(place) => {
+            format!(in alloc; "siplocd: state {path}.log: octet {place}: not as it was written")
+        }
         StateFault::Commit(number) => {
-            format!(in alloc; "siplocd: state {path}.log: commit {number}")
+            format!(in alloc; "siplocd: state {path}.log: commit {number}: refused")
         }
         StateFault::OtherLog => format!(in alloc; "siplocd: state {path}.log: not of this state"),
     };

@@ -18,8 +18,10 @@ use std::rt::Files;
 /// Why a state can't be read.
 #[derive(Drop)]
 pub enum StateFault {
-    /// A file can't be read or written.
+    /// The state, or a file that is to be one, can't be read or written.
     File(io::Error),
+    /// The log can't be read or written.
+    Log(io::Error),
     /// This line of the state can't be read, or is refused.
     State(u64),
     /// The state is not as it was written: its last line is not the digest of the others.
@@ -121,12 +123,12 @@ pub fn restore<R: Files<File = File>, D: Desk>(
             whole,
             tail,
         } => {
-            go_on(rt, alloc, &files, is_new, whole, &tail)?;
+            of_log(go_on(rt, alloc, &files, is_new, whole, &tail))?;
             extent
         }
     };
     let time = desk.now();
-    let changes = Changes::open(rt, alloc, files, lock, extent, time)?;
+    let changes = of_log(Changes::open(rt, alloc, files, lock, extent, time))?;
     Ok(Restored { changes, found })
 }
 
@@ -140,6 +142,14 @@ pub fn check_state<R: Files<File = File>, D: Desk>(
     let files = StateFiles::new(alloc, path)?;
     let (_, found) = read_files(rt, alloc, &files, desk)?;
     Ok(found)
+}
+
+// What was done with a log, or its fault.
+fn of_log<T: Drop>(outcome: io::Result<T>) -> Result<T, StateFault> {
+    match outcome {
+        Ok(value) => Ok(value),
+        Err(error) => Err(StateFault::Log(error)),
+    }
 }
 
 // Reads the files of a state, and makes what they have.
@@ -178,7 +188,7 @@ fn read_first<R: Files<File = File>, D: Desk>(
     state: &[u8],
     desk: &mut D,
 ) -> Result<(Read, FoundFiles), StateFault> {
-    let log = read_file(rt, alloc, files.log.as_str())?;
+    let log = of_log(read_file(rt, alloc, files.log.as_str()))?;
     let are_there = log.is_some() || !state.is_empty();
     let first = FirstFormat::read(alloc, state, log.as_deref())?;
     let mark = match make_body(alloc, &first.body, desk)? {
@@ -256,7 +266,7 @@ fn read_second<R: Files<File = File>, D: Desk>(
     state: &FoundState,
     desk: &mut D,
 ) -> Result<(Read, FoundFiles), StateFault> {
-    let Some(FoundLog { octets, is_new }) = files.find_log(rt, alloc, &state.first)? else {
+    let Some(FoundLog { octets, is_new }) = of_log(files.find_log(rt, alloc, &state.first))? else {
         return Err(StateFault::OtherLog);
     };
     let log = match read_log(alloc, &octets, &state.first) {

@@ -86,14 +86,15 @@ class Files:
     def outcome(self, damage: Damage) -> Outcome:
         """What a start has to do, as docs/use/OPERATING.md says."""
         if damage.file == "state":
-            return Outcome(": line 1" if damage.place < len(STATE_LINE) else ": not as it was written", None, b"")
+            return Outcome(": line 1: not a state" if damage.place < len(STATE_LINE) else ": not as it was written", None,
+                           b"")
         if damage.place < HEAD_LEN:
-            return Outcome(".log: line 1", None, b"")
+            return Outcome(".log: line 1: not a log", None, b"")
         commits = int(damage.place >= self.places[1])
         begin = self.places[commits]
         if commits == 0 and damage.octet is not None:
             # (the next commit is there, which was written after this one was synced)
-            return Outcome(f".log: octet {begin}", None, b"")
+            return Outcome(f".log: octet {begin}: not as it was written", None, b"")
         torn = self.damaged(damage)["log"][begin:]
         # Of a log that is cut between two commits nobody can know that there were more.
         return Outcome(f".log: a write did not end at octet {begin}" if torn else "", commits, torn)

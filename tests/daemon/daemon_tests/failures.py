@@ -4,6 +4,7 @@ from __future__ import annotations
 
 import contextlib
 import errno
+import os
 import pathlib
 import subprocess
 import time
@@ -271,6 +272,20 @@ def leaves_no_part_of_a_page(checks: Checks, folder: pathlib.Path) -> None:
         checks.expect(until(lambda: daemon.said().endswith("siplocd: archive: written again\n")), daemon.said())
         stopped(checks, daemon, 1)
     checks.equal([it.name for it in archive.iterdir()], [first], "the page that waited")
+
+
+@test
+def names_the_file_of_a_state_that_is_not_opened(checks: Checks, folder: pathlib.Path) -> None:
+    state, faults = folder / "state", Faults(folder)
+    with started(checks, folder, f'state = "{state}"') as daemon:
+        stopped(checks, daemon)
+    # (the log is opened to be read, and then to be appended to)
+    for fault, name in ("state 1", "state"), ("state.log 1", "state.log"), ("state.log 2", "state.log"):
+        environment = faults.environment(f"open {fault} {errno.EACCES}")
+        daemon = Daemon(folder, f'state = "{state}"', environment=environment, waits=False)
+        status, _ = daemon.end()
+        denied = f"{os.strerror(errno.EACCES)} (os error {errno.EACCES})"
+        checks.equal((status, daemon.said()), (1, f"siplocd: state {folder}/{name}: {denied}\n"), fault)
 
 
 @test

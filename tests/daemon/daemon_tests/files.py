@@ -87,22 +87,28 @@ def refuses_a_state_that_was_changed(checks: Checks, folder: pathlib.Path) -> No
         refused((flipped(octets[0], at), octets[1]), "state: not as it was written", f"a state that is changed at {at}")
     for at in range(places[0], places[-1], 41):
         begin = max(it for it in places if it <= at)
-        refused((octets[0], flipped(octets[1], at)), f"state.log: octet {begin}", f"a log that is changed at {at}")
-    refused((flipped(octets[0], 3), octets[1]), "state: line 1", "the first line of a state")
-    refused((octets[0], flipped(octets[1], place(HEAD_LEN))), "state.log: line 1", "the head of a log")
+        refused((octets[0], flipped(octets[1], at)), f"state.log: octet {begin}: not as it was written",
+                f"a log that is changed at {at}")
+    refused((flipped(octets[0], 3), octets[1]), "state: line 1: not a state", "the first line of a state")
+    refused((octets[0], flipped(octets[1], place(HEAD_LEN))), "state.log: line 1: not a log", "the head of a log")
     lines = octets[0].splitlines(keepends=True)
     refused((b"".join(lines[:-1]), octets[1]), "state: not as it was written", "a state that is cut at a line's end")
     refused((b"".join(lines[:3]), octets[1]), "state: not as it was written", "a state that is cut further")
-    refused((b"", octets[1]), "state: line 1", "an empty state")
+    refused((b"", octets[1]), "state: line 1: not a state", "an empty state")
     refused((octets[0], None), "state.log: not of this state", "no log")
-    refused((octets[0], b""), "state.log: line 1", "an empty log")
+    refused((octets[0], b""), "state.log: line 1: not a log", "an empty log")
     refused((None, octets[1]), "state.log: not of this state", "no state")
     other = state_of(body_of(octets[0]).replace(b"192.0.2.1", b"192.0.2.8"))
     refused((other, octets[1]), "state.log: not of this state", "another state")
     commits = [octets[1][begin:end] for begin, end in zip(places, [*places[1:], len(octets[1])])]
     for order in (1, 0, 2), (0, 2), (0, 0, 1, 2), (2,):
         text = octets[1][:HEAD_LEN] + b"".join(commits[it] for it in order)
-        refused((octets[0], text), f"state.log: octet {places[order[0] == 0]}", f"commits {order}")
+        refused((octets[0], text), f"state.log: octet {places[order[0] == 0]}: not as it was written", f"commits {order}")
+    # What the files have as they were written, and no daemon would have.
+    refused((state_of(b"# page 0\nzone example.com. 1\na.example.com. A 192.0.2\n"), octets[1]),
+            "state: line 3: refused", "a zone with a faulty record")
+    refused((octets[0], log_of(octets[0], [*bodies_of(octets[1]), b"drop example.net.\n"])),
+            "state.log: commit 4: refused", "a change of a zone that is not there")
     state.write_bytes(octets[0])
     log.write_bytes(octets[1])
     with started(checks, folder, settings) as daemon, Client(daemon.address) as client:
@@ -157,8 +163,8 @@ def reads_the_first_format_once(checks: Checks, folder: pathlib.Path) -> None:
             octets = state.read_bytes()
             checks.equal((octets, log.read_bytes()), (state_of(body_of(octets)), log_of(octets, [])),
                          f"{name}: the files after it")
-    for what, files in ("state: line 3", (lines.replace(b"192.0.2.1", b"192.0.2"), changes)), \
-            ("state.log: line 2", (lines.replace(b"page 3", b"page 2"), changes)), \
+    for what, files in ("state: line 3: refused", (lines.replace(b"192.0.2.1", b"192.0.2"), changes)), \
+            ("state.log: line 2: refused", (lines.replace(b"page 3", b"page 2"), changes)), \
             ("state.log: not of this state", (lines.replace(b"page 3", b"page 4"), changes)):
         state.write_bytes(files[0])
         log.write_bytes(files[1])
