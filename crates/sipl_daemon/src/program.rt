@@ -3,7 +3,7 @@ use crate::check::check_files;
 use crate::daemon::Daemon;
 use crate::fault::state_fault;
 use crate::journal::claims::Claims;
-use crate::server::serve_all;
+use crate::server::run_threads;
 use crate::session::restoring::RestoringDesk;
 use sipl_listen::{Stop, take_lock};
 use sipl_log::{Level, Log};
@@ -90,14 +90,14 @@ where
     H: Host,
 {
     let settings = begin(rt, host, log, given)?;
-    let events = serve_with(rt, host, input, &settings, log)?;
+    let events = run_daemon(rt, host, input, &settings, log)?;
     log.push(host, log.line(Level::Info, "end").number("events", events));
     println!(rt; "closed {events}")?;
     Ok(())
 }
 
-// Serves until the daemon is to stop, and claims all pages. Returns how many events there were.
-fn serve_with<R, H>(
+// Runs a daemon with these settings until it is to stop, and claims all pages. Returns how many events there were.
+fn run_daemon<R, H>(
     rt: &R,
     host: &H,
     input: &InputWatch,
@@ -111,7 +111,7 @@ where
     let stop = Arc::new(rt.alloc(), Stop::new())?;
     let mut daemon = Daemon::new(host, rt.alloc(), settings, &stop, log)?;
     let mut claims = Claims::new(rt.alloc());
-    match go_on_and_serve(rt, host, input, settings, &mut daemon, &mut claims, stop) {
+    match run_until_stop(rt, host, input, settings, &mut daemon, &mut claims, stop) {
         Ok(()) => close(host, daemon, claims),
         Err(fault) => {
             drop(daemon);
@@ -134,8 +134,9 @@ fn close<H: Host>(host: &H, daemon: Box<Daemon>, claims: Claims) -> Result<u64, 
     Ok(events)
 }
 
-// Goes on from the state, if there is one, and serves until the daemon is to stop.
-fn go_on_and_serve<R, H>(
+// Goes on from the state, if there is one, listens at the addresses of the settings, and runs the daemon's threads until
+// it is to stop.
+fn run_until_stop<R, H>(
     rt: &R,
     host: &H,
     input: &InputWatch,
@@ -148,9 +149,21 @@ where
     R: Print + AllocGlobal,
     H: Host,
 {
-    go_on(rt, host, settings, daemon, claims)?;
     daemon.tell_fewer_clients(host, settings.clients);
-    serve_at(rt, host, input, settings, daemon, claims, stop)
+    go_on(rt, host, settings, daemon, claims)?;
+    let listeners = Listeners::open(rt, host, settings, &daemon.observed)?;
+    if settings.ends_with_input {
+        input.begin(host, stop);
+    }
+    run_threads(
+        host,
+        daemon,
+        claims,
+        &listeners,
+        settings.service.workers as u64,
+    );
+    listeners.remove(host);
+    Ok(())
 }
 
 // Opens the archive and the state of the settings, if they have them, and goes on from the state.
@@ -235,33 +248,4 @@ fn restore_at<H: Host>(
     let restored = restore(host, alloc, path, lock, &mut desk);
     desk.end();
     restored
-}
-
-// Serves at the addresses of the settings until the daemon is to stop.
-fn serve_at<R, H>(
-    rt: &R,
-    host: &H,
-    input: &InputWatch,
-    settings: &DaemonSettings,
-    daemon: &Daemon,
-    claims: &mut Claims,
-    stop: Arc<Stop, Global>,
-) -> Result<(), Fault>
-where
-    R: Print + AllocGlobal,
-    H: Host,
-{
-    let listeners = Listeners::open(rt, host, settings, &daemon.observed)?;
-    if settings.ends_with_input {
-        input.begin(host, stop);
-    }
-    serve_all(
-        host,
-        daemon,
-        claims,
-        &listeners,
-        settings.service.workers as u64,
-    );
-    listeners.remove(host);
-    Ok(())
 }

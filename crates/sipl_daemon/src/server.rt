@@ -23,9 +23,9 @@ const TICK: u64 = 100;
 // How long a session may write its last replies, in milliseconds.
 const GRACE: u64 = 1_000;
 
-/// Serves the clients of all listeners, and control lines, until the daemon is to stop. Then ends the
-/// sessions.
-pub(crate) fn serve_all<H: Host>(
+/// Runs the threads that serve the clients of all listeners and control lines, and those beside them, until the daemon
+/// is to stop. Then ends the sessions.
+pub(crate) fn run_threads<H: Host>(
     host: &H,
     daemon: &Daemon,
     claims: &mut Claims,

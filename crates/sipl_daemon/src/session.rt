@@ -25,7 +25,7 @@ pub(crate) fn serve_client<R: Wait + Clock>(
     let course = Course::new();
     let mut desk = SessionDesk::new(rt, daemon, &course.place, asks_only);
     if set_patience(daemon, &stream).is_ok() {
-        serve_stream(rt, daemon, &stream, &course, &mut desk, asks_only);
+        run_session(rt, daemon, &stream, &course, &mut desk, asks_only);
     }
     drop(stream);
     desk.end();
@@ -34,8 +34,8 @@ pub(crate) fn serve_client<R: Wait + Clock>(
     daemon.clients.leave(rt, place);
 }
 
-// Serves a session on a stream, at its desk.
-fn serve_stream<R: Wait + Clock>(
+// Runs a session on a stream, at its desk.
+fn run_session<R: Wait + Clock>(
     rt: &R,
     daemon: &Daemon,
     stream: &Stream,

@@ -11,7 +11,7 @@ use sipl_lines::{
 };
 use sipl_names::Name;
 use std::alloc::{AllocError, Global};
-use std::io::{Input, Read, Write};
+use std::io::Input;
 use std::net::{Net, TcpListener, TcpStream};
 use std::process::ExitCode;
 use std::rt::{Env, Files};
@@ -239,19 +239,9 @@ fn serve_streams<R: Input + Print + AllocGlobal>(
     rt: &R,
     book: &mut Book,
 ) -> Result<Ended, ServeFault> {
-    serve_between(rt.alloc(), rt.reader(), io::writer(rt), book)
-}
-
-// Serves a session at a book between a reader and a writer.
-fn serve_between<A: Read + Drop, B: Write + Drop>(
-    alloc: Global,
-    reader: A,
-    writer: B,
-    book: &mut Book,
-) -> Result<Ended, ServeFault> {
-    let mut reader = Tapped::new(reader);
-    let mut writer = Tapped::new(writer);
-    serve_book(alloc, &mut reader, &mut writer, book)
+    let mut reader = Tapped::new(rt.reader());
+    let mut writer = Tapped::new(io::writer(rt));
+    serve_book(rt.alloc(), &mut reader, &mut writer, book)
 }
 
 // Plays a script on standard input and output.
