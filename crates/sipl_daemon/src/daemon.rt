@@ -90,7 +90,7 @@ impl Surroundings {
 }
 
 impl Daemon {
-    // A daemon with these settings, over a service without zones, holds or events.
+    /// A daemon with these settings, over a service without zones, holds or events.
     pub(crate) fn new<R: Clock + Files>(
         rt: &R,
         alloc: Global,
@@ -148,19 +148,19 @@ impl Daemon {
         }
     }
 
-    // Asks for the stop, since a thread could not be made without which the daemon does not go on.
+    /// Asks for the stop, since a thread could not be made without which the daemon does not go on.
     pub(crate) fn lack_thread<R: Wait>(&self, rt: &R) {
         self.lacks_thread.store(true, Ordering::SeqCst);
         self.stop.ask(rt);
     }
 
-    // Whether it ends since a thread could not be made.
+    /// Whether it ends since a thread could not be made.
     pub(crate) fn lacks_thread(&self) -> bool {
         self.lacks_thread.load(Ordering::SeqCst)
     }
 
-    // Moves the book's time to that of the host, if it is the host's and an endpoint is held. The move is not
-    // among the changes: the next hold or release has the time. A move that is refused is made later.
+    /// Moves the book's time to that of the host, if it is the host's and an endpoint is held. The move is not
+    /// among the changes: the next hold or release has the time. A move that is refused is made later.
     pub(crate) fn move_clock<R: Wait + Clock>(&self, rt: &R) {
         let Some(time) = &self.time else {
             return;
@@ -179,8 +179,8 @@ impl Daemon {
         self.end_move(rt, &mut mover, moved);
     }
 
-    // Moves the book's time to that of the host, if it is the host's. The move is among the changes, unless these can't
-    // be written.
+    /// Moves the book's time to that of the host, if it is the host's. The move is among the changes, unless these can't
+    /// be written.
     pub(crate) fn set_clock<R: Wait + Clock>(&self, rt: &R) {
         let Some(time) = &self.time else {
             return;
@@ -205,23 +205,23 @@ impl Daemon {
         let _ = self.pages.hand_over(rt, mover);
     }
 
-    // Whether the time is the host's.
+    /// Whether the time is the host's.
     pub(crate) fn has_host_time(&self) -> bool {
         self.time.is_some()
     }
 
-    // Hands the receipts of the moves of the clock over that were not: at the end, since each move does.
+    /// Hands the receipts of the moves of the clock over that were not: at the end, since each move does.
     pub(crate) fn end_moves<R: Wait>(&self, rt: &R) {
         let mut mover = self.mover.lock(rt);
         let _ = self.pages.hand_over(rt, &mut mover);
     }
 
-    // Goes on from a state that was read: the changes after it are in a file.
+    /// Goes on from a state that was read: the changes after it are in a file.
     pub(crate) fn put_changes(&mut self, changes: Changes) {
         drop(self.source.changes.replace(changes));
     }
 
-    // The time of the host goes on from that of the book.
+    /// The time of the host goes on from that of the book.
     pub(crate) fn restart_time<R: Wait + Clock>(&mut self, rt: &R) -> io::Result<()> {
         let now = self.source.service.now(rt);
         match &mut self.time {
@@ -230,7 +230,7 @@ impl Daemon {
         }
     }
 
-    // The answer to a question. Where the journal is full the page is turned, and it is tried again.
+    /// The answer to a question. Where the journal is full the page is turned, and it is tried again.
     pub(crate) fn lookup<R: Wait>(
         &self,
         rt: &R,
@@ -256,15 +256,15 @@ impl Daemon {
             .lookup(rt, pass, question, draws, &OpenGate)
     }
 
-    // Counts an event that takes so many octets, of a session whose last change ends at this place, and turns the page
-    // if that is due.
+    /// Counts an event that takes so many octets, of a session whose last change ends at this place, and turns the page
+    /// if that is due.
     pub(crate) fn count_event<R: Wait>(&self, rt: &R, number: u64, octets: u64, place: u64) {
         self.counts.count_event(number);
         self.pages
             .count_event(rt, &self.source, number, octets, place);
     }
 
-    // What is counted, as it is now.
+    /// What is counted, as it is now.
     pub(crate) fn figures<R: Files + Wait>(&self, rt: &R) -> Figures {
         let (zones, records, held) = self.totals(rt);
         Figures {
@@ -279,7 +279,7 @@ impl Daemon {
         }
     }
 
-    // Tells what was read of the files of the state from a time on, or that there are none.
+    /// Tells what was read of the files of the state from a time on, or that there are none.
     pub(crate) fn tell_read<R: Wait + Clock>(
         &self,
         rt: &R,

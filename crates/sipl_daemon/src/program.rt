@@ -202,8 +202,8 @@ where
     Ok(())
 }
 
-// The changes after the state of a path, from which the daemon goes on. It is read once clients can connect: the archive
-// may have pages of it then, at each start that is tried.
+// The changes after the state of a path, from which the daemon goes on. All addresses are tried before it is read: pages
+// of what is read go to the archive, which a start that can't listen would leave there, each time that it is tried.
 fn open_state<H: Host>(
     host: &H,
     alloc: Global,

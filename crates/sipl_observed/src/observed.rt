@@ -197,7 +197,7 @@ impl Observed {
 
     /// Tells how many pages were claimed and wait, where four wait at least, and twice as many as when that was told
     /// last.
-    pub fn see_pages<R: Wait + Clock>(&self, rt: &R, claimed: u64, waiting: u64) {
+    pub fn tell_pages<R: Wait + Clock>(&self, rt: &R, claimed: u64, waiting: u64) {
         if waiting == 0 {
             self.waiting.store(0, Ordering::SeqCst);
         }

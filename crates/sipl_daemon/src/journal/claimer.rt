@@ -70,7 +70,7 @@ fn claim_once<H: Host>(host: &H, daemon: &Daemon, claims: &mut Claims) {
     let waiting = daemon.pages.waiting(host) as u64;
     daemon
         .observed
-        .see_pages(host, daemon.pages.claimed(), waiting);
+        .tell_pages(host, daemon.pages.claimed(), waiting);
     match claimed {
         Ok(Claimed::Page) => keep_claimed(host, daemon, claims),
         Ok(Claimed::NotYet) => daemon.stop.pause(host, Duration::from_millis(PATIENCE)),

@@ -14,8 +14,8 @@ use std::sync::Wait;
 use std::time::{Clock, Instant};
 
 impl Daemon {
-    // Closes the service, claims the events of all pages, archives them, and writes the state. Returns how
-    // many events there were. The fault is the first one, from the start of the daemon on.
+    /// Closes the service, claims the events of all pages, archives them, and writes the state. Returns how
+    /// many events there were. The fault is the first one, from the start of the daemon on.
     pub(crate) fn close<R: Files<File = File> + Wait + Clock>(
         self,
         rt: &R,

@@ -95,7 +95,7 @@ impl<'a, R: Wait + Clock> SessionDesk<'a, R> {
     }
 
     // Where the last change of the session ends in the file of changes.
-    fn changed(&self) -> u64 {
+    fn last_place(&self) -> u64 {
         self.place.load(Ordering::SeqCst)
     }
 
@@ -144,7 +144,7 @@ impl<'a, R: Wait + Clock> Desk for SessionDesk<'a, R> {
         match daemon.lookup(rt, &mut self.pass, &question, draws) {
             Ok(told) => {
                 let octets = answer_octets(told.answer());
-                daemon.count_event(rt, told.number(), octets, self.changed());
+                daemon.count_event(rt, told.number(), octets, self.last_place());
                 daemon.counts.count_answer(told.answer());
                 Ok(Handed {
                     number: told.number(),
@@ -168,7 +168,7 @@ impl<'a, R: Wait + Clock> Desk for SessionDesk<'a, R> {
         let octets = edit_octets(&edit);
         match daemon.edit(rt, &mut self.pass, edit, self.place) {
             Ok(done) => {
-                daemon.count_event(rt, done.number, octets, self.changed());
+                daemon.count_event(rt, done.number, octets, self.last_place());
                 Ok(done)
             }
             Err(fault) => Err(DeskFault::Service(fault)),
@@ -184,7 +184,7 @@ impl<'a, R: Wait + Clock> Desk for SessionDesk<'a, R> {
             .hold(rt, &mut self.pass, endpoint, ms, self.place)
         {
             Ok(number) => {
-                daemon.count_event(rt, number, board_octets(), self.changed());
+                daemon.count_event(rt, number, board_octets(), self.last_place());
                 Ok(number)
             }
             Err(fault) => Err(DeskFault::Service(fault)),
@@ -201,7 +201,7 @@ impl<'a, R: Wait + Clock> Desk for SessionDesk<'a, R> {
             .release(rt, &mut self.pass, endpoint, self.place)
         {
             Ok(number) => {
-                daemon.count_event(rt, number, board_octets(), self.changed());
+                daemon.count_event(rt, number, board_octets(), self.last_place());
                 Ok(number)
             }
             Err(fault) => Err(DeskFault::Service(fault)),
@@ -217,7 +217,7 @@ impl<'a, R: Wait + Clock> Desk for SessionDesk<'a, R> {
         self.check_kept()?;
         match daemon.source.advance(rt, &mut self.pass, to, self.place) {
             Ok(number) => {
-                daemon.count_event(rt, number, board_octets(), self.changed());
+                daemon.count_event(rt, number, board_octets(), self.last_place());
                 Ok(number)
             }
             Err(fault) => Err(DeskFault::Service(fault)),
