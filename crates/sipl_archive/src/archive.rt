@@ -5,7 +5,7 @@ ghost use Rattle.sipl_archive.specs.Archive.{WritesPiece, client_text, digest_li
 ghost use Rattle.sipl_archive.specs.Archive.{greatest_run, held_text, page_head, page_name, page_text, quoted};
 ghost use Rattle.sipl_archive.specs.Archive.{run_named, setting_line, transports_line, transports_text};
 
-use crate::folder::list;
+use crate::folder::{expect_none_but, expect_same, list};
 use crate::runs::read_name;
 use crate::text::{write_event, write_number};
 use sha2::{Digest, Sha256};
@@ -79,13 +79,15 @@ impl Archive {
         Ok(())
     }
 
-    /// Writes a page into its file, which is there whole or not at all. One without events has none.
+    /// Writes a page into its file, which is there whole or not at all. One without events has none. Where another
+    /// folder has the path now, or another file the name of the page, it fails, and leaves these.
     pub fn keep<R: Files<File = File>>(&self, rt: &R, page: &Page) -> io::Result<()> {
         if page.events().is_empty() {
             return Ok(());
         }
         let to = page_path(self.alloc, self.folder.as_str(), self.run, page)?;
         let path = new_path(self.alloc, self.folder.as_str())?;
+        expect_same(rt, &self.file, self.folder.as_str())?;
         let file = open_new(rt, path.as_str())?;
         match self.put(rt, file, path.as_str(), to.as_str(), page) {
             Ok(()) => self.file.sync_all(),
@@ -107,6 +109,7 @@ impl Archive {
         page: &Page,
     ) -> io::Result<()> {
         self.write_file(file, page)?;
+        expect_none_but(rt, self.alloc, to, path)?;
         fs::rename(rt, path, to)
     }
 
@@ -177,7 +180,7 @@ fn next_run<R: Files<File = File>>(rt: &R, alloc: Global, folder: &str) -> io::R
     if last < MAX_RUN {
         Ok(last + 1)
     } else {
-        Err(io::Error::from(ErrorKind::StorageFull))
+        Err(io::Error::new(ErrorKind::QuotaExceeded, "no number is left for a run"))
     }
 }
 

@@ -1,7 +1,61 @@
 //! The folder of an archive: which names in it may be those of pages.
 use std::alloc::{AllocError, Global};
+use std::fs::{File, Metadata};
+use std::io::ErrorKind;
+use std::os::unix::fs::MetadataExt;
 use std::rt::Files;
 use std::{fs, io};
+
+/// Checks that a path leads to a folder that is open: another may have been moved there, or mounted, or that one
+/// unmounted.
+pub(crate) fn expect_same<R: Files>(rt: &R, open: &File, path: &str) -> io::Result<()> {
+    let (open, found) = (open.metadata()?, fs::metadata(rt, path)?);
+    if found.dev() == open.dev() && found.ino() == open.ino() {
+        Ok(())
+    } else {
+        Err(io::Error::new(
+            ErrorKind::StaleNetworkFileHandle,
+            "another folder is there now",
+        ))
+    }
+}
+
+/// Checks that nothing is at the path of a page, which would take its place; or only that page, which has been moved there
+/// where that was said to have failed.
+pub(crate) fn expect_none_but<R: Files>(
+    rt: &R,
+    alloc: Global,
+    path: &str,
+    page: &str,
+) -> io::Result<()> {
+    match fs::symlink_metadata(rt, path) {
+        Ok(found) => expect_page(rt, alloc, &found, path, page),
+        Err(error) if error.kind() == ErrorKind::NotFound => Ok(()),
+        Err(error) => Err(error),
+    }
+}
+
+// Checks that what was found at the path of a page is that page.
+fn expect_page<R: Files>(
+    rt: &R,
+    alloc: Global,
+    found: &Metadata,
+    path: &str,
+    page: &str,
+) -> io::Result<()> {
+    if found.is_file() && is_same_text(rt, alloc, path, page)? {
+        Ok(())
+    } else {
+        Err(io::Error::from(ErrorKind::AlreadyExists))
+    }
+}
+
+// Whether two files have the same octets.
+fn is_same_text<R: Files>(rt: &R, alloc: Global, one: &str, other: &str) -> io::Result<bool> {
+    let one = fs::read(&(rt, alloc), one)?;
+    let other = fs::read(&(rt, alloc), other)?;
+    Ok(one.as_slice() == other.as_slice())
+}
 
 /// Appends the names of what is in a folder and may be a page, and sorts them all.
 pub(crate) fn list<R: Files>(

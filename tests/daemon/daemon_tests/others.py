@@ -1,0 +1,98 @@
+"""The files of a daemon that others move, remove or change while it runs, and starts that do not go on: what was
+replied to is kept, no other's file is taken, and the cause is told once."""
+
+from __future__ import annotations
+
+import errno
+import os
+import pathlib
+import subprocess
+from typing import Callable
+
+from commits import bodies_of, log_of, state_of
+from daemon_tests.failures import LONG_ZONE, REFUSED, Faults, target
+from daemon_tests.faults import Scene, left_by_machine
+from daemon_tests.support import PATIENCE, PROGRAM, Checks, Client, Daemon, ended_start, started, stopped, test, until
+from daemon_tests.syncs import Syncs
+
+FIND = "find sip:192.0.2.1:1"
+STATE = b"# page 0\nzone example.com. 1\na.example.com. A 192.0.2.1\n"
+
+
+def replayed(archive: pathlib.Path) -> tuple[int, str]:
+    ran = subprocess.run([PROGRAM, "replay", str(archive)], capture_output=True, text=True, timeout=PATIENCE,
+                         check=False)
+    return ran.returncode, ran.stdout + ran.stderr
+
+
+def pages_in(archive: pathlib.Path) -> list[str]:
+    return sorted(it.name for it in archive.iterdir())
+
+
+def is_told_once(said: str, begin: str) -> bool:
+    return said.startswith(begin) and said.count("\n") == 1
+
+
+@test
+def archives_into_no_other_folder(checks: Checks, folder: pathlib.Path) -> None:
+    """A disk that is mounted over an archive, or unmounted, while the daemon runs."""
+    for on_failure in "end", "read":
+        archive, away = folder / f"archive-{on_failure}", folder / f"away-{on_failure}"
+        archive.mkdir()
+        settings = f'archive = "{archive}"\non_failure = "{on_failure}"\nclock = "lines"'
+        with started(checks, folder, settings) as daemon, Client(daemon.address) as client:
+            client.ask(FIND)
+            daemon.tell("page")
+            checks.expect(until(lambda: pages_in(archive) == ["000001-0000000000000000"]), pages_in(archive))
+            archive.rename(away)
+            archive.mkdir()
+            # (that of an earlier run, whose number this one's is too)
+            (archive / "000001-0000000000000001").write_text("an older page")
+            client.ask(FIND)
+            daemon.tell("page")
+            if on_failure == "end":
+                status, _ = daemon.end()
+                checks.expect(status == 1 and is_told_once(daemon.said(), "siplocd: archive: another folder"),
+                              (status, daemon.said()))
+            else:
+                checks.expect(until(lambda: daemon.said().endswith(": pages wait\n")), daemon.said())
+                checks.equal(client.ask(FIND), ["target 1 udp 192.0.2.1 1", "ok find 1"], "a question meanwhile")
+            checks.equal([(it.name, it.read_text()) for it in archive.iterdir()],
+                         [("000001-0000000000000001", "an older page")], f"the other folder: {on_failure}")
+            if on_failure == "read":
+                archive.rename(folder / "other")
+                away.rename(archive)
+                checks.expect(until(lambda: daemon.said().endswith("siplocd: archive: written again\n")), daemon.said())
+                stopped(checks, daemon, 3)
+                checks.equal(replayed(archive), (0, "run 000001 3\nreplayed 3\n"), "replay")
+
+
+@test
+def takes_the_place_of_no_page(checks: Checks, folder: pathlib.Path) -> None:
+    archive = folder / "archive"
+    archive.mkdir()
+    other = archive / "000001-0000000000000000"
+    settings = f'archive = "{archive}"\non_failure = "read"\nclock = "lines"'
+    with started(checks, folder, settings) as daemon, Client(daemon.address) as client:
+        for make in lambda: other.write_text("a page of somebody else"), lambda: other.symlink_to("nowhere"):
+            make()
+            client.ask(FIND)
+            daemon.tell("page")
+            checks.expect(until(lambda: daemon.said().endswith(": pages wait\n")), daemon.said())
+            checks.expect(other.is_symlink() or other.read_text() == "a page of somebody else", "it is another one")
+            checks.equal(pages_in(archive), [other.name], "what is there")
+            other.rename(folder / "kept")
+            checks.expect(until(lambda: daemon.said().endswith("siplocd: archive: written again\n")), daemon.said())
+            other = archive / "000001-0000000000000001"
+        stopped(checks, daemon, 2)
+    checks.equal(replayed(archive), (0, "run 000001 2\nreplayed 2\n"), "replay")
+
+
+@test
+def says_that_no_run_is_left(checks: Checks, folder: pathlib.Path) -> None:
+    archive = folder / "archive"
+    archive.mkdir()
+    (archive / "999999-0000000000000000").write_text("the last run")
+    said = f"siplocd: archive {archive}: no number is left for a run\n"
+    checks.equal(ended_start(folder, f'archive = "{archive}"'), (1, said), "after run 999999")
+    checks.equal(pages_in(archive), ["999999-0000000000000000"], "its pages")
