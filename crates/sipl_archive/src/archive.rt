@@ -99,6 +99,33 @@ impl Archive {
         }
     }
 
+    /// Removes the pages of this run, where its daemon does not go on: each start that is tried would leave as many. One
+    /// that can't be removed stays.
+    pub fn remove_run<R: Files<File = File>>(&self, rt: &R) {
+        let mut names = Vec::new(self.alloc);
+        if self.list_own(rt, &mut names).is_err() {
+            return;
+        }
+        for name in &names {
+            if run_of(name.as_str()) == self.run {
+                let _ = self.remove(rt, name.as_str());
+            }
+        }
+    }
+
+    // Appends the names of what may be a page in the folder whose lock the daemon has.
+    fn list_own<R: Files<File = File>>(&self, rt: &R, names: &mut Vec<String>) -> io::Result<()> {
+        expect_same(rt, &self.file, self.folder.as_str())?;
+        list(rt, self.alloc, self.folder.as_str(), names)
+    }
+
+    // Removes the file of a name.
+    fn remove<R: Files<File = File>>(&self, rt: &R, name: &str) -> io::Result<()> {
+        let folder = self.folder.as_str();
+        let path = format!(in self.alloc; "{folder}/{name}")?;
+        fs::remove_file(rt, path.as_str())
+    }
+
     // Writes a page into a new file, which is at a path, and moves it to its place.
     fn put<R: Files<File = File>>(
         &self,

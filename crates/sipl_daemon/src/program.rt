@@ -114,10 +114,18 @@ where
     match run_until_stop(rt, host, input, settings, &mut daemon, &mut claims, stop) {
         Ok(()) => close(host, daemon, claims),
         Err(fault) => {
+            drop_pages(host, &daemon);
             drop(daemon);
             drop(claims);
             Err(fault)
         }
+    }
+}
+
+// Removes the pages of a start that does not go on from the archive, if there is one.
+fn drop_pages<H: Host>(host: &H, daemon: &Daemon) {
+    if let Some(archive) = &daemon.archive {
+        archive.remove_run(host);
     }
 }
 

@@ -96,3 +96,35 @@ def says_that_no_run_is_left(checks: Checks, folder: pathlib.Path) -> None:
     said = f"siplocd: archive {archive}: no number is left for a run\n"
     checks.equal(ended_start(folder, f'archive = "{archive}"'), (1, said), "after run 999999")
     checks.equal(pages_in(archive), ["999999-0000000000000000"], "its pages")
+
+
+@test
+def a_start_that_is_refused_leaves_no_page(checks: Checks, folder: pathlib.Path) -> None:
+    archive, state, log = folder / "archive", folder / "state", folder / "state.log"
+    archive.mkdir()
+    state.write_bytes(state_of(STATE))
+    adds = [f"add n{number}.example.com. A 192.0.2.1\n".encode() for number in range(300)]
+    whole = log_of(state.read_bytes(), [b"".join(adds), b"add b.example.com. A 192.0.2.2\n", b"drop example.com.\n"])
+    # (pages of fewer events than there are changes)
+    settings = f'archive = "{archive}"\nstate = "{state}"\njournal = 60\nclock = "lines"\n'
+    log.write_bytes(whole)
+    with started(checks, folder, settings) as daemon:
+        stopped(checks, daemon)
+    before = pages_in(archive)
+    checks.expect(len(before) > 3, before)
+    (archive / "of an operator").write_text("a note")
+    state.write_bytes(state_of(STATE))
+    damaged = whole.replace(b"add b.", b"add c.")
+    refused = log_of(state.read_bytes(), [b"".join(adds), b"add b.example.com. A 192.0.2\n"])
+    for name, octets, more in ("damage", damaged, ""), ("a change that is refused", refused, ""), \
+            ("more records than are allowed", whole, "records = 200"):
+        log.write_bytes(octets)
+        status, said = ended_start(folder, settings + more)
+        checks.expect(status == 1 and is_told_once(said, f"siplocd: state {log}: "), (name, status, said))
+        checks.equal(pages_in(archive), [*before, "of an operator"], f"the archive after {name}")
+    # What a kill may leave: the pages of a run that is whole up to there.
+    (archive / "of an operator").unlink()
+    log.write_bytes(whole)
+    with started(checks, folder, settings) as daemon:
+        stopped(checks, daemon)
+    checks.equal(replayed(archive)[0], 0, replayed(archive))
