@@ -1,5 +1,5 @@
 //! The changes since the last state, in a file: each is there before its reply is sent.
-use crate::files::{open_to_append, remove_new, write_new};
+use crate::files::{expect_same, open_to_append, remove_new, write_new};
 use crate::pending::{Mark, Pending, long_after};
 use crate::state_files::{Base, StateFiles, point_after};
 use crate::written::Written;
@@ -31,11 +31,12 @@ pub struct Changes {
     has_failed: AtomicBool,
 }
 
-/// How many octets a state has, and the changes of its log; their last mark, and the points before the first commit of
-/// the log and after the last one.
+/// How many octets a state has, its log, and the changes of that; their last mark, and the points before the first commit
+/// of the log and after the last one.
 #[derive(Clone, Copy)]
 pub(crate) struct Extent {
     pub(crate) state_len: u64,
+    pub(crate) log_len: u64,
     pub(crate) len: u64,
     pub(crate) mark: u64,
     pub(crate) first: Point,
@@ -55,6 +56,7 @@ impl Changes {
         let file = open_to_append(rt, files.log.as_str())?;
         let Extent {
             state_len,
+            log_len,
             len,
             mark,
             first,
@@ -66,7 +68,7 @@ impl Changes {
             files,
             lock,
             pending: Mutex::new(Pending::new(alloc, state_len, len, mark, time)),
-            written: Mutex::new(Written::new(alloc, file, base, last)),
+            written: Mutex::new(Written::new(alloc, file, log_len, base, last)),
             synced: AtomicU64::new(len),
             long_at: AtomicU64::new(long_after(0, state_len)),
             has_failed: AtomicBool::new(false),
@@ -127,8 +129,16 @@ impl Changes {
         state: &State,
     ) -> io::Result<()> {
         self.sync(rt, mark.begin)?;
+        self.expect_own(rt)?;
         let digest = self.write_new_state(rt, mark, state)?;
         self.begin_log(rt, mark, &digest)
+    }
+
+    // Checks that the lock of the state is that which this process has: another folder may have been moved or mounted
+    // there, or another process may have the files by a lock that was made anew.
+    fn expect_own<R: Files<File = File>>(&self, rt: &R) -> io::Result<()> {
+        let path = self.files.lock_path(self.alloc)?;
+        expect_same(rt, &self.lock, path.as_str())
     }
 
     /// Writes the log anew, with all changes, where something failed that was done to the files. Then changes can be
@@ -139,16 +149,49 @@ impl Changes {
             return Ok(());
         }
         let end = self.take_unwritten(rt, &mut written)?;
+        self.expect_own(rt)?;
         self.write_log_anew(rt, &mut written)?;
         self.synced.store(end, Ordering::SeqCst);
         self.has_failed.store(false, Ordering::SeqCst);
         Ok(())
     }
 
-    /// Writes the last state, after which there are no changes.
+    /// Writes the last state, after which there are no changes. Where these can't be written to the log it has them all
+    /// the same, and this fails.
     pub fn end<R: Files<File = File> + Wait>(&self, rt: &R, state: &State) -> io::Result<()> {
         let mark = self.push_last_mark(rt)?;
-        self.write_state(rt, mark, state)
+        let ended = self.write_state(rt, mark, state);
+        if ended.is_err() && self.has_failed() {
+            let _ = self.write_alone(rt, mark, state);
+        }
+        ended
+    }
+
+    // Writes a last state without what is in the log before it. Where it is not known which of two logs is that of the
+    // state in its place, both stay.
+    fn write_alone<R: Files<File = File> + Wait>(
+        &self,
+        rt: &R,
+        mark: Mark,
+        state: &State,
+    ) -> io::Result<()> {
+        let written = self.written.lock(rt);
+        if !written.has_base() {
+            return Ok(());
+        }
+        self.expect_own(rt)?;
+        let digest = self.write_new_state(rt, mark, state)?;
+        let begun = self.begin_empty(rt, &digest);
+        if begun.is_err() {
+            remove_new(rt, self.alloc, self.files.state.as_str());
+        }
+        begun
+    }
+
+    // Begins a log without changes after a state of this digest, which takes its place.
+    fn begin_empty<R: Files<File = File>>(&self, rt: &R, digest: &[u8; 32]) -> io::Result<()> {
+        let (log, _) = log_of(self.alloc, &point_after(digest), &[])?;
+        self.files.begin(rt, self.alloc, &log)
     }
 
     fn push_last_mark<R: Wait>(&self, rt: &R) -> Result<Mark, AllocError> {
@@ -198,7 +241,7 @@ impl Changes {
         let changes = written.all_changes(&octets, &base, synced)?;
         let (log, last) = log_of(self.alloc, &base.first, &changes)?;
         let file = self.files.write_log(rt, self.alloc, &log)?;
-        written.go_on(file, base, last);
+        written.go_on(file, log.len() as u64, base, last);
         Ok(())
     }
 
@@ -258,7 +301,7 @@ impl Changes {
         written.set_next(base);
         self.files.begin(rt, self.alloc, &log)?;
         let file = open_to_append(rt, self.files.log.as_str())?;
-        written.go_on(file, base, last);
+        written.go_on(file, log.len() as u64, base, last);
         Ok(())
     }
 

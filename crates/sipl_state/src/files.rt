@@ -2,7 +2,7 @@
 use std::alloc::{AllocError, Global};
 use std::fs::{File, OpenOptions};
 use std::io::{ErrorKind, Write};
-use std::os::unix::fs::OpenOptionsExt;
+use std::os::unix::fs::{MetadataExt, OpenOptionsExt};
 use std::rt::Files;
 use std::{fs, io};
 
@@ -77,6 +77,23 @@ pub(crate) fn sync_folder<R: Files<File = File>>(rt: &R, path: &str) -> io::Resu
         None => ".",
     };
     File::open(rt, folder)?.sync_all()
+}
+
+/// Checks that a path leads to a file that is open, and not to another one.
+pub(crate) fn expect_same<R: Files<File = File>>(
+    rt: &R,
+    open: &File,
+    path: &str,
+) -> io::Result<()> {
+    let (open, found) = (open.metadata()?, fs::metadata(rt, path)?);
+    if found.dev() == open.dev() && found.ino() == open.ino() {
+        Ok(())
+    } else {
+        Err(io::Error::new(
+            ErrorKind::StaleNetworkFileHandle,
+            "its lock is another file now",
+        ))
+    }
 }
 
 /// Where a file is: where the path is a symbolic link, that to which it leads.

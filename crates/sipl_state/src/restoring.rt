@@ -1,6 +1,6 @@
 //! The zones and the holds of a daemon, read again from their files: a state, and the log of the changes since then.
 use crate::changes::{Changes, Extent};
-use crate::files::{read_file, remove_new, take_place, write_new};
+use crate::files::{read_file, remove_new, sync_folder, take_place, write_new};
 use crate::first_format::FirstFormat;
 use crate::state_files::{FoundLog, StateFiles, point_after};
 use sipl_archive::{Made, made_of, mark_of, replies_to, split_line, whole_len};
@@ -225,6 +225,7 @@ fn begin<R: Files<File = File>>(
     begun?;
     Ok(Extent {
         state_len: text.len() as u64,
+        log_len: octets.len() as u64,
         len: 0,
         mark,
         first,
@@ -284,7 +285,7 @@ fn read_second<R: Files<File = File>, D: Desk>(
             Some(whole)
         },
     };
-    let extent = make_changes(alloc, &log, state, desk)?;
+    let extent = make_changes(alloc, &log, whole, state, desk)?;
     let tail = Vec::from_slice(alloc, log.tail)?;
     let read = Read::Second {
         extent,
@@ -295,7 +296,8 @@ fn read_second<R: Files<File = File>, D: Desk>(
     Ok((read, found))
 }
 
-// Goes on with a log, which takes its place where it has not, and is left without its tail.
+// Goes on with a log, which takes its place where it has not, and is left without its tail. Its name is synced: a kill may
+// have come before that, and what is appended would be lost with it.
 fn go_on<R: Files<File = File>>(
     rt: &R,
     alloc: Global,
@@ -307,16 +309,17 @@ fn go_on<R: Files<File = File>>(
     if is_new {
         take_place(rt, alloc, files.log.as_str())?;
     }
-    if tail.is_empty() {
-        return Ok(());
+    if !tail.is_empty() {
+        files.drop_tail(rt, alloc, whole, tail)?;
     }
-    files.drop_tail(rt, alloc, whole, tail)
+    sync_folder(rt, files.log.as_str())
 }
 
-// Makes the changes of the log of a state.
+// Makes the changes of the log of a state, which has so many octets before its tail.
 fn make_changes<D: Desk>(
     alloc: Global,
     log: &Log<'_>,
+    whole: usize,
     state: &FoundState,
     desk: &mut D,
 ) -> Result<Extent, StateFault> {
@@ -327,6 +330,7 @@ fn make_changes<D: Desk>(
     }
     Ok(Extent {
         state_len: state.len,
+        log_len: whole as u64,
         len: changes.len() as u64,
         mark: made.mark.unwrap_or(state.mark),
         first: state.first,

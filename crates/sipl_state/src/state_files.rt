@@ -48,6 +48,11 @@ impl StateFiles {
         })
     }
 
+    /// The path of the lock of the state.
+    pub(crate) fn lock_path(&self, alloc: Global) -> Result<String, AllocError> {
+        format!(in alloc; "{}.lock", self.state)
+    }
+
     /// Begins a log with these octets: the new one is there, also after a loss of power, before its state takes its
     /// place, and takes its own after that. What a kill leaves between the two is finished at the next start. Where the
     /// state may have taken its place the new log stays.

@@ -7,12 +7,15 @@ use std::alloc::{AllocError, Global};
 use std::fs::File;
 use std::io;
 use std::io::{ErrorKind, Write};
+use std::os::unix::fs::MetadataExt;
 
 /// The log.
 #[derive(Drop)]
 pub(crate) struct Written {
     alloc: Global,
     file: File,
+    // How many octets it has.
+    len: u64,
     // The place of its first change, and the point before its first commit.
     base: Base,
     // The point after its last commit.
@@ -27,11 +30,12 @@ pub(crate) struct Written {
 }
 
 impl Written {
-    /// A log to append to, which begins there and has commits up to this point.
-    pub(crate) fn new(alloc: Global, file: File, base: Base, last: Point) -> Written {
+    /// A log of so many octets to append to, which begins there and has commits up to this point.
+    pub(crate) fn new(alloc: Global, file: File, len: u64, base: Base, last: Point) -> Written {
         Written {
             alloc,
             file,
+            len,
             base,
             last,
             next: None,
@@ -72,10 +76,39 @@ impl Written {
     fn append(&mut self, changes: &[u8]) -> io::Result<()> {
         let mut commit = Vec::new(self.alloc);
         let next = write_commit(self.alloc, &mut commit, &self.last, changes)?;
-        self.file.write_all(&commit)?;
-        self.file.sync_data()?;
+        self.expect_unchanged()?;
+        self.put(&commit)?;
         self.last = next;
+        self.len = self.len.saturating_add(commit.len() as u64);
         Ok(())
+    }
+
+    // Checks that the file has a name, and as many octets as were written to it: a commit after others would not be read
+    // again, nor one in a file that was removed.
+    fn expect_unchanged(&self) -> io::Result<()> {
+        let found = self.file.metadata()?;
+        if found.nlink() == 0 {
+            Err(io::Error::from(ErrorKind::NotFound))
+        } else if found.len() == self.len {
+            Ok(())
+        } else {
+            Err(io::Error::from(ErrorKind::InvalidData))
+        }
+    }
+
+    // Appends a commit to the file, and syncs it. Where that fails the commit is cut off: the next start would read what
+    // may never be on the disk, and write after it.
+    fn put(&mut self, commit: &[u8]) -> io::Result<()> {
+        let put = self.write_synced(commit);
+        if put.is_err() {
+            let _ = self.file.set_len(self.len);
+        }
+        put
+    }
+
+    fn write_synced(&mut self, commit: &[u8]) -> io::Result<()> {
+        self.file.write_all(commit)?;
+        self.file.sync_data()
     }
 
     /// Reserves the space of changes that could not be written.
@@ -134,14 +167,20 @@ impl Written {
         (self.base, self.next)
     }
 
+    /// Whether the log of the state that is in its place is known.
+    pub(crate) fn has_base(&self) -> bool {
+        self.next.is_none()
+    }
+
     /// Another log is to take its place, with a state.
     pub(crate) fn set_next(&mut self, next: Base) {
         self.next = Some(next);
     }
 
-    /// Goes on with a log that was written anew, and has all changes.
-    pub(crate) fn go_on(&mut self, file: File, base: Base, last: Point) {
+    /// Goes on with a log of so many octets that was written anew, and has all changes.
+    pub(crate) fn go_on(&mut self, file: File, len: u64, base: Base, last: Point) {
         self.file = file;
+        self.len = len;
         self.base = base;
         self.last = last;
         self.next = None;

@@ -128,3 +128,134 @@ def a_start_that_is_refused_leaves_no_page(checks: Checks, folder: pathlib.Path)
     with started(checks, folder, settings) as daemon:
         stopped(checks, daemon)
     checks.equal(replayed(archive)[0], 0, replayed(archive))
+
+
+def change_log(log: pathlib.Path, how: str) -> None:
+    """What somebody does to a log while the daemon runs."""
+    if how == "removed":
+        log.unlink()
+    elif how == "emptied":
+        os.truncate(log, 0)
+    elif how == "replaced":
+        log.with_suffix(".other").write_bytes(b"something else")
+        log.with_suffix(".other").replace(log)
+    else:
+        with log.open("ab") as file:
+            file.write(b"something else")
+
+
+@test
+def keeps_what_was_replied_to_where_its_log_is_changed(checks: Checks, folder: pathlib.Path) -> None:
+    for how in "removed", "emptied", "replaced", "written to":
+        for on_failure in "end", "read":
+            inner = folder / f"{how}-{on_failure}"
+            inner.mkdir()
+            settings = f'state = "{inner}/state"\non_failure = "{on_failure}"'
+            name = f"{how}, {on_failure}"
+            with started(checks, inner, settings) as daemon, Client(daemon.address) as client, \
+                    Client(daemon.address) as other:
+                checks.equal(client.ask("zone example.com. 1\na A 192.0.2.1"), ["ok zone 1 0 0 1"], name)
+                change_log(inner / "state.log", how)
+                checks.equal(client.ask("add b.example.com. A 192.0.2.2"), None, f"{name}: a reply")
+                if on_failure == "end":
+                    status, _ = daemon.end()
+                elif how == "written to":
+                    # (the log is read, but for what is no commit, and written anew)
+                    checks.expect(until(lambda: other.ask("add c.example.com. A 192.0.2.3") != REFUSED), name)
+                    status, _, _ = daemon.stop()
+                    checks.equal(status, 0, f"{name}: {daemon.said()!r}")
+                else:
+                    checks.equal(other.ask("add c.example.com. A 192.0.2.3"), REFUSED, name)
+                    checks.equal(other.ask("find sip:a.example.com:1"), target(1), f"{name}: a question meanwhile")
+                    checks.expect(until(lambda: daemon.said().endswith("changes are refused\n")), daemon.said())
+                    status, _, _ = daemon.stop()
+                if (on_failure, how) != ("read", "written to"):
+                    checks.equal(status, 1, f"{name}: {daemon.said()!r}")
+                    checks.expect(daemon.said().startswith("siplocd: state: "), daemon.said())
+                    checks.equal(daemon.said().count("\n"), 1 + (on_failure == "read"), f"{name}: {daemon.said()!r}")
+            with started(checks, inner, settings) as daemon, Client(daemon.address) as client:
+                checks.equal(client.ask("find sip:a.example.com:1"), target(1), f"{name}: at the next start")
+                checks.equal(client.ask("add d.example.com. A 192.0.2.4"), ["ok add 1"], f"{name}: a change")
+                stopped(checks, daemon)
+
+
+@test
+def cuts_off_a_change_that_could_not_be_synced(checks: Checks, folder: pathlib.Path) -> None:
+    """The system has the octets, and may never write them: what comes after them would be lost with them."""
+    for name in "sync", "write":
+        inner = folder / name
+        inner.mkdir()
+        syncs, log = Syncs(inner), inner / "state.log"
+        with started(checks, inner, f'state = "{inner}/state"', environment=syncs.environment) as daemon, \
+                Client(daemon.address) as client:
+            checks.equal(client.ask("zone example.com. 1\na A 192.0.2.1"), ["ok zone 1 0 0 1"], "zone")
+            before = log.read_bytes()
+            syncs.fail(name, errno.EIO)
+            checks.equal(client.ask("add b.example.com. A 192.0.2.2"), None, f"{name}: a reply")
+            checks.equal(daemon.end()[0], 1, name)
+            checks.equal(log.read_bytes(), before, f"the log after a {name} that failed")
+            checks.equal(sorted(it.name for it in inner.glob("state*")), ["state", "state.lock", "state.log"],
+                         f"its files after a {name} that failed")
+
+
+@test
+def a_start_syncs_the_name_of_its_log(checks: Checks, folder: pathlib.Path) -> None:
+    """The daemon is killed when a log that was written anew has its place, and the folder is not synced; the next one
+    goes on with it; and then the machine ends."""
+    state = state_of(STATE)
+    scene = Scene("named", {"state": state, "state.log": log_of(state, [])}, [])
+    place, synced = folder / "place", folder / "synced"
+    scene.put(place, synced)
+    faults, settings = Faults(folder), f'state = "{place}/state"\non_failure = "read"\nclock = "lines"\nworkers = 0'
+    for fault in f"write state.log 1 {errno.EIO} rename state.log 1 after", "none none 1 0":
+        environment = {**faults.environment(fault), "FAULT_FOLDER": f"{place}/", "FAULT_SYNCED": f"{synced}/"}
+        daemon = Daemon(folder, settings, listen=[f"unix:{folder}/lines"], environment=environment)
+        try:
+            with Client(daemon.address) as client:
+                if fault.startswith("write"):
+                    checks.equal(client.ask("add b.example.com. A 192.0.2.2"), None, "a change that is not written")
+                    checks.equal(daemon.end()[0], -9, "its end")
+                    checks.equal(len(bodies_of((place / "state.log").read_bytes())), 1, "commits")
+                else:
+                    checks.equal(client.ask("add c.example.com. A 192.0.2.3"), ["ok add 1"], "a change after it")
+        finally:
+            daemon.kill()
+    left = left_by_machine(place, synced, False)
+    with started(checks, folder, f'state = "{left}/state"', listen=[f"unix:{folder}/lines"]) as daemon, \
+            Client(daemon.address) as client:
+        checks.equal(client.ask("find sip:c.example.com:1"), target(3), "what was replied to")
+
+
+@test
+def leaves_its_files_where_its_folder_is_another_one(checks: Checks, folder: pathlib.Path) -> None:
+    def replace(inner: pathlib.Path) -> None:
+        inner.rename(folder / "away")
+        inner.mkdir()
+
+    def restore(inner: pathlib.Path) -> None:
+        checks.equal([*inner.iterdir()], [], "the other folder")
+        inner.rmdir()
+        (folder / "away").rename(inner)
+
+    def lock_anew(inner: pathlib.Path) -> None:
+        (inner / "state.lock").unlink()
+        (inner / "state.lock").touch()
+
+    cases: list[tuple[str, Callable[[pathlib.Path], None], Callable[[pathlib.Path], object]]] = [
+        ("folder", replace, restore), ("lock", lock_anew, lambda _: None)]
+    for name, make, undo in cases:
+        inner = folder / name
+        inner.mkdir()
+        settings = f'state = "{inner}/state"\nclock = "lines"'
+        with started(checks, folder, settings) as daemon, Client(daemon.address) as client:
+            checks.equal(client.ask("zone example.com. 1\na A 192.0.2.1"), ["ok zone 1 0 0 1"], "zone")
+            make(inner)
+            # (a state is written after it)
+            checks.equal(client.ask(LONG_ZONE.replace("example.com.", "example.net.")), ["ok zone 1401 0 0 1401"], name)
+            status, _ = daemon.end()
+            checks.expect(status == 1 and is_told_once(daemon.said(), "siplocd: state: "), (status, daemon.said()))
+        undo(inner)
+        with started(checks, folder, settings) as daemon, Client(daemon.address) as client:
+            for apex in "example.com", "example.net":
+                checks.equal(client.ask(f"find sip:a.{apex}:1"), target(1), f"{name}: {apex}")
+            stopped(checks, daemon)
