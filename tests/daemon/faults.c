@@ -13,7 +13,8 @@
 // `socket`, and `new` of a `thread`, the making of one. ACTION is the number of an error; `before` or `after`, the end of
 // the process before the operation or after it; of a write `half`, the end after half of its octets, and `short`, which
 // writes half of them; or `full`: half of the octets are written, and from then on the disk has no space, until the
-// folder has a file `emptied`.
+// folder has a file `emptied`; or `read-only`: from that operation on the disk of the state and the archive can't be
+// written, until then.
 #define _GNU_SOURCE
 #include <dirent.h>
 #include <dlfcn.h>
@@ -44,7 +45,7 @@ struct fault {
 static char folder[NAMES], synced[NAMES];
 static struct fault faults[2];
 static int trace = -1;
-static _Atomic int is_full;
+static _Atomic int is_full, is_read_only;
 
 __attribute__((constructor)) static void begin(void) {
     const char *path = getenv("FAULT_LOG"), *top = getenv("FAULT_FOLDER"), *text = getenv("FAULT");
@@ -107,7 +108,9 @@ static int fails(const char *action) {
         return 0;
     if (is_action(action, "before"))
         end();
-    errno = atoi(action);
+    if (is_action(action, "read-only"))
+        atomic_store(&is_read_only, 1);
+    errno = is_action(action, "read-only") ? EROFS : atoi(action);
     return errno != 0;
 }
 
@@ -127,11 +130,20 @@ static const char *path_of(int file, char path[NAMES]) {
     return name_of(path);
 }
 
-static int has_no_space(void) {
+static int is_emptied(void) {
     char path[NAMES + 8];
     struct stat found;
     snprintf(path, sizeof path, "%semptied", folder);
-    return atomic_load(&is_full) && stat(path, &found) != 0;
+    return stat(path, &found) == 0;
+}
+
+// Whether a disk that can't be written has the file of a name, as that of a socket has not.
+static int is_kept(const char *name) {
+    int is_own = name != NULL && (strncmp(name, "state", 5) == 0 || strncmp(name, "archive", 7) == 0);
+    if (!is_own || !atomic_load(&is_read_only) || is_emptied())
+        return 0;
+    errno = EROFS;
+    return 1;
 }
 
 #define ON_FILE(kind, file, call) \
@@ -141,9 +153,16 @@ static int has_no_space(void) {
 #define ON_PATH(kind, path, call) \
     const char *action = action_of(kind, name_of(path)); \
     return fails(action) ? -1 : done(action, call)
+// (of what changes the disk)
+#define ON_DISK(kind, path, call) \
+    const char *action = action_of(kind, name_of(path)); \
+    return fails(action) || is_kept(name_of(path)) ? -1 : done(action, call)
 
 static int open_path(const char *path, int flags, mode_t mode) {
-    ON_PATH("open", path, syscall(SYS_openat, AT_FDCWD, path, flags, mode));
+    if ((flags & (O_WRONLY | O_RDWR | O_CREAT | O_TRUNC)) == 0) {
+        ON_PATH("open", path, syscall(SYS_openat, AT_FDCWD, path, flags, mode));
+    }
+    ON_DISK("open", path, syscall(SYS_openat, AT_FDCWD, path, flags, mode));
 }
 
 int open(const char *path, int flags, ...) {
@@ -179,10 +198,12 @@ ssize_t write(int file, const void *octets, size_t size) {
         atomic_store(&is_full, 1);
     if (is_action(action, "short") || is_action(action, "full"))
         return write_half(file, octets, size);
-    if (name != NULL && strcmp(name, "socket") != 0 && has_no_space()) {
+    if (name != NULL && strcmp(name, "socket") != 0 && atomic_load(&is_full) && !is_emptied()) {
         errno = ENOSPC;
         return -1;
     }
+    if (is_kept(name))
+        return -1;
     return done(action, syscall(SYS_write, file, octets, size));
 }
 
@@ -249,7 +270,9 @@ int fdatasync(int file) {
 }
 
 int ftruncate(int file, off_t size) {
-    ON_FILE("ftruncate", file, syscall(SYS_ftruncate, file, size));
+    char path[NAMES];
+    const char *name = path_of(file, path), *action = action_of("ftruncate", name);
+    return fails(action) || is_kept(name) ? -1 : done(action, syscall(SYS_ftruncate, file, size));
 }
 
 int fallocate(int file, int mode, off_t place, off_t size) {
@@ -265,11 +288,11 @@ ssize_t getdents64(int file, void *octets, size_t size) {
 }
 
 int rename(const char *from, const char *to) {
-    ON_PATH("rename", to, syscall(SYS_rename, from, to));
+    ON_DISK("rename", to, syscall(SYS_rename, from, to));
 }
 
 int unlink(const char *path) {
-    ON_PATH("unlink", path, syscall(SYS_unlink, path));
+    ON_DISK("unlink", path, syscall(SYS_unlink, path));
 }
 
 int rmdir(const char *path) {
@@ -284,7 +307,13 @@ int chmod(const char *path, mode_t mode) {
     ON_PATH("chmod", path, syscall(SYS_chmod, path, mode));
 }
 
+static int stat_file(int file, const char *none, int flags, unsigned mask, struct statx *found) {
+    ON_FILE("fstat", file, syscall(SYS_statx, file, none, flags, mask, found));
+}
+
 int statx(int at, const char *path, int flags, unsigned mask, struct statx *found) {
+    if (path[0] == 0)
+        return stat_file(at, path, flags, mask, found);
     ON_PATH("stat", path, syscall(SYS_statx, at, path, flags, mask, found));
 }
 

@@ -5,13 +5,13 @@ use crate::fault::state_fault;
 use crate::journal::claims::Claims;
 use crate::server::run_threads;
 use crate::session::restoring::RestoringDesk;
-use sipl_listen::{Stop, take_lock};
+use sipl_listen::{Stop, take_lock, take_lock_there};
 use sipl_log::{Level, Log};
 use sipl_process::{
     Fault, Host, InputWatch, Listeners, begin, check_settings, expect_state, open_archive,
     open_closed, print_replay, read_call, status_of, tell,
 };
-use sipl_settings::{Call, DaemonSettings, Given};
+use sipl_settings::{Call, DaemonSettings, Given, OnFailure};
 use sipl_state::{Restored, StateFault, real_path, restore};
 use std::alloc::Global;
 use std::fs::File;
@@ -220,12 +220,13 @@ fn open_state<H: Host>(
     claims: &mut Claims,
     path: &str,
 ) -> Result<Restored, Fault> {
-    let (real, lock) = match lock_state(host, alloc, path) {
+    let goes_on = settings.on_failure == OnFailure::Read;
+    let (real, lock) = match lock_state(host, alloc, path, goes_on) {
         Ok(locked) => locked,
         Err(error) => return Err(Fault::State(String::from_str(alloc, path)?, error)),
     };
     Listeners::check(host, alloc, settings)?;
-    match restore_at(host, alloc, daemon, claims, real.as_str(), lock) {
+    match restore_at(host, alloc, daemon, claims, real.as_str(), lock, goes_on) {
         Ok(restored) => Ok(restored),
         Err(fault) => Err(state_fault(alloc, path, fault)?),
     }
@@ -236,9 +237,16 @@ fn lock_state<R: Files<File = File>>(
     rt: &R,
     alloc: Global,
     path: &str,
+    goes_on: bool,
 ) -> io::Result<(String, File)> {
     let path = real_path(rt, alloc, path)?;
-    let lock = take_lock(rt, format!(in alloc; "{path}.lock")?.as_str())?;
+    let at = format!(in alloc; "{path}.lock")?;
+    let lock = match take_lock(rt, at.as_str()) {
+        Err(error) if goes_on && error.kind() == ErrorKind::ReadOnlyFilesystem => {
+            take_lock_there(rt, at.as_str())?
+        }
+        lock => lock?,
+    };
     Ok((path, lock))
 }
 
@@ -250,10 +258,11 @@ fn restore_at<H: Host>(
     claims: &mut Claims,
     path: &str,
     lock: File,
+    goes_on: bool,
 ) -> Result<Restored, StateFault> {
     let place = AtomicU64::new(0);
     let mut desk = RestoringDesk::new(host, daemon, &place, claims);
-    let restored = restore(host, alloc, path, lock, &mut desk);
+    let restored = restore(host, alloc, path, lock, goes_on, &mut desk);
     desk.end();
     restored
 }

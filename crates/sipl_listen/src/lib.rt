@@ -18,6 +18,6 @@ pub use clients::{Client, Clients};
 pub use descriptors::max_clients;
 pub use fault::ConnectionFault;
 pub use listener::{Listener, expect_socket_or_none};
-pub use lock::take_lock;
+pub use lock::{take_lock, take_lock_there};
 pub use stop::Stop;
 pub use stream::Stream;

@@ -14,12 +14,22 @@ pub fn take_lock<R: Files<File = File>>(rt: &R, path: &str) -> io::Result<File> 
         .truncate(false)
         .mode(0o600)
         .open(rt, path)?;
+    locked(file)
+}
+
+/// As `take_lock`, of a file that is there, which may be on a disk that can't be written.
+pub fn take_lock_there<R: Files<File = File>>(rt: &R, path: &str) -> io::Result<File> {
+    locked(File::open(rt, path)?)
+}
+
+// The file, once its lock is taken.
+fn locked(file: File) -> io::Result<File> {
     match file.try_lock() {
-        Ok(()) => {}
-        Err(TryLockError::WouldBlock) => {
-            return Err(io::Error::new(ErrorKind::ResourceBusy, "another siplocd has it"));
-        }
-        Err(TryLockError::Error(error)) => return Err(error),
+        Ok(()) => Ok(file),
+        Err(TryLockError::WouldBlock) => Err(io::Error::new(
+            ErrorKind::ResourceBusy,
+            "another siplocd has it",
+        )),
+        Err(TryLockError::Error(error)) => Err(error),
     }
-    Ok(file)
 }

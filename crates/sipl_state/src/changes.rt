@@ -8,6 +8,7 @@ use sipl_book::State;
 use sipl_commits::{Point, log_of, write_state};
 use std::alloc::{AllocError, Global};
 use std::fs::File;
+use std::io::ErrorKind;
 use std::rt::Files;
 use std::sync::atomic::{AtomicBool, AtomicU64, Ordering};
 use std::sync::{Mutex, MutexGuard, Wait};
@@ -44,16 +45,17 @@ pub(crate) struct Extent {
 }
 
 impl Changes {
-    /// The files of a state, of which this file has the lock. The log has these changes, which lead to this time.
-    pub(crate) fn open<R: Files<File = File>>(
-        rt: &R,
+    /// The files of a state, of which a file has the lock, and the log to append to, or why it can't be written. It has
+    /// these changes, which lead to this time.
+    pub(crate) fn new(
         alloc: Global,
         files: StateFiles,
         lock: File,
+        file: File,
+        failure: Option<ErrorKind>,
         extent: Extent,
         time: u64,
-    ) -> io::Result<Changes> {
-        let file = open_to_append(rt, files.log.as_str())?;
+    ) -> Changes {
         let Extent {
             state_len,
             log_len,
@@ -63,16 +65,16 @@ impl Changes {
             last,
         } = extent;
         let base = Base { first, start: 0 };
-        Ok(Changes {
+        Changes {
             alloc,
             files,
             lock,
             pending: Mutex::new(Pending::new(alloc, state_len, len, mark, time)),
-            written: Mutex::new(Written::new(alloc, file, log_len, base, last)),
+            written: Mutex::new(Written::new(alloc, file, log_len, base, last, failure)),
             synced: AtomicU64::new(len),
             long_at: AtomicU64::new(long_after(0, state_len)),
-            has_failed: AtomicBool::new(false),
-        })
+            has_failed: AtomicBool::new(failure.is_some()),
+        }
     }
 
     /// Whether something failed that was done to the files, so that no change can be kept until they are mended.

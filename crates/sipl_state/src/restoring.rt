@@ -1,6 +1,6 @@
 //! The zones and the holds of a daemon, read again from their files: a state, and the log of the changes since then.
 use crate::changes::{Changes, Extent};
-use crate::files::{read_file, remove_new, sync_folder, take_place, write_new};
+use crate::files::{open_to_append, read_file, remove_new, sync_folder, take_place, write_new};
 use crate::first_format::FirstFormat;
 use crate::state_files::{FoundLog, StateFiles, point_after};
 use sipl_archive::{Made, made_of, mark_of, replies_to, split_line, whole_len};
@@ -105,30 +105,38 @@ struct FoundState {
 }
 
 /// Reads the state of a path, whose lock is this file, and the changes after it, makes them at a desk, and opens
-/// the log. All is made before anything is written.
+/// the log. All is made before anything is written. Where it is to go on though the log can't be written, its changes
+/// have failed.
 pub fn restore<R: Files<File = File>, D: Desk>(
     rt: &R,
     alloc: Global,
     path: &str,
     lock: File,
+    goes_on: bool,
     desk: &mut D,
 ) -> Result<Restored, StateFault> {
     let files = StateFiles::new(alloc, path)?;
     let (read, found) = read_files(rt, alloc, &files, desk)?;
-    let extent = match read {
-        Read::First { body, mark } => begin(rt, alloc, &files, &body, mark)?,
+    let (extent, opened) = match read {
+        Read::First { body, mark } => {
+            let extent = begin(rt, alloc, &files, &body, mark)?;
+            (extent, open_to_append(rt, files.log.as_str()))
+        }
         Read::Second {
             extent,
             is_new,
             whole,
             tail,
-        } => {
-            of_log(go_on(rt, alloc, &files, is_new, whole, &tail))?;
-            extent
-        }
+        } => (extent, go_on(rt, alloc, &files, is_new, whole, &tail)),
+    };
+    let (file, failure) = match opened {
+        Ok(file) => (file, None),
+        // (nothing is written to it)
+        Err(error) if goes_on => (File::open(rt, files.state.as_str())?, Some(error.kind())),
+        Err(error) => return Err(StateFault::Log(error)),
     };
     let time = desk.now();
-    let changes = of_log(Changes::open(rt, alloc, files, lock, extent, time))?;
+    let changes = Changes::new(alloc, files, lock, file, failure, extent, time);
     Ok(Restored { changes, found })
 }
 
@@ -296,8 +304,8 @@ fn read_second<R: Files<File = File>, D: Desk>(
     Ok((read, found))
 }
 
-// Goes on with a log, which takes its place where it has not, and is left without its tail. Its name is synced: a kill may
-// have come before that, and what is appended would be lost with it.
+// Goes on with a log, which takes its place where it has not, and is left without its tail. Its name is synced: a kill
+// may have come before that, and what is appended would be lost with it. Returns the log, to append to.
 fn go_on<R: Files<File = File>>(
     rt: &R,
     alloc: Global,
@@ -305,14 +313,15 @@ fn go_on<R: Files<File = File>>(
     is_new: bool,
     whole: usize,
     tail: &[u8],
-) -> io::Result<()> {
+) -> io::Result<File> {
     if is_new {
         take_place(rt, alloc, files.log.as_str())?;
     }
     if !tail.is_empty() {
         files.drop_tail(rt, alloc, whole, tail)?;
     }
-    sync_folder(rt, files.log.as_str())
+    sync_folder(rt, files.log.as_str())?;
+    open_to_append(rt, files.log.as_str())
 }
 
 // Makes the changes of the log of a state, which has so many octets before its tail.

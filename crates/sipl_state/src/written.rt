@@ -30,8 +30,16 @@ pub(crate) struct Written {
 }
 
 impl Written {
-    /// A log of so many octets to append to, which begins there and has commits up to this point.
-    pub(crate) fn new(alloc: Global, file: File, len: u64, base: Base, last: Point) -> Written {
+    /// A log of so many octets to append to, which begins there and has commits up to this point; or why it can't be
+    /// written.
+    pub(crate) fn new(
+        alloc: Global,
+        file: File,
+        len: u64,
+        base: Base,
+        last: Point,
+        failure: Option<ErrorKind>,
+    ) -> Written {
         Written {
             alloc,
             file,
@@ -40,7 +48,7 @@ impl Written {
             last,
             next: None,
             unwritten: Vec::new(alloc),
-            failure: None,
+            failure,
         }
     }
 

@@ -27,7 +27,7 @@ from daemon_tests.support import PATIENCE, PROGRAM, SEED, TOP, Checks, Client, D
 ENDS = ["before", "half", "after"]
 ERRORS = [str(it) for it in (errno.EIO, errno.ENOSPC, errno.EMFILE, errno.EINTR)]
 ACTIONS = {
-    "write": [*ENDS, *ERRORS, "short", "full"],
+    "write": [*ENDS, *ERRORS, "short", "full", "read-only"],
     "accept": ["before", "after", *(str(it) for it in (errno.EINTR, errno.EMFILE, errno.ECONNABORTED))],
     "recv": ["before", "after", str(errno.EINTR)],
     "send": ["before", "after", str(errno.EINTR)],

@@ -259,3 +259,52 @@ def leaves_its_files_where_its_folder_is_another_one(checks: Checks, folder: pat
             for apex in "example.com", "example.net":
                 checks.equal(client.ask(f"find sip:a.{apex}:1"), target(1), f"{name}: {apex}")
             stopped(checks, daemon)
+
+
+@test
+def starts_on_a_disk_that_can_not_be_written(checks: Checks, folder: pathlib.Path) -> None:
+    state, faults = state_of(STATE), Faults(folder)
+    log = log_of(state, [b"add b.example.com. A 192.0.2.2\n"])
+    refusing = "siplocd: state: read-only filesystem or storage medium: changes are refused\n"
+    again = "siplocd: state: written again, changes are accepted\n"
+    for name, files, said in ("whole", {"state.log": log}, ""), \
+            ("torn", {"state.log": log + b"torn"}, f"a write did not end at octet {len(log)}\n"), \
+            ("moved", {"state.log": log_of(state_of(b"# page 0\n"), []), "state.log.new": log}, ""):
+        inner = folder / name
+        (inner / "archive").mkdir(parents=True)
+        for path, octets in {"state": state, "state.lock": b"", **files}.items():
+            (inner / path).write_bytes(octets)
+        before = {it.name: it.read_bytes() for it in inner.glob("state*")}
+        settings = f'state = "{inner}/state"\narchive = "{inner}/archive"\nclock = "lines"\non_failure = '
+        environment = {**faults.environment("open state.lock 1 read-only"), "FAULT_FOLDER": f"{inner}/"}
+        ended = Daemon(inner, f'{settings}"end"', listen=[f"unix:{inner}/lines"], waits=False,
+                       environment={**environment, "FAULT": "open archive/new 1 read-only"})
+        status, _ = ended.end()
+        checks.expect(status == 1 and is_told_once(ended.said(), f"siplocd: archive {inner}/archive/new: Read-only"),
+                      (status, ended.said()))
+        with started(checks, inner, f'{settings}"read"', listen=[f"unix:{inner}/lines"],
+                     environment=environment) as daemon, Client(daemon.address) as client:
+            for host, number in ("a", 1), ("b", 2):
+                checks.equal(client.ask(f"find sip:{host}.example.com:1"), target(number), f"{name}: {host}")
+            checks.equal(client.ask("add c.example.com. A 192.0.2.3"), REFUSED, f"{name}: a change")
+            daemon.tell("page")
+            checks.expect(until(lambda: daemon.said().endswith(": pages wait\n")), daemon.said())
+            checks.expect(refusing in daemon.said() and said in daemon.said(), daemon.said())
+            status, why = ended_start(folder, f'state = "{inner}/state"\non_failure = "read"')
+            checks.expect(status == 1 and "resource busy" in why, ("a state that another has", why))
+            checks.equal({it.name: it.read_bytes() for it in inner.glob("state*")}, before, f"{name}: its files")
+            (inner / "emptied").touch()
+            checks.expect(until(lambda: client.ask("add c.example.com. A 192.0.2.3") != REFUSED), f"{name}: for ever")
+            checks.expect(until(lambda: again in daemon.said()), daemon.said())
+            checks.equal(daemon.said().count(refusing), 1, daemon.said())
+            daemon.kill()
+        with started(checks, inner, f'{settings}"end"', listen=[f"unix:{inner}/lines"]) as daemon, \
+                Client(daemon.address) as client:
+            for host, number in ("a", 1), ("b", 2), ("c", 3):
+                checks.equal(client.ask(f"find sip:{host}.example.com:1"), target(number), f"{name}: {host} after it")
+            stopped(checks, daemon)
+    # Without its lock it can't be told whether another daemon has the files.
+    (inner / "state.lock").unlink()
+    (inner / "emptied").unlink()
+    ended = Daemon(inner, f'{settings}"read"', listen=[f"unix:{inner}/lines"], waits=False, environment=environment)
+    checks.expect(ended.end()[0] == 1 and is_told_once(ended.said(), f"siplocd: state {inner}/state: "), ended.said())
