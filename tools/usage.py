@@ -15,6 +15,7 @@ import io
 import os
 import pathlib
 import re
+import shutil
 import signal
 import sys
 from typing import NoReturn, Optional, Sequence, TextIO
@@ -150,6 +151,14 @@ def program(words: Sequence[str], name: str = "siploc") -> str:
     if not (path.is_file() and os.access(path, os.X_OK)):
         wrong(f"{path}: no such program; dev/try --program {name} FILE makes one")
     return str(path)
+
+
+def command(name: str) -> str:
+    """The path of a command that the program needs, which ends without it."""
+    path = shutil.which(name)
+    if path is None:
+        sys.exit(f'{main_head().path}: {name}: {os.strerror(errno.ENOENT)} (README.md, "Install and run", says what is needed)')
+    return path
 
 
 def number(word: str) -> int:
