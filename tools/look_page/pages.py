@@ -25,6 +25,8 @@ from .records import Records, fits
 explain = types.SimpleNamespace(**runpy.run_path(str(zone_text.TOP / "tools/explain")))
 # The longest URI that is asked for, and how many zones and holds a page lists.
 LONGEST, LISTED = 2_000, 200
+# How many seeds there are.
+SEEDS = 1 << 64
 HEADERS = {
     "Content-Security-Policy": "default-src 'none'; style-src 'self'; form-action 'self'; base-uri 'none'; "
                                "frame-ancestors 'none'",
@@ -119,7 +121,7 @@ def asked(site: Site, uri: str, seed: str) -> Any:
     if len(uri) > LONGEST or any(it.isspace() for it in uri) or not uri.isascii() or not uri.isprintable():
         text = f"A URI here has at most {LONGEST:,} octets, all of them printable ASCII, and no blank."
         return flask.render_template("why.html", site=site, uri=uri[:LONGEST], refused=("not asked", text)), 400
-    if seed and not (seed.isdecimal() and seed.isascii() and int(seed) < 1 << 64):
+    if seed and not (re.fullmatch("[0-9]{1,20}", seed) and int(seed) < SEEDS):
         flask.abort(400, "a seed is a number below 2^64")
     try:
         found = ask(site, uri, int(seed) if seed else None)
@@ -133,7 +135,7 @@ def asked(site: Site, uri: str, seed: str) -> Any:
     except Fault as fault:
         images, gap = [], str(fault)
     return flask.render_template(
-        "why.html", site=site, uri=uri, seed=seed, next=int(seed or 0) + 1, found=found, images=images, gap=gap,
+        "why.html", site=site, uri=uri, seed=seed, next=(int(seed or 0) + 1) % SEEDS, found=found, images=images, gap=gap,
         targets=[(it, left(found.held, it), story.sets_of(it) if found.state else []) for it in found.told.targets],
         keys=[KEYS[kind] for kind in KEYS if found.state and any(it[1] == kind and it[2] for it in found.told.reads)],
         reason=explain.REASONS.get(found.told.reason, ""), lines=list(story.lines()) if found.state else [],
