@@ -58,7 +58,7 @@ class Primary:
 class Bell:
     """Rings for zones whose primary says that they have changed: over UDP and, as Knot sends it, over TCP."""
 
-    def __init__(self, place: Place, apexes: Iterable[str], primary: Primary, key: Optional[tsig.Key]):
+    def __init__(self, place: Place, apexes: Iterable[str], primary: Primary, key: Optional[str]):
         self.apexes, self.primary, self.key = {*apexes}, primary, key
         self.changed: set[str] = set()
         self.rung, self.free = threading.Condition(), threading.Semaphore(STREAMS)
@@ -88,8 +88,9 @@ class Bell:
         raise AssertionError
 
     def hear(self, octets: bytes) -> bytes:
-        """The reply to a message of the primary."""
-        reply, apex = answer_notify(octets, self.apexes, self.key)
+        """The reply to a message of the primary. The file of the key is read each time, as `dig` does for a transfer: so
+        another key is used once it is there."""
+        reply, apex = answer_notify(octets, self.apexes, tsig.read_key(self.key) if self.key else None)
         if apex:
             with self.rung:
                 self.changed.add(apex)
