@@ -633,37 +633,36 @@ def connect(address: str, timeout: float = 30.0) -> Session:
     """
     fault: Optional[OSError] = None
     for family, place in _places(address):
+        stream: Optional[socket.socket] = None
         try:
             stream = socket.socket(family, socket.SOCK_STREAM)
-        except OSError as refused:
-            fault = fault or refused
-            continue
-        try:
             _connect(stream, place, timeout)
             _prepare(stream, place)
-        except OSError as refused:
-            stream.close()
-            fault = fault or refused
-        except BaseException:
-            stream.close()
-            raise
-        else:
             return Session(stream, timeout)
+        except BaseException as refused:
+            if stream is not None:
+                stream.close()
+            # (an error without a number is that of a signal's handler, as one that bounds a call's time)
+            if not isinstance(refused, OSError) or refused.errno is None:
+                raise
+            fault = fault or refused
     raise NotConnected(f"{address}: {fault}") from fault
 
 
 def _connect(stream: socket.socket, place: _Place, timeout: float) -> None:
-    """Connects a socket within a time."""
+    """Connects a socket within a time. What this raises by itself has a number."""
+    stream.setblocking(False)
     end = time.monotonic() + timeout
-    stream.settimeout(min(timeout, _MAX_WAIT))
-    while True:
-        try:
-            return stream.connect(place)
-        except BlockingIOError as full:
-            # As many clients wait at a Unix socket as it takes: none waits for that by itself.
-            if full.errno != errno.EAGAIN or time.monotonic() >= end:
-                raise
+    # (as many clients wait at a Unix socket as it takes: none waits for that by itself)
+    while (code := stream.connect_ex(place)) == errno.EAGAIN and time.monotonic() < end:
         time.sleep(_PAUSE)
+    if code == errno.EINPROGRESS:
+        poll = select.poll()
+        poll.register(stream, select.POLLOUT)
+        is_ready = poll.poll(1000 * max(0.0, min(end - time.monotonic(), _MAX_WAIT)))
+        code = stream.getsockopt(socket.SOL_SOCKET, socket.SO_ERROR) if is_ready else errno.ETIMEDOUT
+    if code:
+        raise OSError(code, os.strerror(code))
 
 
 def _prepare(stream: socket.socket, place: _Place) -> None:

@@ -930,22 +930,24 @@ class Faults(unittest.TestCase):
         self.assertEqual((ran.returncode, ran.stdout, ran.stderr), (0, "False\n", ""))
 
     def test_connection_that_is_given_up(self):
-        """What a signal's handler raises while this process connects leaves no descriptor."""
+        """What a signal's handler raises while this process connects is raised as it is, and leaves no descriptor."""
         def give_up(*_):
-            raise KeyboardInterrupt
+            raise fault
 
         before = signal.signal(signal.SIGALRM, give_up)
         try:
-            with full_queue() as (address, _):
-                open_before = os.listdir("/proc/self/fd")
-                signal.setitimer(signal.ITIMER_REAL, 0.2)
-                try:
-                    siploc.connect(address, 20)
-                except KeyboardInterrupt:
-                    # (while it is kept, and with it what the call had)
-                    self.assertEqual(os.listdir("/proc/self/fd"), open_before)
-                else:
-                    self.fail("it was not raised")
+            for fault in (KeyboardInterrupt("too long"), TimeoutError("too long")):
+                with self.subTest(fault=fault), full_queue() as (address, _):
+                    open_before = os.listdir("/proc/self/fd")
+                    signal.setitimer(signal.ITIMER_REAL, 0.2)
+                    try:
+                        siploc.connect(address, 20)
+                    except BaseException as caught:
+                        # (while it is kept, and with it what the call had)
+                        self.assertEqual(os.listdir("/proc/self/fd"), open_before)
+                        self.assertIs(caught, fault)
+                    else:
+                        self.fail("it was not raised")
         finally:
             signal.signal(signal.SIGALRM, before)
 
