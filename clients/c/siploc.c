@@ -144,6 +144,7 @@ struct siploc {
     array text, starts, lines, targets, dependencies, steps;
     size_t line_count;
     siploc_reply reply;
+    size_t invalid_place; /* of the last batch that was refused here */
     char code[33], name[1024], kind[7];
     siploc_doubt doubt;
     char detail[256];
@@ -777,6 +778,7 @@ siploc_status siploc_batch(siploc *s, const char *const *texts, size_t count, si
     }
     for (size_t i = 0; i < count; i++) {
         if (!prepare(texts[i], &commands[i])) {
+            s->invalid_place = i;
             free(commands);
             return SIPLOC_INVALID;
         }
@@ -786,6 +788,11 @@ siploc_status siploc_batch(siploc *s, const char *const *texts, size_t count, si
     s->is_busy = false;
     free(commands);
     return status;
+}
+
+size_t siploc_invalid_place(const siploc *s)
+{
+    return s->invalid_place;
 }
 
 /* Sends the command that `line` has; its reply, or its refusal. */
@@ -1039,13 +1046,20 @@ static bool prepare_stream(int stream, const place *place)
            setsockopt(stream, SOL_SOCKET, SO_LINGER, &linger, sizeof linger) == 0;
 }
 
-/* Connects a socket that does not block, within a time. */
+/* Makes a socket one that does not block, and that no program has which is started. */
+static bool set_flags(int stream)
+{
+    int flags = fcntl(stream, F_GETFL);
+    return flags >= 0 && fcntl(stream, F_SETFL, flags | O_NONBLOCK) >= 0 && fcntl(stream, F_SETFD, FD_CLOEXEC) >= 0;
+}
+
+/* Connects a socket within a time. */
 static bool connect_within(int stream, const place *place, socklen_t size, int timeout)
 {
-    int flags = fcntl(stream, F_GETFL), cause = 0;
+    int cause = 0;
     int64_t end = now() + timeout;
     socklen_t cause_size = sizeof cause;
-    if (flags < 0 || fcntl(stream, F_SETFL, flags | O_NONBLOCK) < 0 || fcntl(stream, F_SETFD, FD_CLOEXEC) < 0)
+    if (!set_flags(stream))
         return false;
     int status;
     /* As many clients wait at a Unix socket as it takes: none waits for that by itself. */
@@ -1082,6 +1096,39 @@ static void free_session(siploc *s)
     free(s);
 }
 
+/* A session that has no connection yet; NULL where there is no memory. */
+static siploc *new_session(int timeout)
+{
+    siploc *s = calloc(1, sizeof *s);
+    if (s == NULL)
+        return NULL;
+    s->timeout = timeout;
+    s->stream = -1;
+    s->process = getpid();
+    s->input = malloc(INPUT);
+    if (s->input != NULL)
+        return s;
+    free_session(s);
+    return NULL;
+}
+
+siploc_status siploc_new(int stream, int timeout, siploc **session)
+{
+    *session = NULL;
+    siploc *s = new_session(timeout);
+    if (s == NULL)
+        return SIPLOC_NO_MEMORY;
+    if (!set_flags(stream)) {
+        int cause = errno;
+        free_session(s);
+        errno = cause;
+        return SIPLOC_NOT_CONNECTED;
+    }
+    s->stream = stream;
+    *session = s;
+    return SIPLOC_OK;
+}
+
 /* Connects to one address, which may be localhost by its IPv4 or IPv6 address. */
 static siploc_status connect_to(const char *address, int timeout, siploc **session)
 {
@@ -1089,17 +1136,9 @@ static siploc_status connect_to(const char *address, int timeout, siploc **sessi
     socklen_t size = read_place(address, &place);
     if (size == 0)
         return SIPLOC_INVALID;
-    siploc *s = calloc(1, sizeof *s);
+    siploc *s = new_session(timeout);
     if (s == NULL)
         return SIPLOC_NO_MEMORY;
-    s->timeout = timeout;
-    s->stream = -1;
-    s->process = getpid();
-    s->input = malloc(INPUT);
-    if (s->input == NULL) {
-        free_session(s);
-        return SIPLOC_NO_MEMORY;
-    }
     s->stream = socket(place.any.sa_family, SOCK_STREAM | CLOEXEC, 0);
     if (s->stream < 0 || !connect_within(s->stream, &place, size, timeout)) {
         int cause = errno;

@@ -11,8 +11,9 @@
  *     }
  *
  * A session is one connection, and is used by one thread at a time. The child of a fork can't use it, and connects
- * anew; siploc_close frees it there, and ends nothing. Each call sends one command; siploc_batch sends many. What a
- * reply points to is the session's, until the next call. All texts end with NUL.
+ * anew; siploc_close frees it there, and ends nothing. Each call sends one command; siploc_batch sends many. All texts
+ * end with NUL. A reply, and what it points to, is the session's, until the next call: so copy the targets to hold one
+ * while others are still to be tried, as example.c does.
  *
  * Two files, C11 and POSIX.1-2008, no other dependency.
  */
@@ -122,6 +123,10 @@ typedef struct siploc_draws {
  */
 siploc_status siploc_connect(const char *address, int timeout, siploc **session);
 
+/* The same over a stream socket that is connected, such as an end of a socketpair. With SIPLOC_OK it is the session's;
+ * else it is the caller's, as before. */
+siploc_status siploc_new(int stream, int timeout, siploc **session);
+
 /* Ends the session by `quit`, closes the connection and frees the memory. NULL is allowed. */
 void siploc_close(siploc *session);
 
@@ -180,6 +185,9 @@ typedef void siploc_each(void *context, size_t place, const siploc_reply *reply)
  */
 siploc_status siploc_batch(siploc *session, const char *const *commands, size_t count, siploc_each *each,
                            void *context);
+
+/* After SIPLOC_INVALID of siploc_batch: the place of the first command that is invalid. */
+size_t siploc_invalid_place(const siploc *session);
 
 #ifdef __cplusplus
 }

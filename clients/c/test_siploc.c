@@ -724,8 +724,9 @@ static void example_program(void)
     FILE *pipe = popen(command, "r");
     CHECK(pipe != NULL);
     size_t size = fread(output, 1, sizeof output - 1, pipe);
-    CHECK(pclose(pipe) == 0 && size > 0 && strcmp(output, "udp 192.0.2.1 5060\n") == 0);
-    CHECK(closes(&server, 1));
+    CHECK(pclose(pipe) == 0 && size > 0);
+    CHECK(strcmp(output, "try udp 192.0.2.1 5070\ntry udp 192.0.2.2 5070\nthen AllHeld\n") == 0);
+    CHECK(closes(&server, 5));
 }
 
 /* ---- Against servers that do what they should not ---- */
@@ -994,8 +995,9 @@ static void invalid_commands_are_not_sent(void)
     CHECK(s != NULL);
     for (size_t i = 0; i < sizeof texts / sizeof texts[0]; i++) {
         const char *const commands[] = {"find sip:a", texts[i]};
-        CHECK(siploc_batch(s, commands, 2, NULL, NULL) == SIPLOC_INVALID);
+        CHECK(siploc_batch(s, commands, 2, NULL, NULL) == SIPLOC_INVALID && siploc_invalid_place(s) == 1);
     }
+    CHECK(siploc_batch(s, texts, 1, NULL, NULL) == SIPLOC_INVALID && siploc_invalid_place(s) == 0);
     CHECK(siploc_find(s, "sip:a seed 1", NULL, NULL) == SIPLOC_INVALID);
     CHECK(siploc_find(s, "", NULL, NULL) == SIPLOC_INVALID && siploc_deps(s, "sip:a\n", NULL) == SIPLOC_INVALID);
     CHECK(siploc_add(s, "a.e. A 192.0.2.1\ndel a.e. A 192.0.2.1", NULL) == SIPLOC_INVALID);
@@ -1143,6 +1145,33 @@ static void forks(void)
     CHECK(siploc_repair(s, NULL) == SIPLOC_OK && siploc_is_open(s));
     siploc_close(s);
     CHECK(wait_for_child(server) == 0);
+}
+
+/* A session over a socket that is there; over none, and where there is no memory, it stays the caller's. */
+static void session_over_a_socketpair(void)
+{
+    int ends[2];
+    siploc *s;
+    CHECK(siploc_new(-1, 1000, &s) == SIPLOC_NOT_CONNECTED && s == NULL && errno == EBADF);
+    CHECK(socketpair(AF_UNIX, SOCK_STREAM, 0, ends) == 0);
+    for (allocations = 0; allocations < 2;) {
+        int count = allocations;
+        CHECK(siploc_new(ends[0], 1000, &s) == SIPLOC_NO_MEMORY && s == NULL);
+        allocations = count + 1;
+    }
+    allocations = -1;
+    CHECK(siploc_new(ends[0], 10000, &s) == SIPLOC_OK);
+    CHECK((fcntl(ends[0], F_GETFL) & O_NONBLOCK) != 0 && (fcntl(ends[0], F_GETFD) & FD_CLOEXEC) != 0);
+    pid_t server = start_child();
+    if (server == 0) {
+        close(ends[0]);
+        serve_repair_and_quit(ends[1], NULL);
+        _exit(0);
+    }
+    close(ends[1]);
+    CHECK(siploc_is_open(s) && siploc_repair(s, NULL) == SIPLOC_OK);
+    siploc_close(s);
+    CHECK(fcntl(ends[0], F_GETFD) < 0 && wait_for_child(server) == 0);
 }
 
 static void serve_nothing(int stream, const void *context)
@@ -1353,7 +1382,7 @@ int main(int count, char **words)
         TEST(readme_session_in_a_batch), TEST(readme_session_by_calls), TEST(other_calls), TEST(pages), TEST(each_refusal),
         TEST(refusals_by_calls), TEST(finds_in_batches), TEST(batch_of_more_than_the_sockets_hold),
         TEST(server_that_ends_in_the_midst), TEST(client_that_is_killed_in_a_zone), TEST(example_program), TEST(replies),
-        TEST(cut_at_each_octet), TEST(what_a_refused_find_names), TEST(garbage_without_end), TEST(reply_before_its_command), TEST(invalid_commands_are_not_sent), TEST(lost_before_and_after), TEST(refused_as_commands_come), TEST(allocations_that_fail), TEST(forks), TEST(timeouts),
+        TEST(cut_at_each_octet), TEST(what_a_refused_find_names), TEST(garbage_without_end), TEST(reply_before_its_command), TEST(invalid_commands_are_not_sent), TEST(lost_before_and_after), TEST(refused_as_commands_come), TEST(allocations_that_fail), TEST(forks), TEST(session_over_a_socketpair), TEST(timeouts),
         TEST(addresses), TEST(connection_with_itself), TEST(programs_that_are_started), TEST(memory_of_a_large_zone), TEST(full_queue)};
     int passed = 0, failed = 0;
     program = getenv("SIPLOC");
