@@ -17,7 +17,7 @@
  * signal handler, nor in the child of a fork of a process with threads. Memory is taken from `malloc`, `realloc` and
  * `free`, which have to come from one allocator, and align blocks as those of the C library do.
  *
- * An address may be null where the length beside it is 0.
+ * An address may be null where the length beside it is 0. No two texts of a call overlap, nor does a count lie in one.
  */
 #ifndef SIPLOC_EMBEDDED_H
 #define SIPLOC_EMBEDDED_H
@@ -94,7 +94,7 @@ siploc_embedded_status siploc_embedded_run(const void *settings, size_t settings
 /*
  * Serves a session on a stream socket, such as an end of a socketpair, at a book of its own, in the caller's thread,
  * until `quit` or the end of the input, and closes the socket: also where the settings are refused. To the other end it
- * is as a connection to `siploc serve` is.
+ * is as a connection to `siploc serve` is: `siploc_new` of siploc.h takes that, for calls in place of lines.
  */
 siploc_embedded_status siploc_embedded_serve(int descriptor, const void *settings, size_t settings_len);
 
