@@ -39,12 +39,6 @@ impl DeskFault {
     }
 }
 
-impl From<ServiceFault> for DeskFault {
-    fn from(fault: ServiceFault) -> DeskFault {
-        DeskFault::Service(fault)
-    }
-}
-
 /// The fault of a state of this path that can't be read.
 pub(crate) fn state_fault(
     alloc: Global,
