@@ -77,7 +77,8 @@ plain_rules =
     record {
       Finds = λ question words old outcome new. (new ≡ record old { store = looked old.store })
           × IfOk outcome (λ handed. handed.answer
-          ≡ plan (set_of old.store.zones.records) old.board.holds question old.client words old.held);
+          ≡ plan (set_of old.store.zones.records) old.board.holds question old.client words old.held)
+          × IfErr outcome (λ fault. fault ≡ Memory);
       Changes = λ edit old outcome new. MakesEdit edit old new outcome;
       Moves = λ event old outcome new. MakesMove event old new outcome;
       Depends = λ question old outcome new. new ≡ old;

@@ -124,7 +124,7 @@ module _ (reads : Readers) (before : PlainState) where
       ((Ok 0, moved (AdvanceTo to) before, makes-move (AdvanceTo to) before accepts, (refl, refl)), refl)
   performs (Answered question words answer) is none accepts =
       subst (λ read. AtDesk (AnswersUri plain_rules read (Ok words)) (at before) (answer_text answer) (at (record before { store = looked before.store }))) (sym (reads.questions question is.askable))
-      (inl (Ok (handed answer), (refl, accepts), refl), refl)
+      (inl (Ok (handed answer), (refl, accepts, tt), refl), refl)
 
 -- the command of an event is one line
 
