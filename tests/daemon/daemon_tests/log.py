@@ -125,6 +125,8 @@ def logs_what_a_start_reads(checks: Checks, folder: pathlib.Path) -> None:
             checks.expect(read and re.fullmatch(r"\d+\.\d{3}", read.of.pop("ms")), read and read.text)
             checks.equal(read and (read.level, read.of), ("info", wanted), f"{commits} commits")
             checks.equal(lines(daemon, "empty"), [], f"a state and {commits} commits")
+            # (it prints that it is ready before the thread of the log has written it)
+            wait_for(checks, daemon, "ready")
             order = [Line(it).of["event"] for it in daemon.log()]
             checks.equal(order[:3], ["start", "read", "ready"], "the first lines")
             stopped(checks, daemon)
