@@ -24,8 +24,9 @@ MARKS = "applied.invalid."
 
 Place = Tuple[int, int]
 
-#: What `XINFO STREAM` says of a stream, without the entries in it, whether there is an entry at a place, and some entries
-#: after it, at the same time: four by four, until they have 4 MB. So neither Redis nor a tool has many large zones at once.
+#: What `XINFO STREAM` says of a stream, without the entries in it, the digest of the entry at a place (see `digest_of`), and
+#: some entries after it, at the same time: four by four, until they have 4 MB. So neither Redis nor a tool has many large
+#: zones at once.
 _WINDOW = b"""if redis.call('EXISTS', KEYS[1]) == 0 then return {} end
 local info, facts = redis.call('XINFO', 'STREAM', KEYS[1]), {}
 for i = 1, #info, 2 do
@@ -43,7 +44,12 @@ while last and #found < 1024 and octets < 4194304 do
         for _, text in ipairs(entry[2]) do octets = octets + #text end
     end
 end
-return {facts, #redis.call('XRANGE', KEYS[1], ARGV[1], ARGV[1]), found}"""
+local entry, text = redis.call('XRANGE', KEYS[1], ARGV[1], ARGV[1])[1], ''
+if entry then
+    for i = 1, math.min(#entry[2], 4) do text = text .. #entry[2][i] .. ' ' .. string.sub(entry[2][i], 1, 256) end
+    text = redis.sha1hex(text)
+end
+return {facts, text, found}"""
 
 #: Appends changes, unless a publisher has appended them before, by a count that stays for a day; the place of the last one,
 #: or nothing where the count is another one. So it does not matter how often it comes, and when.
@@ -72,6 +78,8 @@ _FIELDS = {b"zone": (3, 3), b"drop": (2, 2), b"add": (2, 65_536), b"del": (2, 65
            b"release": (4, 4), b"clock": (2, 2)}
 _MAX_LINE = 65_536
 _MAX_ZONE_LINES = 1_048_576
+#: The octets of a change that a locator reads at once with what is sent after it.
+_SHORT = 512
 #: Changes that may make or take space for one another.
 _OPPOSITES = {"add": "del", "del": "add", "hold": "release", "release": "hold"}
 #: The octets of a string that Redis replies, or the elements of an array, and how deep arrays are in others.
@@ -157,14 +165,23 @@ def changes_in(lines: Iterable[bytes]) -> Iterator[Tuple[int, Change]]:
 
 
 class Entry(NamedTuple):
-    """An entry of the stream: its place, and its change."""
+    """An entry of the stream: its place, its change, and its digest."""
 
     place: Place
     change: Change
+    digest: str = ""
+
+
+def digest_of(fields: Sequence[bytes]) -> str:
+    """The digest of an entry with these fields: of their lengths and beginnings, since a zone may be long. Where Redis has
+    lost entries another one may have the place of one of them."""
+    text = b"".join(b"%d %b" % (len(it), it[:256]) for it in fields[:4])
+    return hashlib.sha1(text, usedforsecurity=False).hexdigest()[:8]
 
 
 class Mark(NamedTuple):
-    """What a locator was given: all entries of a stream up to a place, and maybe a first part of the batch after it.
+    """What a locator was given: all entries of a stream up to a place, and maybe a first part of the batch after it, which
+    goes until another place (see `before`). The digests are those of the entries at both.
     It is broken where the locator has refused one of its own accord: then it is not what the stream says. It is half while
     a snapshot is given. By `locator` a locator is known at each of its addresses.
 
@@ -178,29 +195,45 @@ class Mark(NamedTuple):
     turn: int = 0
     is_half: bool = False
     locator: str = ""
+    digest: str = ""
+    until: Place = (0, 0)
+    until_digest: str = ""
 
     @property
     def is_good(self) -> bool:
         return not self.is_broken and not self.is_half
 
-    def next(self, place: Place, first: Place) -> Mark:
+    @property
+    def order(self) -> Tuple[Place, bool, Place]:
+        """The older one of two marks is less."""
+        return self.place, self.is_broken, self.until
+
+    def next(self, place: Place, first: Place, digest: str = "") -> Mark:
         """The mark after this one, of a place. `first` is the first entry of the stream, where it had none before."""
-        return self._replace(place=place, first=self.first if self.first > (0, 0) else first, turn=1 - self.turn)
+        return self._replace(place=place, digest=digest, until=(0, 0), until_digest="",
+                             first=self.first if self.first > (0, 0) else first, turn=1 - self.turn)
+
+    def before(self, batch: Sequence[Entry]) -> Mark:
+        """The mark while a batch is given. One short change comes with the mark after it, or not at all."""
+        is_parted = sum(len(it.change.octets) + 1 for it in batch) > _SHORT or len(batch) > 1
+        return self._replace(until=batch[-1].place, until_digest=batch[-1].digest) if is_parted else self
 
     @property
     def record(self) -> str:
         """The record that is the mark."""
         state = "broken" if self.is_broken else "half" if self.is_half else "good"
-        names = [id_of(self.place), id_of(self.first), self.stream, state, *filter(None, [self.locator]), MARKS]
+        until = f"{id_of(self.until)}-{self.until_digest}" if self.until > (0, 0) else ""
+        names = [id_of(self.place), id_of(self.first), self.stream, state, *filter(None, [self.digest, until, self.locator]),
+                 MARKS]
         return f"at{self.turn}.{MARKS} CNAME {'.'.join(names)}"
 
 
 def mark_of(name: str, turn: int) -> Optional[Mark]:
     """The mark that an alias leads to, if it is one."""
-    match = re.fullmatch(r"([0-9-]+)\.([0-9-]+)\.([0-9a-f]+)\.(good|half|broken)\.(?:([0-9a-f]{16})\.)?"
-                         + re.escape(MARKS), name)
-    return Mark(match[3], place_of(match[1]), place_of(match[2]), match[4] == "broken", turn,
-                match[4] == "half", match[5] or "") if match else None
+    match = re.fullmatch(r"([0-9-]+)\.([0-9-]+)\.([0-9a-f]+)\.(good|half|broken)\.(?:([0-9a-f]{8})\.)?"
+                         r"(?:([0-9]+-[0-9]+)-([0-9a-f]{8})\.)?(?:([0-9a-f]{16})\.)?" + re.escape(MARKS), name)
+    return Mark(match[3], place_of(match[1]), place_of(match[2]), match[4] == "broken", turn, match[4] == "half", match[8] or "",
+                match[5] or "", place_of(match[6] or "0-0"), match[7] or "") if match else None
 
 
 def stream_id(key: str) -> str:
@@ -225,7 +258,7 @@ def marks_of(session: Session) -> List[Mark]:
                     marks.append(mark)
                     break
         if marks or not exists:
-            return sorted(marks, key=lambda mark: (mark.place, mark.is_broken))
+            return sorted(marks, key=lambda mark: mark.order)
         # Each of them was looked for while it was replaced: once more.
     raise Fault(f"the locator has a zone {MARKS} that is none of ours")
 
@@ -284,14 +317,14 @@ class Refusal(NamedTuple):
 
 class Extent(NamedTuple):
     """Which entries a stream has: the first, the last that there ever was, the last that was deleted by its id, how many
-    were taken out in all, and whether there is one at the place that was asked for. Redis 7.0 does not say of one that
-    was trimmed which it was."""
+    were taken out in all, and the digest of the one at the place that was asked for, empty where there is none. Redis 7.0
+    does not say of one that was trimmed which it was."""
 
     first: Place
     last: Place
     deleted: Place
     removed: int
-    has: bool
+    digest: str
 
     def begins(self) -> Place:
         """The first entry, or the one that there will be at the earliest."""
@@ -301,11 +334,13 @@ class Extent(NamedTuple):
         """Whether entries after a place may have been taken out."""
         return self.removed > 0 and place < self.last and self.begins() > place
 
-    def has_lost(self, place: Place) -> bool:
-        """Whether the entry at the place that was asked for is not there, though nobody took it out: Redis has lost it, as
-        it does with what it had not written."""
+    def has_lost(self, place: Place, digest: str = "") -> bool:
+        """Whether the entry at the place that was asked for is another one than that of a digest, or is not there though
+        nobody took it out: Redis has lost it, as it does with what it had not written."""
+        if self.digest:
+            return digest not in ("", self.digest)
         is_taken_out = self.deleted >= place or self.removed > 0 and self.begins() > place
-        return place > (0, 0) and not self.has and (self.last < place or not is_taken_out)
+        return place > (0, 0) and (self.last < place or not is_taken_out)
 
 
 class Stream:
@@ -359,16 +394,16 @@ class Stream:
     def window(self, place: Place) -> Tuple[Extent, List[Value]]:
         """Which entries there are, and at the same time some of them after a place, in order."""
         reply = self.ask([[b"EVAL", _WINDOW, b"1", octets_of(self.key), id_of(place).encode()]])[0]
-        if not isinstance(reply, list) or [*map(type, reply)] not in ([], [list, int, list]):
+        if not isinstance(reply, list) or [*map(type, reply)] not in ([], [list, bytes, list]):
             raise Fault(f"not a reply of Redis: {reply!r}")
         if not reply:
-            return Extent((0, 0), (0, 0), (0, 0), 0, False), []
-        info, has, values = reply
+            return Extent((0, 0), (0, 0), (0, 0), 0, ""), []
+        info, digest, values = reply
         places = [place, *(place_of(bytes_of(it[0])) if isinstance(it, list) and len(it) == 2 else place
                            for it in values)]  # type: ignore[union-attr]
         if any(before >= after for before, after in zip(places, places[1:])):
             raise Fault(f"not a reply of Redis: entries out of order, {[*map(id_of, places)][:60]}")
-        return self.extent_of(info, has == 1), values  # type: ignore[arg-type, return-value]
+        return self.extent_of(info, bytes_of(digest)[:8].decode("latin-1")), values  # type: ignore[arg-type, return-value]
 
     def after(self, place: Place) -> List[Entry]:
         """Some entries after a place, in order."""
@@ -396,7 +431,7 @@ class Stream:
                 raise Fault("it does not have the field `change`, and at most `by`")
             change = change_of(bytes_of(fields[1]))
             change.check()
-            return Entry(place, change)
+            return Entry(place, change, digest_of([*map(bytes_of, fields)]))
         except Fault as fault:
             raise Garbage(place, f"entry {id_of(place)} of {self.key}: {fault}") from fault
 
@@ -404,8 +439,12 @@ class Stream:
         """Which entries there are."""
         return self.window((1 << 63, 0))[0]
 
-    def extent_of(self, info: List[Value], has: bool) -> Extent:
-        """What `XINFO STREAM` says, and whether there is the entry that was asked for."""
+    def has_lost_after(self, mark: Mark) -> bool:
+        """Whether Redis has lost entries of the batch of which a locator with a mark may have a first part."""
+        return mark.until > (0, 0) and self.window(mark.until)[0].has_lost(mark.until, mark.until_digest)
+
+    def extent_of(self, info: List[Value], digest: str) -> Extent:
+        """What `XINFO STREAM` says, and the digest of the entry that was asked for."""
         facts = dict(zip(map(bytes_of, info[::2]), info[1::2]))
         names = (b"recorded-first-entry-id", b"last-generated-id", b"max-deleted-entry-id")
         places, counts = [facts.get(name) for name in names], [facts.get(name)
@@ -413,7 +452,7 @@ class Stream:
         if None in places or not all(isinstance(it, int) for it in counts):
             raise Fault(f"Redis at {self.address} does not tell what was deleted of a stream: it needs Redis 7")
         first, last, deleted = (place_of(bytes_of(it)) for it in places)
-        return Extent(first, last, deleted, counts[0] - counts[1], has)  # type: ignore[operator]
+        return Extent(first, last, deleted, counts[0] - counts[1], digest)  # type: ignore[operator]
 
     def ask(self, commands: Sequence[Sequence[bytes]]) -> List[Value]:
         """Sends commands at once; their replies."""

@@ -80,7 +80,7 @@ def without_marks(changes: Iterable[changelog.Change]) -> Tuple[List[changelog.M
                 marks.pop(mark.turn, None)
         else:
             others.append(change)
-    return sorted(marks.values(), key=lambda it: (it.place, it.is_broken)), others
+    return sorted(marks.values(), key=lambda it: it.order), others
 
 
 def record_mark(record: str) -> Optional[changelog.Mark]:
