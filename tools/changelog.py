@@ -70,6 +70,9 @@ for _, entry in ipairs(later) do
 end
 return redis.call('XADD', KEYS[1], '*', 'change', ARGV[2])"""
 
+#: What Redis refuses while it reads its files at the start, while a replica takes its place, or while a script runs.
+_AWAY = ("LOADING", "READONLY", "MASTERDOWN", "NOREPLICAS", "CLUSTERDOWN", "TRYAGAIN", "BUSY")
+
 #: The seconds after which a publisher begins to count anew.
 _RESTED = 3_600
 
@@ -472,8 +475,8 @@ class Stream:
             fault = fault or it
         for reply in replies:
             if isinstance(reply, Refusal):
-                # (it reads its files at the start)
-                raise (Away if reply.text.startswith("LOADING") else Fault)(f"Redis at {self.address}: {reply.text}")
+                is_away = reply.text.split(" ")[0] in _AWAY
+                raise (Away if is_away else Fault)(f"Redis at {self.address}: {reply.text}")
         if fault:
             raise Away(f"Redis at {self.address}: {fault}") from fault
         return replies
@@ -526,20 +529,18 @@ class Publisher:
                     self.stream = Stream(self.address, self.key)
                 self.place = self.stream.append_once(changes, self.token, first)
                 return
-            except Away:
-                if is_new and time.monotonic() >= end:
+            except Fault as fault:
+                if not isinstance(fault, Away) or is_new and time.monotonic() >= end:
+                    # What is appended after it has a count of its own.
+                    self.token, self.count = secrets.token_hex(8), 0
                     raise
-            except Fault:
-                # What is appended after it has a count of its own.
-                self.token, self.count = secrets.token_hex(8), 0
-                raise
             if is_new:
                 time.sleep(0.2)
             is_new = True
 
 
 class Away(Fault):
-    """Redis is not there, or was not there any more."""
+    """Redis is not there, was not there any more, or takes nothing at present."""
 
 
 class Garbage(Fault):
