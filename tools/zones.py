@@ -27,6 +27,8 @@ PROOFS = ("RRSIG", "NSEC", "NSEC3")
 MAX_LINES, MAX_LINE, MAX_SET = 1 << 20, 65_536, 32
 # No name has more records that are read: a set fits in a message, and a record takes 16 octets.
 MAX_NAME = 5 * 65_536 // 16
+# Where there are more differences the zone is transferred as a whole.
+MAX_CHANGES = 2 * MAX_LINES
 
 OPTIONS = ["+noall", "+answer", "+comments", "+additional", "+norecurse", "+noedns", "+noidnin", "+noidnout",
            "+tries=1",
@@ -518,11 +520,14 @@ def read_differences(records: Iterator[Record], apex: str, soa: Record, serial: 
     last, steps, is_added = serial_of(soa), [], False
     for record in records:
         if record.kind != "SOA" or record.owner != apex:
-            steps.append(Change(is_added, record))
+            if record.kind not in PROOFS:
+                steps.append(Change(is_added, record))
+            if len(steps) > MAX_CHANGES:
+                raise Fault(f"there are more than {MAX_CHANGES} differences")
             continue
         here = serial_of(record)
         if is_added and serial == last:
-            if here != last or next(records, None) is not None:
+            if record.data.lower() != soa.data.lower() or next(records, None) is not None:
                 raise Fault("the differences do not end with the SOA record that they begin with")
             return steps
         if is_added and here != serial:
