@@ -49,7 +49,9 @@ impl Archive {
         let file = File::open(rt, folder)?;
         match file.try_lock() {
             Ok(()) => {}
-            Err(TryLockError::WouldBlock) => return Err(io::Error::from(ErrorKind::ResourceBusy)),
+            Err(TryLockError::WouldBlock) => {
+                return Err(io::Error::new(ErrorKind::ResourceBusy, "another siplocd has it"));
+            }
             Err(TryLockError::Error(error)) => return Err(error),
         }
         let mut archive = Archive {

@@ -293,7 +293,8 @@ def says_why_an_archive_is_not_locked(checks: Checks, folder: pathlib.Path) -> N
     library, archive = folder / "faults.so", folder / "archive"
     subprocess.run(["cc", "-O2", "-shared", "-fPIC", "-o", library, TOP / "tests/daemon/faults.c"], check=True)
     archive.mkdir()
-    for error, text in (errno.EWOULDBLOCK, "resource busy"), (errno.ENOLCK, "os error 37"), (errno.EIO, "os error 5"):
+    for error, text in ((errno.EWOULDBLOCK, "another siplocd has it"), (errno.ENOLCK, "os error 37"),
+                        (errno.EIO, "os error 5")):
         environment = {"LD_PRELOAD": str(library), "FAULT_FOLDER": f"{folder}/", "FAULT_LOG": f"{folder}/trace",
                        "FAULT": f"flock archive 1 {error}"}
         daemon = Daemon(folder, f'archive = "{archive}"', environment=environment, waits=False)

@@ -291,7 +291,7 @@ def starts_on_a_disk_that_can_not_be_written(checks: Checks, folder: pathlib.Pat
             checks.expect(until(lambda: daemon.said().endswith(": pages wait\n")), daemon.said())
             checks.expect(refusing in daemon.said() and said in daemon.said(), daemon.said())
             status, why = ended_start(folder, f'state = "{inner}/state"\non_failure = "read"')
-            checks.expect(status == 1 and "resource busy" in why, ("a state that another has", why))
+            checks.expect(status == 1 and "another siplocd has it" in why, ("a state that another has", why))
             checks.equal({it.name: it.read_bytes() for it in inner.glob("state*")}, before, f"{name}: its files")
             (inner / "emptied").touch()
             checks.expect(until(lambda: client.ask("add c.example.com. A 192.0.2.3") != REFUSED), f"{name}: for ever")
