@@ -80,7 +80,7 @@ def takes_the_place_of_no_page(checks: Checks, folder: pathlib.Path) -> None:
             daemon.tell("page")
             checks.expect(until(lambda: daemon.said().endswith(": pages wait\n")), daemon.said())
             checks.expect(other.is_symlink() or other.read_text() == "a page of somebody else", "it is another one")
-            checks.equal(pages_in(archive), [other.name], "what is there")
+            checks.equal(pages_in(archive)[-1:], [other.name], "what is there last")
             other.rename(folder / "kept")
             checks.expect(until(lambda: daemon.said().endswith("siplocd: archive: written again\n")), daemon.said())
             other = archive / "000001-0000000000000001"
