@@ -107,7 +107,6 @@ class Locator:
             try:
                 return question(self.session)
             except siploc.TimedOut:
-                self.next_try = time.monotonic() + 1
                 raise
             except siploc.ConnectionLost:
                 pass
