@@ -2,7 +2,7 @@
 use clap::error::ErrorKind;
 use clap::{Arg, ArgMatches, Command, Error};
 use sipl_config::VERSION;
-use sipl_names::{InvalidName, Name, NameFault};
+use sipl_names::{Name, NameFault};
 use std::alloc::{AllocError, Global};
 use std::rt::Env;
 use std::{env, io};
@@ -34,8 +34,6 @@ pub(crate) enum Given {
 pub(crate) enum Unread {
     /// They are wrong, and there is no more to say than the usage.
     Wrong,
-    /// The APEX of `check` is not a name.
-    NotName(InvalidName),
     /// They are wrong, or ask for the usage or the version: what is to be printed.
     Told(Error),
     /// An allocation failed.
@@ -111,7 +109,7 @@ fn settings_of(alloc: Global, words: &ArgMatches<'_>) -> Result<Given, AllocErro
 fn read_apex(alloc: Global, text: &str) -> Result<Call, Unread> {
     match Name::from_text(alloc, text.as_bytes(), &Name::root(alloc)) {
         Ok(apex) => Ok(Call::Check(apex)),
-        Err(NameFault::Invalid(invalid)) => Err(Unread::NotName(invalid)),
+        Err(NameFault::Invalid(_)) => Err(Unread::Wrong),
         Err(NameFault::Memory) => Err(Unread::Memory),
     }
 }

@@ -105,11 +105,9 @@ fn print_told<R: Print + Eprint>(rt: &R, error: &clap::Error) -> Result<bool, Fa
 
 // Writes on standard error what is wrong with the arguments, where there is more to say than the usage, and that.
 fn report_wrong<R: Print + Eprint>(rt: &R, unread: &Unread) {
-    let _ = match unread {
-        Unread::Told(error) => error.print(rt),
-        Unread::NotName(invalid) => eprintln!(rt; "error: APEX: {}: {invalid}", invalid.code()),
-        _ => Ok(()),
-    };
+    if let Unread::Told(error) = unread {
+        let _ = error.print(rt);
+    }
     let _ = eprintln!(rt; "{USAGE}");
 }
 
