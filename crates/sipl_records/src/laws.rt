@@ -100,8 +100,9 @@ pub fn set_of_append()
         → exists_in (a ++ b) name ≡ (exists_in a name || exists_in b name) }
 {}
 
-/// Of a filtered list, a set whose records are all kept is unchanged, and one whose records are
-/// all left out is empty. A filter by owners does one or the other with each set.
+/// Of a filtered list, a set (the existence of a name aside) whose records are all kept is unchanged,
+/// and one whose records are all left out is empty. A filter by owners does one or the other with
+/// each.
 pub fn set_of_filter()
     ensures kept { (p : Record → Bool) (key : Key) → is_existence key ≡ false
         → ((r : Record) → has_key key r ≡ true → p r ≡ true)
