@@ -622,28 +622,39 @@ static siploc_status take_replies(siploc *s, const command *commands, size_t cou
     return SIPLOC_OK;
 }
 
+/* How many commands are whole in the first octets of them all. */
+static size_t count_whole(const command *commands, size_t count, size_t size)
+{
+    size_t whole = 0;
+    for (; whole < count && commands[whole].length < size; whole++)
+        size -= commands[whole].length + 1;
+    return whole;
+}
+
 /* Sends octets, and reads the replies to commands. `*sent` is how many octets were sent. */
 static siploc_status transfer(siploc *s, const char *output, size_t size, const command *commands, size_t count,
                               size_t *sent, size_t *replied, siploc_each *each, void *context)
 {
-    bool is_cut = false;
+    int cut = 0; /* why the connection takes no more */
+    size_t due = count;
     int64_t end = now() + s->timeout;
     while (*replied < count) {
-        if (*sent < size && !is_cut) {
+        if (*sent < size && cut == 0) {
             ssize_t taken = send(s->stream, output + *sent, size - *sent, MSG_NOSIGNAL);
             if (taken >= 0) {
                 *sent += (size_t)taken;
                 end = now() + s->timeout;
             } else if (!is_again(errno)) {
-                is_cut = true; /* What was replied before the connection failed is still read. */
+                cut = errno; /* What was replied before the connection failed is still read. */
+                due = count_whole(commands, count, *sent);
             }
         }
-        bool has_output = *sent < size && !is_cut;
-        int events = wait_for(s->stream, has_output ? POLLIN | POLLOUT : POLLIN, end);
+        bool has_output = *sent < size && cut == 0, is_over = *replied >= due;
+        int events = wait_for(s->stream, has_output ? POLLIN | POLLOUT : POLLIN, is_over ? now() : end);
         if (events < 0)
             return lost(s, errno);
         if (events == 0)
-            return broken(s, SIPLOC_TIMED_OUT, 0, "", 0);
+            return is_over ? lost(s, cut) : broken(s, SIPLOC_TIMED_OUT, 0, "", 0);
         if ((events & ~POLLOUT) == 0)
             continue;
         ssize_t read = recv(s->stream, s->input + s->end, INPUT - s->end, 0);

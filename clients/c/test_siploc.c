@@ -3,7 +3,7 @@
  * do what no server should. Replies are those of docs/use/FORMATS.md, and of the README's session.
  *
  *     cc -std=c11 -Wl,--wrap=malloc -Wl,--wrap=calloc -Wl,--wrap=realloc -Wl,--wrap=fcntl -Wl,--wrap=connect \
- *         -o test_siploc test_siploc.c siploc.c &&
+ *         -Wl,--wrap=send -o test_siploc test_siploc.c siploc.c &&
  *         SIPLOC=PROGRAM ./test_siploc TOP EXAMPLE
  *
  * TOP is the repository's folder, EXAMPLE the built example. The last line is `N passed, M failed`.
@@ -91,6 +91,24 @@ int __wrap_connect(int stream, const struct sockaddr *place, socklen_t size)
     if (is_bound && bind(stream, place, size) < 0)
         return -1;
     return __real_connect(stream, place, size);
+}
+
+/* How many octets a connection takes before it fails to send; less than 0 where it does not fail. */
+static int octets_taken = -1;
+
+ssize_t __real_send(int stream, const void *octets, size_t size, int flags);
+
+ssize_t __wrap_send(int stream, const void *octets, size_t size, int flags)
+{
+    if (octets_taken == 0)
+        errno = ENOBUFS;
+    if (octets_taken == 0)
+        return -1;
+    if (octets_taken > 0 && size > (size_t)octets_taken)
+        size = (size_t)octets_taken;
+    ssize_t count = __real_send(stream, octets, size, flags);
+    octets_taken -= octets_taken > 0 && count > 0 ? (int)count : 0;
+    return count;
 }
 
 static void pause_for(int milliseconds)
@@ -1174,6 +1192,37 @@ static void session_over_a_socketpair(void)
     CHECK(fcntl(ends[0], F_GETFD) < 0 && wait_for_child(server) == 0);
 }
 
+static void serve_repairs(int stream, const void *context)
+{
+    int count = *(const int *)context;
+    take_lines(stream, (size_t)count);
+    for (int i = 0; i < count; i++)
+        put(stream, "ok repair\n", 10);
+    take_all(stream);
+}
+
+/* A connection that takes no more, as for want of buffers: what is due is still read, and then the cause told. */
+static void send_that_fails(void)
+{
+    const char *const commands[] = {"repair", "repair", "repair"};
+    const int sizes[] = {0, 7, 10, 14}, replied[] = {0, 1, 1, 2}, sent[] = {0, 1, 2, 2};
+    for (int i = 0; i < 4; i++) {
+        struct timespec begin, end;
+        siploc *s = connect_to_fake(serve_repairs, &replied[i], 20000);
+        CHECK(s != NULL);
+        clock_gettime(CLOCK_MONOTONIC, &begin);
+        octets_taken = sizes[i];
+        siploc_status status = siploc_batch(s, commands, 3, NULL, NULL);
+        octets_taken = -1;
+        clock_gettime(CLOCK_MONOTONIC, &end);
+        siploc_doubt doubt = siploc_broken(s);
+        bool is_right = status == SIPLOC_LOST && doubt.cause == ENOBUFS && *doubt.detail != '\0' && !siploc_is_open(s);
+        siploc_close(s);
+        CHECK(is_right && doubt.replied == (size_t)replied[i] && doubt.sent == (size_t)sent[i]);
+        CHECK(end.tv_sec - begin.tv_sec < 10);
+    }
+}
+
 static void serve_nothing(int stream, const void *context)
 {
     (void)stream;
@@ -1382,7 +1431,7 @@ int main(int count, char **words)
         TEST(readme_session_in_a_batch), TEST(readme_session_by_calls), TEST(other_calls), TEST(pages), TEST(each_refusal),
         TEST(refusals_by_calls), TEST(finds_in_batches), TEST(batch_of_more_than_the_sockets_hold),
         TEST(server_that_ends_in_the_midst), TEST(client_that_is_killed_in_a_zone), TEST(example_program), TEST(replies),
-        TEST(cut_at_each_octet), TEST(what_a_refused_find_names), TEST(garbage_without_end), TEST(reply_before_its_command), TEST(invalid_commands_are_not_sent), TEST(lost_before_and_after), TEST(refused_as_commands_come), TEST(allocations_that_fail), TEST(forks), TEST(session_over_a_socketpair), TEST(timeouts),
+        TEST(cut_at_each_octet), TEST(what_a_refused_find_names), TEST(garbage_without_end), TEST(reply_before_its_command), TEST(invalid_commands_are_not_sent), TEST(lost_before_and_after), TEST(refused_as_commands_come), TEST(allocations_that_fail), TEST(forks), TEST(session_over_a_socketpair), TEST(timeouts), TEST(send_that_fails),
         TEST(addresses), TEST(connection_with_itself), TEST(programs_that_are_started), TEST(memory_of_a_large_zone), TEST(full_queue)};
     int passed = 0, failed = 0;
     program = getenv("SIPLOC");

@@ -864,7 +864,7 @@ class Session(BaseSession):
             if exchange.write():
                 end = time.monotonic() + self.timeout
             self._poll.register(exchange.stream, select.POLLIN | (select.POLLOUT if exchange.has_output() else 0))
-            if not self._poll.poll(1000 * max(0.0, min(end - time.monotonic(), _MAX_WAIT))):
+            if not self._poll.poll(1000 * exchange.wait(end - time.monotonic())):
                 raise exchange.timed_out(self.timeout)
             if exchange.read():
                 end = time.monotonic() + self.timeout
@@ -943,7 +943,9 @@ class _Exchange(_Replies):
         super().__init__(commands)
         self.stream = stream
         self.output = memoryview(b"".join(command.octets for command in commands))
-        self.is_cut = False
+        # Why the connection takes no more, and how many replies are due to what it took.
+        self.fault: Optional[OSError] = None
+        self.due = len(commands)
 
     def is_due(self) -> bool:
         """Whether a reply is missing."""
@@ -951,7 +953,17 @@ class _Exchange(_Replies):
 
     def has_output(self) -> bool:
         """Whether there is more to send."""
-        return self.sent < len(self.output) and not self.is_cut
+        return self.sent < len(self.output) and self.fault is None
+
+    def wait(self, left: float) -> float:
+        """How many seconds to wait for the connection: none where it takes no more and no reply is due."""
+        return max(0.0, min(left, _MAX_WAIT)) if len(self.replies) < self.due else 0.0
+
+    def timed_out(self, timeout: float) -> SessionBroken:
+        """The error for a time that ran out, or for a connection that took no more."""
+        if self.fault is not None and len(self.replies) >= self.due:
+            return self.lost(str(self.fault))
+        return super().timed_out(timeout)
 
     def write(self) -> bool:
         """Sends what the connection takes; whether it took anything."""
@@ -961,9 +973,13 @@ class _Exchange(_Replies):
             count = self.stream.send(self.output[self.sent:self.sent + _CHUNK], _SEND_FLAGS)
         except BlockingIOError:
             return False
-        except OSError:
+        except OSError as fault:
+            if fault.errno is None:
+                raise  # (of a signal's handler)
             # What was replied before the connection failed is still read.
-            self.is_cut = True
+            self.fault = fault
+            ends = itertools.accumulate(len(command.octets) for command in self.commands)
+            self.due = sum(end <= self.sent for end in ends)
             return False
         self.sent += count
         return count > 0

@@ -208,7 +208,7 @@ class Session:
         while exchange.is_due():
             if exchange.write():
                 end = loop.time() + self.timeout
-            if not await _is_ready(exchange.stream, exchange.has_output(), end - loop.time()):
+            if not await _is_ready(exchange.stream, exchange.has_output(), exchange.wait(end - loop.time())):
                 raise exchange.timed_out(self.timeout)
             if exchange.read():
                 end = loop.time() + self.timeout

@@ -7,6 +7,7 @@ Replies are those of docs/use/FORMATS.md, and of the README's session. The last 
 """
 
 import contextlib
+import errno
 import http
 import json
 import math
@@ -82,6 +83,21 @@ class Bound(socket.socket):
     def connect_ex(self, place):
         self.bind(place)
         return super().connect_ex(place)
+
+
+class Failing(socket.socket):
+    """A socket that takes so many octets, and then fails to send."""
+
+    def __init__(self, stream, size, fault):
+        super().__init__(fileno=stream.detach())
+        self.size, self.fault = size, fault
+
+    def send(self, octets, flags=0):
+        if not self.size:
+            raise self.fault
+        count = super().send(octets[:self.size], flags)
+        self.size -= count
+        return count
 
 
 def accept_all(listener):
@@ -874,6 +890,30 @@ class Faults(unittest.TestCase):
             with self.assertRaises(siploc.ConnectionLost) as caught:
                 session.batch(["find sip:" + "a" * 60_000] * 100)
         self.assertEqual((caught.exception.may_be_done, session.is_open), (True, False))
+
+    def test_send_that_fails(self):
+        """A connection that takes no more, as for want of buffers: what is due is still read, and then the cause told."""
+        for size, replied, sent in ((0, 0, 0), (7, 1, 1), (10, 1, 2), (14, 2, 2)):
+            ours, other = socket.socketpair()
+            with self.subTest(size=size), other:
+                if replied:
+                    threading.Timer(0.2, other.sendall, [b"ok repair\n" * replied]).start()
+                session = siploc.Session(Failing(ours, size, OSError(errno.ENOBUFS, "no buffers")), 20)
+                start = time.monotonic()
+                with self.assertRaisesRegex(siploc.ConnectionLost, "no buffers") as caught:
+                    session.batch(["repair"] * 3)
+                self.assertIs(type(caught.exception), siploc.ConnectionLost)
+                self.assertEqual((len(caught.exception.replies), caught.exception.sent), (replied, sent))
+                self.assertLess(time.monotonic() - start, 10)
+
+    def test_signal_as_it_sends(self):
+        """What a signal's handler raises to bound a call's time is raised as it is, also while octets are sent."""
+        ours, other = socket.socketpair()
+        with other:
+            session = siploc.Session(Failing(ours, 0, TimeoutError("too long")), 1)
+            with self.assertRaisesRegex(TimeoutError, "^too long$"):
+                session.repair()
+            self.assertFalse(session.is_open)
 
     def test_long_timeouts(self):
         """A time that is longer than the system's calls take."""

@@ -8,6 +8,7 @@ The last line is `N passed, M failed`.
 
 import asyncio
 import contextlib
+import errno
 import inspect
 import math
 import os
@@ -22,7 +23,8 @@ from unittest import mock
 import siploc
 import siploc_asyncio
 from siploc import Target
-from test_siploc import FIRST, SECOND, TOP, ZONE, Bound, Server, accept_all, free_port, full_queue, no_descriptors
+from test_siploc import (FIRST, SECOND, TOP, ZONE, Bound, Failing, Server, accept_all, free_port, full_queue,
+                         no_descriptors)
 
 
 @contextlib.asynccontextmanager
@@ -249,6 +251,19 @@ class Asyncio(unittest.IsolatedAsyncioTestCase):
             finally:
                 session._end()
                 thread.join()
+
+    async def test_send_that_fails(self):
+        """A connection that takes no more, as for want of buffers: what is due is still read, and then the cause told."""
+        ours, other = socket.socketpair()
+        ours.setblocking(False)
+        with other:
+            threading.Timer(0.2, other.sendall, [b"ok repair\n"]).start()
+            session = siploc_asyncio.Session(Failing(ours, 10, OSError(errno.ENOBUFS, "no buffers")), 20)
+            start = time.monotonic()
+            with self.assertRaisesRegex(siploc.ConnectionLost, "no buffers") as caught:
+                await session.batch(["repair"] * 3)
+            self.assertEqual((len(caught.exception.replies), caught.exception.sent), (1, 2))
+            self.assertLess(time.monotonic() - start, 10)
 
     async def test_fork(self):
         """The child of a fork sends nothing in its parent's session, nor ends it, nor waits for a call in it."""

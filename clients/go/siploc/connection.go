@@ -7,6 +7,7 @@ import (
 	"io"
 	"net"
 	"net/netip"
+	"os"
 	"strings"
 	"sync"
 	"sync/atomic"
@@ -126,16 +127,21 @@ func (c *connection) watch(ctx context.Context) func() {
 
 // An exchange is commands on their way.
 type exchange struct {
-	stream  net.Conn
-	timeout time.Duration
-	output  string
-	sent    int // how many octets of the output were sent; the writer's until it is done
+	stream   net.Conn
+	timeout  time.Duration
+	commands []command
+	output   string
+	sent     int // how many octets of the output were sent; the writer's until it is done
+	lock     sync.Mutex
+	replied  int
+	cut      error // why the connection takes no more
+	due      int   // how many replies are due to what it took
 }
 
 // exchange sends commands and reads their replies. The connection ends where it returns an error.
 func (c *connection) exchange(ctx context.Context, commands []command, timeout time.Duration) ([]Reply, error) {
 	defer c.watch(ctx)()
-	exchange := &exchange{c.stream, timeout, octetsOf(commands), 0}
+	exchange := &exchange{stream: c.stream, timeout: timeout, commands: commands, output: octetsOf(commands)}
 	exchange.progress()
 	if err := exchange.readBefore(); err != nil {
 		c.end()
@@ -155,7 +161,7 @@ func (c *connection) exchange(ctx context.Context, commands []command, timeout t
 			exchange.write()
 		}()
 	}
-	replies, broken := incoming{c.reader, exchange.progress}.read(commands)
+	replies, broken := incoming{c.reader, exchange.count}.read(commands)
 	if len(replies) > 0 && replies[0].Lines[0] == "err Busy" {
 		c.end()
 		writer.Wait()
@@ -171,6 +177,9 @@ func (c *connection) exchange(ctx context.Context, commands []command, timeout t
 	}
 	c.end() // The writer ends at once when the connection is closed.
 	writer.Wait()
+	if broken.Kind == ErrTimedOut && exchange.isOver() {
+		broken.Kind, broken.Cause = ErrConnectionLost, exchange.cut
+	}
 	broken.blame(ctx)
 	broken.Replies, broken.Sent = replies, sentOf(commands, exchange.sent)
 	return nil, broken
@@ -186,8 +195,26 @@ func (e *BrokenError) blame(ctx context.Context) {
 	}
 }
 
-// progress begins the time anew after which the session ends. Where it fails, so does the next read.
-func (e *exchange) progress() { _ = e.stream.SetDeadline(time.Now().Add(e.timeout)) }
+// isOver returns whether the connection takes no more, and no reply is due.
+func (e *exchange) isOver() bool { return e.cut != nil && e.replied >= e.due }
+
+// progress begins the time anew after which the session ends. Where the exchange is over it is a moment, in which what
+// has come is read. Where it fails, so does the next read.
+func (e *exchange) progress() {
+	timeout := e.timeout
+	if e.isOver() && timeout > moment {
+		timeout = moment
+	}
+	_ = e.stream.SetDeadline(time.Now().Add(timeout))
+}
+
+// count is progress after a reply.
+func (e *exchange) count() {
+	e.lock.Lock()
+	defer e.lock.Unlock()
+	e.replied++
+	e.progress()
+}
 
 // write sends all octets. When the connection fails it ends, and what was replied before is still read.
 func (e *exchange) write() {
@@ -198,10 +225,18 @@ func (e *exchange) write() {
 		}
 		count, err := io.WriteString(e.stream, e.output[e.sent:end])
 		e.sent += count
+		if errors.Is(err, os.ErrDeadlineExceeded) || errors.Is(err, net.ErrClosed) {
+			return // (and so do reads)
+		}
+		e.lock.Lock()
+		if err != nil {
+			e.cut, e.due = err, wholeOf(e.commands, e.sent)
+		}
+		e.progress()
+		e.lock.Unlock()
 		if err != nil {
 			return
 		}
-		e.progress()
 	}
 }
 

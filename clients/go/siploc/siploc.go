@@ -39,6 +39,8 @@ const (
 	maxInline = 1 << 14
 	// What the server has to take within the time, for the time to begin anew.
 	chunk = 1 << 14
+	// How long is read what has come, where the connection takes no more.
+	moment = 50 * time.Millisecond
 )
 
 // DefaultTimeout is how long a call waits without progress where no other time is given.
@@ -367,6 +369,15 @@ func sentOf(commands []command, octets int) int {
 	count := 0
 	for start := 0; count < len(commands) && start < octets; count++ {
 		start += len(commands[count].octets)
+	}
+	return count
+}
+
+// wholeOf returns how many commands are whole in so many octets of theirs.
+func wholeOf(commands []command, octets int) int {
+	count := sentOf(commands, octets)
+	if count > 0 && len(octetsOf(commands[:count])) > octets {
+		count--
 	}
 	return count
 }

@@ -767,6 +767,60 @@ func TestTimeouts(t *testing.T) {
 	}
 }
 
+// A taker takes so many octets, and then fails to send.
+type taker struct {
+	net.Conn
+	size int
+}
+
+func (f *taker) Write(octets []byte) (int, error) {
+	if len(octets) <= f.size {
+		f.size -= len(octets)
+		return f.Conn.Write(octets)
+	}
+	count, _ := f.Conn.Write(octets[:f.size])
+	f.size = 0
+	return count, syscall.ENOBUFS
+}
+
+// The same, of the system.
+type systemTaker struct{ taker }
+
+func (f *systemTaker) SyscallConn() (syscall.RawConn, error) {
+	return f.Conn.(syscall.Conn).SyscallConn()
+}
+
+// A connection that takes no more, as for want of buffers: what is due is still read, and then the cause told.
+func TestSendThatFails(t *testing.T) {
+	for _, row := range []struct{ size, replied, sent int }{{0, 0, 0}, {7, 1, 1}, {10, 1, 2}, {14, 2, 2}} {
+		row := row
+		for _, isOfSystem := range []bool{false, true} {
+			address := fake(t, func(stream net.Conn) {
+				reader := bufio.NewReader(stream)
+				for place := 0; place < row.replied; place++ {
+					_, _ = reader.ReadString('\n')
+				}
+				time.Sleep(100 * time.Millisecond)
+				_, _ = io.WriteString(stream, strings.Repeat("ok repair\n", row.replied))
+				_, _ = io.Copy(io.Discard, reader)
+			})
+			stream := taker{must[net.Conn](t)(net.Dial("tcp", address)), row.size}
+			var given net.Conn = &stream
+			if isOfSystem {
+				given = &systemTaker{stream}
+			}
+			begin := time.Now()
+			session := New(given, 20*time.Second)
+			_, err := session.Batch(ctx, []string{"repair", "repair", "repair"})
+			var broken *BrokenError
+			equal(t, errors.As(err, &broken) && errors.Is(err, syscall.ENOBUFS), true)
+			equal(t, broken.Kind, ErrConnectionLost)
+			equal(t, []int{len(broken.Replies), broken.Sent}, []int{row.replied, row.sent})
+			equal(t, time.Since(begin) < 10*time.Second && !session.IsOpen(), true)
+		}
+	}
+}
+
 // Goroutines share a session: each gets the reply to its own question.
 func TestGoroutines(t *testing.T) {
 	session := connect(t, start(t, 1, "").address, 30*time.Second)
