@@ -1045,16 +1045,17 @@ static bool is_own(int stream, const place *other)
 
 /* A TCP connection that ends before its time is reset, also where this process is killed. Else the server would see
  * the end of the input, and take half a line as a line, and half a zone as a zone. */
-static bool prepare_stream(int stream, const place *place)
+static bool set_reset(int stream)
 {
     int yes = 1;
     struct linger linger = {.l_onoff = 1, .l_linger = 0};
-    if (is_own(stream, place)) {
-        errno = ECONNREFUSED;
+    place own;
+    socklen_t size = sizeof own;
+    if (getsockname(stream, &own.any, &size) < 0)
         return false;
-    }
-    return setsockopt(stream, IPPROTO_TCP, TCP_NODELAY, &yes, sizeof yes) == 0 &&
-           setsockopt(stream, SOL_SOCKET, SO_LINGER, &linger, sizeof linger) == 0;
+    return (own.any.sa_family != AF_INET && own.any.sa_family != AF_INET6) ||
+           (setsockopt(stream, IPPROTO_TCP, TCP_NODELAY, &yes, sizeof yes) == 0 &&
+            setsockopt(stream, SOL_SOCKET, SO_LINGER, &linger, sizeof linger) == 0);
 }
 
 /* Makes a socket one that does not block, and that no program has which is started. */
@@ -1094,7 +1095,11 @@ static bool connect_within(int stream, const place *place, socklen_t size, int t
             return false;
         }
     }
-    return place->any.sa_family == AF_UNIX || prepare_stream(stream, place);
+    if (place->any.sa_family != AF_UNIX && is_own(stream, place)) {
+        errno = ECONNREFUSED;
+        return false;
+    }
+    return set_reset(stream);
 }
 
 static void free_session(siploc *s)
@@ -1129,7 +1134,7 @@ siploc_status siploc_new(int stream, int timeout, siploc **session)
     siploc *s = new_session(timeout);
     if (s == NULL)
         return SIPLOC_NO_MEMORY;
-    if (!set_flags(stream)) {
+    if (!set_reset(stream) || !set_flags(stream)) {
         int cause = errno;
         free_session(s);
         errno = cause;

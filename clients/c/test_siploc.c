@@ -1223,6 +1223,33 @@ static void send_that_fails(void)
     }
 }
 
+/* A TCP connection that was there is reset too: of a zone that is cut the server would take a part. What is no stream
+ * socket is none. */
+static void connection_that_is_given(void)
+{
+    int port, listener = listen_somewhere(false, &port), ends[2];
+    struct sockaddr_in place = {.sin_family = AF_INET, .sin_addr = {htonl(INADDR_LOOPBACK)}, .sin_port = htons((uint16_t)port)};
+    char octets[64];
+    siploc *s;
+    int stream = socket(AF_INET, SOCK_STREAM, 0);
+    CHECK(connect(stream, (struct sockaddr *)&place, sizeof place) == 0);
+    int server = accept(listener, NULL, NULL);
+    CHECK(siploc_new(stream, 50, &s) == SIPLOC_OK);
+    siploc_status status = siploc_load(s, "e.", "a A 192.0.2.1", NULL);
+    siploc_close(s);
+    ssize_t count = read(server, octets, sizeof octets);
+    count = count > 0 ? read(server, octets, sizeof octets) : count;
+    bool is_reset = count < 0 && errno == ECONNRESET;
+    close(server);
+    close(listener);
+    CHECK(status == SIPLOC_TIMED_OUT && is_reset);
+    CHECK(pipe(ends) == 0);
+    CHECK(siploc_new(ends[1], 50, &s) == SIPLOC_NOT_CONNECTED && s == NULL && errno == ENOTSOCK);
+    CHECK((fcntl(ends[1], F_GETFL) & O_NONBLOCK) == 0);
+    close(ends[0]);
+    close(ends[1]);
+}
+
 static void serve_nothing(int stream, const void *context)
 {
     (void)stream;
@@ -1431,7 +1458,7 @@ int main(int count, char **words)
         TEST(readme_session_in_a_batch), TEST(readme_session_by_calls), TEST(other_calls), TEST(pages), TEST(each_refusal),
         TEST(refusals_by_calls), TEST(finds_in_batches), TEST(batch_of_more_than_the_sockets_hold),
         TEST(server_that_ends_in_the_midst), TEST(client_that_is_killed_in_a_zone), TEST(example_program), TEST(replies),
-        TEST(cut_at_each_octet), TEST(what_a_refused_find_names), TEST(garbage_without_end), TEST(reply_before_its_command), TEST(invalid_commands_are_not_sent), TEST(lost_before_and_after), TEST(refused_as_commands_come), TEST(allocations_that_fail), TEST(forks), TEST(session_over_a_socketpair), TEST(timeouts), TEST(send_that_fails),
+        TEST(cut_at_each_octet), TEST(what_a_refused_find_names), TEST(garbage_without_end), TEST(reply_before_its_command), TEST(invalid_commands_are_not_sent), TEST(lost_before_and_after), TEST(refused_as_commands_come), TEST(allocations_that_fail), TEST(forks), TEST(session_over_a_socketpair), TEST(timeouts), TEST(send_that_fails), TEST(connection_that_is_given),
         TEST(addresses), TEST(connection_with_itself), TEST(programs_that_are_started), TEST(memory_of_a_large_zone), TEST(full_queue)};
     int passed = 0, failed = 0;
     program = getenv("SIPLOC");

@@ -637,7 +637,7 @@ def connect(address: str, timeout: float = 30.0) -> Session:
         try:
             stream = socket.socket(family, socket.SOCK_STREAM)
             _connect(stream, place, timeout)
-            _prepare(stream, place)
+            _check_other(stream, place)
             return Session(stream, timeout)
         except BaseException as refused:
             if stream is not None:
@@ -665,13 +665,18 @@ def _connect(stream: socket.socket, place: _Place, timeout: float) -> None:
         raise OSError(code, os.strerror(code))
 
 
-def _prepare(stream: socket.socket, place: _Place) -> None:
-    """A TCP connection that ends before its time is reset, also where this process is killed. Else the server would
-    see the end of the input, and take half a line as a line, and half a zone as a zone."""
-    if stream.family != socket.AF_UNIX:
-        if stream.getsockname()[:2] == place:
-            # The system has chosen the very port for this end, which is so connected with itself.
-            raise ConnectionRefusedError(errno.ECONNREFUSED, os.strerror(errno.ECONNREFUSED))
+def _check_other(stream: socket.socket, place: _Place) -> None:
+    """Refuses a connection with itself: where nobody listens, the system may choose the very port for this end."""
+    if stream.family != socket.AF_UNIX and stream.getsockname()[:2] == place:
+        raise ConnectionRefusedError(errno.ECONNREFUSED, os.strerror(errno.ECONNREFUSED))
+
+
+def _prepare(stream: socket.socket) -> None:
+    """Makes a connection one that does not block. One of TCP that ends before its time is reset, also where this process
+    is killed: else the server would see the end of the input, and take half a line as a line, and half a zone as a
+    zone."""
+    stream.setblocking(False)
+    if stream.family in (socket.AF_INET, socket.AF_INET6):
         stream.setsockopt(socket.IPPROTO_TCP, socket.TCP_NODELAY, 1)
         stream.setsockopt(socket.SOL_SOCKET, socket.SO_LINGER, struct.pack("ii", 1, 0))
 
@@ -797,7 +802,7 @@ class Session(BaseSession):
 
     def __init__(self, stream: socket.socket, timeout: float) -> None:
         """A session over a connected socket."""
-        stream.setblocking(False)
+        _prepare(stream)
         self.timeout = timeout
         self._stream: Optional[socket.socket] = stream
         self._process = os.getpid()

@@ -37,15 +37,14 @@ async def connect(address: str, timeout: float = 30.0) -> Session:
         stream.setblocking(False)
         try:
             await _connect(stream, place, timeout)
-            siploc._prepare(stream, place)
+            siploc._check_other(stream, place)
+            return Session(stream, timeout)
         except OSError as refused:
             stream.close()
             fault = fault or refused
         except BaseException:
             stream.close()
             raise
-        else:
-            return Session(stream, timeout)
     raise NotConnected(f"{address}: {fault}") from fault
 
 
@@ -91,7 +90,8 @@ class Session:
     timeout: float
 
     def __init__(self, stream: socket.socket, timeout: float) -> None:
-        """A session over a connected socket that does not block."""
+        """A session over a connected socket."""
+        siploc._prepare(stream)
         self.timeout = timeout
         self._stream: Optional[socket.socket] = stream
         self._process = os.getpid()

@@ -196,6 +196,16 @@ def until_end(stream):
     return octets
 
 
+def end_of(stream):
+    """How a connection ends."""
+    try:
+        while stream.recv(1 << 16):
+            pass
+    except ConnectionResetError:
+        return "reset"
+    return "end"
+
+
 @contextlib.contextmanager
 def relay(port, address):
     """Another address of the server at a port."""
@@ -914,6 +924,16 @@ class Faults(unittest.TestCase):
             with self.assertRaisesRegex(TimeoutError, "^too long$"):
                 session.repair()
             self.assertFalse(session.is_open)
+
+    def test_connection_that_is_given(self):
+        """A TCP connection that was there is reset too: of a zone that is cut the server would take a part."""
+        ends = []
+        with fake(lambda stream: ends.append(end_of(stream))) as (address, _):
+            host, port = address.split(":")
+            session = siploc.Session(socket.create_connection((host, int(port))), 0.2)
+            with self.assertRaises(siploc.TimedOut):
+                session.load("e.", ["a A 192.0.2.1"])
+        self.assertEqual(ends, ["reset"])
 
     def test_long_timeouts(self):
         """A time that is longer than the system's calls take."""

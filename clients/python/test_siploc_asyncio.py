@@ -265,6 +265,27 @@ class Asyncio(unittest.IsolatedAsyncioTestCase):
             self.assertEqual((len(caught.exception.replies), caught.exception.sent), (1, 2))
             self.assertLess(time.monotonic() - start, 10)
 
+    async def test_connection_that_is_given(self):
+        """A connection that was there, and blocks: no call stops the loop, and over TCP it is reset."""
+        ended = asyncio.Event()
+
+        async def serve(reader, writer):
+            await reader.readline()
+            await asyncio.sleep(0.1)
+            writer.write(b"ok repair\n")
+            with self.assertRaises(ConnectionResetError):
+                await reader.read()
+            ended.set()
+
+        async with fake(serve) as address:
+            host, port = address.split(":")
+            stream = await asyncio.to_thread(socket.create_connection, (host, int(port)))
+            stream.settimeout(2)  # (else the loop would stop for good)
+            session = siploc_asyncio.Session(stream, 10)
+            await session.repair()
+            session._end()
+            await asyncio.wait_for(ended.wait(), 10)
+
     async def test_fork(self):
         """The child of a fork sends nothing in its parent's session, nor ends it, nor waits for a call in it."""
         lines = []

@@ -32,13 +32,6 @@ func Connect(ctx context.Context, address string, timeout time.Duration) (*Sessi
 	var first error
 	for _, place := range places {
 		stream, err := dial(ctx, dialer, network, place)
-		if connection, isTCP := stream.(*net.TCPConn); err == nil && isTCP {
-			// A connection that ends before its time is reset, also where this process is killed. Else the server
-			// would see the end of the input, and take half a line as a line, and half a zone as a zone.
-			if err = connection.SetLinger(0); err != nil {
-				stream.Close()
-			}
-		}
 		if err == nil {
 			return New(stream, timeout), nil
 		}
@@ -67,6 +60,11 @@ func dial(ctx context.Context, dialer net.Dialer, network, place string) (net.Co
 // New opens a session over a connection that is there, such as an end of a socket pair. The timeout is how long a call
 // waits without progress. Where it is 0, it is DefaultTimeout.
 func New(stream net.Conn, timeout time.Duration) *Session {
+	if connection, isTCP := stream.(interface{ SetLinger(int) error }); isTCP {
+		// A connection that ends before its time is reset, also where this process is killed. Else the server would see
+		// the end of the input, and take half a line as a line, and half a zone as a zone. (Where this fails, so do calls.)
+		_ = connection.SetLinger(0)
+	}
 	return newSession(&connection{stream: stream, reader: bufio.NewReaderSize(stream, 1<<16)}, timeout)
 }
 

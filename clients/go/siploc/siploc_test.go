@@ -821,6 +821,19 @@ func TestSendThatFails(t *testing.T) {
 	}
 }
 
+// A TCP connection that was there is reset too: of a zone that is cut the server would take a part.
+func TestConnectionThatIsGiven(t *testing.T) {
+	ended := make(chan error, 1)
+	address := fake(t, func(stream net.Conn) {
+		_, err := io.Copy(io.Discard, stream)
+		ended <- err
+	})
+	session := New(must[net.Conn](t)(net.Dial("tcp", address)), 200*time.Millisecond)
+	_, err := session.Load(ctx, "e.", "a A 192.0.2.1")
+	equal(t, errors.Is(err, ErrTimedOut), true)
+	equal(t, errors.Is(<-ended, syscall.ECONNRESET), true)
+}
+
 // Goroutines share a session: each gets the reply to its own question.
 func TestGoroutines(t *testing.T) {
 	session := connect(t, start(t, 1, "").address, 30*time.Second)
