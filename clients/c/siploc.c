@@ -985,6 +985,14 @@ siploc_status siploc_broke(siploc *s, const siploc_reply **reply)
 
 /* ---- Sessions ---- */
 
+/* The port after an address's colon: a number, which may have leading zeros. */
+static bool read_port(const char *text, uint64_t *port)
+{
+    while (*text == '0')
+        text++;
+    return read_number(text, UINT16_MAX, port);
+}
+
 /* A place to connect to. */
 typedef union place {
     struct sockaddr any;
@@ -1010,7 +1018,7 @@ static socklen_t read_place(const char *address, place *place)
     bool has_brackets = *address == '[';
     size_t length = colon != NULL ? (size_t)(colon - address) : 0;
     uint64_t port;
-    if (length < 3 || length >= sizeof host || !read_number(colon + 1, UINT16_MAX, &port) || port == 0)
+    if (length < 3 || length >= sizeof host || !read_port(colon + 1, &port))
         return 0;
     memcpy(host, address, length);
     host[length] = '\0';
@@ -1171,17 +1179,18 @@ siploc_status siploc_connect(const char *address, int timeout, siploc **session)
     static const char name[] = "localhost:";
     char text[32];
     size_t length = sizeof name - 1;
+    uint64_t port;
     *session = NULL;
     if (strncmp(address, name, length) != 0)
         return connect_to(address, timeout, session);
-    if (strlen(address + length) > 5)
+    if (!read_port(address + length, &port))
         return SIPLOC_INVALID;
-    snprintf(text, sizeof text, "127.0.0.1:%s", address + length);
+    snprintf(text, sizeof text, "127.0.0.1:%u", (unsigned)port);
     siploc_status status = connect_to(text, timeout, session);
     if (status != SIPLOC_NOT_CONNECTED)
         return status;
     int cause = errno;
-    snprintf(text, sizeof text, "[::1]:%s", address + length);
+    snprintf(text, sizeof text, "[::1]:%u", (unsigned)port);
     status = connect_to(text, timeout, session);
     if (status == SIPLOC_NOT_CONNECTED)
         errno = cause;

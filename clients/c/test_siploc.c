@@ -1334,6 +1334,30 @@ static void addresses(void)
     close(full);
 }
 
+/* A port is a number, which may have leading zeros. */
+static void ports_with_leading_zeros(void)
+{
+    const char *const hosts[] = {"127.0.0.1", "localhost", "[::1]"};
+    const char *const wrong[] = {"000000000000", "00000000000065536", "", "+5099", "5 099"};
+    char address[64];
+    siploc *s;
+    for (int i = 0; i < 3; i++) {
+        int port, listener = listen_somewhere(i == 2, &port);
+        snprintf(address, sizeof address, "%s:%012d", hosts[i], port);
+        CHECK(siploc_connect(address, 5, &s) == SIPLOC_OK);
+        siploc_close(s);
+        close(listener);
+        snprintf(address, sizeof address, "%s:%012d", hosts[i], 65536);
+        CHECK(siploc_connect(address, 5, &s) == SIPLOC_INVALID);
+    }
+    for (size_t i = 0; i < sizeof wrong / sizeof wrong[0]; i++) {
+        snprintf(address, sizeof address, "127.0.0.1:%s", wrong[i]);
+        CHECK(siploc_connect(address, 5, &s) == SIPLOC_INVALID);
+        snprintf(address, sizeof address, "localhost:%s", wrong[i]);
+        CHECK(siploc_connect(address, 5, &s) == SIPLOC_INVALID);
+    }
+}
+
 /* Where nobody listens, the system may choose the port itself for the client, which is then its own server. */
 static void connection_with_itself(void)
 {
@@ -1459,7 +1483,7 @@ int main(int count, char **words)
         TEST(refusals_by_calls), TEST(finds_in_batches), TEST(batch_of_more_than_the_sockets_hold),
         TEST(server_that_ends_in_the_midst), TEST(client_that_is_killed_in_a_zone), TEST(example_program), TEST(replies),
         TEST(cut_at_each_octet), TEST(what_a_refused_find_names), TEST(garbage_without_end), TEST(reply_before_its_command), TEST(invalid_commands_are_not_sent), TEST(lost_before_and_after), TEST(refused_as_commands_come), TEST(allocations_that_fail), TEST(forks), TEST(session_over_a_socketpair), TEST(timeouts), TEST(send_that_fails), TEST(connection_that_is_given),
-        TEST(addresses), TEST(connection_with_itself), TEST(programs_that_are_started), TEST(memory_of_a_large_zone), TEST(full_queue)};
+        TEST(addresses), TEST(ports_with_leading_zeros), TEST(connection_with_itself), TEST(programs_that_are_started), TEST(memory_of_a_large_zone), TEST(full_queue)};
     int passed = 0, failed = 0;
     program = getenv("SIPLOC");
     if (count < 3 || program == NULL)

@@ -611,7 +611,7 @@ def _places(address: str) -> List[Tuple[int, _Place]]:
         if not 0 < len(_octets(address)) - len("unix:") <= 107 or "\0" in address:
             raise InvalidCommand(f"the path of a Unix socket has 1 to 107 octets: {address[:200]!r}")
         return [(socket.AF_UNIX, address[len("unix:"):])]
-    match = re.fullmatch(r"(?:\[([0-9A-Fa-f:.]*:[0-9A-Fa-f:.]*)\]|([0-9.]+)|(localhost)):([0-9]{1,5})", address)
+    match = re.fullmatch(r"(?:\[([0-9A-Fa-f:.]*:[0-9A-Fa-f:.]*)\]|([0-9.]+)|(localhost)):0*([0-9]{1,5})", address)
     try:
         texts = ["127.0.0.1", "::1"] if match and match[3] else [match[1] or match[2]] if match else []
         hosts = [ipaddress.ip_address(text) for text in texts]

@@ -773,6 +773,16 @@ class Faults(unittest.TestCase):
                 siploc.connect(address)
             self.assertIn(address, str(caught.exception))
 
+    def test_ports_with_leading_zeros(self):
+        """A port is a number, which may have leading zeros."""
+        for host in ("127.0.0.1", "localhost"):
+            with fake(until_end) as (address, _):
+                port = address.split(":")[1]
+                siploc.connect(f"{host}:{port:0>12}", 5)._end()
+        for port in ("0" * 12, "0" * 12 + "65536", "", "+5099", "5 099", "\u0665099"):
+            with self.subTest(port), self.assertRaises(siploc.InvalidCommand):
+                siploc.connect(f"127.0.0.1:{port}")
+
     def test_connection_with_itself(self):
         """Where nobody listens, the system may choose the port itself for the client, which is then its own server."""
         with mock.patch("socket.socket", Bound):

@@ -878,7 +878,20 @@ func TestAddresses(t *testing.T) {
 	}
 }
 
-// silent is a server that takes what comes, and says nothing.
+// A port is a number, which may have leading zeros.
+func TestPortsWithLeadingZeros(t *testing.T) {
+	for _, host := range []string{"127.0.0.1", "localhost"} {
+		_, port, _ := net.SplitHostPort(silent(t))
+		session, err := Connect(ctx, fmt.Sprintf("%s:%012s", host, port), 5*time.Second)
+		equal(t, err, nil)
+		session.carrier.end()
+	}
+	for _, port := range []string{"000000000000", "00000000000065536", "", "+5099", "5 099"} {
+		_, err := Connect(ctx, "127.0.0.1:"+port, time.Second)
+		equal(t, errors.Is(err, ErrInvalidCommand), true)
+	}
+}
+
 // A server that takes some octets now and then makes progress. (Over TCP the system waits up to seconds to send to a
 // buffer that was full.)
 func TestServerThatReadsSlowly(t *testing.T) {
@@ -969,6 +982,7 @@ func TestConnectionsOfOtherKinds(t *testing.T) {
 	equal(t, session.Close(), nil)
 }
 
+// silent is a server that takes what comes, and says nothing.
 func silent(t *testing.T) string {
 	return fake(t, func(stream net.Conn) { _, _ = io.Copy(io.Discard, stream) })
 }
