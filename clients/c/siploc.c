@@ -293,7 +293,7 @@ static bool is_address(const char *text)
         int digits = 0;
         while (is_hex(text[digits]))
             digits++;
-        if (digits < 1 || digits > 4 || groups > 8)
+        if (digits < 1 || digits > 4 || groups > 8 || (*text == '0' && digits > 1))
             return false;
         text += digits;
         if (*text == '\0')
@@ -316,36 +316,42 @@ static bool read_target(char **fields, siploc_target *target)
     return true;
 }
 
-/* Whether a text is the branch of an attempt. */
-static bool is_branch(const char *text)
+/* Reads the number of an attempt, which count from 1. */
+static bool read_attempt(const char *text, uint32_t *attempt)
 {
-    uint64_t attempt;
+    uint64_t value;
+    bool is_number = read_number(text, UINT32_MAX, &value);
+    *attempt = (uint32_t)value;
+    return is_number && value > 0;
+}
+
+/* Whether a text is the branch of an attempt. */
+static bool is_branch(const char *text, uint32_t attempt)
+{
+    uint32_t other;
     size_t digits = 0;
     if (strncmp(text, "z9hG4bK", 7) != 0)
         return false;
     while (is_hex(text[7 + digits]))
         digits++;
-    return digits == 16 && text[7 + 16] == '.' && read_number(text + 7 + 17, UINT32_MAX, &attempt);
+    return digits == 16 && text[7 + 16] == '.' && read_attempt(text + 7 + 17, &other) && other == attempt;
 }
 
 static bool read_step(char **fields, size_t count, siploc_step *step)
 {
-    uint64_t value = 0;
+    uint64_t value;
     memset(step, 0, sizeof *step);
     if (strcmp(fields[0], "send") == 0 && count == 6) {
-        if (!read_number(fields[1], UINT32_MAX, &value) || !read_target(fields + 2, &step->target) ||
-            !is_branch(fields[5]))
+        if (!read_attempt(fields[1], &step->attempt) || !read_target(fields + 2, &step->target) ||
+            !is_branch(fields[5], step->attempt))
             return false;
         strcpy(step->branch, fields[5]);
         step->kind = SIPLOC_SEND;
-        step->attempt = (uint32_t)value;
         return true;
     }
     if ((strcmp(fields[0], "resend") == 0 || strcmp(fields[0], "ack") == 0) && count == 2) {
         step->kind = *fields[0] == 'r' ? SIPLOC_RESEND : SIPLOC_ACK;
-        bool is_number = read_number(fields[1], UINT32_MAX, &value);
-        step->attempt = (uint32_t)value;
-        return is_number;
+        return read_attempt(fields[1], &step->attempt);
     }
     if (strcmp(fields[0], "hold") == 0 && count == 5) {
         step->kind = SIPLOC_HOLD;
@@ -433,7 +439,7 @@ static taken take_last(siploc *s, word word, char **fields, size_t count)
         reply->name = s->name;
         reply->kind = s->kind;
     } else if (count == 4 && word == ZONE && strcmp(code, "zone") == 0) {
-        if (!read_number(fields[2], UINT64_MAX, &reply->fault_line))
+        if (!read_number(fields[2], UINT64_MAX, &reply->fault_line) || reply->fault_line == 0)
             return BAD;
         code = fields[3];
     } else if (count != 2 || (has_targets && strcmp(code, "L1") == 0)) {

@@ -96,6 +96,13 @@ int __wrap_connect(int stream, const struct sockaddr *place, socklen_t size)
 /* How many octets a connection takes before it fails to send; less than 0 where it does not fail. */
 static int octets_taken = -1;
 
+/* What is replied at another end of a connection, once something was sent, and after which it ends. */
+static struct {
+    int stream;
+    const char *octets;
+    size_t size;
+} answer = {.stream = -1};
+
 ssize_t __real_send(int stream, const void *octets, size_t size, int flags);
 
 ssize_t __wrap_send(int stream, const void *octets, size_t size, int flags)
@@ -108,6 +115,8 @@ ssize_t __wrap_send(int stream, const void *octets, size_t size, int flags)
         size = (size_t)octets_taken;
     ssize_t count = __real_send(stream, octets, size, flags);
     octets_taken -= octets_taken > 0 && count > 0 ? (int)count : 0;
+    if (answer.stream >= 0 && write(answer.stream, answer.octets, answer.size) == (ssize_t)answer.size)
+        shutdown(answer.stream, SHUT_WR);
     return count;
 }
 
@@ -793,6 +802,16 @@ static void keep_reply(void *context, size_t place, const siploc_reply *reply)
         snprintf(row->code, sizeof row->code, "%s", reply->code);
 }
 
+/* How a call has ended, as replies.txt has it. */
+static const char *name_of(siploc_status status, const row *row)
+{
+    return status == SIPLOC_OK           ? row->code
+           : status == SIPLOC_LOST       ? "lost"
+           : status == SIPLOC_HALF_REPLY ? "half"
+           : status == SIPLOC_BAD_REPLY  ? "bad"
+                                         : siploc_status_text(status);
+}
+
 /* What is a reply of the protocol, and what is not. */
 static void replies(void)
 {
@@ -812,11 +831,7 @@ static void replies(void)
         CHECK(session != NULL);
         const char *const commands[] = {command};
         siploc_status status = siploc_batch(session, commands, 1, keep_reply, &row);
-        const char *seen = status == SIPLOC_OK           ? row.code
-                           : status == SIPLOC_LOST       ? "lost"
-                           : status == SIPLOC_HALF_REPLY ? "half"
-                           : status == SIPLOC_BAD_REPLY  ? "bad"
-                                                         : siploc_status_text(status);
+        const char *seen = name_of(status, &row);
         siploc_doubt doubt = siploc_broken(session);
         bool is_right = strcmp(seen, kind) == 0;
         if (status == SIPLOC_OK)
@@ -833,6 +848,49 @@ static void replies(void)
     }
     free(text);
     CHECK(rows == 135);
+}
+
+/* Whether a row of changed.py is as it says, over a socketpair. */
+static bool is_as_said(char *line)
+{
+    char *kind = line, *command = strchr(line, '\t') + 1, *reply = strchr(command, '\t') + 1;
+    int ends[2];
+    siploc *s;
+    command[-1] = reply[-1] = '\0';
+    row row = {.code = "good", .end = row.kept};
+    unescape(command);
+    answer.size = unescape(reply);
+    answer.octets = reply;
+    if (socketpair(AF_UNIX, SOCK_STREAM, 0, ends) < 0 || siploc_new(ends[0], 10000, &s) != SIPLOC_OK)
+        abort();
+    answer.stream = ends[1];
+    const char *const commands[] = {command};
+    siploc_status status = siploc_batch(s, commands, 1, keep_reply, &row);
+    answer.stream = -1;
+    const char *seen = name_of(status, &row);
+    bool is_right = strcmp(seen, kind) == 0 && siploc_is_open(s) == (status == SIPLOC_OK) &&
+                    (status != SIPLOC_OK || strcmp(row.kept, reply) == 0);
+    if (!is_right)
+        printf("%s: %s: got %s, wanted %s\n", command, reply, seen, kind);
+    siploc_set_timeout(s, 0);
+    siploc_close(s);
+    close(ends[1]);
+    return is_right;
+}
+
+/* changed.py: each octet of each reply changed in turn. What is none is not taken, and ends the session. */
+static void changed_replies(void)
+{
+    char path[1024], line[8192];
+    int rows = 0, wrong = 0;
+    snprintf(path, sizeof path, "python3 '%s/clients/tests/changed.py'", top);
+    FILE *pipe = popen(path, "r");
+    CHECK(pipe != NULL);
+    for (; fgets(line, sizeof line, pipe) != NULL; rows++) {
+        line[strcspn(line, "\n")] = '\0';
+        wrong += !is_as_said(line);
+    }
+    CHECK(pclose(pipe) == 0 && rows > 5000 && wrong == 0);
 }
 
 /* A reply to some lines, and where it is cut in how many connections: at each octet of it, in their order. */
@@ -1481,7 +1539,7 @@ int main(int count, char **words)
 #define TEST(name) {#name, name}
         TEST(readme_session_in_a_batch), TEST(readme_session_by_calls), TEST(other_calls), TEST(pages), TEST(each_refusal),
         TEST(refusals_by_calls), TEST(finds_in_batches), TEST(batch_of_more_than_the_sockets_hold),
-        TEST(server_that_ends_in_the_midst), TEST(client_that_is_killed_in_a_zone), TEST(example_program), TEST(replies),
+        TEST(server_that_ends_in_the_midst), TEST(client_that_is_killed_in_a_zone), TEST(example_program), TEST(replies), TEST(changed_replies),
         TEST(cut_at_each_octet), TEST(what_a_refused_find_names), TEST(garbage_without_end), TEST(reply_before_its_command), TEST(invalid_commands_are_not_sent), TEST(lost_before_and_after), TEST(refused_as_commands_come), TEST(allocations_that_fail), TEST(forks), TEST(session_over_a_socketpair), TEST(timeouts), TEST(send_that_fails), TEST(connection_that_is_given),
         TEST(addresses), TEST(ports_with_leading_zeros), TEST(connection_with_itself), TEST(programs_that_are_started), TEST(memory_of_a_large_zone), TEST(full_queue)};
     int passed = 0, failed = 0;

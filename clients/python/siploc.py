@@ -337,9 +337,11 @@ def _up_to(most: int) -> str:
     return "|".join(["0", f"[1-9][0-9]{{0,{len(digits) - 2}}}", *tops, digits])
 
 
-_NUMBER, _ATTEMPT, _PORT = (f"({_up_to((1 << bits) - 1)})" for bits in (64, 32, 16))
-_OCTET = f"(?:{_up_to(255)})"
-_ADDRESS = rf"({_OCTET}(?:\.{_OCTET}){{3}}|[0-9a-f]{{1,4}}(?::[0-9a-f]{{1,4}}){{7}})"
+_NUMBER, _PORT = (f"({_up_to((1 << bits) - 1)})" for bits in (64, 16))
+# (those that count from 1)
+_LINE, _ATTEMPT = (f"((?!0)(?:{_up_to((1 << bits) - 1)}))" for bits in (64, 32))
+_OCTET, _GROUP = f"(?:{_up_to(255)})", "(?:0|[1-9a-f][0-9a-f]{0,3})"
+_ADDRESS = rf"({_OCTET}(?:\.{_OCTET}){{3}}|{_GROUP}(?::{_GROUP}){{7}})"
 _ENDPOINT = rf"(udp|tcp|tls|sctp) {_ADDRESS} {_PORT}"
 _NAME = r"([!-~]{1,1020})"
 _KIND = r"(A|AAAA|CNAME|SRV|NAPTR|EXISTS)"
@@ -348,11 +350,11 @@ _CODE = r"([A-Z][A-Za-z0-9]{0,31})"
 _BLANK = re.compile(r"[ \t\r\n]")
 _TARGET = re.compile(rf"target {_NUMBER} {_ENDPOINT}")
 _DEPENDENCY = re.compile(rf"dep {_NAME} {_KIND} {_NUMBER}")
-_STEP = re.compile(rf"send {_ATTEMPT} {_ENDPOINT} (z9hG4bK[0-9a-f]{{16}}\.{_ATTEMPT})|resend {_ATTEMPT}|ack {_ATTEMPT}"
+_STEP = re.compile(rf"send {_ATTEMPT} {_ENDPOINT} (z9hG4bK[0-9a-f]{{16}}\.\1)|resend {_ATTEMPT}|ack {_ATTEMPT}"
                    rf"|hold {_ENDPOINT} {_NUMBER}|deliver ([1-6][0-9][0-9])|exhausted")
 _NONE = re.compile(r"none (NoAddress|NotAvailable|NoTransport|AllHeld)")
 _REFUSED = re.compile(rf"err {_CODE}")
-_REFUSED_ZONE = re.compile(rf"err (?:zone {_NUMBER} )?{_CODE}")
+_REFUSED_ZONE = re.compile(rf"err (?:zone {_LINE} )?{_CODE}")
 _REFUSED_FIND = re.compile(rf"err (?:(L1) {_NAME} {_KIND}|(?!L1$){_CODE})")
 
 

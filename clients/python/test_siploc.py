@@ -100,6 +100,20 @@ class Failing(socket.socket):
         return count
 
 
+class Answering(socket.socket):
+    """A socket to which another one replies once something is sent, and ends."""
+
+    def __init__(self, stream, other, reply):
+        super().__init__(fileno=stream.detach())
+        self.other, self.reply = other, reply
+
+    def send(self, octets, flags=0):
+        count = super().send(octets, flags)
+        self.other.sendall(self.reply)
+        self.other.shutdown(socket.SHUT_WR)
+        return count
+
+
 def accept_all(listener):
     """Accepts two clients, and closes their connections."""
     for _ in range(2):
@@ -521,6 +535,27 @@ class Faults(unittest.TestCase):
                 finally:
                     session.close()
                 self.assertEqual(seen, kind)
+
+    def test_changed_replies(self):
+        """changed.py: each octet of each reply changed in turn. What is none is not taken, and ends the session."""
+        printed = subprocess.run([sys.executable, TESTS / "changed.py"], check=True, stdout=subprocess.PIPE, text=True)
+        rows = [text.split("\t") for text in printed.stdout.splitlines()]
+        for kind, command, reply in rows:
+            octets = unescape(reply)
+            ours, other = socket.socketpair()
+            with self.subTest(kind=kind, command=command, reply=reply), other:
+                session = siploc.Session(Answering(ours, other, octets), 10)
+                try:
+                    got = session.batch([unescape(command).decode()])[0]
+                    seen = got.refusal.code if got.refusal else "good"
+                    self.assertEqual("".join(f"{text}\n" for text in got.lines).encode(), octets)
+                except siploc.HalfReply:
+                    seen = "half"
+                except siploc.BadReply:
+                    seen = "bad"
+                self.assertEqual((seen, session.is_open), (kind, kind not in ("half", "bad")))
+                session._end()
+        self.assertGreater(len(rows), 5_000)
 
     def test_cut_at_each_octet(self):
         """A reply that is cut at any octet, as the connection ends or is reset, is told as half a reply, or as none."""

@@ -187,7 +187,8 @@ func isAddress(text string) bool {
 		return err == nil && address.Is4()
 	}
 	for _, group := range groups {
-		if group == "" || len(group) > 4 || strings.Trim(group, "0123456789abcdef") != "" {
+		if group == "" || len(group) > 4 || group[0] == '0' && len(group) > 1 ||
+			strings.Trim(group, "0123456789abcdef") != "" {
 			return false
 		}
 	}
@@ -242,10 +243,9 @@ func dependency(fields []string) (Dependency, bool) {
 }
 
 // isBranch returns whether a text is the branch of an attempt.
-func isBranch(text string) bool {
-	base, attempt, hasDot := strings.Cut(text, ".")
-	_, isNumber := number(attempt, 32)
-	return hasDot && isNumber && len(base) == len("z9hG4bK")+16 && strings.HasPrefix(base, "z9hG4bK") &&
+func isBranch(text, attempt string) bool {
+	base, end, _ := strings.Cut(text, ".")
+	return end == attempt && len(base) == len("z9hG4bK")+16 && strings.HasPrefix(base, "z9hG4bK") &&
 		strings.Trim(base[len("z9hG4bK"):], "0123456789abcdef") == ""
 }
 
@@ -255,13 +255,13 @@ func step(fields []string) (Step, bool) {
 	attempt := func() bool {
 		value, isNumber := number(fields[1], 32)
 		step.Attempt = uint32(value)
-		return isNumber
+		return isNumber && value > 0
 	}
 	switch {
 	case step.Kind == Send && len(fields) == 6:
 		target, isTarget := endpoint(fields[2:5])
 		step.Target, step.Branch = target, fields[5]
-		return step, attempt() && isTarget && isBranch(step.Branch)
+		return step, attempt() && isTarget && isBranch(step.Branch, fields[1])
 	case (step.Kind == Resend || step.Kind == Ack) && len(fields) == 2:
 		return step, attempt()
 	case step.Kind == Hold && len(fields) == 5:
@@ -323,8 +323,8 @@ func isReply(word string, before int, line string) bool {
 			return fields[1] == "L1" && isName(fields[2]) && isKind(fields[3])
 		}
 		if len(fields) == 4 && word == "zone" && fields[1] == "zone" {
-			_, isNumber := number(fields[2], 64)
-			return isNumber && isCode(fields[3])
+			place, isNumber := number(fields[2], 64)
+			return isNumber && place > 0 && isCode(fields[3])
 		}
 		return len(fields) == 2 && isCode(fields[1]) && !(hasTargets && fields[1] == "L1")
 	}

@@ -557,6 +557,58 @@ func TestReplies(t *testing.T) {
 	}
 }
 
+// An answerer has the reply to what is written, and then ends.
+type answerer struct {
+	net.Conn
+	written chan bool
+	reply   *strings.Reader
+}
+
+func (a *answerer) Write(octets []byte) (int, error) {
+	close(a.written)
+	return len(octets), nil
+}
+
+func (a *answerer) Read(room []byte) (int, error) {
+	<-a.written
+	return a.reply.Read(room)
+}
+
+func (a *answerer) SetDeadline(time.Time) error { return nil }
+
+func (a *answerer) Close() error { return nil }
+
+// changed.py: each octet of each reply changed in turn. What is none is not taken, and ends the session.
+func TestChangedReplies(t *testing.T) {
+	printed := must[[]byte](t)(exec.Command("python3", filepath.Join(top, "clients/tests/changed.py")).Output())
+	lines := textLines(string(printed))
+	for _, line := range lines {
+		fields := strings.Split(line, "\t")
+		octets := unescape(fields[2])
+		session := New(&answerer{written: make(chan bool), reply: strings.NewReader(octets)}, 10*time.Second)
+		replies, err := session.Batch(ctx, []string{unescape(fields[1])})
+		var refused *RefusedError
+		seen := "good"
+		switch {
+		case errors.Is(err, ErrHalfReply):
+			seen = "half"
+		case errors.Is(err, ErrBadReply):
+			seen = "bad"
+		case err != nil:
+			seen = err.Error()
+		case errors.As(replies[0].Err(), &refused):
+			seen = refused.Code
+		}
+		if seen != fields[0] || session.IsOpen() == (fields[0] == "half" || fields[0] == "bad") {
+			t.Errorf("%s: got %s", line, seen)
+		}
+		if err == nil && strings.Join(replies[0].Lines, "\n")+"\n" != octets {
+			t.Errorf("%s: got %q", line, replies[0].Lines)
+		}
+	}
+	equal(t, len(lines) > 5_000, true)
+}
+
 // cutServer sends a part of a reply to the first line of each connection: the octets before the next cut. Then the
 // connection ends, is reset, or stays silent until the test has ended.
 func cutServer(t *testing.T, octets string, lines int, how string) string {
