@@ -837,44 +837,96 @@ static siploc_status begin(siploc *s, const char *word)
     return append(&s->line, word, strlen(word)) ? SIPLOC_OK : SIPLOC_NO_MEMORY;
 }
 
-/* Adds a field that has to be one, after a blank. */
-static siploc_status add_field(siploc *s, siploc_status status, const char *field)
+/* Adds a field that has to be one to a line, after a blank. */
+static siploc_status add_field(array *line, siploc_status status, const char *field)
 {
     if (status != SIPLOC_OK)
         return status;
     if (*field == '\0' || strpbrk(field, " \t\r\n") != NULL)
         return SIPLOC_INVALID;
-    return append(&s->line, " ", 1) && append(&s->line, field, strlen(field)) ? SIPLOC_OK : SIPLOC_NO_MEMORY;
+    return append(line, " ", 1) && append(line, field, strlen(field)) ? SIPLOC_OK : SIPLOC_NO_MEMORY;
 }
 
-static siploc_status add_number(siploc *s, siploc_status status, uint64_t value)
+static siploc_status add_number(array *line, siploc_status status, uint64_t value)
 {
     char digits[21];
     snprintf(digits, sizeof digits, "%llu", (unsigned long long)value);
-    return add_field(s, status, digits);
+    return add_field(line, status, digits);
 }
 
-static siploc_status add_target(siploc *s, siploc_status status, const siploc_target *target)
+static siploc_status add_target(array *line, siploc_status status, const siploc_target *target)
 {
-    status = add_field(s, add_field(s, status, target->transport), target->address);
-    return add_number(s, status, target->port);
+    status = add_field(line, add_field(line, status, target->transport), target->address);
+    return add_number(line, status, target->port);
 }
 
-static siploc_status add_draws(siploc *s, siploc_status status, const siploc_draws *draws)
+static siploc_status add_draws(array *line, siploc_status status, const siploc_draws *draws)
 {
     if (draws == NULL || status != SIPLOC_OK)
         return status;
     if (draws->has_seed && draws->word_count > 0)
         return SIPLOC_INVALID;
     if (draws->has_seed)
-        return add_number(s, add_field(s, status, "seed"), draws->seed);
+        return add_number(line, add_field(line, status, "seed"), draws->seed);
     for (size_t i = 0; i < draws->word_count; i++) {
         char digits[20];
         snprintf(digits, sizeof digits, "%s%lu", i == 0 ? " words " : ",", (unsigned long)draws->words[i]);
-        if (!append(&s->line, digits, strlen(digits)))
+        if (!append(line, digits, strlen(digits)))
             return SIPLOC_NO_MEMORY;
     }
     return SIPLOC_OK;
+}
+
+/* Adds the rest of a `zone` line, and the lines of a text. */
+static siploc_status add_zone(array *line, siploc_status status, const char *apex, const char *text)
+{
+    size_t count = 0;
+    for (const char *at = text; *at != '\0'; at++)
+        count += *at == '\n' || at[1] == '\0';
+    if (count > MAX_ZONE_LINES)
+        return SIPLOC_INVALID;
+    status = add_number(line, add_field(line, status, apex), count);
+    while (status == SIPLOC_OK && *text != '\0') {
+        size_t length = strcspn(text, "\n"), kept = length;
+        if (kept > 0 && text[kept - 1] == '\r')
+            kept--;
+        if (!append(line, "\n", 1) || !append(line, text, kept))
+            status = SIPLOC_NO_MEMORY;
+        text += text[length] == '\n' ? length + 1 : length;
+    }
+    return status;
+}
+
+/* Gives a line that was made to the caller, or frees it. */
+static siploc_status give(array *line, siploc_status status, char **command)
+{
+    if (status == SIPLOC_OK && !append(line, "", 1))
+        status = SIPLOC_NO_MEMORY;
+    if (status != SIPLOC_OK) {
+        free(line->items);
+        line->items = NULL;
+    }
+    *command = line->items;
+    return status;
+}
+
+siploc_status siploc_line(const char *const *fields, size_t count, char **command)
+{
+    array line = {NULL, 0, 0};
+    siploc_status status = count > 0 ? SIPLOC_OK : SIPLOC_INVALID;
+    for (size_t i = 0; i < count; i++)
+        status = add_field(&line, status, fields[i]);
+    status = give(&line, status, command);
+    if (status == SIPLOC_OK) /* (without the first blank) */
+        memmove(*command, *command + 1, line.size - 1);
+    return status;
+}
+
+siploc_status siploc_zone(const char *apex, const char *text, char **command)
+{
+    array line = {NULL, 0, 0};
+    siploc_status status = append(&line, "zone", 4) ? SIPLOC_OK : SIPLOC_NO_MEMORY;
+    return give(&line, add_zone(&line, status, apex, text), command);
 }
 
 /* Asks, if the command could be made. What a long one has taken is given back. */
@@ -891,36 +943,22 @@ static siploc_status ask_if(siploc *s, siploc_status status, const siploc_reply 
 
 siploc_status siploc_find(siploc *s, const char *uri, const siploc_draws *draws, const siploc_reply **reply)
 {
-    return ask_if(s, add_draws(s, add_field(s, begin(s, "find"), uri), draws), reply);
+    return ask_if(s, add_draws(&s->line, add_field(&s->line, begin(s, "find"), uri), draws), reply);
 }
 
 siploc_status siploc_deps(siploc *s, const char *uri, const siploc_reply **reply)
 {
-    return ask_if(s, add_field(s, begin(s, "deps"), uri), reply);
+    return ask_if(s, add_field(&s->line, begin(s, "deps"), uri), reply);
 }
 
 siploc_status siploc_load(siploc *s, const char *apex, const char *text, const siploc_reply **reply)
 {
-    size_t count = 0;
-    for (const char *at = text; *at != '\0'; at++)
-        count += *at == '\n' || at[1] == '\0';
-    if (count > MAX_ZONE_LINES)
-        return SIPLOC_INVALID;
-    siploc_status status = add_number(s, add_field(s, begin(s, "zone"), apex), count);
-    while (status == SIPLOC_OK && *text != '\0') {
-        size_t length = strcspn(text, "\n"), kept = length;
-        if (kept > 0 && text[kept - 1] == '\r')
-            kept--;
-        if (!append(&s->line, "\n", 1) || !append(&s->line, text, kept))
-            status = SIPLOC_NO_MEMORY;
-        text += text[length] == '\n' ? length + 1 : length;
-    }
-    return ask_if(s, status, reply);
+    return ask_if(s, add_zone(&s->line, begin(s, "zone"), apex, text), reply);
 }
 
 siploc_status siploc_drop(siploc *s, const char *apex, const siploc_reply **reply)
 {
-    return ask_if(s, add_field(s, begin(s, "drop"), apex), reply);
+    return ask_if(s, add_field(&s->line, begin(s, "drop"), apex), reply);
 }
 
 /* An edit: a word, and the rest of the line. */
@@ -956,31 +994,31 @@ siploc_status siploc_page(siploc *s, const siploc_reply **reply)
 
 siploc_status siploc_hold(siploc *s, const siploc_target *target, uint64_t milliseconds, const siploc_reply **reply)
 {
-    return ask_if(s, add_number(s, add_target(s, begin(s, "hold"), target), milliseconds), reply);
+    return ask_if(s, add_number(&s->line, add_target(&s->line, begin(s, "hold"), target), milliseconds), reply);
 }
 
 siploc_status siploc_release(siploc *s, const siploc_target *target, const siploc_reply **reply)
 {
-    return ask_if(s, add_target(s, begin(s, "release"), target), reply);
+    return ask_if(s, add_target(&s->line, begin(s, "release"), target), reply);
 }
 
 siploc_status siploc_clock(siploc *s, uint64_t milliseconds, const siploc_reply **reply)
 {
-    return ask_if(s, add_number(s, begin(s, "clock"), milliseconds), reply);
+    return ask_if(s, add_number(&s->line, begin(s, "clock"), milliseconds), reply);
 }
 
 siploc_status siploc_call(siploc *s, const char *kind, uint64_t base, const char *uri, const siploc_draws *draws,
                           const siploc_reply **reply)
 {
-    siploc_status status = add_number(s, add_field(s, begin(s, "call"), kind), base);
-    return ask_if(s, add_draws(s, add_field(s, status, uri), draws), reply);
+    siploc_status status = add_number(&s->line, add_field(&s->line, begin(s, "call"), kind), base);
+    return ask_if(s, add_draws(&s->line, add_field(&s->line, status, uri), draws), reply);
 }
 
 siploc_status siploc_got(siploc *s, uint32_t attempt, uint16_t code, const uint32_t *retry, const siploc_reply **reply)
 {
-    siploc_status status = add_number(s, add_number(s, begin(s, "got"), attempt), code);
+    siploc_status status = add_number(&s->line, add_number(&s->line, begin(s, "got"), attempt), code);
     if (retry != NULL)
-        status = add_number(s, add_field(s, status, "retry"), *retry);
+        status = add_number(&s->line, add_field(&s->line, status, "retry"), *retry);
     return ask_if(s, status, reply);
 }
 

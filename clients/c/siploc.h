@@ -173,6 +173,14 @@ siploc_status siploc_got(siploc *session, uint32_t attempt, uint16_t code, const
                          const siploc_reply **reply);
 siploc_status siploc_broke(siploc *session, const siploc_reply **reply);
 
+/*
+ * Commands for siploc_batch, which the caller frees by `free`: a line of these fields, such as `hold`, `udp`,
+ * `192.0.2.1`, `5060` and `30000`; and a zone with its lines, of a text as siploc_load takes it. SIPLOC_INVALID: a field
+ * is empty, or has a blank or a line end, or there are too many lines. With another status than OK it is NULL.
+ */
+siploc_status siploc_line(const char *const *fields, size_t count, char **command);
+siploc_status siploc_zone(const char *apex, const char *text, char **command);
+
 /* What siploc_batch calls with the reply to the command at a place, which lasts until it returns. It must not call into
  * the session. */
 typedef void siploc_each(void *context, size_t place, const siploc_reply *reply);

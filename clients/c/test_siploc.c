@@ -500,6 +500,38 @@ static void pages(void)
     CHECK(closes(&server, 3));
 }
 
+/* Commands of a batch that are made of their fields, and of a zone's text. */
+static void commands_that_are_made(void)
+{
+    const char *const find[] = {"find", "sip:a.e:5070", "seed", "7"}, *const hold[] = {"hold", "udp", "192.0.2.1", "5070", "9"};
+    const char *const wrong[] = {"", "sip:a seed 1", "sip:a\tb", "sip:a\n", "sip:a\r"};
+    char *made[3], *none, replies[256] = "", *end = replies;
+    CHECK(siploc_zone("e.", "a A 192.0.2.1\r\n\nb A 192.0.2.2", &made[0]) == SIPLOC_OK);
+    CHECK(strcmp(made[0], "zone e. 3\na A 192.0.2.1\n\nb A 192.0.2.2") == 0);
+    CHECK(siploc_line(find, 4, &made[1]) == SIPLOC_OK && strcmp(made[1], "find sip:a.e:5070 seed 7") == 0);
+    CHECK(siploc_line(hold, 5, &made[2]) == SIPLOC_OK);
+    CHECK(siploc_zone("e.", "", &none) == SIPLOC_OK && strcmp(none, "zone e. 0") == 0);
+    free(none);
+    for (size_t i = 0; i < sizeof wrong / sizeof wrong[0]; i++) {
+        const char *const fields[] = {"find", wrong[i]};
+        CHECK(siploc_line(fields, 2, &none) == SIPLOC_INVALID && none == NULL);
+        CHECK(siploc_zone(wrong[i], "", &none) == SIPLOC_INVALID && none == NULL);
+    }
+    CHECK(siploc_line(find, 0, &none) == SIPLOC_INVALID && none == NULL);
+    allocations = 0;
+    CHECK(siploc_line(find, 4, &none) == SIPLOC_NO_MEMORY && none == NULL);
+    allocations = 0;
+    CHECK(siploc_zone("e.", "", &none) == SIPLOC_NO_MEMORY && none == NULL);
+    server server = start_server(1, "");
+    siploc *s = connect_to(server.address, 30000);
+    CHECK(s != NULL && siploc_batch(s, (const char *const *)made, 3, keep_lines, &end) == SIPLOC_OK);
+    siploc_close(s);
+    for (int i = 0; i < 3; i++)
+        free(made[i]);
+    CHECK(strcmp(replies, "ok zone 2 0 0 2\ntarget 1 udp 192.0.2.1 5070\nok find 1\nok hold\n") == 0);
+    CHECK(closes(&server, 3));
+}
+
 /* What a batch of refusals has shown. */
 typedef struct refusals {
     char *end;
@@ -1537,7 +1569,7 @@ int main(int count, char **words)
         void (*run)(void);
     } tests[] = {
 #define TEST(name) {#name, name}
-        TEST(readme_session_in_a_batch), TEST(readme_session_by_calls), TEST(other_calls), TEST(pages), TEST(each_refusal),
+        TEST(readme_session_in_a_batch), TEST(readme_session_by_calls), TEST(other_calls), TEST(pages), TEST(commands_that_are_made), TEST(each_refusal),
         TEST(refusals_by_calls), TEST(finds_in_batches), TEST(batch_of_more_than_the_sockets_hold),
         TEST(server_that_ends_in_the_midst), TEST(client_that_is_killed_in_a_zone), TEST(example_program), TEST(replies), TEST(changed_replies),
         TEST(cut_at_each_octet), TEST(what_a_refused_find_names), TEST(garbage_without_end), TEST(reply_before_its_command), TEST(invalid_commands_are_not_sent), TEST(lost_before_and_after), TEST(refused_as_commands_come), TEST(allocations_that_fail), TEST(forks), TEST(session_over_a_socketpair), TEST(timeouts), TEST(send_that_fails), TEST(connection_that_is_given),
