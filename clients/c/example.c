@@ -1,5 +1,6 @@
 /* Asks for targets, and holds each as if it had failed: example ADDRESS, such as 127.0.0.1:5099.
  * cc -o example example.c siploc.c */
+#include <errno.h>
 #include <stdio.h>
 #include <string.h>
 
@@ -32,9 +33,13 @@ static siploc_status try_each(siploc *session, const char *uri)
 int main(int count, char **words)
 {
     siploc *session;
-    if (count != 2 || siploc_connect(words[1], 1000, &session) != SIPLOC_OK)
-        return 1;
-    siploc_status status = siploc_load(session, "example.com.", "server1 A 192.0.2.1\nserver1 A 192.0.2.2", NULL);
+    siploc_status status = siploc_connect(count == 2 ? words[1] : "", 1000, &session);
+    if (status != SIPLOC_OK) {
+        const char *cause = status == SIPLOC_NOT_CONNECTED ? strerror(errno) : "such as 127.0.0.1:5099";
+        fprintf(stderr, "%s: %s\n", siploc_status_text(status), cause);
+        return (int)status;
+    }
+    status = siploc_load(session, "example.com.", "server1 A 192.0.2.1\nserver1 A 192.0.2.2", NULL);
     if (status == SIPLOC_OK)
         status = try_each(session, "sip:server1.example.com:5070");
     if (status != SIPLOC_OK)

@@ -170,7 +170,7 @@ const char *siploc_status_text(siploc_status status)
     switch (status) {
     case SIPLOC_OK: return "done";
     case SIPLOC_REFUSED: return "refused";
-    case SIPLOC_INVALID: return "the command would break the protocol, and was not sent";
+    case SIPLOC_INVALID: return "no address, or a command that would break the protocol and was not sent";
     case SIPLOC_NO_MEMORY: return "out of memory";
     case SIPLOC_NOT_CONNECTED: return "not connected";
     case SIPLOC_LOST: return "the connection was lost";

@@ -34,7 +34,8 @@ typedef struct siploc siploc;
 typedef enum siploc_status {
     SIPLOC_OK,
     SIPLOC_REFUSED,       /* the reply is `err CODE`: see its code; the session goes on, but after Busy */
-    SIPLOC_INVALID,       /* the command would break the protocol: it was not sent, and the session goes on */
+    SIPLOC_INVALID,       /* the command would break the protocol: it was not sent, and the session goes on; of
+                             siploc_connect, the address is none of those below */
     SIPLOC_NO_MEMORY,     /* an allocation failed before anything was sent; the session goes on */
     SIPLOC_NOT_CONNECTED, /* nobody listens at the address (see errno; of localhost, why 127.0.0.1 failed), or the
                              session has ended before, or is another process's */

@@ -786,6 +786,15 @@ static void example_program(void)
     CHECK(pclose(pipe) == 0 && size > 0);
     CHECK(strcmp(output, "try udp 192.0.2.1 5070\ntry udp 192.0.2.2 5070\nthen AllHeld\n") == 0);
     CHECK(closes(&server, 5));
+    /* What it says where nobody listens, and of what is no address. */
+    const char *const words[] = {server.address, "192.0.2.1:5099"};
+    const char *const said[] = {"not connected: Connection refused\n", "no address"};
+    for (int i = 0; i < 2; i++) {
+        snprintf(command, sizeof command, "%s %s 2>&1", example, words[i]);
+        CHECK((pipe = popen(command, "r")) != NULL);
+        output[fread(output, 1, sizeof output - 1, pipe)] = '\0';
+        CHECK(pclose(pipe) != 0 && strstr(output, said[i]) != NULL);
+    }
 }
 
 /* ---- Against servers that do what they should not ---- */

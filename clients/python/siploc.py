@@ -247,6 +247,9 @@ SiplocError = Error
 class InvalidCommand(Error, ValueError):
     """The command would break the protocol. It was not sent, and the session goes on."""
 
+    #: Of a batch, the place of the first command that is invalid, counted from 0; else None.
+    place: Optional[int] = None
+
 
 class NotConnected(Error):
     """Nobody listens at the address, the session has ended before, or it is another process's. Nothing was sent."""
@@ -600,7 +603,14 @@ def _all_prepared(commands: Iterable[str]) -> List[_Command]:
     """The commands of a batch."""
     if isinstance(commands, str):
         raise TypeError("a batch has a list of commands, and not one text")
-    return [_prepared(command) for command in commands]
+    prepared: List[_Command] = []
+    try:
+        for command in commands:
+            prepared.append(_prepared(command))
+    except InvalidCommand as fault:
+        fault.place = len(prepared)
+        raise
+    return prepared
 
 
 #: A place of the system: a path, or a host and a port.

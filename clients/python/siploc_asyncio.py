@@ -170,15 +170,18 @@ class Session:
 
     async def batch(self, commands: Iterable[str]) -> List[Reply]:
         """Sends many commands at once, and returns their replies in order; a refusal is a reply as any other."""
-        prepared = siploc._all_prepared(commands)
+        return await self._take_turn(siploc._all_prepared(commands))
+
+    async def _ask(self, command: str) -> Reply:
+        return (await self._take_turn([siploc._prepared(command)]))[0].check()
+
+    async def _take_turn(self, commands: Sequence[siploc._Command]) -> List[Reply]:
+        """Sends commands and reads their replies, after the calls of other tasks."""
         # (in the child of a fork a task may have the turn that is not there)
         if self._process != os.getpid():
             raise NotConnected("the session is another process's")
         async with self._turn:
-            return await self._exchange(prepared)
-
-    async def _ask(self, command: str) -> Reply:
-        return (await self.batch([command]))[0].check()
+            return await self._exchange(commands)
 
     def _end(self) -> None:
         if self._stream is not None:

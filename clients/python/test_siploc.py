@@ -638,8 +638,9 @@ class Faults(unittest.TestCase):
                          "find sip:a\r", "add a.e. A 192.0.2.1\rx", "zone e. 1", "zone e. 0\nfind sip:a",
                          "zone e. 2\na A 192.0.2.1", "zone e. 1048577\na", "zone e.\na", "zone e. 1\na\r",
                          "zone " + "a" * 65_536 + " 1\na", "zone e. " + "0" * 30 + "1"):
-                with self.subTest(text=text[:40]), self.assertRaises(siploc.InvalidCommand):
+                with self.subTest(text=text[:40]), self.assertRaises(siploc.InvalidCommand) as caught:
                     session.batch(["find sip:a", text])
+                self.assertEqual((caught.exception.place, pickle.loads(pickle.dumps(caught.exception)).place), (1, 1))
             for call in (lambda: session.find("sip:a seed 1"), lambda: session.find("sip:a\tseed"),
                          lambda: session.find(""), lambda: session.find("sip:a\nquit"),
                          lambda: session.find("sip:a", words=[1], seed=1), lambda: session.deps("sip:a\r"),
@@ -653,8 +654,9 @@ class Faults(unittest.TestCase):
                          lambda: session.hold(FIRST, 10**5000), lambda: session.clock(-1),
                          lambda: session.call("invite", 2**64, "sip:a"), lambda: session.got(2**32, 200),
                          lambda: session.got(1, 2**16), lambda: session.got(1, 503, retry=2**32)):
-                with self.assertRaises(siploc.InvalidCommand):
+                with self.assertRaises(siploc.InvalidCommand) as caught:
                     call()
+                self.assertIsNone(caught.exception.place)
             for call in (lambda: session.clock("1\nquit"), lambda: session.find("sip:a", words=["1 2"]),
                          lambda: session.find(b"sip:a"), lambda: session.find(None), lambda: session.drop(b"e."),
                          lambda: session.load(b"e.", ""), lambda: session.hold(("udp", None, 5060), 1),

@@ -92,8 +92,12 @@ class Asyncio(unittest.IsolatedAsyncioTestCase):
                     await session.drop("example.com.")
                 self.assertEqual(caught.exception.code, "S2")
                 for command in ("quit", "find sip:a\nfind sip:b", "", "find sip:\ud800"):
-                    with self.subTest(command), self.assertRaises(siploc.InvalidCommand):
-                        await session.batch([command])
+                    with self.subTest(command), self.assertRaises(siploc.InvalidCommand) as caught:
+                        await session.batch(["repair", command])
+                    self.assertEqual(caught.exception.place, 1)
+                with self.assertRaises(siploc.InvalidCommand) as caught:
+                    await session.add("a.e. A 192.0.2.1\n")
+                self.assertIsNone(caught.exception.place)
                 for call in (lambda: session.add(b"a.e. A 192.0.2.1"), lambda: session.batch("repair")):
                     with self.assertRaises(TypeError):
                         await call()

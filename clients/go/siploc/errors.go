@@ -48,8 +48,24 @@ func (e *RefusedError) Meaning() string {
 }
 
 func (e *RefusedError) Error() string {
-	return fmt.Sprintf("siploc: %s: %s: %.200q", e.Code, e.Meaning(), e.Command)
+	place := ""
+	if e.Line > 0 {
+		place = fmt.Sprintf(" (line %d of the zone)", e.Line)
+	}
+	return fmt.Sprintf("siploc: %s: %s%s: %.200q", e.Code, e.Meaning(), place, e.Command)
 }
+
+// An InvalidError is an ErrInvalidCommand.
+type InvalidError struct {
+	// Place is, in a batch, that of the first command that is invalid, counted from 0.
+	Place int
+	cause string
+}
+
+func (e *InvalidError) Error() string { return fmt.Sprintf("%v: %s", ErrInvalidCommand, e.cause) }
+
+// Is makes it an ErrInvalidCommand.
+func (e *InvalidError) Is(target error) bool { return target == ErrInvalidCommand }
 
 // A NotConnectedError is an ErrNotConnected.
 type NotConnectedError struct {
@@ -109,8 +125,8 @@ func (e *BrokenError) Is(target error) bool {
 
 func (e *BrokenError) Unwrap() error { return e.Cause }
 
-func invalid(format string, values ...any) error {
-	return fmt.Errorf("%w: %s", ErrInvalidCommand, fmt.Sprintf(format, values...))
+func invalid(format string, values ...any) *InvalidError {
+	return &InvalidError{cause: fmt.Sprintf(format, values...)}
 }
 
 // What each code of a refusal means.

@@ -10,7 +10,7 @@
 //
 // An error is one of these. After a BrokenError the session has ended; to connect again is up to the caller.
 //
-//   - ErrInvalidCommand: the command would break the protocol, and was not sent
+//   - *InvalidError, an ErrInvalidCommand: the command would break the protocol, and was not sent
 //   - *RefusedError: the reply is `err CODE`
 //   - *BrokenError: the connection was lost, the time ran out, or the reply is none that the protocol has
 //   - *NotConnectedError, an ErrNotConnected: nobody listens at the address, or the session has ended before
@@ -222,9 +222,10 @@ func (s *Session) Broke(ctx context.Context) ([]Step, error) { return steps(s.as
 // makes one. All are checked before the first is sent. Replies are read while commands are sent.
 func (s *Session) Batch(ctx context.Context, lines []string) ([]Reply, error) {
 	commands := make([]command, 0, len(lines))
-	for _, line := range lines {
+	for place, line := range lines {
 		command, err := prepare(line)
 		if err != nil {
+			err.Place = place
 			return nil, err
 		}
 		commands = append(commands, command)
@@ -310,7 +311,7 @@ type command struct{ word, text, octets string }
 
 // prepare returns a command that breaks no protocol: it is one line, or a `zone` line and as many as it says, and
 // it has a reply.
-func prepare(line string) (command, error) {
+func prepare(line string) (command, *InvalidError) {
 	first, rest, hasRest := strings.Cut(line, "\n")
 	fields := strings.FieldsFunc(first, func(letter rune) bool { return letter == ' ' || letter == '\t' })
 	lines := 0

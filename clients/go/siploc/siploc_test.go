@@ -346,6 +346,7 @@ func TestRefusalsByMethods(t *testing.T) {
 	}
 	_, err := session.Load(ctx, "e.", "; x\na A x")
 	equal(t, is(err, "Z4").Line, uint64(2))
+	equal(t, strings.HasSuffix(err.Error(), ` (line 2 of the zone): "zone e. 2"`), true)
 	_, err = session.Drop(ctx, "e.")
 	is(err, "S2")
 	_, err = session.Remove(ctx, "a")
@@ -719,6 +720,8 @@ func TestInvalidCommandsAreNotSent(t *testing.T) {
 		"zone e. " + strings.Repeat("0", 30) + "1"} {
 		_, err := session.Batch(ctx, []string{"find sip:a", line})
 		is(err)
+		var invalid *InvalidError
+		equal(t, errors.As(err, &invalid) && invalid.Place == 1, true)
 	}
 	_, err := session.Find(ctx, "sip:a seed 1", Draws{})
 	is(err)
