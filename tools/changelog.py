@@ -87,6 +87,8 @@ _SHORT = 512
 _OPPOSITES = {"add": "del", "del": "add", "hold": "release", "release": "hold"}
 #: The octets of a string that Redis replies, or the elements of an array, and how deep arrays are in others.
 _MAX_BULK, _MAX_DEPTH = 1 << 29, 8
+#: How many octets are sent at a time.
+_CHUNK = 1 << 16
 #: The apex of a change, and the owner of one, which may be in parentheses or in quotes as in a master file.
 _APEX = re.compile(rb"[ \t]*(?:zone|drop)[ \t]+([^ \t\n]+)")
 _OWNER = re.compile(rb'[ \t]*(?:add|del)[ \t()]+(?:"((?:[^"\\\n]|\\.)*)"|((?:[^ \t\n()";\\]|\\.)+))')
@@ -459,10 +461,12 @@ class Stream:
 
     def ask(self, commands: Sequence[Sequence[bytes]]) -> List[Value]:
         """Sends commands at once; their replies."""
+        if self.reader.closed:
+            raise Away(f"Redis at {self.address}: the connection has ended")
         fault: Optional[OSError] = None
         replies: List[Value] = []
         try:
-            self.socket.sendall(b"".join(
+            self.send(b"".join(
                 b"*%d\r\n%s" % (len(words), b"".join(b"$%d\r\n%s\r\n" % (len(it), it) for it in words))
                 for words in commands))
         except OSError as it:
@@ -473,6 +477,9 @@ class Stream:
                 replies.append(self.reply())
         except OSError as it:
             fault = fault or it
+        if fault:
+            # Redis may wait for the rest of this, and what it replies later is no reply to what is asked next.
+            self.close()
         for reply in replies:
             if isinstance(reply, Refusal):
                 is_away = reply.text.split(" ")[0] in _AWAY
@@ -480,6 +487,16 @@ class Stream:
         if fault:
             raise Away(f"Redis at {self.address}: {fault}") from fault
         return replies
+
+    def close(self) -> None:
+        self.reader.close()
+        self.socket.close()
+
+    def send(self, octets: bytes) -> None:
+        """Sends octets, for however long Redis goes on to take some."""
+        rest = memoryview(octets)
+        while rest:
+            rest = rest[self.socket.send(rest[:_CHUNK]):]
 
     def reply(self, depth: int = 0) -> Value:
         """The next reply, which may be an array of others."""
