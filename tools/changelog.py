@@ -246,6 +246,11 @@ def stream_id(key: str) -> str:
     return hashlib.sha256(octets_of(key)).hexdigest()[:16]
 
 
+def now() -> float:
+    """The time in seconds, by a clock that goes on while the machine is suspended, as others' do."""
+    return time.clock_gettime(time.CLOCK_BOOTTIME)
+
+
 def octets_of(text: str) -> bytes:
     """The octets of a text, which may be those of a word that is not UTF-8."""
     return text.encode("utf-8", "surrogateescape")
@@ -528,17 +533,17 @@ class Publisher:
     def __init__(self, address: str, key: str, seconds: float = 60) -> None:
         """Redis may be away for some seconds, but not at the start."""
         self.address, self.key, self.seconds = address, key, seconds
-        self.token, self.count, self.used = secrets.token_hex(8), 0, time.monotonic()
+        self.token, self.count, self.used = secrets.token_hex(8), 0, now()
         self.stream = Stream(address, key)
         self.place = self.stream.extent().last
 
     def append(self, changes: Sequence[Change]) -> None:
         """Appends changes, all or none; `place` is that of the last one."""
-        now = time.monotonic()
-        if now > self.used + _RESTED:
+        start = now()
+        if start > self.used + _RESTED:
             # (Redis counts no more what was appended)
             self.token, self.count = secrets.token_hex(8), 0
-        first, self.count, self.used, end = self.count, self.count + len(changes), now, now + self.seconds
+        first, self.count, self.used, end = self.count, self.count + len(changes), start, start + self.seconds
         is_new = False
         while True:
             try:
@@ -547,7 +552,7 @@ class Publisher:
                 self.place = self.stream.append_once(changes, self.token, first)
                 return
             except Fault as fault:
-                if not isinstance(fault, Away) or is_new and time.monotonic() >= end:
+                if not isinstance(fault, Away) or is_new and now() >= end:
                     # What is appended after it has a count of its own.
                     self.token, self.count = secrets.token_hex(8), 0
                     raise
