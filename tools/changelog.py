@@ -2,12 +2,13 @@
 
 An entry of the stream has a field `change`: a line of a session that changes zones, holds or the time, or a `zone` line
 with its lines. It may have a field `by`, the token of its publisher and a number; how many of those there are is at the key
-STREAM:by:TOKEN for a day. Redis is spoken to directly (RESP 2), over loopback or a Unix socket.
+STREAM:by:TOKEN for a day. Redis is spoken to directly (RESP 2), without TLS.
 """
 
 from __future__ import annotations
 
 import hashlib
+import os
 import re
 import secrets
 import socket
@@ -72,6 +73,9 @@ return redis.call('XADD', KEYS[1], '*', 'change', ARGV[2])"""
 
 #: What Redis refuses while it reads its files at the start, while a replica takes its place, or while a script runs.
 _AWAY = ("LOADING", "READONLY", "MASTERDOWN", "NOREPLICAS", "CLUSTERDOWN", "TRYAGAIN", "BUSY")
+
+#: What of the environment has the password of Redis.
+_PASSWORD = "REDISCLI_AUTH"
 
 #: The seconds after which a publisher begins to count anew.
 _RESTED = 3_600
@@ -357,13 +361,20 @@ class Stream:
     """A Redis stream. Raises `Fault` where Redis is away or refuses a command."""
 
     def __init__(self, address: str, key: str, seconds: float = 60) -> None:
-        """The stream of a key, at `127.0.0.1:6379` or `unix:/run/redis.sock`, which may be silent for some seconds."""
+        """The stream of a key, at `127.0.0.1:6379` or `unix:/run/redis.sock`, which may be silent for some seconds. The
+        password is that of the environment, as for redis-cli; a user that has it is before the address, as `siploc@`."""
         self.address, self.key = address, key
+        user, place = re.fullmatch("(?:([^@:/]*)@)?(.*)", address, re.DOTALL).groups()  # type: ignore[union-attr]
         try:
-            self.socket = connected(address, seconds)
+            self.socket = connected(place, seconds)
         except OSError as fault:
             raise Away(f"Redis at {address}: {fault}") from fault
         self.reader: BinaryIO = self.socket.makefile("rb")
+        # Whether it has replied.
+        self.is_redis = False
+        password = os.environ.get(_PASSWORD, "")
+        if user or password:
+            self.ask([[b"AUTH", *map(octets_of, filter(None, [user])), octets_of(password)]])
 
     def append(self, changes: Sequence[Change]) -> Place:
         """Appends changes in order, all or none; the place of the last one."""
@@ -485,12 +496,15 @@ class Stream:
         if fault:
             # Redis may wait for the rest of this, and what it replies later is no reply to what is asked next.
             self.close()
+        self.is_redis = self.is_redis or bool(replies)
         for reply in replies:
             if isinstance(reply, Refusal):
-                is_away = reply.text.split(" ")[0] in _AWAY
-                raise (Away if is_away else Fault)(f"Redis at {self.address}: {reply.text}")
+                code = reply.text.split(" ")[0]
+                more = f": {_PASSWORD} of the environment is to have the password" if code == "NOAUTH" else ""
+                raise (Away if code in _AWAY else Fault)(f"Redis at {self.address}: {reply.text}{more}")
         if fault:
-            raise Away(f"Redis at {self.address}: {fault}") from fault
+            more = "" if self.is_redis or isinstance(fault, socket.timeout) else ": there is no Redis, or it wants TLS"
+            raise Away(f"Redis at {self.address}: {fault}{more}") from fault
         return replies
 
     def close(self) -> None:
