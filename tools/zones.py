@@ -33,8 +33,10 @@ MAX_CHANGES = 2 * MAX_LINES
 OPTIONS = ["+noall", "+answer", "+comments", "+additional", "+norecurse", "+noedns", "+noidnin", "+noidnout",
            "+tries=1",
            "+retry=0"]
-# What `dig` prints about a message that is in order, beside its status.
-USUAL = re.compile(r";; (Got answer:|(ANSWER|AUTHORITY|ADDITIONAL) SECTION:|(OPT|TSIG) PSEUDOSECTION:)|; (EDNS|COOKIE|EDE):")
+# What `dig` prints about a message that is in order, beside its status. Of names below .local it warns, and many networks
+# have such zones.
+USUAL = re.compile(r";; (Got answer:|(ANSWER|AUTHORITY|ADDITIONAL) SECTION:|(OPT|TSIG) PSEUDOSECTION:)|; (EDNS|COOKIE|EDE):|"
+                   r";; (WARNING: \.local is reserved for Multicast DNS|You are currently testing what happens when an mDNS)")
 
 
 Answer = TypeVar("Answer")
