@@ -183,7 +183,8 @@ class Reply:
         elif USUAL.match(line):
             self.is_answer = line.startswith(";; ANSWER")
         elif not re.match(r"; <<>> |; \(\d|;; global options", line):
-            self.faults.append(line.strip("; \n\r"))
+            # (the numbers are others each time, and the fault is the same)
+            self.faults.append(re.sub(r"(ID mismatch): expected .*", r"\1", line.strip("; \n\r")))
 
     def end(self, errors: str, status: int) -> None:
         self.faults += errors.split("\n")
