@@ -249,14 +249,15 @@ def lines_of(output: IO[bytes], end: float, meanwhile: Callable[[], None]) -> It
                 yield f"{line.decode()}\n"
 
 
-def each_address(server: Server, call: Callable[[str], Answer]) -> Iterator[Answer]:
-    """What a call returns for each of a server's addresses at which it succeeds; a Fault where it does at none."""
+def each_address(server: Server, call: Callable[[str], Answer], faults: Optional[list[str]] = None) -> Iterator[Answer]:
+    """What a call returns for each of a server's addresses at which it succeeds, and in `faults` why it did not at others;
+    a Fault where it does at none."""
     if server.key:
         try:
             open(server.key, "rb").close()
         except OSError as fault:
             raise Fault(f"the key {server.key} can't be read: {fault.strerror}") from None
-    faults, addresses = [], server.addresses()
+    addresses, faults = server.addresses(), [] if faults is None else faults
     for address in addresses:
         try:
             yield call(address)
@@ -498,9 +499,9 @@ class Changes(NamedTuple):
     steps: list[Change]
 
 
-def ask_soa(server: Server, zone: Zone) -> Record:
+def ask_soa(server: Server, zone: Zone, faults: Optional[list[str]] = None) -> Record:
     """The SOA record that a server has of a zone: the first that is newer than that of the zone, or else the newest
-    one, since at one of its addresses it may be behind."""
+    one, since at one of its addresses it may be behind. In `faults` is why some of them did not answer."""
     def at(address: str) -> Record:
         found = [*ask(server, address, zone.apex, ["-t", "SOA", "+tcp"])]
         soa = begin(iter(found), zone.apex)
@@ -508,7 +509,7 @@ def ask_soa(server: Server, zone: Zone) -> Record:
             raise Fault("there is more than one SOA record")
         return soa
     newest = None
-    for soa in each_address(server, at):
+    for soa in each_address(server, at, faults):
         if newest is None or is_newer(serial_of(soa), serial_of(newest)):
             newest = soa
         if is_newer(serial_of(newest), zone.serial):
