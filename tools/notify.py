@@ -30,28 +30,38 @@ def read_place(text: str) -> Place:
     return str(ipaddress.ip_address(match[1] or match[2] or "127.0.0.1")), int(match[3])
 
 
+def read_sender(text: str) -> str:
+    """An address, as the system prints it."""
+    try:
+        return str(ipaddress.ip_address(text))
+    except ValueError:
+        raise ValueError(f"--from {text} is not an address") from None
+
+
 def show_place(place: Place) -> str:
     return f"[{place[0]}]:{place[1]}" if ":" in place[0] else f"{place[0]}:{place[1]}"
 
 
 class Primary:
-    """The addresses of a name server, which alone is heard (RFC 1996, 3.10)."""
+    """The addresses of a name server, and others that are given: they alone are heard (RFC 1996, 3.10)."""
 
-    def __init__(self, server: zones.Server, say: Callable[[str], None]):
-        self.server, self.say = server, say
+    def __init__(self, server: zones.Server, say: Callable[[str], None], others: Iterable[str] = ()):
+        self.server, self.say, self.others = server, say, {*others}
         self.addresses: set[str] = set()
         self.next_look = self.next_word = 0.0
 
     def has(self, address: str) -> bool:
         # (at [::] one of IPv4 comes so)
         address = address[len("::ffff:"):] if re.fullmatch(r"::ffff:[0-9.]+", address) else address
+        if address in self.others:
+            return True
         if address not in self.addresses and time.monotonic() >= self.next_look:
             self.next_look = time.monotonic() + LOOK_UP
             with contextlib.suppress(zones.Fault):
                 self.addresses = {*self.server.addresses()}
         if address not in self.addresses and time.monotonic() >= self.next_word:
             self.next_word = time.monotonic() + LOOK_UP
-            self.say(f"a message from {address} is ignored, which is not an address of {self.server.host}")
+            self.say(f"a message from {address} is ignored, which is not an address of {self.server.host}, nor of --from")
         return address in self.addresses
 
 
