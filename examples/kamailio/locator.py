@@ -1,9 +1,10 @@
 """What kamailio.cfg asks a locator for, by python_exec of the module app_python3: `locate`, and how to go on after a
 failure.
 
-Each process of Kamailio has a session of its own with the locator at SIPLOC_ADDRESS. Where it is away, `locate` says so
-at once, and each process tries a new connection once a second. With SIPLOC_STREAM, a Redis stream, and SIPLOC_REDIS,
-what has failed is published there for all locators (examples/cluster/README.md), and not held beside the stream.
+Each process of Kamailio has a session of its own with the locator at SIPLOC_ADDRESS. One that is started again is waited
+for. Where it is away, `locate` says so at once, and the next request tries a new connection; where it is silent, one in a
+second. With SIPLOC_STREAM, a Redis stream, and SIPLOC_REDIS, what has failed is published there for all locators
+(examples/cluster/README.md), and not held beside the stream.
 """
 
 from __future__ import annotations
@@ -30,6 +31,8 @@ HOLD, LONGEST = int(os.environ.get("SIPLOC_HOLD", "30000")), 3_600_000
 STREAM, REDIS = os.environ.get("SIPLOC_STREAM"), os.environ.get("SIPLOC_REDIS", "127.0.0.1:6379")
 # How long a request waits for the locator before Kamailio's own resolver takes its place, in seconds.
 PATIENCE = 0.5
+# How long no connection is tried where nobody listens, which takes no time to find out, and else, in seconds.
+SOON, LATER = 0.02, 1.0
 # What Record-Routes are signed with, here and in other proxies that have it; a script that is loaded again has it too.
 SECRET = os.environ["SIPLOC_SECRET"] = os.environ.get("SIPLOC_SECRET") or secrets.token_hex(32)
 # For how many seconds a process does not hold an endpoint again: of a server that is down each request fails, and each
@@ -87,7 +90,7 @@ class Locator:
 
     def __init__(self) -> None:
         self.session: Optional[siploc.BaseSession] = None
-        self.next_try = 0.0
+        self.next_try = self.next_warning = 0.0
         self.stream = Stream()
         # When endpoints were held, and when those whose port is a URI's.
         self.held: Dict[siploc.Target, float] = {}
@@ -102,19 +105,38 @@ class Locator:
         return siploc.connect(ADDRESS, timeout=PATIENCE)
 
     def ask(self, question: Callable[[siploc.BaseSession], Reply]) -> Reply:
-        """What the locator says, over a new connection where the old one has ended since."""
+        """What the locator says, over a new connection where the old one has ended since: then it is started again, and
+        one request of this process waits for it."""
+        end = 0.0
         if self.session is not None and self.session.is_open:
             try:
                 return question(self.session)
-            except siploc.TimedOut:
-                raise
-            except siploc.ConnectionLost:
-                pass
+            except siploc.ConnectionLost as fault:
+                if not is_gone(fault):
+                    raise
+                end = time.monotonic() + PATIENCE
         if time.monotonic() < self.next_try:
             raise Away
-        self.next_try = time.monotonic() + 1
-        self.session = self.open()
-        return question(self.session)
+        while True:
+            self.next_try = time.monotonic() + LATER
+            try:
+                self.session = self.open()
+                reply = question(self.session)
+                self.next_try = 0.0
+                return reply
+            except (siploc.NotConnected, siploc.ConnectionLost) as fault:
+                if not is_gone(fault):
+                    raise
+                self.next_try = time.monotonic() + SOON
+                if self.next_try > end:
+                    raise
+            time.sleep(SOON)
+
+    def warn(self, text: str) -> None:
+        """Logs what is wrong, once a second."""
+        if time.monotonic() >= self.next_warning:
+            self.next_warning = time.monotonic() + 1
+            KSR.warn(f"siploc: {text}\n")
 
     def hold(self, target: siploc.Target, milliseconds: int) -> None:
         """Leaves a target out: here, or in all of the cluster."""
@@ -146,7 +168,7 @@ class Locator:
                 # (in DNS anyone may have its name, for any address)
                 KSR.info(f"siploc: {uri}: {fault}\n")
                 return NO_TARGET
-            KSR.warn(f"siploc: {fault}: Kamailio's own resolver is asked for {uri}\n")
+            self.warn(f"{fault}: Kamailio's own resolver is asked for {uri}")
             return AWAY
         if not answer:
             KSR.info(f"siploc: {uri}: {answer.reason}\n")
@@ -187,7 +209,7 @@ class Locator:
             # (the cause was said within the last second)
             pass
         except (changelog.Fault, siploc.Error) as fault:
-            KSR.warn(f"siploc: {fault}: {first} is not held\n")
+            self.warn(f"{fault}: {first} is not held")
         if not others:
             return FAILED
         go_to(others)
@@ -205,6 +227,12 @@ class Locator:
         self.named = [it for it in self.named if it > now - HOLD / 1000]
         self.named += [now] * (len(self.named) < NAMED)
         return self.named[-1:] == [now]
+
+
+def is_gone(fault: siploc.Error) -> bool:
+    """Whether nobody listens, or a connection has ended, which takes no time to find out."""
+    return isinstance(fault, siploc.ConnectionLost) and not isinstance(fault, siploc.TimedOut) or isinstance(
+        fault.__cause__, (ConnectionRefusedError, FileNotFoundError))
 
 
 def text_of(variable: str) -> Optional[str]:
