@@ -5,8 +5,11 @@ from __future__ import annotations
 import configparser
 import os
 import pathlib
+import re
+import shlex
 import socket
 import subprocess
+import time
 
 from daemon_tests.support import PATIENCE, PROGRAM, TOP, Checks, started, stopped, test, until
 
@@ -30,8 +33,11 @@ def may_connect(path: pathlib.Path, user: int, groups: list[int]) -> bool:
 
 
 def read_unit() -> configparser.ConfigParser:
+    """The unit, whose words have the control address in place of its variable."""
+    text = (TOP / "examples/siplocd.service").read_text()
+    control = re.search(r"^Environment=CONTROL=(.*)$", text, re.M)
     unit = configparser.ConfigParser(interpolation=None, strict=False)
-    unit.read(TOP / "examples/siplocd.service")
+    unit.read_string(re.sub(r"\$\{?CONTROL\b\}?", control[1] if control else "", text))
     return unit
 
 
@@ -61,6 +67,33 @@ def a_stop_by_hand_is_no_failure_of_the_unit(checks: Checks, folder: pathlib.Pat
     ran = subprocess.run(words, capture_output=True, timeout=PATIENCE, check=False)
     checks.expect(ran.returncode == 0 or unit["Service"]["ExecStop"].startswith("-"),
                   f"the unit's stop once more: status {ran.returncode}, {ran.stderr!r}")
+
+
+def unit_wait(unit: configparser.ConfigParser, address: str, of: int) -> subprocess.Popen[bytes]:
+    """The unit's wait for a process at a control address."""
+    words = unit["Service"].get("ExecStartPost", "/bin/false").removeprefix("-")
+    words = words.replace("unix:/var/lib/siplocd/control.sock", address).replace("/usr/local/bin/siplocd", PROGRAM)
+    return subprocess.Popen(shlex.split(words), env={**os.environ, "MAINPID": str(of)}, stderr=subprocess.DEVNULL)
+
+
+@test
+def the_unit_has_started_when_it_answers(checks: Checks, folder: pathlib.Path) -> None:
+    """What is ordered after the unit finds it answering. A start that has failed is waited for no longer, and one that
+    takes too long is none that has failed."""
+    unit, address = read_unit(), f"unix:{folder}/control"
+    checks.expect(0 < int((re.search(r"timeout ([0-9]+) ", unit["Service"].get("ExecStartPost", "")) or "00")[1]) < 90,
+                  "the wait has no end before that of systemd, which ends the daemon")
+    checks.expect(unit["Service"].get("ExecStartPost", "").startswith("-"), "a wait that fails ends the daemon")
+    early = unit_wait(unit, address, os.getpid())
+    time.sleep(1)
+    checks.equal(early.poll(), None, "its wait, before the daemon was there")
+    with started(checks, folder) as daemon:
+        checks.equal(early.wait(PATIENCE), 0, "its wait, with a daemon that answers")
+        stopped(checks, daemon)
+    late = unit_wait(unit, address, daemon.process.pid)
+    checks.expect(until(lambda: late.poll() is not None), "it waits for a daemon that has ended")
+    late.kill()
+    late.wait()
 
 
 @test
