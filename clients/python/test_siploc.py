@@ -1095,6 +1095,20 @@ class Faults(unittest.TestCase):
             # What the error says can be written to any log.
             self.assertTrue(str(caught.exception).endswith(": find sip:\\udcff\\x1b[2J\u00e9@192.0.2.1:5060"))
 
+    def test_calls_of_each_language(self):
+        """The clients in Go and C have the calls of this one, by the same names, and no other call of a session."""
+        public = (name for name in dir(siploc.Session) if not name.startswith("_"))
+        ours = {*public, "connect", "line", "zone"}
+        go = "".join((TOP / "clients/go/siploc" / name).read_text() for name in ("siploc.go", "connection.go", "local.go"))
+        names = re.findall(r"^func (?:\(s \*Session\) )?([A-Z]\w*)\(", go, re.MULTILINE)
+        theirs = {re.sub("(?<=[a-z])(?=[A-Z])", "_", name).lower() for name in names}
+        self.assertEqual(theirs - ours, {"new", "new_local", "words", "seed", "got_retry", "set_timeout"})
+        self.assertLessEqual(ours, theirs)
+        header = (TOP / "clients/c/siploc.h").read_text()
+        theirs = {*re.findall(r"^[a-z]\w+ \*?(?:char \*)?siploc_(\w+)\(", header, re.MULTILINE)}
+        self.assertEqual(theirs - ours, {"new", "set_timeout", "broken", "status_text", "meaning", "invalid_place"})
+        self.assertLessEqual(ours, theirs)
+
     def test_all_codes_are_known(self):
         """Each code that a session may have has a meaning, and no other."""
         known = json.loads((TOP / "clients/lists.json").read_text())["refusals"]["session"]
