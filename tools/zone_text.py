@@ -27,6 +27,8 @@ plain = types.SimpleNamespace(**runpy.run_path(str(TOP / "tools/plain")))
 Name = tuple[bytes, ...]
 # Each transport by the service of a NAPTR record.
 SERVICES = {name.decode().upper(): transport for name, transport in plain.POINTERS.items()}
+# Those that are registered, too (RFC 4168, 7118), for transports that siploc has not got.
+OTHERS = ("SIPS+D2S", "SIP+D2W", "SIPS+D2W")
 
 
 class Fault(Exception):
