@@ -80,12 +80,26 @@ def read_zone(apex: str, octets: bytes) -> Zone:
     return Zone(name, b"\n".join(lines[:count]), 1)
 
 
-def state_of(given: Iterable[Zone], transports: Sequence[str], families: str) -> Any:
+def read_others(given: Sequence[str]) -> list[Zone]:
+    """The zones of APEX=FILE."""
+    found = []
+    for text in given:
+        apex, _, path = text.partition("=")
+        with open(path, "rb") as file:
+            found.append(read_zone(apex, file.read()))
+    return found
+
+
+def state_of(given: Sequence[Zone], transports: Sequence[str], families: str) -> Any:
     """The state of `tools/plain` with some zones."""
     state = plain.State({"transports": [*transports], "families": families})
     for zone in given:
         try:
-            state.load(zone.apex, zone.records())
+            records = zone.records()
+        except Fault as fault:
+            raise Fault(f"{plain.print_name(zone.apex)}: {fault}" if zone is not given[0] else str(fault)) from None
+        try:
+            state.load(zone.apex, records)
         except plain.Refused as fault:
             raise Fault(f"{plain.print_name(zone.apex)} can't be loaded: {fault.code}: {meaning(fault.code)}") from None
     return state
@@ -178,10 +192,17 @@ def print_lines(lines: Iterable[str]) -> bool:
 
 
 def add_words(parser: argparse.ArgumentParser, transports: str, families: str) -> None:
+    parser.add_argument("--with", metavar="APEX=FILE", action="append", default=[], dest="others",
+                        help="another zone that is loaded beside this one, such as that of the targets")
     parser.add_argument("--transports", default=transports, metavar="LIST",
                         help=f"what the client has, in its order of preference ({transports})")
     parser.add_argument("--families", default=families, choices=[*plain.FAMILIES],
                         help=f"the families of addresses that it looks up ({families})")
+
+
+def check_others(parser: argparse.ArgumentParser, given: Sequence[str]) -> None:
+    if not all("=" in it for it in given):
+        parser.error("--with takes APEX=FILE")
 
 
 def read_transports(parser: argparse.ArgumentParser, text: str) -> list[str]:
