@@ -1,10 +1,10 @@
 """What kamailio.cfg asks a locator for, by python_exec of the module app_python3: `locate`, and how to go on after a
 failure.
 
-Each process of Kamailio has a session of its own with the locator at SIPLOC_ADDRESS. One that is started again is waited
-for. Where it is away, `locate` says so at once, and the next request tries a new connection; where it is silent, one in a
-second. With SIPLOC_STREAM, a Redis stream, and SIPLOC_REDIS, what has failed is published there for all locators
-(examples/cluster/README.md), and not held beside the stream.
+Each process of Kamailio has a session of its own with the locator at SIPLOC_ADDRESS. One that is started again is
+waited for. Where it is away, `locate` says so at once, and the next request tries a new connection; where it is silent,
+one in a second. With SIPLOC_STREAM, a Redis stream, and SIPLOC_REDIS, what has failed is published there for all
+locators (examples/cluster/README.md), and not held beside the stream.
 """
 
 from __future__ import annotations
@@ -43,6 +43,8 @@ MOST = 4
 # How many endpoints a process holds, in the time of a hold, whose port is a URI's: else strangers could name as many as
 # may be held.
 NAMED = 64
+# How many octets a request over UDP may have: with Via and Record-Route it has 1,300 then (RFC 3261, 18.1.1).
+DATAGRAM = int(os.environ.get("SIPLOC_DATAGRAM", "1050"))
 
 LOCATED, NO_TARGET, AWAY, NUMERIC = 1, 2, 3, 4
 FAILED = -1
@@ -174,12 +176,15 @@ class Locator:
             KSR.info(f"siploc: {uri}: {answer.reason}\n")
             return NO_TARGET
         named = " named" if ":" in places_of(uri)[0] else ""
-        go_to([" ".join(map(str, target)) + named for target in answer.targets[:MOST]])
+        # (an ACK has no response that would tell what became of it)
+        is_long = int(KSR.pv.get("$ml") or 0) > DATAGRAM and text_of("$rm") != "ACK"
+        go_to([" ".join(map(str, target)) + named + " stream" * (is_long and target.transport == "udp")
+               for target in answer.targets[:MOST]])
         return LOCATED
 
     def failed(self, _message: object) -> int:
         """Goes on after a target to which a request can't be sent."""
-        return self.go_on(HOLD)
+        return by_datagram() or self.go_on(HOLD)
 
     def busy(self, _message: object) -> int:
         """Goes on after a 503. Its target is held where it says for how long (RFC 3261, 21.5.4)."""
@@ -188,9 +193,11 @@ class Locator:
 
     def silent(self, _message: object) -> int:
         """Goes on after a target that said nothing. It is held where an INVITE has no 100 (RFC 3261, 17.2.1), unless it
-        has replied to others since. To another request a proxy may say nothing in this time (RFC 4320, 4.1)."""
+        has replied to others since, or within a minute where the INVITE was so long that it may be lost on the way. To
+        another request a proxy may say nothing in this time (RFC 4320, 4.1)."""
         sent, replied = (text_of(it) or "" for it in ("$avp(sent)", "$sht(replied=>$avp(target))"))
-        return self.go_on(HOLD if text_of("$rm") == "INVITE" and replied < sent else 0)
+        has_failed = not replied if first_target().endswith(" datagram") else replied < sent
+        return by_datagram() or self.go_on(HOLD if text_of("$rm") == "INVITE" and has_failed else 0)
 
     def go_on(self, wait: int) -> int:
         """Holds the target that has failed for so many milliseconds, and sets $du to the next one, where there is one."""
@@ -199,10 +206,10 @@ class Locator:
             # The locator was away when they were asked for.
             return FAILED
         first, *others = targets.split(",")
-        transport, address, port, *named = first.split(" ")
+        transport, address, port, *marks = first.split(" ")
         target = siploc.Target(transport, address, int(port))
         try:
-            if wait and self.is_due(target) and (not named or self.has_place()):
+            if wait and self.is_due(target) and ("named" not in marks or self.has_place()):
                 self.hold(target, wait)
                 self.held[target] = time.monotonic()
         except Away:
@@ -259,15 +266,35 @@ def places_of(uri: str) -> List[str]:
     return uri.partition(":")[2].rpartition("@")[2].partition("?")[0].split(";")
 
 
+def first_target() -> str:
+    """The target to which the request went last, if it is known."""
+    return str(KSR.pv.get(TARGETS) or "").partition(",")[0]
+
+
+def by_datagram() -> int:
+    """Goes on to the same server by UDP, where a long request was sent to it by TCP in vain; else it returns 0."""
+    if not first_target().endswith(" stream"):
+        return 0
+    KSR.pv.sets("$sht(datagrams=>$avp(target))", "1")
+    go_to(KSR.pv.get(TARGETS).split(","))
+    return LOCATED
+
+
 def go_to(targets: List[str]) -> None:
-    """Makes the first target the next hop, and keeps all of them with the transaction."""
-    transport, address, port = targets[0].split(" ")[:3]
-    host = f"[{address}]" if ":" in address else address
-    KSR.pv.sets("$du", f"sip:{host}:{port};transport={transport}")
-    KSR.pv.sets(TARGETS, ",".join(targets))
+    """Makes the first target the next hop, and keeps all of them with the transaction. A request that is too long for
+    UDP goes by TCP, unless the server has not taken that lately."""
+    transport, address, port, *_ = targets[0].split(" ")
     # (by these `silent` knows whether it has replied since)
     KSR.pv.sets("$avp(target)", f"{transport} {address} {port}")
     KSR.pv.sets("$avp(sent)", f"{time.time():.6f}")
+    if targets[0].endswith(" stream"):
+        if text_of("$sht(datagrams=>$avp(target))"):
+            targets = [targets[0].replace(" stream", " datagram"), *targets[1:]]
+        else:
+            transport = "tcp"
+    host = f"[{address}]" if ":" in address else address
+    KSR.pv.sets("$du", f"sip:{host}:{port};transport={transport}")
+    KSR.pv.sets(TARGETS, ",".join(targets))
 
 
 def mod_init() -> Locator:
