@@ -161,6 +161,8 @@ class Locator:
         # (what is no text may be an address all the same)
         if uri is None or is_numeric(uri):
             return NUMERIC
+        # (for servers of many names: RFC 6066, 3)
+        KSR.pv.sets("$xavp(tls=>server_name)", name_of(uri))
         try:
             answer = self.ask(lambda session: session.find(uri, seed=self.chance.getrandbits(64)))
         except Away:
@@ -255,10 +257,20 @@ def text_of(variable: str) -> Optional[str]:
 def is_numeric(uri: str) -> bool:
     """Whether a URI has an address in the place of a name: its `maddr`, or else its host. Where it has more than one, or
     one without a name, the locator refuses it, and nobody knows what Kamailio takes: then any of them counts."""
-    host, *parameters = places_of(uri)
-    given = [it[len("maddr="):] for it in parameters if it.lower().startswith("maddr=")]
+    host, *given = hosts_of(uri)
     places = given if len(given) == 1 and given[0] else [host, *given]
     return any(re.match(r"\[|[0-9.]+(:|$)", it) for it in places)
+
+
+def name_of(uri: str) -> str:
+    """The name that a certificate of a URI's servers has to have."""
+    return hosts_of(uri)[-1].partition(":")[0].rstrip(".")
+
+
+def hosts_of(uri: str) -> List[str]:
+    """A URI's host with its port, and what it has as `maddr`."""
+    host, *parameters = places_of(uri)
+    return [host, *(it[len("maddr="):] for it in parameters if it.lower().startswith("maddr="))]
 
 
 def places_of(uri: str) -> List[str]:
