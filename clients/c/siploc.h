@@ -120,12 +120,13 @@ typedef struct siploc_draws {
 /*
  * A session with the server at an address: `127.0.0.1:5099`, `[::1]:5099`, `localhost:5099`, which is one of these,
  * or `unix:/run/siplocd.sock`. The timeout is that of the connection, and later how many milliseconds a call waits
- * without progress: without a complete reply, and without the server taking further octets.
+ * without progress: without a complete reply, and without the server taking further octets. With 0 or less it does not
+ * wait, and INT_MAX are 24 days.
  */
 siploc_status siploc_connect(const char *address, int timeout, siploc **session);
 
-/* The same over a stream socket that is connected, such as an end of a socketpair. With SIPLOC_OK it is the session's;
- * else it is the caller's, as before. */
+/* The same over a stream socket that is connected, such as an end of a socketpair. With SIPLOC_OK it is the session's,
+ * does not block, and is reset at its end where it is of TCP; else it is the caller's, as before. */
 siploc_status siploc_new(int stream, int timeout, siploc **session);
 
 /* Ends the session by `quit`, closes the connection and frees the memory. NULL is allowed. */
@@ -176,8 +177,8 @@ siploc_status siploc_broke(siploc *session, const siploc_reply **reply);
 
 /*
  * Commands for siploc_batch, which the caller frees by `free`: a line of these fields, such as `hold`, `udp`,
- * `192.0.2.1`, `5060` and `30000`; and a zone with its lines, of a text as siploc_load takes it. SIPLOC_INVALID: a field
- * is empty, or has a blank or a line end, or there are too many lines. With another status than OK it is NULL.
+ * `192.0.2.1`, `5060` and `30000`; and a zone with its lines, of a text as siploc_load takes it. SIPLOC_INVALID: a
+ * field is empty, or has a blank or a line end, or there are too many lines. With another status than OK it is NULL.
  */
 siploc_status siploc_line(const char *const *fields, size_t count, char **command);
 siploc_status siploc_zone(const char *apex, const char *text, char **command);

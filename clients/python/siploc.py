@@ -640,7 +640,8 @@ def connect(address: str, timeout: float = 30.0) -> Session:
     """A session with the server at an address: `127.0.0.1:5099`, `[::1]:5099`, `localhost:5099`, which is one of
     these, or `unix:/run/siplocd.sock`.
 
-    `timeout` is in seconds: of the connection, and later of each wait for a reply (see `Session.timeout`).
+    `timeout` is in seconds: of the connection, and later of each wait for a reply (see `Session.timeout`). With
+    `math.inf` a call waits as long as it takes.
     Raises `NotConnected` where nobody listens there, and `InvalidCommand` where the address is none.
     """
     fault: Optional[OSError] = None
