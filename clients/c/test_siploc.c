@@ -503,7 +503,8 @@ static void pages(void)
 /* Commands of a batch that are made of their fields, and of a zone's text. */
 static void commands_that_are_made(void)
 {
-    const char *const find[] = {"find", "sip:a.e:5070", "seed", "7"}, *const hold[] = {"hold", "udp", "192.0.2.1", "5070", "9"};
+    const char *const find[] = {"find", "sip:a.e:5070", "seed", "7"};
+    const char *const hold[] = {"hold", "udp", "192.0.2.1", "5070", "9"};
     const char *const wrong[] = {"", "sip:a seed 1", "sip:a\tb", "sip:a\n", "sip:a\r"};
     char *made[3], *none, replies[256] = "", *end = replies;
     CHECK(siploc_zone("e.", "a A 192.0.2.1\r\n\nb A 192.0.2.2", &made[0]) == SIPLOC_OK);
@@ -1327,7 +1328,8 @@ static void send_that_fails(void)
 static void connection_that_is_given(void)
 {
     int port, listener = listen_somewhere(false, &port), ends[2];
-    struct sockaddr_in place = {.sin_family = AF_INET, .sin_addr = {htonl(INADDR_LOOPBACK)}, .sin_port = htons((uint16_t)port)};
+    struct sockaddr_in place = {.sin_family = AF_INET, .sin_addr = {htonl(INADDR_LOOPBACK)}};
+    place.sin_port = htons((uint16_t)port);
     char octets[64];
     siploc *s;
     int stream = socket(AF_INET, SOCK_STREAM, 0);
@@ -1578,11 +1580,15 @@ int main(int count, char **words)
         void (*run)(void);
     } tests[] = {
 #define TEST(name) {#name, name}
-        TEST(readme_session_in_a_batch), TEST(readme_session_by_calls), TEST(other_calls), TEST(pages), TEST(commands_that_are_made), TEST(each_refusal),
+        TEST(readme_session_in_a_batch), TEST(readme_session_by_calls), TEST(other_calls), TEST(pages),
+        TEST(commands_that_are_made), TEST(each_refusal),
         TEST(refusals_by_calls), TEST(finds_in_batches), TEST(batch_of_more_than_the_sockets_hold),
-        TEST(server_that_ends_in_the_midst), TEST(client_that_is_killed_in_a_zone), TEST(example_program), TEST(replies), TEST(changed_replies),
-        TEST(cut_at_each_octet), TEST(what_a_refused_find_names), TEST(garbage_without_end), TEST(reply_before_its_command), TEST(invalid_commands_are_not_sent), TEST(lost_before_and_after), TEST(refused_as_commands_come), TEST(allocations_that_fail), TEST(forks), TEST(session_over_a_socketpair), TEST(timeouts), TEST(send_that_fails), TEST(connection_that_is_given),
-        TEST(addresses), TEST(ports_with_leading_zeros), TEST(connection_with_itself), TEST(programs_that_are_started), TEST(memory_of_a_large_zone), TEST(full_queue)};
+        TEST(server_that_ends_in_the_midst), TEST(client_that_is_killed_in_a_zone), TEST(example_program), TEST(replies),
+        TEST(changed_replies),
+        TEST(cut_at_each_octet), TEST(what_a_refused_find_names), TEST(garbage_without_end), TEST(reply_before_its_command), TEST(invalid_commands_are_not_sent), TEST(lost_before_and_after), TEST(refused_as_commands_come), TEST(allocations_that_fail), TEST(forks), TEST(session_over_a_socketpair), TEST(timeouts),
+        TEST(send_that_fails), TEST(connection_that_is_given),
+        TEST(addresses), TEST(ports_with_leading_zeros),
+        TEST(connection_with_itself), TEST(programs_that_are_started), TEST(memory_of_a_large_zone), TEST(full_queue)};
     int passed = 0, failed = 0;
     program = getenv("SIPLOC");
     if (count < 3 || program == NULL)

@@ -685,9 +685,9 @@ def _check_other(stream: socket.socket, place: _Place) -> None:
 
 
 def _prepare(stream: socket.socket) -> None:
-    """Makes a connection one that does not block. One of TCP that ends before its time is reset, also where this process
-    is killed: else the server would see the end of the input, and take half a line as a line, and half a zone as a
-    zone."""
+    """Makes a connection one that does not block. One of TCP that ends before its time is reset, also where this
+    process is killed: else the server would see the end of the input, and take half a line as a line, and half a zone
+    as a zone."""
     stream.setblocking(False)
     if stream.family in (socket.AF_INET, socket.AF_INET6):
         stream.setsockopt(socket.IPPROTO_TCP, socket.TCP_NODELAY, 1)

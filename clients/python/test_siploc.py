@@ -949,7 +949,7 @@ class Faults(unittest.TestCase):
         self.assertEqual((caught.exception.may_be_done, session.is_open), (True, False))
 
     def test_send_that_fails(self):
-        """A connection that takes no more, as for want of buffers: what is due is still read, and then the cause told."""
+        """A connection that takes no more, as for want of buffers: what is due is read, and then the cause told."""
         for size, replied, sent in ((0, 0, 0), (7, 1, 1), (10, 1, 2), (14, 2, 2)):
             ours, other = socket.socketpair()
             with self.subTest(size=size), other:
@@ -1099,7 +1099,8 @@ class Faults(unittest.TestCase):
         """The clients in Go and C have the calls of this one, by the same names, and no other call of a session."""
         public = (name for name in dir(siploc.Session) if not name.startswith("_"))
         ours = {*public, "connect", "line", "zone"}
-        go = "".join((TOP / "clients/go/siploc" / name).read_text() for name in ("siploc.go", "connection.go", "local.go"))
+        files = (TOP / "clients/go/siploc" / name for name in ("siploc.go", "connection.go", "local.go"))
+        go = "".join(path.read_text() for path in files)
         names = re.findall(r"^func (?:\(s \*Session\) )?([A-Z]\w*)\(", go, re.MULTILINE)
         theirs = {re.sub("(?<=[a-z])(?=[A-Z])", "_", name).lower() for name in names}
         self.assertEqual(theirs - ours, {"new", "new_local", "words", "seed", "got_retry", "set_timeout"})

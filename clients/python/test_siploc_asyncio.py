@@ -257,7 +257,7 @@ class Asyncio(unittest.IsolatedAsyncioTestCase):
                 thread.join()
 
     async def test_send_that_fails(self):
-        """A connection that takes no more, as for want of buffers: what is due is still read, and then the cause told."""
+        """A connection that takes no more, as for want of buffers: what is due is read, and then the cause told."""
         ours, other = socket.socketpair()
         ours.setblocking(False)
         with other:

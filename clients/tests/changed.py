@@ -18,8 +18,8 @@ import usage  # noqa: E402
 
 ESCAPES = {"n": "\n", "r": "\r", "\\": "\\"}
 # What comes after `ok` and a command's word: so many numbers.
-COUNTS = {"zone": 4, "drop": 1, "add": 1, "del": 1, "find": 1, "deps": 1, "repair": 0, "page": 2, "hold": 0, "release": 0,
-          "clock": 1, "call": 0, "got": 0, "broke": 0}
+COUNTS = {"zone": 4, "drop": 1, "add": 1, "del": 1, "find": 1, "deps": 1, "repair": 0, "page": 2, "hold": 0,
+          "release": 0, "clock": 1, "call": 0, "got": 0, "broke": 0}
 CALLS = ("clock", "call", "got", "broke")
 LISTS = json.loads((HERE.parent / "lists.json").read_text())
 
@@ -119,7 +119,8 @@ def unescaped(text: str) -> str:
 
 def escaped(text: str) -> str:
     """The field of replies.txt that has these octets."""
-    return "".join({"\n": "\\n", "\\": "\\\\"}.get(it) or (it if " " <= it <= "~" else f"\\x{ord(it):02x}") for it in text)
+    names = {"\n": "\\n", "\\": "\\\\"}
+    return "".join(names.get(it) or (it if " " <= it <= "~" else f"\\x{ord(it):02x}") for it in text)
 
 
 def changed(reply: str) -> Iterator[str]:
