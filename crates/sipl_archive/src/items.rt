@@ -8,7 +8,7 @@ ghost use Rattle.sipl_archive.specs.Commands.{after_reply, edits, first_line, is
 ghost use Rattle.sipl_archive.specs.Commands.{taken_by, zone_count};
 ghost use Rattle.sipl_archive.specs.Replies.{AreReplies};
 
-use memchr::memchr;
+use memchr::{memchr, memmem};
 use sipl_lines::{Desk, MAX_LINE_LEN, MAX_ZONE_LINES, Tapped, serve};
 use sipl_records::{next_field, read_number};
 use std::alloc::Global;
@@ -170,7 +170,8 @@ fn kept_reply_of(line: &[u8], text: &[u8]) -> Option<usize>
     if is_find(line) { reply_of(text) } else { None }
 }
 
-/// Serves a session on a text, and returns the replies. `None` where an allocation fails.
+/// Serves a session on a text, and returns the replies. `None` where an allocation fails, or a reply says that one
+/// did.
 pub fn replies_to<D: Desk>(alloc: Global, desk: &mut D, text: &[u8]) -> Option<Vec<u8>>
     ensures { IfSome result
         (λ replies. AreReplies D.rules text.now desk.old desk.new replies.items) }
@@ -178,7 +179,18 @@ pub fn replies_to<D: Desk>(alloc: Global, desk: &mut D, text: &[u8]) -> Option<V
     let mut reader = Tapped::new(text);
     let mut writer = Tapped::new(Vec::new(alloc));
     match serve(alloc, &mut reader, &mut writer, desk) {
-        Ok(_) => Some(writer.into_inner()),
+        Ok(_) => unless_short(writer.into_inner()),
         Err(_) => None,
     }
+}
+
+// Replies, unless one of them says that an allocation failed.
+fn unless_short(replies: Vec<u8>) -> Option<Vec<u8>>
+    ensures same { IfSome result (λ told. told ≡ replies) }
+{
+    if replies.starts_with(b"err Memory") || memmem::find(&replies, b"\nerr Memory").is_some() {
+        drop(replies);
+        return None;
+    }
+    Some(replies)
 }
