@@ -100,10 +100,34 @@ def control_shows_what_there_is(checks: Checks, folder: pathlib.Path) -> None:
         stats = daemon.stats()
         for name, value in ("kept", 2), ("current", 1), ("queued", 1), ("records", 4), ("held", 1):
             checks.equal(stats.get(name), value, f"{name} of {stats}")
-        zones, holds = daemon.tell("zones"), daemon.tell("holds")
-        checks.expect(len(zones) == 3 and "example.com." in zones[0] and zones[-1].startswith("ok zones"), zones)
-        checks.expect(len(holds) == 2 and "udp 192.0.2.1 5060" in holds[0] and holds[-1].startswith("ok holds"), holds)
+        checks.equal(daemon.tell("zones"), ["zone example.com. 4", "zone other.example. 0", "ok zones 2"], "zones")
+        found = re.fullmatch(r"hold udp 192\.0\.2\.1 5060 (\d+)\nok holds 1", "\n".join(daemon.tell("holds")))
+        checks.expect(found and 0 < int(found[1]) <= 1000000, found)
         stopped(checks, daemon)
+
+
+@test
+def holds_are_told_with_what_is_left_of_them(checks: Checks, folder: pathlib.Path) -> None:
+    with started(checks, folder, 'clock = "lines"') as daemon, Client(daemon.address) as client:
+        for line in "clock 100", "hold udp 192.0.2.1 5060 1000", "hold tcp ::1 0 400", "hold udp 192.0.2.1 5060 700":
+            checks.expect((client.ask(line) or [""])[-1].startswith("ok "), line)
+        checks.equal(daemon.tell("now"), ["ok now 100"], "now")
+        client.ask("clock 499")
+        both = ["hold udp 192.0.2.1 5060 601", "hold tcp 0:0:0:0:0:0:0:1 0 1", "ok holds 2"]
+        checks.equal(daemon.tell("holds"), both, "both")
+        client.ask("clock 500")
+        checks.equal(daemon.tell("holds"), ["hold udp 192.0.2.1 5060 600", "ok holds 1"], "one that has ended")
+        stopped(checks, daemon, 6)
+
+
+@test
+def a_control_connection_sends_65536_octets_in_all(checks: Checks, folder: pathlib.Path) -> None:
+    with started(checks, folder, 'clock = "lines"') as daemon:
+        for blanks, wanted in (65_532, ["ok now 0"]), (65_536, None):
+            with Client(daemon.control) as client:
+                client.send("\n" * blanks + "now\nnow\n")
+                checks.equal((client.reply(), client.reply()), (wanted, None), f"after {blanks} octets")
+        stopped(checks, daemon, 0)
 
 
 @test

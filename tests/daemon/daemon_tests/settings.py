@@ -78,6 +78,43 @@ def says_what_is_wrong_in_a_file(checks: Checks, folder: pathlib.Path) -> None:
                       (words, status, printed, said))
 
 
+def numbers_of_the_document() -> list[tuple[str, int, int]]:
+    """The settings of the daemon that are numbers, each with the least and the greatest, as the document has them."""
+    tables = re.findall(r"<!-- table settings .*?<!-- end -->", (TOP / "docs/use/FORMATS.md").read_text(), re.S)
+    rows = re.findall(r"^\| `([a-z_]+)` \| ([0-9]+) to (2\^40|[0-9,]+)", "\n".join(tables), re.M)
+    return [(key, int(least), 1 << 40 if most == "2^40" else int(most.replace(",", "")))
+            for key, least, most in rows if key != "sessions"]
+
+
+@test
+def allows_the_numbers_that_the_document_has(checks: Checks, folder: pathlib.Path) -> None:
+    path, numbers = folder / "siplocd.toml", numbers_of_the_document()
+    checks.expect(len(numbers) > 10, f"settings that are numbers: {numbers}")
+    for place in 1, 2:
+        path.write_text("".join(f"{it[0]} = {it[place]}\n" for it in numbers))
+        checks.equal(run("check", "--config", str(path), folder=folder), (0, "ok\n", ""), path.read_text())
+    for key, least, most in numbers:
+        for value in least - 1, most + 1:
+            path.write_text(f"{key} = {value}\n")
+            status, printed, said = run("check", "--config", str(path), folder=folder)
+            allowed = f"{path}:1: {key}: G3: {least} to {most}"
+            checks.expect(status == 1 and not printed and said.startswith(allowed), (key, value, status, printed, said))
+
+
+@test
+def names_the_first_setting_that_is_wrong(checks: Checks, folder: pathlib.Path) -> None:
+    """Of its own settings first, by their keys, and then of those that it has from `siploc`, among which are others."""
+    path = folder / "siplocd.toml"
+    for text, place in [
+        ("archive = 1\naaa = 1\n", "1: archive: G3: "), ("zone_octets = -1\nstate = 1\n", "2: state: G3: "),
+        ("entries = -1\nlisten = []\n", "2: listen: G3: "), ("workers = 65\naaa = 1\n", "2: aaa: G2: "),
+        ("zzz = 1\nworkers = 65\n", "2: workers: G3: "),
+    ]:
+        path.write_text(text)
+        status, _, said = run("check", "--config", str(path), folder=folder)
+        checks.expect(status == 1 and said.startswith(f"{path}:{place}"), (text, status, said))
+
+
 @test
 def names_what_is_wrong_in_its_arguments(checks: Checks, folder: pathlib.Path) -> None:
     for words, word in [
