@@ -9,7 +9,7 @@ import socket
 import time
 from typing import Optional
 
-from daemon_tests.support import PATIENCE, Checks, Client, Daemon, connect, started, stopped, test, until
+from daemon_tests.support import PATIENCE, TOP, Checks, Client, Daemon, connect, started, stopped, test, until
 
 ZONE = "zone example.com. 2\n@ A 192.0.2.1\nw A 192.0.2.2\n"
 SAMPLE = re.compile(r'([a-z_]+)(\{[a-z]+="[^"]*"\})? ([0-9.]+)')
@@ -90,6 +90,20 @@ def shows_its_metrics(checks: Checks, folder: pathlib.Path) -> None:
         checks.expect(page.value("siploc_batch_seconds_sum") > 0, "sum")
         checks.expect(until(lambda: Page(address).value("siploc_clients") == 0), "clients that have left")
         stopped(checks, daemon)
+
+
+@test
+def its_metrics_are_those_of_the_document(checks: Checks, folder: pathlib.Path) -> None:
+    text = (TOP / "docs/use/FORMATS.md").read_text().partition("**Metrics.**")[2]
+    rows = re.findall(r"^- (Counters|Gauges|A histogram)(.*)$", text, re.M)
+    wanted = {name: head.split()[-1].lower().rstrip("s") for head, row in rows
+              for name in re.findall(r"`(siploc_\w+)`", row)}
+    with started(checks, folder, 'metrics = "127.0.0.1:0"') as daemon:
+        page = Page(metrics_of(daemon))
+        checks.equal(dict(re.findall(r"^# TYPE (\w+) (\w+)$", page.text, re.M)), wanted, "names and types")
+        ends = re.findall(r'^siploc_finds_total\{end="(\w+)"\}', page.text, re.M)
+        checks.equal(ends, re.findall(r"`(\w+)`", rows[0][1].partition("(")[2].partition(")")[0]), "ends")
+        stopped(checks, daemon, 0)
 
 
 @test
