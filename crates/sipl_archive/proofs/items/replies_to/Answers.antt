@@ -23,5 +23,5 @@ returns-in-Ok g c =
       serves = subst (λ (replies : List ℕ). Serves (session_protocol g.D.Desk.rules) (new_session c.args.desk.now) (items_of c.args.text.now) replies c.in-Ok.ensures.session) (sym sent) all.1;
     } in
     holds-of-same c.unless_short.result c.into_inner.result
-      (λ (told : _). AreReplies g.D.Desk.rules c.args.text.now c.args.desk.now c.serve.new.desk told.items)
-      c.unless_short.ensures.same answered
+    (λ (told : _). AreReplies g.D.Desk.rules c.args.text.now c.args.desk.now c.serve.new.desk told.items)
+    c.unless_short.ensures.same answered
