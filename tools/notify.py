@@ -61,7 +61,8 @@ class Primary:
                 self.addresses = {*self.server.addresses()}
         if address not in self.addresses and time.monotonic() >= self.next_word:
             self.next_word = time.monotonic() + LOOK_UP
-            self.say(f"a message from {address} is ignored, which is not an address of {self.server.host}, nor of --from")
+            self.say(f"a message from {address} is ignored, which is not an address of {self.server.host}, "
+                     "nor of --from")
         return address in self.addresses
 
 

@@ -33,10 +33,11 @@ MAX_CHANGES = 2 * MAX_LINES
 OPTIONS = ["+noall", "+answer", "+comments", "+additional", "+norecurse", "+noedns", "+noidnin", "+noidnout",
            "+tries=1",
            "+retry=0"]
-# What `dig` prints about a message that is in order, beside its status. Of names below .local it warns, and many networks
-# have such zones.
-USUAL = re.compile(r";; (Got answer:|(ANSWER|AUTHORITY|ADDITIONAL) SECTION:|(OPT|TSIG) PSEUDOSECTION:)|; (EDNS|COOKIE|EDE):|"
-                   r";; (WARNING: \.local is reserved for Multicast DNS|You are currently testing what happens when an mDNS)")
+# What `dig` prints about a message that is in order, beside its status. Of names below .local it warns, and many
+# networks have such zones.
+USUAL = re.compile(r";; (Got answer:|(ANSWER|AUTHORITY|ADDITIONAL) SECTION:|(OPT|TSIG) PSEUDOSECTION:)|"
+                   r"; (EDNS|COOKIE|EDE):|;; WARNING: \.local is reserved for Multicast DNS|"
+                   r";; You are currently testing what happens when an mDNS query is leaked to DNS")
 
 
 Answer = TypeVar("Answer")
@@ -250,8 +251,8 @@ def lines_of(output: IO[bytes], end: float, meanwhile: Callable[[], None]) -> It
 
 
 def each_address(server: Server, call: Callable[[str], Answer], faults: Optional[list[str]] = None) -> Iterator[Answer]:
-    """What a call returns for each of a server's addresses at which it succeeds, and in `faults` why it did not at others;
-    a Fault where it does at none."""
+    """What a call returns for each of a server's addresses at which it succeeds, and in `faults` why it did not at
+    others; a Fault where it does at none."""
     if server.key:
         try:
             open(server.key, "rb").close()
