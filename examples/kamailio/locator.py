@@ -188,6 +188,10 @@ class Locator:
         """Goes on after a target to which a request can't be sent."""
         return by_datagram() or self.go_on(HOLD)
 
+    def unsent(self, _message: object) -> int:
+        """Goes on where this proxy has no socket for the transport: that is no failure of the target."""
+        return by_datagram() or FAILED
+
     def busy(self, _message: object) -> int:
         """Goes on after a 503. Its target is held where it says for how long (RFC 3261, 21.5.4)."""
         match = re.match(r"\s*0*([0-9]+)\s*(?:[;(]|$)", text_of("$T_rpl($hdr(Retry-After))") or "", re.ASCII)
