@@ -81,7 +81,8 @@ def the_unit_has_started_when_it_answers(checks: Checks, folder: pathlib.Path) -
     """What is ordered after the unit finds it answering. A start that has failed is waited for no longer, and one that
     takes too long is none that has failed."""
     unit, address = read_unit(), f"unix:{folder}/control"
-    checks.expect(0 < int((re.search(r"timeout ([0-9]+) ", unit["Service"].get("ExecStartPost", "")) or "00")[1]) < 90,
+    bound = int((re.search(r"timeout ([0-9]+) ", unit["Service"].get("ExecStartPost", "")) or "00")[1])
+    checks.expect(0 < bound < int(unit["Service"].get("TimeoutStartSec", "0")),
                   "the wait has no end before that of systemd, which ends the daemon")
     checks.expect(unit["Service"].get("ExecStartPost", "").startswith("-"), "a wait that fails ends the daemon")
     early = unit_wait(unit, address, os.getpid())
