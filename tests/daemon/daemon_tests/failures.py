@@ -6,6 +6,7 @@ import contextlib
 import errno
 import os
 import pathlib
+import resource
 import subprocess
 import time
 
@@ -421,3 +422,31 @@ def says_where_no_thread_can_be_made(checks: Checks, folder: pathlib.Path) -> No
         status, last = daemon.end()
         checks.equal((status, daemon.said()), (1, "siplocd: no thread can be made\n"), f"thread {count}, {last!r}")
         checks.expect(not last.startswith("closed"), f"{last!r} for want of thread {count}")
+
+
+def end_within(folder: pathlib.Path, words: list[str], megabytes: int) -> str:
+    """The last line that a run prints with so much memory; where dev/try compiled the program, whose checks take
+    terabytes of addresses, with no allocation of more."""
+    is_trial = subprocess.run([PROGRAM, "--version"], capture_output=True, check=True).stdout.endswith(b"+trial\n")
+    limits = 2 * (megabytes << 20,)
+    checks = f"allocator_may_return_null=1:max_allocation_size_mb={megabytes}"
+    ran = subprocess.run([PROGRAM, *words], cwd=folder, stdin=subprocess.DEVNULL, capture_output=True, text=True,
+                         check=False, env={**os.environ, "ASAN_OPTIONS": checks},
+                         preexec_fn=None if is_trial else lambda: resource.setrlimit(resource.RLIMIT_DATA, limits))
+    lines = [it for it in (ran.stdout + ran.stderr).split("\n") if it and not it.startswith("==")]
+    return (lines or [f"status {ran.returncode}"])[-1].rpartition(": ")[2]
+
+
+@test
+def tells_want_of_memory_as_that(checks: Checks, folder: pathlib.Path) -> None:
+    """Where memory does not suffice for a state or an archive, no change and no event is said to be refused."""
+    (folder / "archive").mkdir()
+    with started(checks, folder, f'state = "{folder}/state"\narchive = "{folder}/archive"') as daemon, \
+            Client(daemon.address) as client:
+        for zone in range(4):
+            names = (f"n{it} A 192.0.2.1" for it in range(5000))
+            asked = client.ask("\n".join([f"zone z{zone}.example. 5000", *names]))
+            checks.equal(asked, ["ok zone 5000 0 0 5000"], "zone")
+        stopped(checks, daemon)
+    for words, whole in (["check-state", "state"], "ok state"), (["replay", "archive"], "replayed 4"):
+        checks.equal({end_within(folder, words, it) for it in range(2, 66, 2)}, {"out of memory", whole}, words[0])
