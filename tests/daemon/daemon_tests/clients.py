@@ -207,6 +207,20 @@ def counts_the_descriptors_of_its_sockets(checks: Checks, folder: pathlib.Path) 
 
 
 @test
+def lowers_its_clients_by_its_addresses(checks: Checks, folder: pathlib.Path) -> None:
+    """For others are 32, or 20, three for each address of TCP, four for each Unix socket, and eight with `metrics`."""
+    for tcp, unix, metrics, others in [(1, 1, "", 32), (6, 0, "", 20 + 6 * 3 + 4),
+                                       (6, 0, "127.0.0.1:0", 20 + 7 * 3 + 4 + 8),
+                                       (1, 6, f"unix:{folder}/m", 20 + 3 + 8 * 4 + 8)]:
+        listen = ["127.0.0.1:0"] * tcp + [f"unix:{folder}/s{n}" for n in range(unix)]
+        settings = f'metrics = "{metrics}"' if metrics else ""
+        with started(checks, folder, settings, listen=listen, limit=120) as daemon:
+            told = until(lambda: [it for it in daemon.log() if " event=lowered " in it])
+            checks.equal(told, [f"warn event=lowered what=clients from=512 to={120 - others}"], (tcp, unix, metrics))
+            stopped(checks, daemon, 0)
+
+
+@test
 def waits_while_no_descriptor_is_left(checks: Checks, folder: pathlib.Path) -> None:
     with started(checks, folder, f'state = "{folder}/state"') as daemon, contextlib.ExitStack() as stack:
         open_one = stack.enter_context(Client(daemon.address))
