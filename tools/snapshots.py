@@ -109,9 +109,9 @@ def watch(stream: changelog.Stream) -> None:
     stream.ask([[b"WATCH", key_of(stream)]])
 
 
-def publish(stream: changelog.Stream, snapshot: Snapshot, keep: Optional[int] = None) -> int:
-    """Publishes a snapshot. Where it is said for how many seconds before it entries are kept, those before them are taken
-    out: how many there were. One more is left, since whoever was given it lacks none."""
+def publish(stream: changelog.Stream, snapshot: Snapshot, keep: Optional[int] = None, is_there: bool = False) -> int:
+    """Publishes a snapshot, unless it is there. Where it is said for how many seconds before it entries are kept, those
+    before them are taken out: how many there were. One more is left, since whoever was given it lacks none."""
     key, trim = changelog.octets_of(stream.key), []
     if keep is not None:
         time_of, number = snapshot.mark.place
@@ -119,7 +119,8 @@ def publish(stream: changelog.Stream, snapshot: Snapshot, keep: Optional[int] = 
         entries = stream.ask([[b"XREVRANGE", key, changelog.id_of(place).encode(), b"-", b"COUNT", b"1"]])[0]
         if entries:
             trim = [[b"XTRIM", key, b"MINID", changelog.bytes_of(entries[0][0])]]  # type: ignore[index]
-    done = stream.transact([[b"SET", key_of(stream), snapshot.octets()], *trim])
-    if not done:
+    commands = [*([] if is_there else [[b"SET", key_of(stream), snapshot.octets()]]), *trim]
+    done = stream.transact(commands)
+    if commands and not done:
         raise changelog.Fault("another snapshot was published meanwhile")
-    return done[-1] if isinstance(done[-1], int) else 0
+    return done[-1] if trim and isinstance(done[-1], int) else 0
