@@ -1,4 +1,4 @@
-"""What a locator refuses of a stream by its settings, beside what others do: with the same settings they refuse the same.
+"""What a locator refuses of a stream by its settings, beside what others do: with the same they refuse the same.
 
 At the key STREAM:outcome is what a tools/apply has told last: the id of an entry, and the code by which its locator has
 refused it, or `ok` where it has taken what another one has refused.
@@ -51,8 +51,8 @@ class Outcomes:
             self.forget(oldest)
 
     def compare(self, place: changelog.Place) -> Optional[str]:
-        """What is to be said, once, where another locator has taken what this one has refused, or the other way round, of
-        the entries up to a place that it was given. What this one has refused is told to the others."""
+        """What is to be said, once, where another locator has taken what this one has refused, or the other way round,
+        of the entries up to a place that it was given. What this one has refused is told to the others."""
         theirs, said = self.told(), None
         if theirs and self.after < theirs.place <= place:
             ours = Outcome(theirs.place, self.refused.get(theirs.place, TAKEN))
@@ -61,7 +61,8 @@ class Outcomes:
                 if said or ours.code == TAKEN:
                     self.tell(ours)
                 self.is_told = True
-                return said and f"entry {changelog.id_of(theirs.place)}: {said}: their settings differ, or their zones and holds"
+                return said and (f"entry {changelog.id_of(theirs.place)}: {said}: their settings differ, "
+                                 "or their zones and holds")
         if self.last.place > (theirs.place if theirs else (0, 0)):
             self.tell(self.last)
         return None

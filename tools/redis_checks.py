@@ -11,8 +11,15 @@ import changelog
 
 def tell(tool: str, stream: changelog.Stream) -> None:
     """Says on standard error what this Redis may lose. Raises `Fault` where it can't have a stream."""
-    for it in doubts(facts_of(stream)):
-        print(f"{tool}: Redis at {stream.address} {it}", file=sys.stderr, flush=True)
+    try:
+        found = [f"Redis at {stream.address} {it}" for it in doubts(facts_of(stream))]
+    except changelog.Fault as fault:
+        # (a user of Redis need not have the right to ask)
+        if "NOPERM" not in str(fault):
+            raise
+        found = [f"{fault}: what it may lose is not known"]
+    for it in found:
+        print(f"{tool}: {it}", file=sys.stderr, flush=True)
 
 
 def facts_of(stream: changelog.Stream) -> Dict[str, str]:
@@ -22,10 +29,11 @@ def facts_of(stream: changelog.Stream) -> Dict[str, str]:
         name, _, value = line.partition(":")
         facts[name] = value
     if facts.get("redis_mode") == "sentinel":
-        raise changelog.Fault(f"{stream.address} is a Sentinel, which has no streams: name the Redis that is the master")
+        raise changelog.Fault(f"{stream.address} is a Sentinel, which has no streams: name the master")
     with contextlib.suppress(ValueError):
         if int(facts.get("redis_version", "").partition(".")[0]) < 7:
-            raise changelog.Fault(f"Redis at {stream.address} has the version {facts['redis_version']}: it needs Redis 7")
+            raise changelog.Fault(f"Redis at {stream.address} has the version {facts['redis_version']}: "
+                                  "it needs Redis 7")
     return facts
 
 
@@ -34,7 +42,8 @@ def doubts(facts: Dict[str, str]) -> List[str]:
     found = []
     policy = facts.get("maxmemory_policy", "noeviction")
     if policy != "noeviction" and facts.get("maxmemory") != "0":
-        found.append(f"evicts what it was given when its memory is full: its maxmemory-policy is {policy}, and not noeviction")
+        found.append("evicts what it was given when its memory is full: its maxmemory-policy is "
+                     f"{policy}, and not noeviction")
     if facts.get("aof_enabled") == "0":
         found.append("loses what came after its last save where it ends: its appendonly is no")
     if facts.get("role") == "slave":
