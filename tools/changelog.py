@@ -76,6 +76,9 @@ _AWAY = ("LOADING", "READONLY", "MASTERDOWN", "NOREPLICAS", "CLUSTERDOWN", "TRYA
 
 #: What of the environment has the password of Redis.
 _PASSWORD = "REDISCLI_AUTH"
+#: What the word --redis is.
+ADDRESS_HELP = ("where Redis listens: 127.0.0.1:6379, which is taken without it, or unix:PATH, with USER@ before it for a "
+                f"user of its own; the password is that of {_PASSWORD} in the environment")
 
 #: The seconds after which a publisher begins to count anew.
 _RESTED = 3_600
