@@ -85,6 +85,7 @@ def the_unit_has_started_when_it_answers(checks: Checks, folder: pathlib.Path) -
     checks.expect(0 < bound < int(unit["Service"].get("TimeoutStartSec", "0")),
                   "the wait has no end before that of systemd, which ends the daemon")
     checks.expect(unit["Service"].get("ExecStartPost", "").startswith("-"), "a wait that fails ends the daemon")
+    checks.equal(unit["Service"].get("Type"), "exec", "when its wait begins: a process of root's is taken for none")
     early = unit_wait(unit, address, os.getpid())
     time.sleep(1)
     checks.equal(early.poll(), None, "its wait, before the daemon was there")
