@@ -258,8 +258,12 @@ class Clients:
 
     def replay(self, folder: pathlib.Path, events: str = "") -> None:
         """Checks that the pages that there are can be replayed; and that the first run has so many events, if any."""
-        ran = subprocess.run([PROGRAM, "replay", folder / "archive"], capture_output=True, text=True, timeout=PATIENCE,
-                             check=False)
+        try:
+            ran = subprocess.run([PROGRAM, "replay", folder / "archive"], capture_output=True, text=True,
+                                 timeout=PATIENCE, check=False)
+        except subprocess.TimeoutExpired:
+            self.wrong.append(f"a replay that does not end within {PATIENCE} seconds")
+            return
         if ran.returncode or events and f"run 000001 {events}" not in ran.stdout.splitlines():
             self.wrong.append(f"an archive of which a replay says {ran.stdout!r}, {ran.stderr!r}, {events}")
 
