@@ -1,13 +1,13 @@
 """What a locator refuses of a stream by its settings, beside what others do: with the same they refuse the same.
 
-At the key STREAM:outcome is what a tools/apply has told last: the id of an entry, and the code by which its locator has
-refused it, or `ok` where it has taken what another one has refused.
+At the key STREAM:outcome is the entry that was refused so last: its id, the codes by which locators have refused it, and
+`ok` where another one has not.
 """
 
 from __future__ import annotations
 
 import contextlib
-from typing import Dict, NamedTuple, Optional
+from typing import Dict, List, NamedTuple, Optional
 
 import changelog
 
@@ -19,13 +19,14 @@ KEPT = 4_096
 
 
 class Outcome(NamedTuple):
-    """What became of an entry."""
+    """What became of an entry, on one locator or on several."""
 
     place: changelog.Place
-    code: str
+    codes: List[str]
 
-    def __str__(self) -> str:
-        return "not refused it so" if self.code == TAKEN else f"refused it ({self.code})"
+
+def named(code: str) -> str:
+    return "not refused it so" if code == TAKEN else f"refused it ({code})"
 
 
 class Outcomes:
@@ -34,7 +35,7 @@ class Outcomes:
     def __init__(self, stream: changelog.Stream, after: changelog.Place) -> None:
         self.stream, self.after = stream, after
         self.refused: Dict[changelog.Place, str] = {}
-        self.last = Outcome((0, 0), TAKEN)
+        self.last = Outcome((0, 0), [])
         self.is_told = False
 
     def forget(self, place: changelog.Place) -> None:
@@ -44,40 +45,41 @@ class Outcomes:
     def refuse(self, place: changelog.Place, code: str) -> None:
         if code not in LIMITS:
             return
-        self.last, self.refused[place] = Outcome(place, code), code
+        self.last, self.refused[place] = Outcome(place, [code]), code
         if len(self.refused) > KEPT:
             oldest = min(self.refused)
             del self.refused[oldest]
             self.forget(oldest)
 
     def compare(self, place: changelog.Place) -> Optional[str]:
-        """What is to be said, once, where another locator has taken what this one has refused, or the other way round,
-        of the entries up to a place that it was given. What this one has refused is told to the others."""
-        theirs, said = self.told(), None
-        if theirs and self.after < theirs.place <= place:
-            ours = Outcome(theirs.place, self.refused.get(theirs.place, TAKEN))
-            if ours.code != theirs.code:
-                said = None if self.is_told else f"this locator has {ours}, and another one has {theirs}"
-                if said or ours.code == TAKEN:
-                    self.tell(ours)
+        """What is to be said, once, where another locator has not refused what this one has, or the other way round, of
+        the entries up to a place that it was given. What this one has refused is told to the others."""
+        theirs = self.told()
+        if self.after < theirs.place <= place:
+            ours = self.refused.get(theirs.place, TAKEN)
+            if ours not in theirs.codes:
+                self.tell(Outcome(theirs.place, [*theirs.codes, ours]))
+            others = [it for it in theirs.codes if it != ours]
+            if others and not self.is_told:
                 self.is_told = True
-                return said and (f"entry {changelog.id_of(theirs.place)}: {said}: their settings differ, "
-                                 "or their zones and holds")
-        if self.last.place > (theirs.place if theirs else (0, 0)):
+                return (f"entry {changelog.id_of(theirs.place)}: this locator has {named(ours)}, and another one has "
+                        f"{named(others[0])}: their settings differ, or their zones and holds")
+        if self.last.place > theirs.place:
             self.tell(self.last)
         return None
 
     def key(self) -> bytes:
         return changelog.octets_of(f"{self.stream.key}:outcome")
 
-    def told(self) -> Optional[Outcome]:
+    def told(self) -> Outcome:
         octets = self.stream.ask([[b"GET", self.key()]])[0]
-        place, _, code = octets.decode("latin-1").partition(" ") if isinstance(octets, bytes) else ("", "", "")
+        words = octets[:200].decode("latin-1").split(" ") if isinstance(octets, bytes) else []
         with contextlib.suppress(changelog.Fault):
-            return Outcome(changelog.place_of(place), code[:32])
-        return None
+            return Outcome(changelog.place_of(words[0] if words else ""), words[1:])
+        return Outcome((0, 0), [])
 
     def tell(self, outcome: Outcome) -> None:
         # A replica, or one without memory, takes nothing: then it is not told.
         with contextlib.suppress(changelog.Fault):
-            self.stream.ask([[b"SET", self.key(), f"{changelog.id_of(outcome.place)} {outcome.code}".encode()]])
+            text = " ".join([changelog.id_of(outcome.place), *outcome.codes])
+            self.stream.ask([[b"SET", self.key(), text.encode()]])
