@@ -2,18 +2,18 @@
 
 An entry of the stream has a field `change`: a line of a session that changes zones, holds or the time, or a `zone` line
 with its lines. It may have a field `by`, the token of its publisher and a number; how many of those there are is at the key
-STREAM:by:TOKEN for a day. Redis is spoken to directly (RESP 2), without TLS.
+STREAM:by:TOKEN for a day.
 """
 
 from __future__ import annotations
 
 import hashlib
-import os
 import re
 import secrets
-import socket
 import time
-from typing import TYPE_CHECKING, BinaryIO, Dict, Iterable, Iterator, List, NamedTuple, Optional, Sequence, Tuple, Union
+from typing import TYPE_CHECKING, Iterable, Iterator, List, NamedTuple, Optional, Sequence, Tuple, Union
+
+from redis_connection import PASSWORD, Away, Connection, Fault, Value, bytes_of, octets_of
 
 if TYPE_CHECKING:
     from siploc import Dependency, Session
@@ -71,14 +71,9 @@ for _, entry in ipairs(later) do
 end
 return redis.call('XADD', KEYS[1], '*', 'change', ARGV[2])"""
 
-#: What Redis refuses while it reads its files at the start, while a replica takes its place, or while a script runs.
-_AWAY = ("LOADING", "READONLY", "MASTERDOWN", "NOREPLICAS", "CLUSTERDOWN", "TRYAGAIN", "BUSY")
-
-#: What of the environment has the password of Redis.
-_PASSWORD = "REDISCLI_AUTH"
 #: What the word --redis is.
 ADDRESS_HELP = ("where Redis listens: 127.0.0.1:6379, which is taken without it, or unix:PATH, with USER@ before it for a "
-                f"user of its own; the password is that of {_PASSWORD} in the environment")
+                f"user of its own; the password is that of {PASSWORD} in the environment")
 
 #: The seconds after which a publisher begins to count anew.
 _RESTED = 3_600
@@ -92,17 +87,9 @@ _MAX_ZONE_LINES = 1_048_576
 _SHORT = 512
 #: Changes that may make or take space for one another.
 _OPPOSITES = {"add": "del", "del": "add", "hold": "release", "release": "hold"}
-#: The octets of a string that Redis replies, or the elements of an array, and how deep arrays are in others.
-_MAX_BULK, _MAX_DEPTH = 1 << 29, 8
-#: How many octets are sent at a time.
-_CHUNK = 1 << 16
 #: The apex of a change, and the owner of one, which may be in parentheses or in quotes as in a master file.
 _APEX = re.compile(rb"[ \t]*(?:zone|drop)[ \t]+([^ \t\n]+)")
 _OWNER = re.compile(rb'[ \t]*(?:add|del)[ \t()]+(?:"((?:[^"\\\n]|\\.)*)"|((?:[^ \t\n()";\\]|\\.)+))')
-
-
-class Fault(Exception):
-    """What ends a tool, with its cause."""
 
 
 class Change(NamedTuple):
@@ -258,11 +245,6 @@ def now() -> float:
     return time.clock_gettime(time.CLOCK_BOOTTIME)
 
 
-def octets_of(text: str) -> bytes:
-    """The octets of a text, which may be those of a word that is not UTF-8."""
-    return text.encode("utf-8", "surrogateescape")
-
-
 def marks_of(session: Session) -> List[Mark]:
     """The marks of a locator, the last one last: none, or one or two. No event of its journal is made."""
     for _ in range(20):
@@ -323,15 +305,6 @@ def id_of(place: Place) -> str:
     return f"{place[0]}-{place[1]}"
 
 
-Value = Union[bytes, int, None, "Refusal", List["Value"]]
-
-
-class Refusal(NamedTuple):
-    """An error that Redis replies."""
-
-    text: str
-
-
 class Extent(NamedTuple):
     """Which entries a stream has: the first, the last that there ever was, the last that was deleted by its id, how many
     were taken out in all, and the digest of the one at the place that was asked for, empty where there is none. Redis 7.0
@@ -360,24 +333,13 @@ class Extent(NamedTuple):
         return place > (0, 0) and (self.last < place or not is_taken_out)
 
 
-class Stream:
+class Stream(Connection):
     """A Redis stream. Raises `Fault` where Redis is away or refuses a command."""
 
     def __init__(self, address: str, key: str, seconds: float = 60) -> None:
-        """The stream of a key, at `127.0.0.1:6379` or `unix:/run/redis.sock`, which may be silent for some seconds. The
-        password is that of the environment, as for redis-cli; a user that has it is before the address, as `siploc@`."""
-        self.address, self.key = address, key
-        user, place = re.fullmatch("(?:([^@:/]*)@)?(.*)", address, re.DOTALL).groups()  # type: ignore[union-attr]
-        try:
-            self.socket = connected(place, seconds)
-        except OSError as fault:
-            raise Away(f"Redis at {address}: {fault}") from fault
-        self.reader: BinaryIO = self.socket.makefile("rb")
-        # Whether it has replied.
-        self.is_redis = False
-        password = os.environ.get(_PASSWORD, "")
-        if user or password:
-            self.ask([[b"AUTH", *map(octets_of, filter(None, [user])), octets_of(password)]])
+        """The stream of a key, at an address as `Connection` takes it, which may be silent for some seconds."""
+        self.key = key
+        super().__init__(address, seconds)
 
     def append(self, changes: Sequence[Change]) -> Place:
         """Appends changes in order, all or none; the place of the last one."""
@@ -398,17 +360,6 @@ class Stream:
         if place is None:
             raise Fault(f"{self.key}: Redis has lost changes that it had taken from here: publish them again")
         return place_of(bytes_of(place))
-
-    def transact(self, commands: Sequence[Sequence[bytes]]) -> List[Value]:
-        """The replies to commands of which all are done, or none. Where a key that was watched has changed, none is, and
-        there is no reply."""
-        done = self.ask([[b"MULTI"], *commands, [b"EXEC"]])[-1]
-        if done is not None and (not isinstance(done, list) or len(done) != len(commands)):
-            raise Fault(f"not a reply of Redis: {done!r}")
-        for it in done or []:
-            if isinstance(it, Refusal):
-                raise Fault(f"Redis at {self.address}: {it.text}")
-        return done or []
 
     def wait(self, place: Place, milliseconds: int) -> None:
         """Waits until there is an entry after a place, or so long."""
@@ -478,71 +429,6 @@ class Stream:
         first, last, deleted = (place_of(bytes_of(it)) for it in places)
         return Extent(first, last, deleted, counts[0] - counts[1], digest)  # type: ignore[operator]
 
-    def ask(self, commands: Sequence[Sequence[bytes]]) -> List[Value]:
-        """Sends commands at once; their replies."""
-        if self.reader.closed:
-            raise Away(f"Redis at {self.address}: the connection has ended")
-        fault: Optional[OSError] = None
-        replies: List[Value] = []
-        try:
-            self.send(b"".join(
-                b"*%d\r\n%s" % (len(words), b"".join(b"$%d\r\n%s\r\n" % (len(it), it) for it in words))
-                for words in commands))
-        except OSError as it:
-            fault = it
-        try:
-            # Where it took no more, it may have said why.
-            while len(replies) < len(commands) and not isinstance(fault, socket.timeout):
-                replies.append(self.reply())
-        except OSError as it:
-            fault = fault or it
-        if fault:
-            # Redis may wait for the rest of this, and what it replies later is no reply to what is asked next.
-            self.close()
-        self.is_redis = self.is_redis or bool(replies)
-        for reply in replies:
-            if isinstance(reply, Refusal):
-                code = reply.text.split(" ")[0]
-                more = f": {_PASSWORD} of the environment is to have the password" if code == "NOAUTH" else ""
-                raise (Away if code in _AWAY else Fault)(f"Redis at {self.address}: {reply.text}{more}")
-        if fault:
-            more = "" if self.is_redis or isinstance(fault, socket.timeout) else ": there is no Redis, or it wants TLS"
-            raise Away(f"Redis at {self.address}: {fault}{more}") from fault
-        return replies
-
-    def close(self) -> None:
-        self.reader.close()
-        self.socket.close()
-
-    def send(self, octets: bytes) -> None:
-        """Sends octets, for however long Redis goes on to take some."""
-        rest = memoryview(octets)
-        while rest:
-            rest = rest[self.socket.send(rest[:_CHUNK]):]
-
-    def reply(self, depth: int = 0) -> Value:
-        """The next reply, which may be an array of others."""
-        line = self.reader.readline(_MAX_LINE)
-        kind, text = line[:1], line[1:-2]
-        if not line.endswith(b"\r\n"):
-            raise OSError("the connection was closed")
-        if kind == b"+":
-            return text
-        if kind == b"-":
-            return Refusal(text.decode("utf-8", "replace"))
-        is_number = kind in (b":", b"$", b"*") and re.fullmatch(rb"-?[0-9]{1,19}", text)
-        if not is_number or kind != b":" and int(text) > _MAX_BULK or depth > _MAX_DEPTH:
-            raise OSError(f"not a reply of Redis: {line[:60]!r}")
-        number = int(text)
-        if kind == b":" or number < 0:
-            return number if kind == b":" else None
-        if kind == b"*":
-            return [self.reply(depth + 1) for _ in range(number)]
-        octets = self.reader.read(number + 2)
-        if len(octets) != number + 2:
-            raise OSError("the connection was closed")
-        return octets[:-2]
-
 
 class Publisher:
     """What appends changes to a stream, each once, also where Redis goes away meanwhile."""
@@ -578,36 +464,9 @@ class Publisher:
             is_new = True
 
 
-class Away(Fault):
-    """Redis is not there, was not there any more, or takes nothing at present."""
-
-
 class Garbage(Fault):
     """An entry that is no change; its place."""
 
     def __init__(self, place: Place, message: str) -> None:
         super().__init__(message)
         self.place = place
-
-
-def bytes_of(value: object) -> bytes:
-    """A reply that must be octets."""
-    if not isinstance(value, bytes):
-        raise Fault(f"not a reply of Redis: {value!r}")
-    return value
-
-
-def connected(address: str, seconds: float) -> socket.socket:
-    """A socket that is connected to an address, and waits so many seconds at most."""
-    if address.startswith("unix:"):
-        stream = socket.socket(socket.AF_UNIX, socket.SOCK_STREAM)
-        stream.settimeout(seconds)
-        stream.connect(address[len("unix:"):])
-        return stream
-    match = re.fullmatch(r"(.*):([0-9]{1,5})", address)
-    if not match or int(match[2]) > 65_535:
-        raise OSError("not an address such as 127.0.0.1:6379")
-    try:
-        return socket.create_connection((match[1].strip("[]"), int(match[2])), timeout=seconds)
-    except UnicodeError as fault:
-        raise OSError(fault) from fault
