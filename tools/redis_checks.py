@@ -14,8 +14,8 @@ def tell(tool: str, stream: changelog.Stream) -> None:
     try:
         found = [f"Redis at {stream.address} {it}" for it in doubts(facts_of(stream))]
     except changelog.Fault as fault:
-        # (a user of Redis need not have the right to ask)
-        if "NOPERM" not in str(fault):
+        # (a user of Redis need not have the right to ask, nor a Redis the command)
+        if not any(it in str(fault) for it in ("NOPERM", "unknown command")):
             raise
         found = [f"{fault}: what it may lose is not known"]
     for it in found:
