@@ -47,7 +47,8 @@ class Outcomes:
             return
         self.last, self.refused[place] = Outcome(place, [code]), code
         if len(self.refused) > KEPT:
-            oldest = min(self.refused)
+            # (they come in their order)
+            oldest = next(iter(self.refused))
             del self.refused[oldest]
             self.forget(oldest)
 
