@@ -289,10 +289,11 @@ def first_target() -> str:
 
 def by_datagram() -> int:
     """Goes on to the same server by UDP, where a long request was sent to it by TCP in vain; else it returns 0."""
-    if not first_target().endswith(" stream"):
+    first = first_target()
+    if not first.endswith(" stream"):
         return 0
     KSR.pv.sets("$sht(datagrams=>$avp(target))", "1")
-    go_to(KSR.pv.get(TARGETS).split(","))
+    go_to([first.replace(" stream", " datagram"), *KSR.pv.get(TARGETS).split(",")[1:]])
     return LOCATED
 
 
