@@ -85,6 +85,9 @@ SHARED: Holds = globals().get("SHARED") or Holds()
 class Embedded(locator.Locator):
     """A book as one process of Kamailio has it."""
 
+    # (one that is opened loads all zones)
+    soon = locator.LATER
+
     def __init__(self) -> None:
         super().__init__()
         self.holds = SHARED

@@ -90,6 +90,9 @@ class Stream:
 class Locator:
     """The locator as one process of Kamailio sees it."""
 
+    #: How long no session is tried after one that was refused, or has ended.
+    soon = SOON
+
     def __init__(self) -> None:
         self.session: Optional[siploc.BaseSession] = None
         self.next_try = self.next_warning = 0.0
@@ -129,7 +132,7 @@ class Locator:
             except (siploc.NotConnected, siploc.ConnectionLost) as fault:
                 if not is_gone(fault):
                     raise
-                self.next_try = time.monotonic() + SOON
+                self.next_try = time.monotonic() + self.soon
                 if self.next_try > end:
                     raise
             time.sleep(SOON)
