@@ -814,7 +814,7 @@ class Session(BaseSession):
     timeout: float
 
     def __init__(self, stream: socket.socket, timeout: float) -> None:
-        """A session over a connected socket."""
+        """A session over a connected socket, which does not block then, and is reset at its end where it is of TCP."""
         _prepare(stream)
         self.timeout = timeout
         self._stream: Optional[socket.socket] = stream

@@ -90,7 +90,7 @@ class Session:
     timeout: float
 
     def __init__(self, stream: socket.socket, timeout: float) -> None:
-        """A session over a connected socket."""
+        """A session over a connected socket, as `siploc.Session` is."""
         siploc._prepare(stream)
         self.timeout = timeout
         self._stream: Optional[socket.socket] = stream

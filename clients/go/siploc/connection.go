@@ -58,7 +58,7 @@ func dial(ctx context.Context, dialer net.Dialer, network, place string) (net.Co
 }
 
 // New opens a session over a connection that is there, such as an end of a socket pair. The timeout is how long a call
-// waits without progress. Where it is 0, it is DefaultTimeout.
+// waits without progress. Where it is 0, it is DefaultTimeout. A connection of TCP is reset at its end.
 func New(stream net.Conn, timeout time.Duration) *Session {
 	if connection, isTCP := stream.(interface{ SetLinger(int) error }); isTCP {
 		// A connection that ends before its time is reset, also where this process is killed. Else the server would see
