@@ -31,9 +31,10 @@ def read_place(text: str) -> Place:
 
 
 def read_sender(text: str) -> str:
-    """An address, as the system prints it."""
+    """An address, as the system prints that of a sender; one of IPv4 as itself."""
     try:
-        return str(ipaddress.ip_address(text))
+        address = ipaddress.ip_address(text)
+        return str(getattr(address, "ipv4_mapped", None) or address)
     except ValueError:
         raise ValueError(f"--from {text} is not an address") from None
 
