@@ -55,7 +55,7 @@ abbrev pub with_added : LedgerState → List Receipt → LedgerState
 with_added ledger receipts =
     record { last = ledger.last; waiting = ledger.waiting ++ receipts }
 
--- a ledger by which a page was claimed: the receipts with numbers below its end are let go of
+-- a ledger by which a page was claimed: the receipts with numbers below its end are dropped
 abbrev pub with_claimed : LedgerState → PageState → LedgerState
 with_claimed ledger page =
     record { last = Some (last_of page); waiting = later (next_of page) ledger.waiting }

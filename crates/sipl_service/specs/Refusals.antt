@@ -54,7 +54,7 @@ abbrev pub early_fault : PassState → Client → Held → BookState → Option 
 early_fault pass client held book =
     answer_fault pass client held book (option_map Book (unless_full book None))
 
--- the fault of handing out the answer of a current entry
+-- the fault of returning the answer of a current entry
 abbrev pub hand_fault : PassState → Asked → BookState → Option ServiceFault
 hand_fault pass asked book =
     answer_fault pass asked.abilities asked.held book

@@ -1,9 +1,9 @@
-//! What a call under the lock gives to its caller.
+//! What a call under the lock returns.
 use crate::receipt::Receipt;
 use crate::told::Told;
 use sipl_plans::Finding;
 
-/// What is told to a caller, and the receipt for it.
+/// The answer that a caller receives, and the receipt for it.
 #[derive(Drop)]
 pub(crate) struct Answered {
     pub told: Told,

@@ -1,4 +1,5 @@
-// What a change does to the book that the lock lends it, and the receipt for it, whose caller has space for it.
+// What a change does to the book that the lock lends it, and the receipt for it, whose caller has space for
+// it.
 ghost use Rattle.std.specs.Prelude.{◌≡◌, ◌≢◌, ◌^◌, ◌-◌, ◌≤◌, length, slice_get, None, Some, Ok, IfOk, IfErr, IfSome, OnOk, OnErr};
 ghost use Rattle.sipl_outages.specs.Holds.BoardEvent.{Hold, Release, Advance};
 ghost use Rattle.sipl_book.specs.Calls.{IsChanged, MovesBoard, board_refusal, change_refusal, early_change_refusal};

@@ -78,7 +78,7 @@ fn mark_new(
     mark(marks, first, events, receipt)
 }
 
-// Lets go of the receipts with numbers below the end. The space of hand-overs of which none is left may be kept.
+// Drops the receipts with numbers below the end. The space of hand-overs of which none is left may be kept.
 pub(crate) fn let_go(waiting: &mut Vec<Receipts>, spaces: &mut Spaces, end: u64)
     ensures { all_receipts waiting.new.items ≡ later end (all_receipts waiting.old.items) }
 {
@@ -88,7 +88,7 @@ pub(crate) fn let_go(waiting: &mut Vec<Receipts>, spaces: &mut Spaces, end: u64)
     waiting.retain(|handed| !handed.is_empty());
 }
 
-// Lets go of the receipts of a hand-over with numbers below the end.
+// Drops the receipts of a hand-over with numbers below the end.
 fn let_go_of_handed(handed: &mut Receipts, spaces: &mut Spaces, end: u64)
     ensures { handed.new ≡ later end handed.old }
 {

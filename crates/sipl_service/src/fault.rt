@@ -13,8 +13,8 @@ pub enum ServiceFault {
     /// the first such set of the last try.
     #[error("a record set changed in each try")]
     Contended(Key),
-    /// L2: the pass has seen an event that the service has not: it is another service's. The number
-    /// of the service's next event, and the pass's front.
+    /// L2: the pass has seen an event that the service has not. The number of the service's next event,
+    /// and the pass's front.
     #[error("the pass has seen the events before {front}, and the next one is {next}")]
     PassAhead { next: u64, front: u64 },
     /// L6: the service was stopped, or the gate stopped the lookup.

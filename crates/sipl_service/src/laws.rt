@@ -16,13 +16,15 @@ pub fn claimed_events_are_receipts()
     ensures in_time { EventsAreThoseBelow }
 {}
 
-/// Where no receipt is left, `claim` accepts the claimed pages with all receipts at once.
+/// Where no receipt waits, the claimed pages follow one another, and their events are the union of all
+/// receipts that were added: which is what `claim` checks.
 pub fn claims_are_the_claim()
     ensures { ClaimsAreTheClaim }
 {}
 
-/// What `claim` accepts at once is claimed page by page, where the receipts below the end of each page
-/// were added before it, in whatever order; then none waits.
+/// Of pages and receipts that `claim` accepts, a ledger that has claimed the pages before one accepts that
+/// one, where the receipts that were added with numbers below its end are just these, in whatever order.
+/// Where it has claimed all pages, and just these receipts were added, none waits.
 pub fn what_is_whole_is_claimed()
     ensures page { AcceptsWhatIsWhole }
     ensures end { NoneWaits }

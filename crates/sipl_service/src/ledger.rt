@@ -17,11 +17,11 @@ use std::alloc::{AllocError, Global};
 use std::marker::Model;
 use std::{mem, slice};
 
-/// What was claimed of a service so far, page by page, and the receipts that wait for their page.
+/// Where the last claimed page of a service ended, and the receipts that wait for their page.
 ///
-/// A page is claimed once all receipts of its events were added, in whatever order. They are let go of
-/// then, so a service that runs for months keeps the events of few pages. What has been claimed is
-/// claimed for good, and the claims together are the claim of the whole.
+/// A page is claimed once all receipts of its events were added, in whatever order. They are dropped
+/// then, so a service that runs for months keeps the events of few pages. A claimed page stays claimed, and
+/// the claims of all pages together are what `claim` checks (`laws`).
 #[derive(Drop)]
 pub struct Ledger {
     alloc: Global,
@@ -105,14 +105,14 @@ impl Ledger {
     }
 
     /// Claims the page: it follows what was claimed, and its events are the union of the receipts that
-    /// wait with numbers below its end. These are let go of. Linear in the page, the hand-overs that
+    /// wait with numbers below its end. These are dropped. Linear in the page, the hand-overs that
     /// wait, and what `Page::follows` compares.
     ///
-    /// The fault is the first one: the page does not follow (L8, with its own first number); going through
-    /// those receipts in the order of adding, one of an event that was claimed (L5), one whose number
-    /// has no such event in the page (L4), or one whose number an earlier one has (L5); then the least
-    /// number that no receipt has (L3). Then nothing changes: the page is claimed once the receipts
-    /// that it lacks were added.
+    /// The fault is `Memory`, or the first of: the page does not follow (L8, with its own first number);
+    /// going through those receipts in the order of adding, one of an event that was claimed (L5), one whose
+    /// number has no such event in the page (L4), or one whose number an earlier one has (L5); then the least
+    /// number that no receipt has (L3). Then nothing changes: the page is claimed once the receipts that it
+    /// lacks were added.
     pub fn claim(&mut self, page: &Page) -> Result<(), ClaimFault>
         ensures accepted { OnOk result (Accepts self.old page.now) }
         ensures claimed { OnOk result (self.new ≡ with_claimed self.old page.now) }
@@ -143,15 +143,16 @@ impl Ledger {
         Ok(())
     }
 
-    /// Keeps the space of so many hand-overs at most whose receipts are let go of from now on, for `take_space`. At first
-    /// it keeps none.
+    /// Sets the maximum number of hand-overs whose space is kept for `take_space` once their receipts were
+    /// dropped; at first 0.
     pub fn keep_spaces(&mut self, max: usize)
         ensures { self.new ≡ self.old }
     {
         self.spaces.set_max(max);
     }
 
-    /// Takes out the space of a hand-over whose receipts were let go of, if there is some: for a pass that goes on in it.
+    /// Takes the space of a hand-over whose receipts were dropped, if one is kept: for a pass that goes on in
+    /// it.
     pub fn take_space(&mut self) -> Option<Receipts>
         ensures empty { IfSome result (λ space. space ≡ []) }
         ensures unchanged { self.new ≡ self.old }

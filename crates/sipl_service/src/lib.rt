@@ -1,10 +1,9 @@
 //! A locator that threads share: a book under a lock (RFC 3263, 4).
 //!
 //! A caller has a pass. Each answer that it receives, and each change that it makes, is an event of
-//! the book's journal, and the pass has the receipt for it. The journal is handed out page by page, the
-//! last page as the service is closed. Then `claim` shows of all pages and all passes that the pages
-//! follow one another, and that the receipts are their events: each event is one that a caller was told
-//! of, and is what it was told.
+//! the book's journal, and the pass has the receipt for it. The journal is returned page by page, the
+//! last page as the service is closed. Then `claim` checks that all pages follow one another, and that the
+//! receipts of all passes are their events: each event was reported to a caller, as the journal has it.
 //!
 //! Calls that take a runtime may wait for the lock. None of them holds it while a gate is called.
 #![tactic(auto)]

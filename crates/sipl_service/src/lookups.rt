@@ -30,14 +30,14 @@ use std::sync::{Arc, Wait};
 
 impl Service {
     /// The answer to a question for these random words, with the record sets and the holds that
-    /// decide it: that of its current entry, which is one taking of the lock; or else that of a run,
+    /// decide it: that of its current entry, for which the lock is taken once; or else that of a run,
     /// which takes the lock for each set that it reads, and is committed. The gate is called after
     /// each read.
     ///
-    /// The fault is the first one: the service was stopped, or the gate stopped the run (L6), the
-    /// pass is another service's (L2), the book is for another client or policy (L7), a full journal
-    /// (B3), a set changed in each of the tries (L1). Then nothing changes but the count of looks, and no
-    /// event is recorded.
+    /// The fault is `Memory`, or one of: the service was stopped, or the gate stopped the run (L6), the
+    /// pass has seen an event that the service has not (L2), the book is for another client or policy (L7),
+    /// a full journal (B3), a set changed in each of the tries (L1). Then no event is recorded, and the pass
+    /// is as it was.
     pub fn lookup<R: Wait, G: Gate>(
         &self,
         rt: &R,
@@ -296,10 +296,10 @@ impl Service {
     }
 
     /// The record sets that the targets of a question depend on, in the order of reading, as they are
-    /// read one after another. Keeps nothing.
+    /// read one after another. Records no event, and keeps no entry.
     ///
-    /// The fault is the first one: the service was stopped (L6), the book is for another client or
-    /// policy (L7).
+    /// The fault is `Memory`, or the first of: the service was stopped (L6), the book is for another client
+    /// or policy (L7).
     pub fn deps<R: Wait>(&self, rt: &R, question: &Question) -> Result<Evidence, ServiceFault>
         ensures { IfOk result
             (λ items. AreToldDependencies question.now self.now.client items) }

@@ -42,7 +42,7 @@ impl Marks {
 
     // The mark of a key's set of records; `None` where it is empty. Where it has none, a copy of the set
     // is pushed to the versions, with a look at it. A mark that is there is that of the set as it is, so
-    // the book is not asked.
+    // the book is not read.
     pub(crate) fn of_key<R: Wait>(
         &mut self,
         rt: &R,

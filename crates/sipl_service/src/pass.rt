@@ -63,7 +63,7 @@ impl Pass {
         Receipts::from_vec(mem::replace(&mut self.receipts, Vec::new(self.alloc)))
     }
 
-    /// Takes the receipts out as `hand_over` does, and goes on in the space of others, which are let go of.
+    /// Takes the receipts out as `hand_over` does, and goes on in the space of others, which are dropped.
     pub fn hand_over_into(&mut self, space: Receipts) -> Receipts
         ensures receipts { result ≡ self.old.receipts }
         ensures front { self.new ≡ record { receipts = []; front = self.old.front } }

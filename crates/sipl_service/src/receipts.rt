@@ -37,7 +37,7 @@ impl Receipts {
         }
     }
 
-    // Their space: they are let go of.
+    // Their space: they are dropped.
     pub(crate) fn into_space(self) -> Vec<Receipt>
         ensures { result.items ≡ [] }
     {
@@ -86,7 +86,7 @@ impl Receipts {
         len
     }
 
-    // Lets go of those with numbers below the end. Does not allocate.
+    // Drops those with numbers below the end. Does not allocate.
     pub(crate) fn let_go(&mut self, end: u64)
         ensures { self.new ≡ later end self.old }
     {

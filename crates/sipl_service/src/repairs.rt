@@ -18,8 +18,8 @@ impl Service {
     /// Looks queued entries up again, at most as many as are queued now. One whose sets change
     /// meanwhile stays queued, and is not looked up a second time.
     ///
-    /// The fault is the first one: the service was stopped (L6), the book is for another client or
-    /// policy (L7). What was repaired until then stays so, and the other entries stay queued.
+    /// The fault is `Memory`, or the first of: the service was stopped (L6), the book is for another client
+    /// or policy (L7). What was repaired until then stays so, and the other entries stay queued.
     pub fn repair<R: Wait>(&self, rt: &R) -> Result<(), ServiceFault> {
         let repaired = self.repair_queued(rt);
         self.woken.notify_all();
@@ -56,7 +56,7 @@ impl Service {
         Ok(())
     }
 
-    /// Runs so many repair workers, each in a thread, until the service is stopped. A worker whose
+    /// Runs this number of repair workers, each in a thread, until the service is stopped. A worker whose
     /// thread cannot be made is left out. After a run that was refused, or that the gate stopped, a
     /// worker sleeps until an edit that came after it was leased its entry.
     pub fn run_workers<R: Threads + Wait + Sync, G: Gate + Sync>(

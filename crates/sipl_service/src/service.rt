@@ -23,8 +23,8 @@ use std::sync::{Condvar, Mutex, MutexGuard, Wait};
 /// The greatest number of tries of a lookup.
 pub const MAX_TRIES: u64 = 16;
 
-// How often a thread looks for the lock before it sleeps, and how many pauses there are between two looks:
-// some 200 microseconds in all, in which some hundred calls of others take it and let it go. To sleep and be
+// How often a thread tries the lock before it sleeps, and how many pauses there are between two tries:
+// some 200 microseconds in all, in which some hundred calls of others take it and release it. To sleep and be
 // woken takes longer than most of them hold it.
 const LOOKS: u32 = 400;
 
@@ -42,15 +42,16 @@ pub struct EntryCounts {
 }
 
 /// A book that threads share (RFC 3263, 4), for one client and one policy on held endpoints. Contracts
-/// see the client's abilities, the policy, and how often a lookup tries to commit.
+/// see the client's abilities, the policy, and how often a lookup tries to commit. They do not see what the
+/// lock guards, so none says when a call is refused, or that the book is then as it was.
 #[derive(Drop)]
 pub struct Service {
     pub(crate) alloc: Global,
     pub(crate) abilities: Abilities,
     pub(crate) held: Held,
     pub(crate) tries: u64,
-    // Apart from the other fields, which callers read without the lock: a thread that looks for the lock
-    // takes the cache line that the lock is in.
+    // Apart from the other fields, which callers read without the lock: a thread that tries the lock takes
+    // the cache line that the lock is in.
     pub(crate) shared: CachePadded<Mutex<Shared>>,
     // Repair workers wait here for entries to be queued, or for the end.
     pub(crate) woken: Condvar,
@@ -130,7 +131,7 @@ impl Service {
         self.held
     }
 
-    /// How many versions of record sets callers have read since the last page: then they are let go of.
+    /// How many versions of record sets are kept, which are those that callers have read since the last page.
     /// It is only a measure of the memory that they use, so it has no contract.
     pub fn version_count<R: Wait>(&self, rt: &R) -> usize {
         self.lock(rt).version_count()
@@ -154,11 +155,12 @@ impl Service {
         Pass::new(self.alloc)
     }
 
-    /// Edits the zones, and wakes the repair workers for the entries that are outdated then. Returns the
-    /// event's number, and how many record sets have changed.
+    /// Edits the zones, and wakes the repair workers where entries are queued then. Returns the event's
+    /// number, and how many record sets have changed.
     ///
-    /// The fault is the first one: the service was stopped (L6), the pass is another service's (L2),
-    /// a fault of the book (B3, S1 to S9). Then nothing changes.
+    /// The fault is `Memory`, or the first of: the service was stopped (L6), the pass has seen an event that
+    /// the service has not (L2), a fault of the book (B3, S1 to S9). Then the book and the pass are as they
+    /// were.
     pub fn edit<R: Wait>(&self, rt: &R, pass: &mut Pass, edit: Edit) -> Result<Done, ServiceFault>
         ensures receipt { GetsReceipt (λ done. done.number) (λ done. Event.Change edit)
             pass.old pass.new result }
@@ -191,7 +193,8 @@ impl Service {
     /// Holds an endpoint for some milliseconds from now, as `Book::hold` does. Returns the event's
     /// number.
     ///
-    /// The fault is the first one: L6, L2, a fault of the book (B3, O2, O4). Then nothing changes.
+    /// The fault is `Memory`, or the first of: L6, L2, a fault of the book (B3, O2, O4). Then the book and
+    /// the pass are as they were.
     pub fn hold<R: Wait>(
         &self,
         rt: &R,
@@ -214,7 +217,8 @@ impl Service {
 
     /// Ends the hold of an endpoint. Returns the event's number.
     ///
-    /// The fault is the first one: L6, L2, a fault of the book (B3, O3). Then nothing changes.
+    /// The fault is `Memory`, or the first of: L6, L2, a fault of the book (B3, O3). Then the book and the
+    /// pass are as they were.
     pub fn release<R: Wait>(
         &self,
         rt: &R,
@@ -236,7 +240,8 @@ impl Service {
 
     /// Sets the time, in milliseconds, at most to 2^52. Returns the event's number.
     ///
-    /// The fault is the first one: L6, L2, a fault of the book (B3, O1, O2). Then nothing changes.
+    /// The fault is `Memory`, or the first of: L6, L2, a fault of the book (B3, O1, O2). Then the book and
+    /// the pass are as they were.
     pub fn advance<R: Wait>(&self, rt: &R, pass: &mut Pass, to: u64) -> Result<u64, ServiceFault>
         ensures receipt { GetsReceipt (λ number. number) (λ number. Event.Advance to)
             pass.old pass.new result }
@@ -265,13 +270,13 @@ impl Service {
         self.woken.notify_all();
     }
 
-    /// Hands the events since the last page out, and begins an empty journal at the state as it is, as
+    /// Returns the events since the last page, and begins an empty journal at the state as it is, as
     /// `Book::turn_page` does. The numbers of events go on. Where an edit was made since the last page,
-    /// the records are copied with the lock held. The versions of record sets that were read are let go of;
-    /// who still copies from them keeps them.
+    /// the records are copied with the lock held. The versions of record sets that were read are released;
+    /// callers that still copy from them keep them.
     ///
-    /// The fault is the first one: the service was stopped (L6), the book is for another client or
-    /// policy (L7), no number is left for another page (B6). Then nothing changes.
+    /// The fault is `Memory`, or the first of: the service was stopped (L6), the book is for another client
+    /// or policy (L7), no number is left for another page (B6). Then the journal is as it was.
     pub fn turn_page<R: Wait>(&self, rt: &R) -> Result<Page, ServiceFault>
         ensures page { IfOk result (λ page. IsPage page) }
         ensures client { IfOk result (λ page. page.client ≡ self.now.client) }
@@ -283,8 +288,8 @@ impl Service {
         self.turn_page_into(rt, None)
     }
 
-    /// Turns the page as `turn_page` does, but that the new journal has this space, if there is one. Events in it
-    /// are let go of.
+    /// Turns the page as `turn_page` does, but the new journal has this space, if there is one. Events in it
+    /// are dropped.
     pub fn turn_page_into<R: Wait>(
         &self,
         rt: &R,
@@ -306,10 +311,10 @@ impl Service {
         Ok(page)
     }
 
-    /// Takes the events since the last page out, for the service's client and policy on held endpoints.
-    /// Does not allocate.
+    /// Returns the events since the last page, for the service's client and policy on held endpoints. Does
+    /// not allocate.
     ///
-    /// The fault is a book for another client or policy (L7); the service is returned with it.
+    /// The only fault is a book for another client or policy (L7); the service is returned with it.
     pub fn close(self) -> Result<Page, (ServiceFault, Service)>
         ensures page { IfOk result (λ page. IsPage page) }
         ensures client { IfOk result (λ page. page.client ≡ self.client) }
@@ -333,8 +338,8 @@ impl Service {
     }
 }
 
-// An edit that is to be made, and the receipt for it. It is boxed, so that a call that is refused lets
-// go of one value, whatever the edit is.
+// An edit that is to be made, and the receipt for it. It is boxed, so that a call that is refused drops
+// one value, whatever the edit is.
 fn new_edit(alloc: Global, edit: Edit) -> Result<Box<NewEdit>, AllocError>
     ensures edit { IfOk result (λ new. new.value.edit ≡ edit) }
     ensures event { IfOk result (λ new. new.value.receipt.event ≡ Event.Change edit) }
@@ -359,7 +364,7 @@ fn edited_key(alloc: Global, edit: &Edit) -> Result<Option<Key>, AllocError>
     }
 }
 
-// Leaves the lock to the threads that have it or look for it, for some half a microsecond.
+// Leaves the lock to the threads that have it or try it, for some half a microsecond.
 fn pause() {
     for _ in 0..PAUSES {
         spin_loop();

@@ -160,8 +160,9 @@ impl Shared {
         Ok(edited)
     }
 
-    // Turns the page of the book, whose new journal has this space if there is one, and goes on with these versions, of
-    // which there is none. Those before are returned with their marks, to be dropped after the lock.
+    // Turns the page of the book, whose new journal has this space if there is one, and goes on with these
+    // versions, of which there is none. Those before are returned with their marks, to be dropped after the
+    // lock.
     pub fn turn_page(
         &mut self,
         alloc: Global,

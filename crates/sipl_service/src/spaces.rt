@@ -1,4 +1,4 @@
-// The space of hand-overs whose receipts were let go of.
+// The space of hand-overs whose receipts were dropped.
 ghost use Rattle.std.specs.Prelude.{◌≡◌, [], IfSome};
 
 use crate::receipts::Receipts;
@@ -10,12 +10,12 @@ use std::mem;
 pub(crate) struct Spaces {
     alloc: Global,
     kept: Vec<Receipts>,
-    // How many are kept at most.
+    // The maximum number of those that are kept.
     max: usize,
 }
 
 impl Spaces {
-    // None, and none is kept.
+    // No space, and none is kept.
     pub fn new(alloc: Global) -> Self {
         Spaces {
             alloc,
@@ -24,7 +24,7 @@ impl Spaces {
         }
     }
 
-    // Keeps so many at most from now on.
+    // Sets the maximum number of those that are kept from now on.
     pub fn set_max(&mut self, max: usize) {
         self.max = max;
     }
@@ -40,7 +40,7 @@ impl Spaces {
         self.kept.push_reserved(mem::replace(handed, nothing));
     }
 
-    // Takes one out, if there is one.
+    // Takes one, if there is one.
     pub fn take(&mut self) -> Option<Receipts>
         ensures { IfSome result (λ space. space ≡ []) }
     {
