@@ -142,7 +142,7 @@ Repairs rules before text after =
 abbrev pub page_text : Extent → Octets
 page_text extent = counts_line (codes "ok page") (extent.first ∷ extent.count ∷ [])
 
--- the journal is handed out as a page, and begins anew
+-- the journal is returned as a page, and an empty one begins
 abbrev pub TurnsPage : {D F : Type 0} → DeskRules D F → D → Octets → D → Type 0
 TurnsPage rules before text after = Does rules rules.Pages page_text before text after
 

@@ -30,7 +30,7 @@ pub record DeskRules (D F : Type 0) : Type 1 where
   pub IsTime : D → ℕ → Type 0
   pub fault_text : F → Octets
 
--- what the calls of a book's desk do: those of the book. Of a page it returns the extent alone, and a
+-- what the calls of a book's desk do: those of the book. Of a page it returns the extent only, and a
 -- pause does nothing
 abbrev pub book_rules : DeskRules BookState BookFault
 book_rules =

@@ -1,4 +1,4 @@
--- The random words that a question gives: the fields after its URI.
+-- The random words of a question: the fields after its URI.
 use Rattle.std.specs.Prelude.{ℕ, List, [], ◌∷◌, Option, None, Some, Result, Ok, codes, nat_eq, option_map, if◌then◌else◌}
 use lib.Pointwise.{pointwise}
 use Rattle.sipl_names.specs.Labels.{Octets}

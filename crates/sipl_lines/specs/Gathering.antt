@@ -37,7 +37,7 @@ gathered_after line gathered =
     if nat_lt 65536 (length line) then after_long_line gathered
     else after_short_line line gathered
 
--- a zone whose lines follow: so many, and its apex is relative to the root
+-- a zone whose lines follow: their number, and its apex, which is relative to the root
 abbrev pub gathering_of : Octets → ℕ → Gathering
 gathering_of apex lines = record { left = lines; gathered = no_lines (name_of apex []) }
 

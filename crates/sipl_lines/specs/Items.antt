@@ -17,6 +17,6 @@ line_items (octets ∷ lines) = line octets ∷ line_items lines
 abbrev pub items_of : Octets → List Item
 items_of input = line_items (lines_of input) ++ end_of_input ∷ []
 
--- the items that an input gives whatever comes after it
+-- the items of an input, whatever follows it
 abbrev pub complete_items : Octets → List Item
 complete_items input = line_items (complete_lines input)

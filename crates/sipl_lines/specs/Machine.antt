@@ -26,7 +26,7 @@ abbrev pub last_items : Octets → List Item
 last_items [] = end_of_input ∷ []
 last_items (c ∷ pending) = line (c ∷ pending) ∷ end_of_input ∷ []
 
--- the items that a read gives, where one that gives nothing is the end of the input
+-- the items of a read, where one without octets is the end of the input
 abbrev pub read_items : Octets → Octets → List Item
 read_items pending [] = last_items pending
 read_items pending (c ∷ octets) = items_from pending (c ∷ octets)

@@ -29,7 +29,7 @@ use Rattle.sipl_book.specs.declared.outcome.Extent.{Extent}
 use Rattle.sipl_book.specs.declared.outcome.Handed.{Handed}
 use Rattle.sipl_lines.specs.Desk.{DeskRules}
 
--- the client's abilities, what becomes of held endpoints, the zones with their records, the holds with
+-- the client's abilities, the policy on held endpoints, the zones with their records, the holds with
 -- the time, the maxima of records, holds and events, the number of the first event since the last page,
 -- how many events there were since then, and the next number of a set
 pub record PlainState : Type 0 where

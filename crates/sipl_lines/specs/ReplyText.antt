@@ -50,7 +50,7 @@ answer_text (Targets targets) =
     target_lines 1 targets ++ counts_line (codes "ok find") (length targets ∷ [])
 answer_text (None reason) = codes "none " ++ reason_text reason ++ 10 ∷ []
 
--- whether an answer has targets: an output may have to grow for their lines alone
+-- whether an answer has targets: an output may have to grow for their lines only
 abbrev pub HasTargets : Answer → Type 0
 HasTargets (Targets targets) = Unit {0}
 HasTargets (None reason) = ⊥

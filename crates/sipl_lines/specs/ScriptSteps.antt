@@ -32,7 +32,7 @@ abbrev pub step_for : {A : Type 0} → (A → Step) → ValueOrCode A → ValueO
 step_for step (Ok value) = Ok (step value)
 step_for step (Err code) = Err code
 
--- the kept answer to a question is handed out: a fault of its URI comes before that of the words
+-- the kept answer to a question is returned: a fault of its URI comes before that of the words
 abbrev pub hand_step : ValueOrCode Question → ValueOrCode (List ℕ) → ValueOrCode Step
 hand_step (Ok question) words = step_for (Hand question) words
 hand_step (Err code) words = Err code

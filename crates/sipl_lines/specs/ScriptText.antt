@@ -38,7 +38,7 @@ shown_of (step.Release endpoint) = shown.Release
 shown_of (step.Advance ms) = shown.Clock ms
 shown_of _ = shown.Other
 
--- the reply to an accepted edit, after which so many sets of records are other than before
+-- the reply to an accepted edit, which changed this number of record sets
 abbrev pub changed_text : Shown → ℕ → Octets
 changed_text (shown.Zone records outside repeated) changed =
     counts_line (codes "ok zone") (records ∷ outside ∷ repeated ∷ changed ∷ [])
@@ -115,7 +115,7 @@ text_of_reply shown (Uncommitted refused) =
     uncommitted_text refused.fault refused.finding.items
 text_of_reply shown (Refused fault) = refusal_line (code_of fault)
 
--- whether a step handed out targets
+-- whether a step returned targets
 abbrev pub HandsTargets : Reply → Type 0
 HandsTargets (Answered handed) = HasTargets handed.answer
 HandsTargets _ = ⊥

@@ -21,7 +21,7 @@ use Rattle.sipl_service.specs.declared.fault.ServiceFault.TheVariants.{Contended
 use Rattle.sipl_lines.specs.Desk.{DeskRules}
 use Rattle.sipl_lines.specs.ReplyText.{word_field}
 
--- what is seen of a service's caller: the client's abilities, what becomes of held endpoints, the
+-- what is seen of a service's caller: the client's abilities, the policy on held endpoints, the
 -- caller's pass, and the pages that it has turned
 pub record CallerState : Type 0 where
   pub client : Client

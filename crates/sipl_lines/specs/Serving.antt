@@ -14,11 +14,11 @@ use Rattle.sipl_lines.specs.declared.server.Ended.TheVariants.{Quit}
 use Rattle.sipl_lines.specs.declared.server.ServeFault.{ServeFault}
 use Rattle.sipl_lines.specs.declared.tapped.Tapped.{Tapped}
 
--- Serving went so, with at most so many reads, from a state, a reader and a writer to others.
+-- Serving went so, with at most `limit` reads, from a state, a reader and a writer to others.
 pub record ServesWithin {A B : Type 0} (p : Protocol) (limit : ℕ) (result : Result Ended ServeFault)
     (remaining : A → Option Octets) (contents : B → Option Octets) (before after : p.State)
     (reader reader' : Tapped A) (writer writer' : Tapped B) : Type 0 where
-  -- the replies to the whole input, where it came to its end
+  -- the replies to the whole input, where its end was reached
   pub served : OnOk result (ServesAll p before (remaining (tapped_inner reader))
       (contents (tapped_inner writer)) after (contents (tapped_inner writer')))
   pub quit : IfOk result (λ ended. (ended ≡ Quit) ↔ IsTrue (p.has_ended after))
@@ -33,7 +33,7 @@ pub record ServesWithin {A B : Type 0} (p : Protocol) (limit : ℕ) (result : Re
   pub all_turns : OnTooManyTurns result (ServesRead p before (remaining (tapped_inner reader))
       (remaining (tapped_inner reader')) (contents (tapped_inner writer)) after
       (contents (tapped_inner writer')))
-  -- a state that has ended reads no more
+  -- where a read failed, or there were too many, the state has not ended
   pub reads_until_ended : OnReadFault result (p.has_ended after ≡ false)
   pub turns_until_ended : OnTooManyTurns result (p.has_ended after ≡ false)
   -- which fault it is, and how many reads there were

@@ -17,7 +17,7 @@ use Rattle.sipl_lines.specs.SettingsFault.{Fault, not_toml, unknown_key, bad_val
 use Rattle.sipl_lines.specs.declared.settings.fault.Refusal.{Refusal}
 use Rattle.sipl_lines.specs.Values.{number_in, number_from, transports_in, families_in, held_in, listen_in, socket}
 
--- what the value of a key may be: a list of transports, families, what becomes of held endpoints, a
+-- what the value of a key may be: a list of transports, families, the policy on held endpoints, a
 -- number from low to high, or an address in 127.0.0.0/8 with a port
 pub data Allowed : Type 0 where
   transports : Allowed

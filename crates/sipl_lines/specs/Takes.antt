@@ -30,7 +30,7 @@ pub record TakesFirst (p : Protocol) (count : ℕ) (before : p.State) (pending o
   pub line : items_from [] (drop count octets) ≢ []
   pub within : count < length octets
 
--- All octets that came so far are taken, whatever pieces they came in: the replies to the complete lines
+-- All octets of a talk are taken, whatever pieces they came in: the replies to the complete lines
 -- among them follow the first octets, and what is after the last line end is pending.
 pub record HasTaken (p : Protocol) (first : p.State) (octets old : Octets) (now : p.State)
     (pending new : Octets) : Type 0 where

@@ -14,7 +14,7 @@ abbrev pub AppendsPrefix : Option Octets → Option Octets → Octets → Type 0
 AppendsPrefix old new text =
     (sent : Octets) × (unsent : Octets) × (text ≡ sent ++ unsent) × Appends old new sent
 
--- a read gives octets where there may be more to read, and none at the end of the input
+-- a read returns octets where there may be more to read, and none at the end of the input
 abbrev pub EndsWithNone : Bool → Octets → Option Octets → Type 0
 EndsWithNone true got left = got ≢ []
 EndsWithNone false got left = (got ≡ []) × IsAtEnd left

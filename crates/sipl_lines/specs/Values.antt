@@ -1,4 +1,4 @@
--- The values of settings: transports, families, what becomes of held endpoints, numbers, and where to
+-- The values of settings: transports, families, the policy on held endpoints, numbers, and where to
 -- listen.
 use Rattle.std.specs.Prelude.{ℕ, pos, ◌/◌, ◌&&◌, List, [], ◌∷◌, Option, None, Some, codes, nat_eq, nat_le, is_none, option_and_then, if◌then◌else◌, ◌==◌}
 use Rattle.std.specs.Int.{w32, to_be_bytes}
@@ -61,7 +61,7 @@ families_named word =
 abbrev pub families_in : Data → Option Families
 families_in d = option_and_then families_named (as_str d)
 
--- what becomes of held endpoints, by its word
+-- the policy on held endpoints, by its word
 abbrev pub held_named : Octets → Option Held
 held_named word =
     if pointwise nat_eq word (codes "out") then Some Out

@@ -11,11 +11,11 @@ use std::io::{Read, Write};
 
 /// Serves a session at a book, as [`serve`] does.
 ///
-/// The octets that are written are the replies that the plain machine gives. It has the client's
-/// abilities, what becomes of held endpoints, the zones, the holds with the time, the maxima of
+/// The octets that are written are the replies of the plain machine. It has the client's
+/// abilities, the policy on held endpoints, the zones, the holds with the time, the maxima of
 /// records, holds and events, the number of the first event since the last page, a count of the events
 /// since then, and the next number of a set; and no kept answer, queue or lease. So each `find` has the
-/// targets that RFC 3263 gives from scratch on the records and the holds of that time, and each other
+/// targets of RFC 3263, computed from scratch on the records and the holds of that time, and each other
 /// command its effect on them, or its first fault.
 ///
 /// Where an allocation fails the reply to a command may be `err Memory`, and then the machine's state

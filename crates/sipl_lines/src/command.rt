@@ -44,7 +44,7 @@ pub(crate) enum Command<'a> {
     Deps(&'a [u8]),
     // `repair`: looks up again what edits have changed.
     Repair,
-    // `page`: hands the journal out as a page, and begins an empty one.
+    // `page`: turns the page of the journal.
     Page,
     // `hold TRANSPORT ADDRESS PORT MS`: holds an endpoint for some milliseconds.
     Hold(Result<Endpoint, AddressFault>, u64),

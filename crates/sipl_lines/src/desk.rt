@@ -55,7 +55,7 @@ pub trait Desk {
         ensures time { rules.IsTime self.now result }
         ensures limit { result ≤ 2 ^ 52 };
 
-    /// The record sets that a question's targets depend on, in the order of reading. Keeps nothing.
+    /// The record sets that a question's targets depend on, in the order of reading.
     fn deps(&mut self, alloc: Global, question: Question) -> Result<Evidence, Self::Fault>
         ensures { rules.Depends question self.old result self.new };
 
@@ -63,12 +63,12 @@ pub trait Desk {
     fn repair(&mut self, alloc: Global) -> Result<(), Self::Fault>
         ensures { rules.Repairs self.old result self.new };
 
-    /// Hands the journal out as a page, and begins an empty one. Returns which events the page has.
+    /// Turns the page: the journal is a page, and an empty one begins. Returns which events the page has.
     fn page(&mut self) -> Result<Extent, Self::Fault>
         ensures { rules.Pages self.old result self.new };
 
     /// A pause of the session: before it waits for input, and after each 1,024 lines. It has no part in
-    /// the replies. Here a desk may give away what it keeps of the calls before.
+    /// the replies. Here a desk may pass on what it keeps of the calls before.
     fn pause(&mut self)
         ensures { rules.Pauses self.old self.new };
 

@@ -214,7 +214,7 @@ pub(crate) fn repair<D: Desk>(alloc: Global, desk: &mut D, out: &mut Vec<u8>)
     }
 }
 
-// `page`: hands the journal out as a page, and appends the reply.
+// `page`: turns the page of the journal, and appends the reply.
 pub(crate) fn turn_page<D: Desk>(desk: &mut D, out: &mut Vec<u8>)
     requires space { vec_len out.old + MAX_SHORT_REPLY_LEN ≤ vec_capacity out.old }
     ensures done { AppendsText (TurnsPage D.rules)
@@ -227,7 +227,7 @@ pub(crate) fn turn_page<D: Desk>(desk: &mut D, out: &mut Vec<u8>)
     }
 }
 
-// A change of an endpoint's hold: it is held for so many milliseconds, or its hold ends.
+// A change of an endpoint's hold: it is held for this number of milliseconds, or its hold ends.
 #[derive(Clone, Copy)]
 pub(crate) enum HoldChange {
     Hold(u64),

@@ -34,8 +34,8 @@ pub fn sessions_have_one_text()
 {}
 
 /// At the plain machine the octets of a talk may be cut anywhere: the replies are those to the complete
-/// lines of all its octets, which are what `serve` replies to whatever comes after them. That holds of no
-/// octets, and of each piece that is taken after octets of which it holds.
+/// lines of all its octets, and the octets after the last line end are kept. That holds of no octets, and
+/// of each piece that is taken after octets of which it holds.
 pub fn pieces_have_the_replies_of_the_whole()
     ensures none { (state : SessionState PlainState) (old : Octets)
         → HasTaken (session_protocol plain_rules) state [] old state [] old }

@@ -37,7 +37,7 @@ impl Play {
     /// `zone` takes has no reply, unless it is the last one.
     ///
     /// Where an allocation fails, the reply is `err Memory` and nothing changes, except that an
-    /// answer that can't be written has been handed out; the lines that a `zone` takes are taken
+    /// answer that can't be written has been recorded; the lines that a `zone` takes are taken
     /// nevertheless. An error says that the space for a reply could not be reserved: then too
     /// nothing has changed.
     pub(crate) fn process_line(

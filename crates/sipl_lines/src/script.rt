@@ -22,8 +22,8 @@ use std::marker::Model;
 use std::mem;
 
 /// Plays a script: the steps of a world, which are the lines of a reader, and writes the replies.
-/// The first line is `workers COUNT`, which makes the world; the settings give its client, what
-/// becomes of held endpoints, and its limits. It reads at most [`MAX_READS`] times.
+/// The first line is `workers COUNT`, which makes the world; the settings give its client, the policy
+/// on held endpoints, and its limits. It reads at most [`MAX_READS`] times.
 ///
 /// Where the first line is another one, its reply is `err K1`, and the script has ended. Reads,
 /// writes and faults are as with [`crate::serve`].

@@ -37,7 +37,7 @@ pub(crate) enum ScriptLine<'a> {
     Release(Result<Endpoint, AddressFault>),
     // `clock MS`: sets the time, in milliseconds.
     Clock(u64),
-    // `page`: hands the journal out as a page, and begins an empty one.
+    // `page`: turns the page of the journal.
     Page,
     // `hand URI DRAWS`: asks for the kept answer to a URI, for these random words.
     Hand(&'a [u8], Draws),

@@ -77,9 +77,9 @@ impl From<AllocError> for ServeFault {
 /// [`MAX_READS`] reads.
 ///
 /// After each read the replies to all complete lines are written and flushed before the next read.
-/// Once the session has ended it reads no more. An error of the reader or the writer is a fault at
-/// once; what the desk has accepted stays. The desk has a pause before each read, and after each
-/// 1,024 lines that a read gave.
+/// [`ServeFault::Read`] and [`ServeFault::TooManyTurns`] are only of a session that has not ended. An error
+/// of the reader or the writer is not tried again; what the desk has accepted stays. The desk has a pause
+/// before each read, and after each 1,024 lines of a read.
 pub fn serve<R: Read, W: Write, D: Desk>(
     alloc: Global,
     reader: &mut Tapped<R>,
@@ -106,7 +106,7 @@ pub fn serve_within<R: Read, W: Write, D: Desk>(
     serve_conversation(alloc, reader, writer, desk, &mut Session::new(), limit)
 }
 
-// Serves a conversation that has begun, with at most so many reads.
+// Serves a conversation that has begun, with at most `limit` reads.
 pub(crate) fn serve_conversation<R: Read, W: Write, D, C: Conversation<D>>(
     alloc: Global,
     reader: &mut Tapped<R>,

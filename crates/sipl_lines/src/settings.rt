@@ -24,7 +24,7 @@ pub struct Settings {
     /// What the client can do: `transports`, by default UDP and then TCP, and `families`, by
     /// default IPv4 only.
     pub abilities: Abilities,
-    /// What becomes of held endpoints in the targets of a question, by default [`Held::Out`].
+    /// The policy on held endpoints, by default [`Held::Out`].
     pub held: Held,
     /// The maximum number of records in all zones: 0 to 1,048,576, which is the default.
     pub records: usize,
@@ -35,7 +35,7 @@ pub struct Settings {
     pub journal: usize,
     /// The maximum number of held endpoints: 0 to 4,096, which is the default.
     pub holds: usize,
-    /// How often a lookup commits before it gives up: 1 to 16, by default 4.
+    /// The maximum number of tries of a lookup to commit: 1 to 16, by default 4.
     pub tries: usize,
     /// The number of threads that repair results: 0 to 64, by default 1.
     pub workers: usize,
@@ -66,8 +66,8 @@ impl Settings {
         Settings::from_table(alloc, read_table(alloc, text)?)
     }
 
-    /// Reads the program's settings from the table of a TOML document, as [`Settings::from_toml`] does from its text.
-    /// A fault is G2 or G3.
+    /// Reads the program's settings from the table of a TOML document, as [`Settings::from_toml`] does from
+    /// its text. A fault is G2 or G3.
     pub fn from_table(alloc: Global, table: Table) -> Result<Self, SettingsFault>
         ensures read { IfOk result (λ settings.
             settings_of_members (table_view table) ≡ Ok settings) }
@@ -84,8 +84,7 @@ impl Settings {
         Ok(settings)
     }
 
-    /// What a book with these settings keeps at most; its record sets are numbered from 1, its events
-    /// from 0.
+    /// The limits of a book with these settings; its record sets are numbered from 1, its events from 0.
     pub fn limits(&self) -> Limits
         ensures { result ≡ limits_of self.now }
     {
