@@ -12,11 +12,11 @@ pub record CacheState : Type 0 where
   pub queue : QueueState
   pub max_entries : ℕ
 
--- a queue without ids, of at most so many
+-- a queue without ids, with this capacity
 abbrev pub new_queue : ℕ → QueueState
 new_queue max = record { queued = []; leased = set.empty; capacity = max }
 
--- no entries yet, of at most so many
+-- no entries yet, of this maximum
 abbrev pub new_cache : ℕ → CacheState
 new_cache max = record { entries = []; queue = new_queue max; max_entries = max }
 

@@ -156,12 +156,12 @@ abbrev pub commit_refusal : (Store → Item → Bool) → Found → BookState �
 commit_refusal has_changed found book =
     unless_full book (option_map Stale (position (has_changed book.store) found.items))
 
--- a count of looks after so many more; it stops at the greatest number of 64 bits
+-- a count of looks after this many more; it stops at the greatest number of 64 bits
 abbrev pub looks_after : ℕ → ℕ → ℕ
 looks_after zero looks = looks
 looks_after (suc more) looks = min (looks_after more looks + 1) (2 ^ 64 - 1)
 
--- a store after so many looks more
+-- a store after this many looks more
 abbrev pub after_looks : ℕ → Store → Store
 after_looks count store = record store { looks = looks_after count store.looks }
 
@@ -187,7 +187,7 @@ after_commit found words book =
       queue = after_renewal book.queue (entry_of book.entries found.question);
     })
 
--- A finding that is committed gives the answer of the records and the holds as they are, which is
+-- A finding that is committed has the answer of the records and the holds as they are, which is
 -- the next event, and the question's entry is current and not queued. A refused one is returned, and
 -- changes nothing. An allocation fails only where no fault applies. The test says which sets have
 -- changed; `looked` is the old book after its looks.

@@ -46,7 +46,7 @@ renewed found entry =
     if is_of found.question entry
     then record { id = entry.id; is_current = true; found = found } else entry
 
--- the entries after the commit of a finding with this number, where at most so many are kept: the
+-- the entries after the commit of a finding with this number, up to a maximum: the
 -- question's entry is renewed, or else a new one is last; where all places are taken there is none
 abbrev pub committed : Found → ℕ → ℕ → List EntryState → List EntryState
 committed found number max_entries entries =

@@ -34,7 +34,7 @@ source_of = record {
   after_look = after_look;
 }
 
--- a book after so many looks more at its sets
+-- a book after this many looks more at its sets
 abbrev pub after_reads : ℕ → BookState → BookState
 after_reads count book = record book { store = after_looks count book.store }
 

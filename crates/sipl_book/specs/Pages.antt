@@ -1,4 +1,4 @@
--- Pages: the events of a book between two moments, with the states before and after them.
+-- Pages: the events of a book between two times, with the states before and after them.
 use Rattle.std.specs.Prelude.{◌≡◌, ◌≢◌, ℕ, ◌+◌, ◌-◌, ◌^◌, ◌≤◌, nat_lt, List, [], ◌∷◌, length, flat_map, if◌then◌else◌, Option, None, Some, Result, OnOk, OnErr, IfOk, IfErr}
 use Rattle.sipl_choice.specs.Abilities.{Client}
 use Rattle.sipl_outages.specs.declared.held.Held.{Held}
@@ -76,7 +76,7 @@ abbrev pub after_turn : BookState → BookState
 after_turn book =
     record book { first = next_event book; base = state_of book; journal = [] }
 
--- The page that is handed out is that of the journal, which begins anew at the state as it is. Nothing
+-- The page that is returned is that of the journal, which begins anew at the state as it is. Nothing
 -- else changes. A refused call changes nothing, and an allocation fails only where no fault applies.
 pub record IsTurned (old new : BookState) (result : Result PageState BookFault) : Type 0 where
   pub accepted : OnOk result (turn_refusal old ≡ None)

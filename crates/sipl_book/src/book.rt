@@ -112,8 +112,8 @@ impl Book {
         self.alloc
     }
 
-    /// Edits the zones. The entries whose evidence has the key of a set that changed are outdated
-    /// then, and are marked in their order, but for those that are leased. The existence of a name is
+    /// Edits the zones. The current entries whose evidence has the key of a set that changed become
+    /// outdated, and those that are not leased are queued, in their order. The existence of a name is
     /// a set too (RFC 4592, 2.2.3), but is not counted among those that changed. The event of a load
     /// shares its records with that of the last load, where they are equal. The cost is that of
     /// the edit, a search for each entry that depends on a changed set, and a sort of their ids.
@@ -263,7 +263,7 @@ impl Book {
     }
 
     // The answer of the current entry of a question, for these random words and the holds as they are,
-    // which the entry keeps where it can be handed out again. B1 where there is none, or else an
+    // which the entry keeps where it can be returned again. B1 where there is none, or else an
     // allocation failure.
     fn draw_current(&mut self, question: &Question, draws: &Draws) -> Result<Answer, BookFault>
         ensures answer { IfOk result
@@ -291,8 +291,8 @@ impl Book {
     }
 
     /// Has the entry of a question keep its answer, drawn for these random words and the holds as they
-    /// are, where [`Entry::wants_answer`] says so: then it is shared with all that is handed out until
-    /// the entry changes. Constant time but for hashing. Does not allocate.
+    /// are, where [`Entry::wants_answer`] says so: then all answers of the entry share it until the entry
+    /// changes. Constant time but for hashing. Does not allocate.
     pub fn keep_answer(&mut self, question: &Question, draws: &Draws, answer: &Answer)
         requires { IsDrawnOf self.old.entries question.now draws.now
             self.old.board.holds self.old.held answer.now }
@@ -434,7 +434,7 @@ impl Book {
         self.first + self.journal.len() as u64
     }
 
-    /// Whether the journal has as many events as it may have.
+    /// Whether the journal has as many events as its maximum.
     pub fn is_full(&self) -> bool
         ensures { result ≡ is_full self.now }
     {

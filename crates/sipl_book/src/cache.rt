@@ -22,7 +22,7 @@ use sipl_uri::Question;
 use std::alloc::{AllocError, Global};
 use std::marker::Model;
 
-/// Entries, at most so many, and the queue of the outdated ones. Contracts see the queue with space
+/// Entries, up to a maximum, and the queue of the outdated ones. Contracts see the queue with space
 /// for the ids of as many entries as there may be.
 ///
 /// The queued and the leased ids are those of entries, and each outdated entry is queued or leased.
@@ -60,7 +60,7 @@ impl Model for Cache {
 }
 
 impl Cache {
-    /// No entries, of at most so many. Does not allocate.
+    /// No entries, of at most `max_entries`. Does not allocate.
     pub(crate) fn new(alloc: Global, max_entries: usize) -> Self
         ensures { result ≡ new_cache max_entries }
     {
@@ -123,7 +123,7 @@ impl Cache {
     }
 
     /// Makes the entries whose evidence has one of these keys, whose sets changed, outdated, and
-    /// marks those that are not leased in their order. Takes a search for each entry that depends on
+    /// marks those that are not leased in their order. The cost is a search for each entry that depends on
     /// one of the keys, and a sort of their ids. Does not allocate.
     pub(crate) fn outdate(&mut self, changed: &[Key])
         requires order { InOrder self.old.entries }
@@ -145,7 +145,7 @@ impl Cache {
 
     /// Makes a finding the current one of its question, whose entry is not queued then: of the
     /// question's entry, or else of a new entry with this number, which is after those of all
-    /// entries, unless there are as many as may be. Returns the finding that no entry has then: the
+    /// entries, unless there are as many as the maximum. Returns the finding that no entry has then: the
     /// one that it replaces, or itself. Linear in the evidence. The only error is an allocation
     /// failure: the finding is returned, and nothing changes.
     pub(crate) fn commit(
@@ -175,7 +175,7 @@ impl Cache {
         Ok(replaced)
     }
 
-    // Adds a current entry for a question that has none, unless there are as many as may be: then the
+    // Adds a current entry for a question that has none, unless there are as many as the maximum: then the
     // finding is returned. The only error is an allocation failure: the finding is returned, and nothing
     // changes.
     fn add(&mut self, finding: Finding, number: u64) -> Result<Option<Finding>, Finding>
@@ -325,7 +325,7 @@ impl Cache {
     }
 }
 
-// Reserves space for so many ids in each of two vectors. The capacities never shrink.
+// Reserves space for `len` ids in each of two vectors. The capacities never shrink.
 fn reserve_ids(candidates: &mut Vec<u64>, ids: &mut Vec<u64>, len: usize) -> Result<(), AllocError>
     ensures candidates { vec_capacity candidates.old ≤ vec_capacity candidates.new }
     ensures ids { vec_capacity ids.old ≤ vec_capacity ids.new }

@@ -9,7 +9,7 @@ use sipl_evidence::Item;
 use sipl_outages::BoardFault;
 use sipl_zonestore::ZoneStore;
 
-// Reserves the place of the next event. B3 where the journal has as many as it may have, or else an
+// Reserves the place of the next event. B3 where the journal has as many as its maximum, or else an
 // allocation failure.
 pub(crate) fn reserve_event(journal: &mut Vec<Event>, max_events: usize) -> Result<(), BookFault>
     ensures items { journal.new.items ≡ journal.old.items }
@@ -26,7 +26,7 @@ pub(crate) fn reserve_event(journal: &mut Vec<Event>, max_events: usize) -> Resu
     Ok(())
 }
 
-// The fault of an event that has no place: one of its own comes before a want of memory.
+// The fault of an event that has no place: one of its own comes before an allocation failure.
 pub(crate) fn first_fault(unreserved: BookFault, own: Option<BookFault>) -> BookFault
     ensures full { unreserved ≢ BookFault.Memory → result ≡ unreserved }
     ensures memory { unreserved ≡ BookFault.Memory → result ≡ unwrap_or own BookFault.Memory }

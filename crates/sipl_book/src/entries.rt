@@ -145,7 +145,7 @@ impl Entries {
         }
     }
 
-    /// Gives a finding to the entry of its question, which is current then, and returns the finding
+    /// Puts a finding into the entry of its question, which is current then, and returns the finding
     /// that it replaces. Without such an entry nothing changes. Constant time but for hashing. Does not
     /// allocate.
     pub(crate) fn renew(&mut self, finding: Finding) -> Option<Finding>

@@ -12,7 +12,7 @@ use std::alloc::{AllocError, Global};
 pub enum Event {
     /// The zones were edited.
     Change(Edit),
-    /// An endpoint was held for so many milliseconds.
+    /// An endpoint was held for this number of milliseconds.
     Hold(Endpoint, u64),
     /// An endpoint's hold was ended.
     Release(Endpoint),

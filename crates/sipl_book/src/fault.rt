@@ -10,7 +10,7 @@ use thiserror::Error;
 /// Why a call of a book fails.
 #[derive(Clone, Copy, Debug, PartialEq, Eq, Hash, Error)]
 pub enum BookFault {
-    /// B3: the journal has as many events as it may have.
+    /// B3: the journal has as many events as its maximum.
     #[error("the journal is full")]
     JournalFull,
     /// B1: the question has no current entry.
@@ -23,8 +23,8 @@ pub enum BookFault {
     /// B4: the question has no entry.
     #[error("the question has no entry")]
     Unknown,
-    /// B5: the lease is not one of the question's entry: that was forgotten, or the lease is another
-    /// book's.
+    /// B5: the question has no entry with the lease's id, or that is not leased, such as where it was
+    /// forgotten.
     #[error("the lease is not one of the question's entry")]
     Gone,
     /// B6: the number of the next page's first event is over 2^52 - 2^20.

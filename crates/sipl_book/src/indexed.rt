@@ -53,8 +53,8 @@ impl Indexed {
         &self.entries
     }
 
-    /// Reserves space for the pairs of so many leases, and for so many more. The only error is an
-    /// allocation failure.
+    /// Reserves space for the pairs of `leases` leases, and for `pairs` more. The only error is an allocation
+    /// failure.
     pub(crate) fn reserve(&mut self, leases: usize, pairs: usize) -> Result<(), AllocError>
         ensures entries { self.new.entries ≡ self.old.entries }
         ensures room { self.old.room ≤ self.new.room }
@@ -90,7 +90,7 @@ impl Indexed {
         added
     }
 
-    /// Gives a finding to the entry of its question, which has this id and is current then, and returns
+    /// Puts a finding into the entry of its question, which has this id and is current then, and returns
     /// the finding that it replaces. Linear in the evidence. Does not allocate.
     pub(crate) fn renew(&mut self, finding: Finding, own_id: u64) -> Option<Finding>
         requires order { InOrder self.old.entries }

@@ -9,7 +9,7 @@ pub const MAX_ENTRIES: usize = 65_536;
 /// The greatest number of events in a book's journal.
 pub const MAX_EVENTS: usize = 1_048_576;
 
-/// How much a book keeps at most, and the first numbers of its record sets and events.
+/// The maxima of a book, and the first numbers of its record sets and events.
 #[derive(Clone, Copy, Debug, PartialEq, Eq)]
 pub struct Limits {
     /// Records of all zones: at most 1,048,576.

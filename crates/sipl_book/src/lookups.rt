@@ -33,7 +33,7 @@ impl Book {
     }
 
     /// The record sets that the targets of a question depend on, in the order of reading, with a look
-    /// at each. Keeps nothing. The only error is a failed allocation.
+    /// at each. Records no event, and keeps no entry. The only error is an allocation failure.
     pub fn deps(&mut self, question: Question) -> Result<Evidence, BookFault>
         ensures { AreDependencies question self.old self.new result }
     {
@@ -44,7 +44,7 @@ impl Book {
     }
 
     /// Looks the queued entries up again, each once, with a look at each set that their routes read.
-    /// The only error is a failed allocation; the entries that are still queued can be repaired later.
+    /// The only error is an allocation failure; the entries that are still queued can be repaired later.
     pub fn repair(&mut self) -> Result<(), BookFault>
         ensures { IsRepaired self.old self.new result }
     {

@@ -11,7 +11,7 @@ use sipl_outages::Held;
 use sipl_records::Sequence;
 use std::marker::Model;
 
-/// The events of a book between two moments, with the states before and after them, for one client and
+/// The events of a book between two times, with the states before and after them, for one client and
 /// one policy on held endpoints.
 ///
 /// The events are legal from the state before them, and lead to the one after them: each edit, hold,
@@ -66,7 +66,7 @@ impl Page {
         self.events.as_slice()
     }
 
-    /// The space of the events, which are let go of: for those after a later page.
+    /// The space of the events, which are dropped: for those after a later page.
     pub fn into_space(self) -> Vec<Event>
         ensures { result.items ≡ [] }
     {

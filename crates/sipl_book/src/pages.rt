@@ -1,4 +1,4 @@
-//! Pages: the journal is handed out, and begins anew.
+//! Pages: the journal is returned as a page, and an empty one begins.
 ghost use Rattle.std.specs.Prelude.{◌≡◌, ◌≢◌, [], None, Some, IfErr, IfOk, OnOk};
 ghost use Rattle.sipl_book.specs.Book.{next_event, state_of};
 ghost use Rattle.sipl_book.specs.Pages.{IsPage, IsTurned, page_of, turn_refusal};
@@ -17,10 +17,11 @@ use std::mem;
 pub const MAX_FIRST: u64 = (1 << 52) - (1 << 20);
 
 impl Book {
-    /// Hands the events out as a page, and begins an empty journal at the state as it is. The numbers of
+    /// Returns the events as a page, and begins an empty journal at the state as it is. The numbers of
     /// events go on; entries, leases and looks stay. The records are shared with the last page where no
     /// edit was made since, and the holds where the board did not change; else linear in those, which
-    /// are copied. The new journal has space for as many events as the old one had.
+    /// are copied. The new journal has space for as many events as the old one had, where
+    /// it can be allocated.
     ///
     /// The fault is that the next number is over 2^52 - 2^20 (B6).
     pub fn turn_page(&mut self) -> Result<Page, BookFault>
@@ -31,7 +32,7 @@ impl Book {
         self.turn_page_into(space)
     }
 
-    /// Turns the page as `turn_page` does, but that the new journal has this space. Events in it are let go of.
+    /// Turns the page as `turn_page` does, but the new journal has this space. Events in it are dropped.
     pub fn turn_page_into(&mut self, space: Vec<Event>) -> Result<Page, BookFault>
         ensures turned { IsTurned self.old self.new result }
         ensures is_page { IfOk result (λ page. IsPage page) }
@@ -56,8 +57,8 @@ impl Book {
         })
     }
 
-    // What a page that is turned has beside what the book has: the number of the next event, the state as it is, twice,
-    // and the abilities. B6 where there is no such number.
+    // What a page that is turned has beside what the book has: the number of the next event, the state as it
+    // is, twice, and the abilities. B6 where there is no such number.
     fn parts_of_page(&mut self) -> Result<(u64, (State, State), Abilities), BookFault>
         ensures accepted { OnOk result (turn_refusal self.old ≡ None) }
         ensures next { IfOk result (λ parts. parts.0 ≡ next_event self.old) }
@@ -140,7 +141,7 @@ impl Book {
     }
 }
 
-// A journal without events, with space for so many where there is memory for them: the next page has
+// A journal without events, with space for `events` where it can be allocated: the next page has
 // mostly as many as the last one, and is not copied as it grows.
 fn empty_journal(alloc: Global, events: usize) -> Vec<Event>
     ensures { result.items ≡ [] }

@@ -19,7 +19,7 @@ impl Book {
     /// settled with the lease. The question is a copy. Reserves space for the settlement, which does not
     /// allocate. Logarithmic in the number of entries.
     ///
-    /// The fault is that none is queued (Q1), or a failed allocation; then nothing changes.
+    /// The fault is that none is queued (Q1), or an allocation failure; then nothing changes.
     pub fn lease(&mut self) -> Result<(Lease, Question), BookFault>
         ensures leased { IsLeased self.old self.new result }
         ensures entry { IfOk result (λ leased.

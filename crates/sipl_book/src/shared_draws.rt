@@ -8,7 +8,7 @@ use sipl_srv::Draws;
 use std::alloc::{AllocError, Global};
 use std::marker::Model;
 
-/// 32 random words of 32 bits, which copies share. Words of 0 at the end take no memory. Contracts see
+/// 32 random words of 32 bits, which copies share. Words of 0 at the end are not stored. Contracts see
 /// them as a list, as those of `Draws`.
 pub struct SharedDraws {
     // The words up to the last that is not 0, if there is one: so words of 0 do not allocate.

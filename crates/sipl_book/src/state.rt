@@ -16,8 +16,8 @@ use std::marker::Model;
 use std::sync::Arc;
 
 /// What events lead to: the loaded zones with their records, the holds and the time. Two states are
-/// equal where their apexes, records, holds and times are, each in its order; how many endpoints may be
-/// held at most does not count.
+/// equal where their apexes, records, holds and times are, each in its order; the maximum
+/// number of held endpoints does not count.
 #[derive(Drop)]
 pub struct State {
     parts: Parts,
