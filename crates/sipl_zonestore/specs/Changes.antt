@@ -33,12 +33,12 @@ with_ancestors (label ∷ labels) = (label ∷ labels) ∷ with_ancestors labels
 abbrev pub existing_names : List Record → List Labels
 existing_names records = unique same_name (flat_map (λ r. with_ancestors r.owner) records)
 
--- whether a name exists by one of the two lists of records alone
+-- whether a name exists by only one of the two lists of records
 abbrev pub exists_in_one : List Record → List Record → Labels → Bool
 exists_in_one old new name =
     if exists_in old name then not (exists_in new name) else exists_in new name
 
--- the names that exist by one of the two lists alone, in the order of the old records followed by
+-- the names that exist by only one of the two lists, in the order of the old records followed by
 -- the new
 abbrev pub changed_names : List Record → List Record → List Labels
 changed_names old new = filter (exists_in_one old new) (existing_names (old ++ new))

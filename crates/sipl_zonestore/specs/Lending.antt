@@ -7,6 +7,6 @@ use Rattle.sipl_zonestore.specs.contracts.record_set.RecordSet.{the_row as set_r
 use Rattle.sipl_zonestore.specs.Content.{Content}
 use Rattle.sipl_zonestore.specs.SetTable.{with_set}
 
--- the owner's sets end with the last value behind the reference as that of this kind
+-- the owner's sets end with the last value of the reference as that of this kind
 abbrev pub LendsSet : MutBor OwnerSets → Kind → MutBor Content → Fml
 LendsSet sets kind lent = Lends the_row set_row sets lent (λ set. with_set kind set sets.now)

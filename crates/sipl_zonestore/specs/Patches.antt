@@ -11,8 +11,8 @@ patched apex records patch new =
     if patch.is_last then take patch.start records ++ (new ++ drop patch.end records)
     else records_outside apex records ++ new
 
--- The parts are within the list and the text. With the part of the text the list is as the load leaves it, and
--- the records of the zone are those of the text but for the parts.
+-- The parts are within the list and the text. With the part of the text the list is as the load leaves it,
+-- and the records of the zone are those of the text but for the parts.
 pub record IsPatch (apex : Labels) (records text : List Record) (patch : Patch) : Type 0 where
   pub order : patch.start ≤ patch.end
   pub limit : patch.end ≤ length records

@@ -20,7 +20,7 @@ pub record ListState : Type 0 where
   pub records : List Record
   pub room : ℕ
 
--- what always holds: each record has a code, and so many were not removed
+-- what always holds: each record has a code, and `len` counts those that were not removed
 pub record IsRecordList (records : List Record) (codes : List ℕ) (len : ℕ) : Type 0 where
   pub long : length codes ≡ length records
   pub counted : len ≡ length (live records codes)

@@ -30,7 +30,7 @@ pub(crate) struct Addition {
 
 impl Addition {
     // The addition of a record to those that have these names. It is boxed, so that one that fails later
-    // lets go of one value.
+    // drops one value.
     pub(crate) fn new(
         alloc: Global,
         new: &Record,

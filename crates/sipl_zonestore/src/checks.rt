@@ -39,7 +39,7 @@ pub(crate) fn check_load(
     Ok(())
 }
 
-// Whether so many records fit in beside those outside the apex, which are counted only where that decides.
+// Whether `count` records fit in beside those outside the apex, which are counted only where that decides.
 fn fits(max_records: usize, apex: &Name, count: usize, records: &[Record]) -> bool
     requires { length records.now ≤ max_records }
     ensures { result ≡ nat_le (length (records_outside apex.now records.now) + count) max_records }

@@ -14,8 +14,8 @@ use sipl_names::Name;
 use sipl_records::Record;
 use std::alloc::{AllocError, Global};
 
-// The owners whose records are changed by a text, which differs from the records within the apex by this patch.
-// `None` where there are many.
+// The owners whose records are changed by a text, which differs from the records within the apex by this
+// patch. `None` where they are more than a quarter of the text's records.
 pub(crate) fn owners_of_patch(
     alloc: Global,
     apex: &Name,
@@ -34,7 +34,7 @@ pub(crate) fn owners_of_patch(
 }
 
 // The owners whose records within the apex are others in a text, or in another order. `None` where there
-// are more than so many. Linear in the number of records, which are compared one by one.
+// are more than `most`. Linear in the number of records, which are compared one by one.
 fn changed_owners(
     alloc: Global,
     apex: &Name,
@@ -54,7 +54,7 @@ fn changed_owners(
 }
 
 // Adds the owners whose records within the apex are others in a text, or in another order. Returns whether
-// all are added: it stops where there are more than so many.
+// all are added: it stops where there are more than `most`.
 fn add_changed_owners(
     alloc: Global,
     owners: &mut IndexSet<Name>,

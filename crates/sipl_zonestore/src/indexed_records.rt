@@ -241,7 +241,7 @@ impl IndexedRecords {
     }
 
     // Replaces the records within the apex by those of a text, which are last, where they differ in the
-    // records of these owners alone. Returns what they changed. Of other owners nothing is looked up.
+    // records of these owners only. Returns what they changed. Of other owners nothing is looked up.
     fn replace_owners(
         &mut self,
         apex: &Name,
@@ -372,7 +372,7 @@ impl IndexedRecords {
     }
 }
 
-// Reserves space for so many more records, owners of which nothing is kept, and names.
+// Reserves space for more records, owners of which nothing is kept, and names.
 fn reserve(
     records: &mut RecordList,
     bare: &mut IndexSet<Name>,

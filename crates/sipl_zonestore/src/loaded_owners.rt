@@ -1,4 +1,4 @@
-//! What a load makes of the tables that changes the records of some owners alone.
+//! What a load makes of the tables that changes the records of some owners only.
 ghost use Rattle.std.specs.Prelude.{◌≡◌, ◌≢◌, ◌≤◌, ◌<◌, ◌+◌, ◌^◌, ◌++◌, length, false, true, Some, IfOk, IfErr};
 ghost use Rattle.std.specs.List.{list_all};
 ghost use Rattle.indexmap.specs.IndexSet.{contains};
@@ -26,7 +26,7 @@ use sipl_records::Record;
 use std::alloc::Global;
 
 // What a text makes of the tables, where it replaces the records within the apex, and differs from them in
-// the records of these owners alone. Of other owners nothing is looked up.
+// the records of these owners only. Of other owners nothing is looked up.
 pub(crate) fn loaded_owners(
     alloc: Global,
     apex: &Name,

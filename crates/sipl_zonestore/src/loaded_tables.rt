@@ -35,7 +35,7 @@ pub(crate) struct LoadedTables {
 }
 
 // What a text makes of the tables, where it replaces the records within the apex. The old sets are
-// those of the records. It is boxed, so that a load that fails later lets go of one value.
+// those of the records. It is boxed, so that a load that fails later drops one value.
 pub(crate) fn loaded_tables(
     alloc: Global,
     apex: &Name,

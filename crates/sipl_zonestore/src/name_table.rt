@@ -28,7 +28,7 @@ pub(crate) fn count_of(names: &IndexMap<Name, usize>, name: &Name) -> usize
     }
 }
 
-// Counts a name so many times more. Does not allocate.
+// Adds `count` to the count of a name. Does not allocate.
 fn add_count(names: &mut IndexMap<Name, usize>, name: Name, count: usize)
     requires space { 0 < spare names.old }
     requires fits { count_at names.old.entries name + count < 2 ^ 64 }
@@ -58,7 +58,7 @@ pub(crate) fn count_in(names: &mut IndexMap<Name, usize>, more: Vec<Name>)
     }
 }
 
-// Counts a name so many times less, and drops it where none is left. Does not allocate.
+// Subtracts `count` from the count of a name, and drops the name where none is left. Does not allocate.
 fn take_count(names: &mut IndexMap<Name, usize>, name: &Name, count: usize)
     ensures { (other : Labels) → count_at names.new.entries other
         ≡ count_at names.old.entries other - (if same_name name.now other then count else 0) }

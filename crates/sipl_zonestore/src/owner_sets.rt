@@ -10,7 +10,7 @@ use crate::record_set::RecordSet;
 use sipl_records::{Data, Kind};
 use std::alloc::{AllocError, Global};
 
-// A set for each kind. Most of them are empty, and take the room of a pointer.
+// A set for each kind. Most of them are empty, and take the space of a pointer.
 #[derive(Drop)]
 pub(crate) struct OwnerSets {
     address4: RecordSet,

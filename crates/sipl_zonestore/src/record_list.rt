@@ -83,7 +83,7 @@ impl RecordList {
         records
     }
 
-    // Reserves space for so many more records. Moves the records together where more were removed than
+    // Reserves space for more records. Moves the records together where more were removed than
     // are left, so that this takes constant time for each removal.
     pub(crate) fn reserve(&mut self, additional: usize) -> Result<(), AllocError>
         ensures records { self.new.records ≡ self.old.records }
@@ -163,7 +163,7 @@ impl RecordList {
     }
 }
 
-// Moves so many of the items from a start on behind the others.
+// Moves `count` items from a start on after all others.
 fn rotate_from<T>(items: &mut [T], start: usize, count: usize)
     requires { start + count ≤ length items.old }
     ensures { items.new ≡ take start items.old
@@ -172,7 +172,7 @@ fn rotate_from<T>(items: &mut [T], start: usize, count: usize)
     items[start..].rotate_left(count);
 }
 
-// Puts the last items, of which there are so many, in the place of those from a start to an end. Does not
+// Puts the last `added` items in the place of those from a start to an end. Does not
 // allocate.
 fn move_last<T: Drop>(items: &mut Vec<T>, start: usize, end: usize, added: usize)
     requires order { start ≤ end }

@@ -59,7 +59,7 @@ impl SetTable {
         }
     }
 
-    // As `get`, where the owner's place is looked for near the last one, and becomes the last one.
+    // As `get`, where the owner's place is searched near the last one, and becomes the last one.
     pub(crate) fn get_near(&self, owner: &Name, kind: Kind, near: &mut usize) -> (u64, &[Data])
         ensures number { result.0
             ≡ (content_of self.now (record { name = owner.now; kind = kind })).number }
@@ -137,7 +137,7 @@ impl SetTable {
         }
     }
 
-    // Numbers a set, unless it is empty, and returns whether it is not. The owner's place is looked for
+    // Numbers a set, unless it is empty, and returns whether it is not. The owner's place is searched
     // near the last one, and becomes the last one. Constant time but for hashing. Does not allocate.
     pub(crate) fn set_number(
         &mut self,
