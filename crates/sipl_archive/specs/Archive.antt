@@ -120,8 +120,8 @@ abbrev pub file_text : Octets → PageState → Octets
 file_text client page =
     page_text (page_head page.first (length page.events) client) page.events
 
--- a text begins with the head of a page: its first line, its client's settings up to an empty line; then there
--- are its events
+-- a text begins with the head of a page: its first line, its client's settings up to an empty line; then
+-- there are its events
 pub record IsHead (text : Octets) (first count : ℕ) (client events : Octets) : Type 0 where
   pub fields : Octets
   pub extent : extent_in (fields_of fields) ≡ Some (first, count)

@@ -93,7 +93,8 @@ after_reply_within (suc n) text =
 abbrev pub after_reply : Octets → Option Octets
 after_reply text = after_reply_within (length text) text
 
--- what is after the reply that a page has to the command of a line: a change has none there, and a question has one
+-- what is after the reply that a page has to the command of a line: a change has none there, and a question
+-- has one
 abbrev pub after_kept_reply : Octets → Octets → Option Octets
 after_kept_reply line text =
     if is_change line then Some text else (if is_find line then after_reply text else None)

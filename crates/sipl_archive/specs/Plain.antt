@@ -35,8 +35,8 @@ new_plain client held = record {
   held = held;
 }
 
--- An edit of a store ends so: it is made where nothing refuses it, and else the store is as it was. The fault is that
--- of the zones; an allocation fails only where none is found before.
+-- An edit of a store ends so: it is made where nothing refuses it, and else the store is as it was. The fault
+-- is that of the zones; an allocation fails only where none is found before.
 pub record EditsStore {A : Type 0} (edit : Edit) (old new : Store) (outcome : Result A BookFault) : Type 0 where
   pub accepted : OnOk outcome (store_refusal (zone_edit edit) old ≡ None)
   pub after : OnOk outcome (new.zones ≡ after_edit (zone_edit edit) old.zones)
@@ -53,8 +53,8 @@ pub record MakesEdit {A : Type 0} (edit : Edit) (old new : PlainState) (outcome 
   pub store : EditsStore edit old.store new.store outcome
   pub others : new ≡ record old { store = new.store }
 
--- A hold, a release or a move of the clock ends so: it is made where nothing refuses it, and else the holds are as
--- they were. An allocation fails only where no fault applies.
+-- A hold, a release or a move of the clock ends so: it is made where nothing refuses it, and else the holds
+-- are as they were. An allocation fails only where no fault applies.
 pub record MovesBoard {A : Type 0} (event : BoardEvent) (old new : BoardState) (outcome : Result A BookFault)
     : Type 0 where
   pub accepted : OnOk outcome (refusal_of old.max_holds event old.holds ≡ None)

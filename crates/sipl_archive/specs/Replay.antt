@@ -20,8 +20,8 @@ pub record Exchange : Type 0 where
 abbrev pub exchange_text : Exchange → Octets
 exchange_text exchange = exchange.command ++ exchange.reply
 
--- by the command's line: a change, which has no reply in the page, is accepted; a question's reply is the same, to
--- the octet, and is no refusal
+-- by the command's line: a change, which has no reply in the page, is accepted; a question's reply is the
+-- same, to the octet, and is no refusal
 abbrev pub is_expected : Octets → Octets → Octets → Bool
 is_expected line reply told =
     if is_change line then length reply == 0 && starts_with nat_eq told (codes "ok ")

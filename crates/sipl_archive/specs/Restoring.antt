@@ -1,4 +1,4 @@
--- What the changes of a text came to.
+-- The result of the changes of a text.
 use Rattle.std.specs.Prelude.{◌≡◌, true, ◌≤◌, ◌&&◌, ◌++◌, List, [], ◌∷◌, Option, None, Some, is_some, codes, drop, length, nat_eq, if◌then◌else◌, ℕ}
 use Rattle.std.specs.List.{starts_with}
 use Rattle.std.specs.Option.{option_or}
@@ -6,14 +6,14 @@ use Rattle.sipl_names.specs.Labels.{Octets}
 use Rattle.sipl_archive.specs.Commands.{after_command, after_reply, first_line, is_change, mark_in}
 use Rattle.sipl_archive.specs.declared.state.Made.{Made}
 
--- what is left of a text of changes, and of the replies to them, and the last mark so far
+-- what is left of a text of changes, and of the replies to them, and the last mark before that
 pub record Remaining : Type 0 where
   pub text : Octets
   pub replies : Octets
   pub mark : Option ℕ
 
--- what is left of the replies after that to the command of a line, if it was made: a mark has none, and a change that
--- was made has one that begins with `ok`
+-- what is left of the replies after that to the command of a line, if it was made: a mark has none, and a
+-- change that was made has one that begins with `ok`
 abbrev pub after_made : Octets → Octets → Option Octets
 after_made line replies =
     if is_some (mark_in line) then Some replies
@@ -32,8 +32,8 @@ MakesAll [] before after = after ≡ before
 MakesAll (command ∷ others) before after =
     (between : Remaining) × MakesFirst command before between × MakesAll others between after
 
--- The first commands of a text were made, by the replies, and with the last mark. The next one was refused, or none
--- is whole.
+-- The first commands of a text were made, by the replies, and with the last mark. The next one was refused,
+-- or none is whole.
 pub record IsMade (text replies : Octets) (made : Made) : Type 0 where
   pub within : made.octets ≤ length text
   pub commands : List Octets

@@ -29,7 +29,8 @@ counted (Some run) = record { number = run.number; events = run.next } ∷ []
 abbrev pub begins_run : ℕ → ℕ → Option Run → Bool
 begins_run number first last = first == 0 && nat_lt (number_of_last last) number
 
--- the runs that a page of this run and first event ends, as they are counted: the last one, if it begins another
+-- the runs that a page of this run and first event ends, as they are counted: the last one, if it begins
+-- another
 abbrev pub ended_by : Option (ℕ × ℕ) → Option Run → List Replayed
 ended_by None last = []
 ended_by (Some page) last = if begins_run page.0 page.1 last then counted last else []
@@ -53,8 +54,8 @@ pub record Follows (number first : ℕ) (client : Octets) (old new : Option Run)
   pub last : new ≡ Some run
   pub is_next : IsNext number first client run
 
--- A run goes on with a text: its machine carries so many events out, as is expected, and nothing else is in the
--- text. The number of the next event is as many later; the run's number and client are as they were.
+-- A run goes on with a text: its machine carries so many events out, as is expected, and nothing else is in
+-- the text. The number of the next event is as many later; the run's number and client are as they were.
 pub record GoesOn (text : Octets) (count : ℕ) (before after : Run) : Type 0 where
   pub repeats : RepeatsSome text [] count before.desk after.desk
   pub next : after.next ≡ before.next + count
@@ -69,8 +70,9 @@ pub record ReplaysEvents (text : Octets) (count : ℕ) (old new : Option Run) : 
   pub new_is : new ≡ Some after
   pub goes_on : GoesOn text count before after
 
--- A text under a name is an archived page that follows the pages before it: its last line is the digest of all
--- before, its head is as its name says and as the last run goes on or begins, and its events are carried out again.
+-- A text under a name is an archived page that follows the pages before it: its last line is the digest of
+-- all before, its head is as its name says and as the last run goes on or begins, and its events are carried
+-- out again.
 pub record ReplaysPage (name text : Octets) (old new : Option Run) : Type 0 where
   pub body : Octets
   pub digested : text ≡ body ++ digest_line (sha256 body)

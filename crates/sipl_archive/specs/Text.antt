@@ -79,8 +79,8 @@ mark_line mark = codes "# page" ++ number_field mark ++ 10 ∷ []
 abbrev pub state_head : ℕ → ℕ → Octets
 state_head mark now = mark_line mark ++ (if nat_lt 0 now then clock_line now else [])
 
--- the text of a state after a mark: its first lines, those that load its zones, each with the records within it,
--- and those of its holds
+-- the text of a state after a mark: its first lines, those that load its zones, each with the records within
+-- it, and those of its holds
 abbrev pub state_text : ℕ → State → Octets
 state_text mark state =
     state_head mark state.holds.now

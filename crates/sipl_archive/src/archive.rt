@@ -25,7 +25,8 @@ const PIECE_LEN: usize = 1 << 20;
 // The greatest number of a run, one for each start of a daemon.
 const MAX_RUN: u64 = 999_999;
 
-/// The folder of the pages. This daemon's are those of one run, of a number that no earlier run has.
+/// The folder of the pages. This daemon's are those of one run, whose number is greater than those of all
+/// pages that were in the folder.
 #[derive(Drop)]
 pub struct Archive {
     alloc: Global,
@@ -38,7 +39,8 @@ pub struct Archive {
 }
 
 impl Archive {
-    /// The archive in a folder, of a service for this client and policy: `ResourceBusy` where another process has it.
+    /// The archive in a folder, of a service for this client and policy: `ResourceBusy` where another process
+    /// has it.
     pub fn open<R: Files<File = File>>(
         rt: &R,
         alloc: Global,
@@ -81,8 +83,8 @@ impl Archive {
         Ok(())
     }
 
-    /// Writes a page into its file, which is there whole or not at all. One without events has none. Where another
-    /// folder has the path now, or another file the name of the page, it fails, and leaves these.
+    /// Writes a page into its file, which exists complete or not at all. One without events has none. Where
+    /// another folder has the path now, or another file the name of the page, it fails, and leaves these.
     pub fn keep<R: Files<File = File>>(&self, rt: &R, page: &Page) -> io::Result<()> {
         if page.events().is_empty() {
             return Ok(());
@@ -101,8 +103,8 @@ impl Archive {
         }
     }
 
-    /// Removes the pages of this run, where its daemon does not go on: each start that is tried would leave as many. One
-    /// that can't be removed stays.
+    /// Removes the pages of this run, where its daemon does not go on: each start that is tried would leave
+    /// as many. One that can't be removed stays.
     pub fn remove_run<R: Files<File = File>>(&self, rt: &R) {
         let mut names = Vec::new(self.alloc);
         if self.list_own(rt, &mut names).is_err() {

@@ -6,8 +6,8 @@ use std::os::unix::fs::MetadataExt;
 use std::rt::Files;
 use std::{fs, io};
 
-/// Checks that a path leads to a folder that is open: another may have been moved there, or mounted, or that one
-/// unmounted.
+/// Checks that a path leads to a folder that is open: another may have been moved there, or mounted, or that
+/// one unmounted.
 pub(crate) fn expect_same<R: Files>(rt: &R, open: &File, path: &str) -> io::Result<()> {
     let (open, found) = (open.metadata()?, fs::metadata(rt, path)?);
     if found.dev() == open.dev() && found.ino() == open.ino() {
@@ -20,8 +20,8 @@ pub(crate) fn expect_same<R: Files>(rt: &R, open: &File, path: &str) -> io::Resu
     }
 }
 
-/// Checks that nothing is at the path of a page, which would take its place; or only that page, which has been moved there
-/// where that was said to have failed.
+/// Checks that nothing is at the path of a page, which would take its place; or only that page, which has
+/// been moved there where that was said to have failed.
 pub(crate) fn expect_none_but<R: Files>(
     rt: &R,
     alloc: Global,
@@ -82,8 +82,9 @@ fn push_name(alloc: Global, path: &str, names: &mut Vec<String>) -> Result<(), A
     Ok(())
 }
 
-/// Whether what is at a path in an archive is no page, and is passed over: a page that is being written, a folder that
-/// the file system has there, whose name is hidden or `lost+found`, or a file that NFS keeps while it is open.
+/// Whether what is at a path in an archive is no page, and is passed over: a page that is being written, a
+/// folder that the file system has there, whose name is hidden or `lost+found`, or a file that NFS keeps
+/// while it is open.
 pub fn is_passed_over<R: Files>(rt: &R, path: &str) -> bool {
     let name = name_of(path);
     if name == "new" || name.starts_with(".nfs") {

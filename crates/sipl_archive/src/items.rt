@@ -147,8 +147,8 @@ pub(crate) fn reply_of(text: &[u8]) -> Option<usize>
     None
 }
 
-/// How many octets the command of the first event of a text has, and of a question how many its reply after it
-/// has.
+/// How many octets the command of the first event of a text has, and of a question how many its reply after
+/// it has.
 pub(crate) fn event_of(text: &[u8]) -> Option<(usize, usize)>
     ensures { MatchOption result (HasNoEvent text.now) (λ lens. HasEvent text.now lens.0 lens.1) }
 {
@@ -157,8 +157,8 @@ pub(crate) fn event_of(text: &[u8]) -> Option<(usize, usize)>
     Some((len, reply_len))
 }
 
-// How many octets the reply has that a page has to the command of a line. `None` where it is not whole, or the
-// command is no event.
+// How many octets the reply has that a page has to the command of a line. `None` where it is not whole, or
+// the command is no event.
 fn kept_reply_of(line: &[u8], text: &[u8]) -> Option<usize>
     ensures { MatchOption result (after_kept_reply line.now text.now ≡ None)
         (λ len. (len ≤ length text.now)
@@ -170,8 +170,8 @@ fn kept_reply_of(line: &[u8], text: &[u8]) -> Option<usize>
     if is_find(line) { reply_of(text) } else { None }
 }
 
-/// Serves a session on a text, and returns the replies. `None` where an allocation fails, or a reply says that one
-/// did.
+/// Serves a session on a text, and returns the replies. `None` where an allocation fails, or a reply says
+/// that one did.
 pub fn replies_to<D: Desk>(alloc: Global, desk: &mut D, text: &[u8]) -> Option<Vec<u8>>
     ensures { IfSome result
         (λ replies. AreReplies D.rules text.now desk.old desk.new replies.items) }

@@ -29,11 +29,11 @@ const DIGEST_LEN: usize = 72;
 pub enum ReplayFault {
     /// A file can't be read.
     File(String, io::Error),
-    /// This file has not the name of a page, or that of another one.
+    /// The name of this file is not that of a page, or is that of another one.
     Misnamed(String),
-    /// This file is cut off, or is no page.
+    /// This file is cut off, or is not a page.
     NotPage(String),
-    /// The page is not as it was written.
+    /// The digest of the page is not that of its text, or it has text after its events.
     Changed(String),
     /// A page before this one is missing.
     Gap(String),
@@ -286,7 +286,8 @@ impl Runs {
 }
 
 impl Run {
-    // A page has to be the next one of this run: a page before it may be missing, or it may be of another client.
+    // A page has to be the next one of this run: a page before it may be missing, or it may be of another
+    // client.
     fn expect(&self, number: u64, head: &Head<'_>) -> Result<(), PageFault>
         ensures { OnOk result (IsNext number head.now.first head.now.client.now self.now) }
     {
@@ -312,8 +313,8 @@ impl Run {
     }
 }
 
-// Replays the events of a page. The fault has the number of the first that is not accepted, or whose answer is
-// another one.
+// Replays the events of a page. The fault has the number of the first that is not accepted, or whose answer
+// is another one.
 fn repeat_events(alloc: Global, desk: &mut Plain, head: &Head<'_>) -> Result<(), PageFault>
     ensures { OnOk result (RepeatsSome head.now.events.now [] head.now.count desk.old desk.new) }
 {
@@ -356,8 +357,8 @@ fn replay_event<'a>(
     }
 }
 
-// Whether the reply to the command of a line is as its page has it: a change, which has none there, is accepted,
-// and that to a question is the same.
+// Whether the reply to the command of a line is as its page has it: a change, which has none there, is
+// accepted, and that to a question is the same.
 fn is_expected(line: &[u8], reply: &[u8], told: &[u8]) -> bool
     ensures { result ≡ is_expected line.now reply.now told.now }
 {
@@ -401,7 +402,8 @@ fn desk_of(alloc: Global, text: &str) -> Result<Plain, PageFault>
     }
 }
 
-// A page without its last line, which is the digest of all before. Without a whole such line the page is cut off.
+// A page without its last line, which is the digest of all before. Without a whole such line the page is cut
+// off.
 fn read_body(alloc: Global, text: &[u8]) -> Result<&[u8], PageFault>
     ensures { IfOk result (λ body. text.now ≡ body.now ++ digest_line (sha256 body.now)) }
 {

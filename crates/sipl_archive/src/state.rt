@@ -11,8 +11,8 @@ use sipl_book::State;
 use sipl_records::read_number;
 use std::alloc::{AllocError, Global};
 
-/// The text of a state: its mark, the time, the zones with their records, and the holds with what is left of
-/// them. The only error is an allocation failure.
+/// The text of a state: its mark, the time, unless that is 0, the zones with their records, and the holds
+/// with their remaining milliseconds. The only error is an allocation failure.
 pub fn state_text(alloc: Global, mark: u64, state: &State) -> Result<Vec<u8>, AllocError>
     ensures { IfOk result (λ text. text.items ≡ state_text mark state.now) }
 {
@@ -34,8 +34,8 @@ fn write_state(alloc: Global, out: &mut Vec<u8>, mark: u64, state: &State) -> Re
     write_holds(alloc, out, board)
 }
 
-/// What the changes of a text came to: how many octets and lines those that were made have, the last mark, and
-/// whether the next one was refused.
+/// The result of the changes of a text: the length in octets of those that were made, their number of lines,
+/// the last mark among them, and whether the next one was refused. No contract has the lines.
 #[derive(Clone, Copy)]
 pub struct Made {
     pub octets: usize,
@@ -44,7 +44,7 @@ pub struct Made {
     pub is_refused: bool,
 }
 
-/// How many octets the whole commands of a text have: the last one may be cut off.
+/// The length in octets of the complete commands of a text: the last one may be cut off.
 pub fn whole_len(text: &[u8]) -> usize
     ensures within { result ≤ length text.now }
     ensures whole { IsWhole text.now result }
@@ -56,8 +56,8 @@ pub fn whole_len(text: &[u8]) -> usize
     octets
 }
 
-/// What the changes of a text came to, by the replies to them: marks have none, and each change that was made has one
-/// that begins with `ok`.
+/// The result of the changes of a text, by the replies to them: marks have none, and each change that was
+/// made has one that begins with `ok `.
 pub fn made_of(text: &[u8], replies: &[u8]) -> Made
     ensures { IsMade text.now replies.now result }
 {
@@ -82,8 +82,8 @@ pub fn made_of(text: &[u8], replies: &[u8]) -> Made
     made
 }
 
-// How many octets the reply to the command of a line has, which is the first of a text, if it was made: a mark
-// has none.
+// How many octets the reply to the command of a line has, which is the first of a text, if it was made: a
+// mark has none.
 fn made_reply_of(line: &[u8], replies: &[u8]) -> Option<usize>
     ensures { MatchOption result (after_made line.now replies.now ≡ None)
         (λ len. (len ≤ length replies.now)
@@ -99,7 +99,8 @@ fn made_reply_of(line: &[u8], replies: &[u8]) -> Option<usize>
     }
 }
 
-/// How many octets and lines there are up to the first mark of this number, with it.
+/// The length in octets of the complete commands of a text up to the first mark of this number, with it, and
+/// their number of lines, which no contract has. `None` where none of the complete commands is that mark.
 pub fn find_mark(text: &[u8], mark: u64) -> Option<(usize, u64)>
     ensures within { IfSome result (λ found. found.0 ≤ length text.now) }
     ensures marked { MatchOption result (LacksMark mark text.now)
