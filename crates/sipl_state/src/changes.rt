@@ -32,8 +32,8 @@ pub struct Changes {
     has_failed: AtomicBool,
 }
 
-/// How many octets a state has, its log, and the changes of that; their last mark, and the points before the first commit
-/// of the log and after the last one.
+/// How many octets a state has, its log, and the changes of that; their last mark, and the points before the
+/// first commit of the log and after the last one.
 #[derive(Clone, Copy)]
 pub(crate) struct Extent {
     pub(crate) state_len: u64,
@@ -45,8 +45,8 @@ pub(crate) struct Extent {
 }
 
 impl Changes {
-    /// The files of a state, of which a file has the lock, and the log to append to, or why it can't be written. It has
-    /// these changes, which lead to this time.
+    /// The files of a state, of which a file has the lock, and the log to append to, or why it can't be
+    /// written. It has these changes, which lead to this time.
     pub(crate) fn new(
         alloc: Global,
         files: StateFiles,
@@ -77,7 +77,8 @@ impl Changes {
         }
     }
 
-    /// Whether something failed that was done to the files, so that no change can be kept until they are mended.
+    /// Whether something failed that was done to the files, so that no change can be kept until they are
+    /// mended.
     pub fn has_failed(&self) -> bool {
         self.has_failed.load(Ordering::SeqCst)
     }
@@ -97,7 +98,8 @@ impl Changes {
         place > self.long_at.load(Ordering::SeqCst)
     }
 
-    /// Appends a mark to the changes that are not in the file yet. Returns its number, and the place after it.
+    /// Appends a mark to the changes that are not in the file yet. Returns its number, and the place after
+    /// it.
     pub(crate) fn push_mark(&self, pending: &mut Pending) -> Result<Mark, AllocError> {
         let mark = pending.push_mark()?;
         self.long_at.store(pending.long_at(), Ordering::SeqCst);
@@ -122,8 +124,8 @@ impl Changes {
         place <= self.synced.load(Ordering::SeqCst)
     }
 
-    /// Writes the state after a mark, and begins the log anew with the changes after it. First the mark is in the
-    /// old log. Where the state can't be written, before it takes its place, the old log goes on.
+    /// Writes the state after a mark, and begins the log anew with the changes after it. First the mark is in
+    /// the old log. Where the state can't be written, before it takes its place, the old log goes on.
     pub fn write_state<R: Files<File = File> + Wait>(
         &self,
         rt: &R,
@@ -136,15 +138,15 @@ impl Changes {
         self.begin_log(rt, mark, &digest)
     }
 
-    // Checks that the lock of the state is that which this process has: another folder may have been moved or mounted
-    // there, or another process may have the files by a lock that was made anew.
+    // Checks that the lock of the state is that which this process has: another folder may have been moved or
+    // mounted there, or another process may have the files by a lock that was made anew.
     fn expect_own<R: Files<File = File>>(&self, rt: &R) -> io::Result<()> {
         let path = self.files.lock_path(self.alloc)?;
         expect_same(rt, &self.lock, path.as_str())
     }
 
-    /// Writes the log anew, with all changes, where something failed that was done to the files. Then changes can be
-    /// kept again.
+    /// Writes the log anew, with all changes, where something failed that was done to the files. Then changes
+    /// can be kept again.
     pub fn mend<R: Files<File = File> + Wait>(&self, rt: &R) -> io::Result<()> {
         let mut written = self.written.lock(rt);
         if written.check().is_ok() {
@@ -158,8 +160,8 @@ impl Changes {
         Ok(())
     }
 
-    /// Writes the last state, after which there are no changes. Where these can't be written to the log it has them all
-    /// the same, and this fails.
+    /// Writes the last state, after which there are no changes. Where these can't be written to the log it
+    /// has them all the same, and this fails.
     pub fn end<R: Files<File = File> + Wait>(&self, rt: &R, state: &State) -> io::Result<()> {
         let mark = self.push_last_mark(rt)?;
         let ended = self.write_state(rt, mark, state);
@@ -169,8 +171,8 @@ impl Changes {
         ended
     }
 
-    // Writes a last state without what is in the log before it. Where it is not known which of two logs is that of the
-    // state in its place, both stay.
+    // Writes a last state without what is in the log before it. Where it is not known which of two logs is
+    // that of the state in its place, both stay.
     fn write_alone<R: Files<File = File> + Wait>(
         &self,
         rt: &R,
@@ -219,7 +221,8 @@ impl Changes {
         written.keep_failure(outcome)
     }
 
-    // Puts the changes that are not in the file to those that could not be written. Returns the place after them.
+    // Puts the changes that are not in the file to those that could not be written. Returns the place after
+    // them.
     fn take_unwritten<R: Wait>(&self, rt: &R, written: &mut Written) -> Result<u64, AllocError> {
         let mut pending = self.pending.lock(rt);
         written.reserve_unwritten(pending.len())?;
@@ -269,8 +272,8 @@ impl Changes {
         self.long_at.store(pending.long_at(), Ordering::SeqCst);
     }
 
-    // Begins the log anew after a state of this digest, which takes its place, or is removed. Where that fails the file in
-    // hand may be none of the folder's any more, so nothing is written to it from then on.
+    // Begins the log anew after a state of this digest, which takes its place, or is removed. Where that
+    // fails the file in hand may be none of the folder's any more, so nothing is written to it from then on.
     fn begin_log<R: Files<File = File> + Wait>(
         &self,
         rt: &R,

@@ -1,5 +1,5 @@
-//! The changes of the zones, the holds and the time: each is made, and is in the file of changes when its
-//! reply is sent.
+//! The changes of the zones, the holds and the time: each is made, and appended to those that are to be
+//! written to the file of changes.
 ghost use Rattle.std.specs.Prelude.{◌≡◌, ◌≤◌, ◌^◌, ◌++◌, OnErr, OnOk};
 ghost use Rattle.sipl_book.specs.declared.event.Event.TheVariants.{Change, Hold, Release, Advance};
 ghost use Rattle.sipl_service.specs.Passes.{GetsReceipt};
@@ -15,7 +15,8 @@ use std::sync::Wait;
 use std::sync::atomic::{AtomicU64, Ordering};
 
 impl Source {
-    /// Edits the zones. The change is in the file of changes when its reply is sent: `place` is where it ends.
+    /// Edits the zones, and appends the change to those that are to be written to the file of changes, if
+    /// there is one. Then `place` is at least the place in the file where the change ends.
     pub fn edit<R: Wait>(
         &self,
         rt: &R,
@@ -141,8 +142,8 @@ impl Source {
         Ok(done)
     }
 
-    // Makes a hold, as `append_edit` makes an edit. The time is in the file before it: no one moves it meanwhile,
-    // since the tally is locked.
+    // Makes a hold, as `append_edit` makes an edit. The time is in the file before it: no one moves it
+    // meanwhile, since the tally is locked.
     fn append_hold<R: Wait>(
         &self,
         rt: &R,

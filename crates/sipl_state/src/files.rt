@@ -25,7 +25,7 @@ pub(crate) fn write_new<R: Files<File = File>>(
     write_file(rt, new_path(alloc, path)?.as_str(), text)
 }
 
-/// Moves that file to its place: at each moment the old one is there, or the new one.
+/// Renames that file to its place: at any time either the old one or the new one is there.
 pub(crate) fn take_place<R: Files<File = File>>(
     rt: &R,
     alloc: Global,
@@ -40,8 +40,8 @@ pub(crate) fn new_path(alloc: Global, path: &str) -> Result<String, AllocError> 
     format!(in alloc; "{path}.new")
 }
 
-/// Removes the file that was to take the place of another one, where it does not: it would take the space of what comes
-/// next.
+/// Removes the file that was to take the place of another one, where it does not: it would take the space of
+/// what comes next.
 pub(crate) fn remove_new<R: Files<File = File>>(rt: &R, alloc: Global, path: &str) {
     if let Ok(path) = new_path(alloc, path) {
         let _ = fs::remove_file(rt, path.as_str());

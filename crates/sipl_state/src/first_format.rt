@@ -1,5 +1,5 @@
-//! Files of the first format, which have no digests: a state, and the lines of the changes since then. They are read
-//! once, and written in the second.
+//! Files of the first format, which have no digests: a state, and the lines of the changes since then. They
+//! are read once, and written in the second.
 use crate::restoring::StateFault;
 use sipl_archive::{find_mark, mark_of, mark_text, split_line, whole_len};
 use std::alloc::Global;

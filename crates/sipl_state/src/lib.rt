@@ -1,5 +1,5 @@
-//! What a daemon keeps of its service beside the journal, and reads again when it starts: the zones, the holds and
-//! the time, in a state and the changes since then.
+//! What a daemon keeps of its service beside the journal, and reads again when it starts: the zones, the
+//! holds and the time, in a state and the changes since then.
 #![tactic(auto)]
 
 mod changes;

@@ -36,8 +36,8 @@ pub(crate) struct Pending {
 }
 
 impl Pending {
-    /// Nothing, after a state and changes of so many octets, of which the last mark is this one, and which lead to this
-    /// time.
+    /// Nothing, after a state and changes of so many octets, of which the last mark is this one, and which
+    /// lead to this time.
     pub(crate) fn new(alloc: Global, state_len: u64, len: u64, mark: u64, time: u64) -> Pending
         ensures text { result.text.items ≡ [] }
         ensures others { result ≡ record {
@@ -61,8 +61,8 @@ impl Pending {
         }
     }
 
-    /// The text of a change that is made at a time, in milliseconds: the line of that time comes before it where
-    /// the changes lead to an earlier one. The only error is an allocation failure.
+    /// The text of a change that is made at a time, in milliseconds: the line of that time comes before it
+    /// where the changes lead to an earlier one. The only error is an allocation failure.
     pub(crate) fn text_at(&self, time: u64, change: &[u8]) -> Result<Vec<u8>, AllocError>
         ensures { IfOk result (λ text. text.items
             ≡ (if nat_lt self.now.time time then clock_line time else []) ++ change.now) }
@@ -178,8 +178,8 @@ impl Pending {
     }
 }
 
-/// The place after which a state is to be written, where the changes after the last mark begin at this place, and the
-/// last state has so many octets.
+/// The place after which a state is to be written, where the changes after the last mark begin at this place,
+/// and the last state has so many octets.
 pub(crate) fn long_after(begin: u64, state_len: u64) -> u64
     ensures { result ≡ long_end begin state_len }
 {

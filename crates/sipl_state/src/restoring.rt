@@ -1,4 +1,5 @@
-//! The zones and the holds of a daemon, read again from their files: a state, and the log of the changes since then.
+//! The zones and the holds of a daemon, read again from their files: a state, and the log of the changes
+//! since then.
 use crate::changes::{Changes, Extent};
 use crate::files::{open_to_append, read_file, remove_new, sync_folder, take_place, write_new};
 use crate::first_format::FirstFormat;
@@ -104,9 +105,9 @@ struct FoundState {
     first: Point,
 }
 
-/// Reads the state of a path, whose lock is this file, and the changes after it, makes them at a desk, and opens
-/// the log. All is made before anything is written. Where it is to go on though the log can't be written, its changes
-/// have failed.
+/// Reads the state of a path, whose lock is this file, and the changes after it, makes them at a desk, and
+/// opens the log. All is made before anything is written. Where it is to go on though the log can't be
+/// written, its changes have failed.
 pub fn restore<R: Files<File = File>, D: Desk>(
     rt: &R,
     alloc: Global,
@@ -140,7 +141,8 @@ pub fn restore<R: Files<File = File>, D: Desk>(
     Ok(Restored { changes, found })
 }
 
-/// Reads the state of a path and the changes after it, and makes them at a desk, as `restore` does. Writes nothing.
+/// Reads the state of a path and the changes after it, and makes them at a desk, as `restore` does. Writes
+/// nothing.
 pub fn check_state<R: Files<File = File>, D: Desk>(
     rt: &R,
     alloc: Global,
@@ -249,8 +251,8 @@ fn make_state<D: Desk>(alloc: Global, body: &[u8], desk: &mut D) -> Result<u64, 
     }
 }
 
-// Makes the lines of a state, of which the first is its mark. Returns the last mark, or the number of the line that is
-// refused.
+// Makes the lines of a state, of which the first is its mark. Returns the last mark, or the number of the
+// line that is refused.
 fn make_body<D: Desk>(
     alloc: Global,
     body: &[u8],
@@ -304,8 +306,9 @@ fn read_second<R: Files<File = File>, D: Desk>(
     Ok((read, found))
 }
 
-// Goes on with a log, which takes its place where it has not, and is left without its tail. Its name is synced: a kill
-// may have come before that, and what is appended would be lost with it. Returns the log, to append to.
+// Goes on with a log, which takes its place where it has not, and is left without its tail. Its name is
+// synced: a kill may have come before that, and what is appended would be lost with it. Returns the log, to
+// append to.
 fn go_on<R: Files<File = File>>(
     rt: &R,
     alloc: Global,

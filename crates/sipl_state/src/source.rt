@@ -11,8 +11,8 @@ use sipl_service::{Service, ServiceFault};
 use std::alloc::Global;
 use std::sync::{Mutex, Wait};
 
-/// A service, its zones and holds as they are, and the file of its changes, if there is one. Locks are taken in
-/// this order: the tally, the changes, the service.
+/// A service, its zones and holds as they are, and the file of its changes, if there is one. Locks are taken
+/// in this order: the tally, the changes, the service.
 #[derive(Drop)]
 pub struct Source {
     pub alloc: Global,

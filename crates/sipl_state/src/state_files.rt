@@ -53,9 +53,9 @@ impl StateFiles {
         format!(in alloc; "{}.lock", self.state)
     }
 
-    /// Begins a log with these octets: the new one is there, also after a loss of power, before its state takes its
-    /// place, and takes its own after that. What a kill leaves between the two is finished at the next start. Where the
-    /// state may have taken its place the new log stays.
+    /// Begins a log with these octets: the new one is there, also after a loss of power, before its state
+    /// takes its place, and takes its own after that. What a kill leaves between the two is finished at the
+    /// next start. Where the state may have taken its place the new log stays.
     pub(crate) fn begin<R: Files<File = File>>(
         &self,
         rt: &R,
@@ -98,8 +98,8 @@ impl StateFiles {
         open_to_append(rt, self.log.as_str())
     }
 
-    /// The log of the state before a point: that which is in its place, or else the new one, where a kill came before
-    /// it took its place. Where neither is, it is the other log that is there, if there is one.
+    /// The log of the state before a point: that which is in its place, or else the new one, where a kill
+    /// came before it took its place. Where neither is, it is the other log that is there, if there is one.
     pub(crate) fn find_log<R: Files<File = File>>(
         &self,
         rt: &R,
@@ -142,7 +142,8 @@ impl StateFiles {
         }
     }
 
-    /// Leaves of the log the octets before its tail, which has a file of its own then, where there is space for one.
+    /// Leaves of the log the octets before its tail, which has a file of its own then, where there is space
+    /// for one.
     pub(crate) fn drop_tail<R: Files<File = File>>(
         &self,
         rt: &R,
@@ -154,7 +155,8 @@ impl StateFiles {
         truncate(rt, self.log.as_str(), whole as u64)
     }
 
-    /// Which of two bases is that of the state that is in its place: that before it, or that which was to take it.
+    /// Which of two bases is that of the state that is in its place: that before it, or that which was to
+    /// take it.
     pub(crate) fn base<R: Files<File = File>>(
         &self,
         rt: &R,

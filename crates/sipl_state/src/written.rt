@@ -24,14 +24,14 @@ pub(crate) struct Written {
     next: Option<Base>,
     // The changes that could not be written, after those of the last commit.
     unwritten: Vec<u8>,
-    // Why a write failed, or what was done to the files: since then nothing is known of them, and nothing more is
-    // written to them, so that no later change is reported as kept.
+    // Why a write failed, or what was done to the files: since then nothing is known of them, and nothing
+    // more is written to them, so that no later change is reported as kept.
     failure: Option<ErrorKind>,
 }
 
 impl Written {
-    /// A log of so many octets to append to, which begins there and has commits up to this point; or why it can't be
-    /// written.
+    /// A log of so many octets to append to, which begins there and has commits up to this point; or why it
+    /// can't be written.
     pub(crate) fn new(
         alloc: Global,
         file: File,
@@ -68,8 +68,8 @@ impl Written {
         outcome
     }
 
-    /// Appends changes in a commit, and syncs the file. Where that fails the changes are kept until the log is written
-    /// anew.
+    /// Appends changes in a commit, and syncs the file. Where that fails the changes are kept until the log
+    /// is written anew.
     pub(crate) fn write(&mut self, changes: Vec<u8>) -> io::Result<()> {
         if changes.is_empty() {
             return Ok(());
@@ -91,8 +91,8 @@ impl Written {
         Ok(())
     }
 
-    // Checks that the file has a name, and as many octets as were written to it: a commit after others would not be read
-    // again, nor one in a file that was removed.
+    // Checks that the file has a name, and as many octets as were written to it: a commit after others would
+    // not be read again, nor one in a file that was removed.
     fn expect_unchanged(&self) -> io::Result<()> {
         let found = self.file.metadata()?;
         if found.nlink() == 0 {
@@ -104,8 +104,8 @@ impl Written {
         }
     }
 
-    // Appends a commit to the file, and syncs it. Where that fails the commit is cut off: the next start would read what
-    // may never be on the disk, and write after it.
+    // Appends a commit to the file, and syncs it. Where that fails the commit is cut off: the next start
+    // would read what may never be on the disk, and write after it.
     fn put(&mut self, commit: &[u8]) -> io::Result<()> {
         let put = self.write_synced(commit);
         if put.is_err() {
@@ -136,8 +136,8 @@ impl Written {
         self.unwritten.extend_from_slice(changes).unwrap();
     }
 
-    /// All changes of a log with these octets after its base: those that were written, which reach to a place, and
-    /// those that could not be.
+    /// All changes of a log with these octets after its base: those that were written, which reach to a
+    /// place, and those that could not be.
     pub(crate) fn all_changes(
         &self,
         octets: &[u8],
