@@ -10,25 +10,25 @@ use std::io::{ErrorKind, Write};
 use std::sync::{Arc, Wait};
 use std::time::{Clock, Duration};
 
-/// What became of an accept.
+/// The result of an accept.
 #[derive(Drop)]
 pub enum Accepted {
     /// A client, which has a place.
     Client(Client),
-    /// There was no place for the client, who was told so.
+    /// There was no place for the client, which was sent the code of the fault.
     Refused(ConnectionFault),
     /// The accept failed, or an allocation.
     Failed(io::Error),
 }
 
-// How long a refused accept is waited out, in milliseconds.
+// How long it waits after an accept that failed, in milliseconds.
 const REFUSED: u64 = 50;
 
 // How long a place is waited for that is to be freed, in milliseconds.
 const LEAVING: u64 = 1_000;
 
-/// Accepts a client as `next_client` does. Where there is no place, the client is ended that was not heard for
-/// longest, to make one.
+/// Accepts a client as `next_client` does. Where there is no place, the client is ended that was not heard
+/// for longest, to make one.
 pub fn next_client_making_room<R: Wait + Clock>(
     rt: &R,
     alloc: Global,
@@ -44,8 +44,8 @@ pub fn next_client_making_room<R: Wait + Clock>(
     enter(rt, alloc, stream, clients)
 }
 
-/// Accepts a client, and gives it a place. One for whom there is no place is told so. A refused accept is waited
-/// out, at most until the stop.
+/// Accepts a client, and gives it a place. One for which there is no place is sent the code of that fault.
+/// After an accept that failed it waits, at most until the stop.
 pub fn next_client<R: Wait + Clock>(
     rt: &R,
     alloc: Global,
@@ -59,7 +59,7 @@ pub fn next_client<R: Wait + Clock>(
     }
 }
 
-// Gives a place to a client. One for whom there is none is told so.
+// Gives a place to a client. One for which there is none is sent the code of that fault.
 fn enter<R: Wait>(rt: &R, alloc: Global, stream: Stream, clients: &Clients) -> Accepted {
     let Ok(stream) = Arc::new(alloc, stream) else {
         return Accepted::Failed(io::Error::from(ErrorKind::OutOfMemory));
@@ -73,7 +73,7 @@ fn enter<R: Wait>(rt: &R, alloc: Global, stream: Stream, clients: &Clients) -> A
     }
 }
 
-/// Accepts a connection. A refused accept is waited out, at most until the stop.
+/// Accepts a connection. After an accept that failed it waits, at most until the stop.
 pub fn next_stream<R: Wait + Clock>(
     rt: &R,
     stop: &Stop,
@@ -86,7 +86,7 @@ pub fn next_stream<R: Wait + Clock>(
     accepted
 }
 
-// Tells a client that there is no place.
+// Sends a client the code of the fault that there is no place.
 fn refuse(alloc: Global, stream: &Stream) {
     if let Ok(text) = format!(in alloc; "err {}\n", ConnectionFault::Busy.code()) {
         let mut output = stream;

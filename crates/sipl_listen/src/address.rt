@@ -38,8 +38,8 @@ impl Address {
         }
     }
 
-    /// How many descriptors a listener there has: the socket, the stream that ends its accepts, the lock of a path, and
-    /// a connection that is accepted and has no place.
+    /// How many descriptors a listener there has: the socket, the stream that ends its accepts, the lock of a
+    /// path, and a connection that is accepted and has no place.
     pub fn descriptors(&self) -> usize
         ensures { result ≡ descriptors_of self.now }
     {

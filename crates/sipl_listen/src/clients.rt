@@ -9,8 +9,8 @@ use std::time::{Clock, Duration};
 // What a place that is free has in place of the number of a line.
 const FREE: u64 = u64::MAX;
 
-// The places of the clients: each is free, or has the stream of one, and the number of its last line among the lines of
-// all that were heard.
+// The places of the clients: each is free, or has the stream of one, and the number of its last line among
+// the lines of all that were heard.
 #[derive(Drop)]
 struct Places {
     streams: Vec<Option<Arc<Stream, Global>>>,
@@ -80,7 +80,7 @@ impl Places {
     }
 }
 
-/// The clients that are served at a time, at most so many.
+/// The clients that are served at a time, up to a maximum.
 #[derive(Drop)]
 pub struct Clients {
     places: Mutex<Places>,
@@ -95,7 +95,7 @@ pub struct Client {
 }
 
 impl Clients {
-    /// Places for so many.
+    /// Places for `max` clients.
     pub fn new(alloc: Global, max: usize) -> Result<Clients, AllocError> {
         let mut streams = Vec::with_capacity(alloc, max)?;
         for _ in 0..max {
@@ -126,7 +126,8 @@ impl Clients {
         self.places.lock(rt).hear(place);
     }
 
-    /// Ends the client that was not heard for longest, and waits until a place is free, for so long at most.
+    /// Ends the client that was not heard for longest, and waits until a place is free, at most for
+    /// `longest`.
     pub fn make_room<R: Wait + Clock>(&self, rt: &R, longest: Duration) {
         let places = self.places.lock(rt);
         if places.is_full() {

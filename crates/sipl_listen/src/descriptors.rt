@@ -10,9 +10,9 @@ const MIN_KEPT: usize = 32;
 // How many of them are for files, standard streams and control connections.
 const OTHERS: usize = 20;
 
-/// How many clients there may be at a time, of so many that are wanted, beside listeners with so many descriptors:
-/// 32 fewer than the system's limit of descriptors, or 20 and those of the listeners, where these are more; but one at
-/// least.
+/// The maximum number of clients at a time: `wanted`, or where that is less, the process's limit of open
+/// files less 32, or less 20 and the `listeners`, where these are more; but at least one, if any is wanted.
+/// Where the limit can't be read, or there is none, it is `wanted`.
 pub fn max_clients<R: Files>(rt: &R, alloc: Global, wanted: usize, listeners: usize) -> usize
     ensures no_more { result ≤ wanted }
     ensures some { 0 < wanted → 0 < result }

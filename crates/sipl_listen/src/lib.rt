@@ -1,5 +1,5 @@
-//! What listens and accepts: addresses, sockets and streams over TCP and Unix sockets, places for clients, and a
-//! stop that threads wait for.
+//! What listens and accepts: addresses, sockets and streams over TCP and Unix sockets, places for clients,
+//! and a stop that threads wait for.
 #![tactic(auto)]
 
 mod accept;

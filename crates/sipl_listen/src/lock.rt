@@ -5,8 +5,8 @@ use std::io::ErrorKind;
 use std::os::unix::fs::OpenOptionsExt;
 use std::rt::Files;
 
-/// Opens a file, and takes its lock: `ResourceBusy` where another process has it. It is kept for as long as the
-/// file is open.
+/// Opens a file, and takes its lock: `ResourceBusy` where another process has it. It is kept for as long as
+/// the file is open.
 pub fn take_lock<R: Files<File = File>>(rt: &R, path: &str) -> io::Result<File> {
     let file = OpenOptions::new()
         .write(true)

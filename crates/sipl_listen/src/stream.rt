@@ -6,8 +6,8 @@ use std::net::{Shutdown, TcpStream};
 use std::os::unix::net::UnixStream;
 use std::time::Duration;
 
-// How often a call is made again that was interrupted, one time after another. A stop of the process, or a debugger,
-// interrupts one that waits with a time limit.
+// How often a call is made again that was interrupted, one time after another. A stop of the process, or a
+// debugger, interrupts one that waits with a time limit.
 const MAX_INTERRUPTS: u32 = 1 << 20;
 
 /// A connection, over TCP or a Unix socket. One thread reads and writes it by `&`, and another may end
@@ -21,8 +21,8 @@ pub enum Stream {
 }
 
 impl Stream {
-    /// Sets how long a read or a write may wait: one that waits longer fails with `WouldBlock`. Over TCP each write is
-    /// sent at once from then on.
+    /// Sets how long a read or a write may wait: one that waits longer fails with `WouldBlock`. Over TCP each
+    /// write is sent at once from then on.
     pub fn set_timeouts(&self, read: Option<Duration>, write: Option<Duration>) -> io::Result<()> {
         match self {
             Stream::Tcp(stream) => {
