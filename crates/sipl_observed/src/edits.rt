@@ -1,4 +1,4 @@
-//! What is told of edits of the zones.
+//! What is reported of edits of the zones.
 use crate::observed::{Observed, with_time};
 use sipl_book::{Done, Edit};
 use sipl_log::{Level, Line};
@@ -8,7 +8,7 @@ use std::alloc::{AllocError, Global};
 use std::sync::Wait;
 use std::time::{Clock, Instant};
 
-/// An edit that is to be told once it is made or refused.
+/// An edit that is to be reported once it is made or refused.
 #[derive(Drop)]
 pub struct Story {
     level: Level,
@@ -46,7 +46,7 @@ impl Story {
         })
     }
 
-    /// Tells that the edit was made, or that it failed.
+    /// Reports that the edit was made, or that it failed.
     pub fn tell<R: Wait + Clock>(
         &self,
         rt: &R,

@@ -1,4 +1,4 @@
-//! What is told of the daemon while it runs, in its log, and what is counted of it.
+//! What is reported of the daemon while it runs, in its log, and what is counted of it.
 #![tactic(auto)]
 
 mod cause;

@@ -1,4 +1,4 @@
-//! What is told of the daemon while it runs: its log, and what is counted for its metrics.
+//! What is reported of the daemon while it runs: its log, and what is counted for its metrics.
 use crate::cause::Cause;
 use sipl_config::{VERSION, changed_settings};
 use sipl_listen::Address;
@@ -50,7 +50,7 @@ impl ClientCounts {
     }
 }
 
-/// What is told of the daemon while it runs.
+/// What is reported of the daemon while it runs.
 #[derive(Drop)]
 pub struct Observed {
     /// The allocator of its lines.
@@ -61,9 +61,9 @@ pub struct Observed {
     pub clients: ClientCounts,
     /// From the read of a batch to its replies written, where there are metrics.
     pub batches: Option<Histogram>,
-    // Whether the state was read: edits before are not told one by one.
+    // Whether the state was read: edits before are not reported one by one.
     is_open: AtomicBool,
-    // How many pages waited when that was told last.
+    // How many pages waited when that was last reported.
     waiting: AtomicU64,
     // Whether an accept failed, and no client had a session since.
     accepts_fail: AtomicBool,
@@ -72,7 +72,7 @@ pub struct Observed {
 }
 
 impl Observed {
-    /// Nothing was told yet.
+    /// Nothing was reported yet.
     pub fn new(
         alloc: Global,
         settings: &DaemonSettings,
@@ -104,12 +104,12 @@ impl Observed {
         Line::new(self.alloc, level, event)
     }
 
-    /// From now on edits are told: the state was read.
+    /// From now on edits are reported: the state was read.
     pub fn open(&self) {
         self.is_open.store(true, Ordering::SeqCst);
     }
 
-    /// Whether edits are told.
+    /// Whether edits are reported.
     pub fn tells_edits(&self) -> bool {
         self.is_open.load(Ordering::SeqCst) && self.log.allows(Level::Warn)
     }
@@ -120,7 +120,7 @@ impl Observed {
         self.accepts_fail.store(false, Ordering::SeqCst);
     }
 
-    /// Tells of an accept that failed at an address, and why: once until a client has a session.
+    /// Reports an accept that failed at an address, and why: once until a client has a session.
     pub fn tell_unaccepted<R: Wait + Clock>(&self, rt: &R, at: &Address, error: &io::Error) {
         self.clients.unaccepted.fetch_add(1, Ordering::SeqCst);
         if self.accepts_fail.load(Ordering::SeqCst) {
@@ -132,7 +132,7 @@ impl Observed {
         self.log.push(rt, self.with_cause(line, error));
     }
 
-    /// Tells of a client that is refused at an address.
+    /// Reports a client that is refused at an address.
     pub fn refuse<R: Wait + Clock>(&self, rt: &R, cause: Cause, at: &Address) {
         self.clients.of(cause).fetch_add(1, Ordering::SeqCst);
         let line = self
@@ -141,7 +141,7 @@ impl Observed {
         self.log.push(rt, self.with_address(line, at));
     }
 
-    /// Tells of a client whose session has ended, and why, where that is the daemon's doing.
+    /// Reports a client whose session has ended, and why, where that is the daemon's doing.
     pub fn close<R: Wait + Clock>(&self, rt: &R, cause: Option<Cause>) {
         match cause {
             Some(cause) => {
@@ -157,14 +157,14 @@ impl Observed {
         }
     }
 
-    /// Tells where it listens, for whom.
+    /// Reports where it listens, for whom.
     pub fn tell_ready<R: Wait + Clock>(&self, rt: &R, whom: &str, at: &Address) {
         let line = self.line(Level::Info, "ready").text("for", whom);
         self.log.push(rt, self.with_address(line, at));
     }
 
-    /// Tells that there may be fewer clients at a time than the settings have: the system's limit of descriptors allows
-    /// no more.
+    /// Reports that there may be fewer clients at a time than the settings have: the system's limit of
+    /// descriptors allows no more.
     pub fn tell_fewer_clients<R: Wait + Clock>(&self, rt: &R, wanted: u64, allowed: u64) {
         let line = self
             .line(Level::Warn, "lowered")
@@ -174,7 +174,7 @@ impl Observed {
         self.log.push(rt, line);
     }
 
-    /// Tells an event.
+    /// Reports an event.
     pub fn tell<R: Wait + Clock>(&self, rt: &R, level: Level, event: &str) {
         self.log.push(rt, self.line(level, event));
     }
@@ -195,8 +195,8 @@ impl Observed {
         }
     }
 
-    /// Tells how many pages were claimed and wait, where four wait at least, and twice as many as when that was told
-    /// last.
+    /// Reports how many pages were claimed and wait, where four wait at least, and twice as many as when that
+    /// was last.
     pub fn tell_pages<R: Wait + Clock>(&self, rt: &R, claimed: u64, waiting: u64) {
         if waiting == 0 {
             self.waiting.store(0, Ordering::SeqCst);
@@ -214,7 +214,7 @@ impl Observed {
     }
 }
 
-/// Tells that a daemon starts with the settings of a text.
+/// Reports that a daemon starts with the settings of a text.
 pub fn tell_start<R: Wait + Clock>(
     rt: &R,
     alloc: Global,

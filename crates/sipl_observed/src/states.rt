@@ -1,4 +1,4 @@
-//! What is told of states, and of writes that fail.
+//! What is reported of states, and of writes that fail.
 use crate::observed::{Observed, with_time};
 use sipl_log::Level;
 use std::alloc::AllocError;
@@ -12,7 +12,7 @@ use std::{fs, io};
 const TOLD: u64 = 1_000;
 
 impl Observed {
-    /// Tells that a state was written which was begun at a time: how long it took, and how long it is.
+    /// Reports that a state was written which was begun at a time: how long it took, and how long it is.
     pub fn tell_state<R: Files + Wait + Clock>(&self, rt: &R, begun: Option<Instant>) {
         let Some(path) = &self.state else {
             return;
@@ -27,8 +27,8 @@ impl Observed {
         self.log.push(rt, with_time(rt, line, begun));
     }
 
-    /// Tells what was read of a state from a time on: how many zones, records and holds it has with the changes after
-    /// it, and how many commits these were.
+    /// Reports what was read of a state from a time on: how many zones, records and holds it has with the
+    /// changes after it, and how many commits these were.
     pub fn tell_read<R: Wait + Clock>(
         &self,
         rt: &R,
@@ -50,7 +50,7 @@ impl Observed {
         self.log.push(rt, with_time(rt, line, begun));
     }
 
-    /// Tells that there is no state, so that nothing is loaded or held.
+    /// Reports that there is no state, so that nothing is loaded or held.
     pub fn tell_empty<R: Wait + Clock>(&self, rt: &R) {
         if let Some(path) = &self.state {
             let line = self.line(Level::Warn, "empty").text("path", path.as_str());
@@ -101,7 +101,7 @@ impl Observed {
         }
     }
 
-    /// Tells that changes could not be written.
+    /// Reports that changes could not be written.
     pub fn tell_unsynced<R: Wait + Clock>(&self, rt: &R, error: &io::Error) {
         let line = self.line(Level::Error, "failed").text("what", "changes");
         self.log.push(rt, self.with_cause(line, error));
