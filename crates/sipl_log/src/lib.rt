@@ -1,5 +1,5 @@
-//! A log of one line an event on standard error, which stops and slows no one: lines wait in a queue of bounded length,
-//! and a thread of the program writes them.
+//! A log of one line an event on standard error, which stops and slows no one: lines wait in a queue of
+//! bounded length, and a thread of the program writes them.
 #![tactic(auto)]
 
 mod level;

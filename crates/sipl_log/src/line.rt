@@ -135,8 +135,8 @@ fn push_quoted(out: &mut String, value: &str) -> Result<(), AllocError>
     out.push('"')
 }
 
-// Appends a character within quotes. A control character but a tab and a line's end is a question mark: a line of the
-// log is one line, of any terminal.
+// Appends a character within quotes. A control character but a tab and a line's end is a question mark: a
+// line of the log is one line, of any terminal.
 fn push_glyph(out: &mut String, c: char) -> Result<(), AllocError>
     ensures { OnOk result (string_bytes out.new ≡ string_bytes out.old ++ glyph c) }
 {

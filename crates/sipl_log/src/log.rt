@@ -34,8 +34,8 @@ impl Log {
         }
     }
 
-    /// From now on lines are written that matter so much: with their priorities before them, as the journal of systemd
-    /// has them, or without.
+    /// From now on lines are written that matter so much: with their priorities before them, as the journal
+    /// of systemd has them, or without.
     pub fn begin<R: Wait>(&self, rt: &R, verbosity: Verbosity, has_priorities: bool) {
         self.queue.lock(rt).set_priorities(has_priorities);
         self.rank.store(verbosity.rank(), Ordering::SeqCst);
@@ -76,8 +76,8 @@ impl Log {
         self.queue.lock(rt).dropped()
     }
 
-    /// Writes lines as they come, without end. One thread of the program does, for which nothing waits: standard error
-    /// may be a pipe that no one reads.
+    /// Writes lines as they come, without end. One thread of the program does, for which nothing waits:
+    /// standard error may be a pipe that no one reads.
     pub fn run<R: Eprint + Wait + Clock>(&self, rt: &R) {
         self.expect_writer(rt);
         for _ in 0..u64::MAX {
@@ -100,8 +100,8 @@ impl Log {
         }
     }
 
-    /// Waits until all lines are written, for so long at most. This thread writes those that no other one has begun to
-    /// write.
+    /// Waits until all lines are written, for so long at most. This thread writes those that no other one has
+    /// begun to write.
     pub fn end<R: Eprint + Wait + Clock>(&self, rt: &R, longest: Duration) {
         self.wait_until_written(rt, longest);
         let text = self.take_rest(rt);

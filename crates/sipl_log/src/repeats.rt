@@ -15,7 +15,7 @@ struct Kind {
     count: u64,
 }
 
-/// The lines of this second, so that equal ones are counted and told as one.
+/// The lines of this second, so that equal ones are counted and written as one.
 #[derive(Drop)]
 pub(crate) struct Repeats {
     begun: Option<Instant>,
@@ -39,8 +39,8 @@ impl Repeats {
         }
     }
 
-    /// Begins a second. Returns what is to be told of the last one: each line that came too often, with how often it was
-    /// not written.
+    /// Begins a second. Returns the lines to write of the last one: each that came too often, with how often
+    /// it was not written.
     pub(crate) fn begin(&mut self, alloc: Global, now: Instant) -> Result<Vec<String>, AllocError> {
         self.begun = Some(now);
         let mut told = Vec::new(alloc);
