@@ -16,8 +16,9 @@ state_of q =
       capacity = q.capacity;
     }
 
--- the set of queued ids has the ids of the live places, a leased id has no stale place, and each part has the capacity:
--- there are places for all ids that are not queued, and the table can count a stale place of one more id
+-- the set of queued ids has the ids of the live places, a leased id has no stale place, and each part has the
+-- capacity: there are places for all ids that are not queued, and the table can count a stale place of one
+-- more id
 pub record IsValidQueue (q : Inside) : Type 0 where
   pub consistent : IsConsistent (state_of q)
   pub same_ids : q.queued.members ≡ set.from_list (state_of q).queued

@@ -30,7 +30,8 @@ live (id ∷ places) stale =
 abbrev pub AreCounted : List ℕ → (ℕ → ℕ) → Type 0
 AreCounted places stale = (id : ℕ) → stale id ≤ count_by (nat_eq id) places
 
--- after stale places are dropped the others are counted, by counts that are no greater, and the deque and the table keep their capacities
+-- after stale places are dropped the others are counted, by counts that are no greater, and the deque and the
+-- table keep their capacities
 pub record DropsPlaces {A S : Type 0} (places : VecDeque ℕ A) (stale : IndexMap ℕ ℕ S) (places_left : VecDeque ℕ A) (stale_left : IndexMap ℕ ℕ S) : Type 0 where
   pub counted : AreCounted places_left.items (stale_count stale_left)
   pub fewer : (id : ℕ) → stale_count stale_left id ≤ stale_count stale id

@@ -121,7 +121,8 @@ impl Queue {
         self.leased.contains(id)
     }
 
-    /// Whether an id may be marked: it is queued or leased already, or there is space for one more.
+    /// Whether `mark` has capacity for an id: it is queued or leased already, or there is capacity for one
+    /// more.
     pub fn has_capacity_for(&self, id: u64) -> bool
         ensures capacity { result ≡ has_capacity_for self.now id }
         ensures consistent { IsConsistent self.now }
