@@ -64,8 +64,8 @@ pub record MakesEvent (event : BoardEvent) (old new : SessionState)
 abbrev pub MakesOrKeeps : BoardEvent → SessionState → SessionState → Result ℕ DeskFault → Type 0
 MakesOrKeeps event old new outcome = MakesEvent event old new outcome ⊎ IsNotKept old new outcome
 
--- The holds of a session that may only ask are those of its calls, and it moves nothing else. A move of the clock,
--- where the time is the host's, is refused and changes nothing.
+-- The holds of a session that may only ask are those of its calls, and it moves nothing else. A move of the
+-- clock, where the time is the host's, is refused and changes nothing.
 abbrev pub MovesBoard : BoardEvent → SessionState → Result ℕ DeskFault → SessionState → Type 0
 MovesBoard (Advance to) old outcome new =
     IsRefused old new outcome ⊎ ((old.asks_only ≡ false) ×

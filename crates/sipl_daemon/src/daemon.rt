@@ -159,8 +159,8 @@ impl Daemon {
         self.lacks_thread.load(Ordering::SeqCst)
     }
 
-    /// Moves the book's time to that of the host, if it is the host's and an endpoint is held. The move is not
-    /// among the changes: the next hold or release has the time. A move that is refused is made later.
+    /// Moves the book's time to that of the host, if it is the host's and an endpoint is held. The move is
+    /// not among the changes: the next hold or release has the time. A move that is refused is made later.
     pub(crate) fn move_clock<R: Wait + Clock>(&self, rt: &R) {
         let Some(time) = &self.time else {
             return;
@@ -179,8 +179,8 @@ impl Daemon {
         self.end_move(rt, &mut mover, moved);
     }
 
-    /// Moves the book's time to that of the host, if it is the host's. The move is among the changes, unless these can't
-    /// be written.
+    /// Moves the book's time to that of the host, if it is the host's. The move is among the changes, unless
+    /// these can't be written.
     pub(crate) fn set_clock<R: Wait + Clock>(&self, rt: &R) {
         let Some(time) = &self.time else {
             return;
@@ -256,8 +256,8 @@ impl Daemon {
             .lookup(rt, pass, question, draws, &OpenGate)
     }
 
-    /// Counts an event that takes so many octets, of a session whose last change ends at this place, and turns the page
-    /// if that is due.
+    /// Counts an event that takes so many octets, of a session whose last change ends at this place, and
+    /// turns the page if that is due.
     pub(crate) fn count_event<R: Wait>(&self, rt: &R, number: u64, octets: u64, place: u64) {
         self.counts.count_event(number);
         self.pages

@@ -1,4 +1,4 @@
-//! Edits of the zones, which are told.
+//! Edits of the zones, which are reported in the log.
 ghost use Rattle.sipl_book.specs.declared.event.Event.TheVariants.{Change};
 ghost use Rattle.sipl_service.specs.Passes.{GetsReceipt};
 
@@ -13,7 +13,7 @@ use std::sync::atomic::AtomicU64;
 use std::time::Clock;
 
 impl Daemon {
-    /// Edits the zones, as the source does, and tells that.
+    /// Edits the zones, as the source does, and reports that in the log.
     pub(crate) fn edit<R: Wait + Clock>(
         &self,
         rt: &R,
@@ -33,7 +33,7 @@ impl Daemon {
         outcome
     }
 
-    // What is to be told of an edit, if it is.
+    // What is to be reported of an edit, if the log has edits.
     fn story_of<R: Wait + Clock>(&self, rt: &R, edit: &Edit) -> Result<Option<Story>, AllocError> {
         if !self.observed.tells_edits() {
             return Ok(None);

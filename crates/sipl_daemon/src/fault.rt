@@ -11,10 +11,10 @@ use thiserror::Error;
 /// Why a line of a session is refused.
 #[derive(Debug, Drop, Error)]
 pub enum DeskFault {
-    /// D1: a `clock` line, and the time is the host's.
+    /// D1: a client's `clock` line, where the time is the host's.
     #[error("the time is the host's")]
     HostTime,
-    /// D2: a change, and it can't be written to the files of the state.
+    /// D2: a change or a hold, while changes can't be written to the files of the state.
     #[error("changes can't be kept at present")]
     NotKept,
     /// D3: a line that does more than to ask, at an address of `find`.

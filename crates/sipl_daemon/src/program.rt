@@ -76,8 +76,8 @@ where
     Ok(true)
 }
 
-// Serves with the settings that are given until the daemon is to stop, claims all pages, and prints how many events
-// there were.
+// Serves with the settings that are given until the daemon is to stop, claims all pages, and prints how many
+// events there were.
 fn serve<R, H>(
     rt: &R,
     host: &H,
@@ -96,7 +96,8 @@ where
     Ok(())
 }
 
-// Runs a daemon with these settings until it is to stop, and claims all pages. Returns how many events there were.
+// Runs a daemon with these settings until it is to stop, and claims all pages. Returns how many events there
+// were.
 fn run_daemon<R, H>(
     rt: &R,
     host: &H,
@@ -129,7 +130,8 @@ fn drop_pages<H: Host>(host: &H, daemon: &Daemon) {
     }
 }
 
-// Claims all pages of a daemon. Returns how many events there were. One that ended for want of a thread has failed.
+// Claims all pages of a daemon. Returns how many events there were. One that ended for want of a thread has
+// failed.
 fn close<H: Host>(host: &H, daemon: Box<Daemon>, claims: Claims) -> Result<u64, Fault> {
     let mut claims = claims;
     let lacks_thread = daemon.lacks_thread();
@@ -142,8 +144,8 @@ fn close<H: Host>(host: &H, daemon: Box<Daemon>, claims: Claims) -> Result<u64, 
     Ok(events)
 }
 
-// Goes on from the state, if there is one, listens at the addresses of the settings, and runs the daemon's threads until
-// it is to stop.
+// Goes on from the state, if there is one, listens at the addresses of the settings, and runs the daemon's
+// threads until it is to stop.
 fn run_until_stop<R, H>(
     rt: &R,
     host: &H,
@@ -210,8 +212,9 @@ where
     Ok(())
 }
 
-// The changes after the state of a path, from which the daemon goes on. All addresses are tried before it is read: pages
-// of what is read go to the archive, which a start that can't listen would leave there, each time that it is tried.
+// The changes after the state of a path, from which the daemon goes on. All addresses are tried before it is
+// read: pages of what is read go to the archive, which a start that can't listen would leave there, each time
+// that it is tried.
 fn open_state<H: Host>(
     host: &H,
     alloc: Global,
@@ -232,7 +235,8 @@ fn open_state<H: Host>(
     }
 }
 
-// Takes the lock of a state. Returns where it is, too: a symbolic link has the lock of the file to which it leads.
+// Takes the lock of a state. Returns where it is, too: a symbolic link has the lock of the file to which it
+// leads.
 fn lock_state<R: Files<File = File>>(
     rt: &R,
     alloc: Global,

@@ -13,8 +13,8 @@ const PLAIN: &str = "text/plain; charset=utf-8";
 
 const EXPOSITION: &str = "text/plain; version=0.0.4; charset=utf-8";
 
-/// Accepts who reads the metrics, until the sessions have ended, and serves each in a thread: one for whom there is no
-/// place is closed. Returns when they have ended.
+/// Accepts who reads the metrics, until the sessions have ended, and serves each in a thread: one for whom
+/// there is no place is closed. Returns when they have ended.
 pub(crate) fn accept_scrapers<H: Host>(host: &H, daemon: &Daemon, listener: &Listener) {
     thread::scope(thread::scope_env(), host, |scope| {
         for _ in host.forever() {

@@ -23,8 +23,8 @@ const TICK: u64 = 100;
 // How long a session may write its last replies, in milliseconds.
 const GRACE: u64 = 1_000;
 
-/// Runs the threads that serve the clients of all listeners and control lines, and those beside them, until the daemon
-/// is to stop. Then ends the sessions.
+/// Runs the threads that serve the clients of all listeners and control lines, and those beside them, until
+/// the daemon is to stop. Then ends the sessions.
 pub(crate) fn run_threads<H: Host>(
     host: &H,
     daemon: &Daemon,
@@ -109,8 +109,8 @@ fn run_clock<H: Host>(host: &H, daemon: &Daemon) {
     }
 }
 
-// Accepts clients until the daemon is to stop, and serves each in a thread: whether they may only ask depends on the
-// listener. Returns when their sessions have ended.
+// Accepts clients until the daemon is to stop, and serves each in a thread: whether they may only ask depends
+// on the listener. Returns when their sessions have ended.
 fn accept_clients<H: Host>(host: &H, daemon: &Daemon, listener: &Listener, asks_only: bool) {
     thread::scope(thread::scope_env(), host, |scope| {
         for _ in host.forever() {
@@ -134,7 +134,8 @@ fn accept_clients<H: Host>(host: &H, daemon: &Daemon, listener: &Listener, asks_
     })
 }
 
-// Accepts a client, if there is a place for it. One that is refused is told of, and so is an accept that failed.
+// Accepts a client, if there is a place for it. One that is refused is told of, and so is an accept that
+// failed.
 fn accept_client<H: Host>(host: &H, daemon: &Daemon, listener: &Listener) -> Option<Client> {
     let (alloc, clients) = (daemon.alloc, &daemon.clients);
     match next_client(host, alloc, &daemon.stop, listener, clients) {

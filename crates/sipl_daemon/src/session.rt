@@ -12,8 +12,8 @@ use sipl_listen::{Client, Stream};
 use std::sync::Wait;
 use std::time::Clock;
 
-/// Serves the session of a client, which may only ask or not, hands its receipts over, and frees its place. A fault
-/// ends only this session.
+/// Serves the session of a client, which may only ask or not, hands its receipts over, and frees its place. A
+/// fault ends only this session.
 pub(crate) fn serve_client<R: Wait + Clock>(
     rt: &R,
     daemon: &Daemon,

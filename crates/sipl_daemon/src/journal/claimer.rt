@@ -12,8 +12,8 @@ use std::time::{Clock, Duration, Instant};
 // How long a claim waits for receipts that are on their way, in milliseconds.
 const PATIENCE: u64 = 5;
 
-// How long it is until a page is archived again that could not be, in milliseconds, and how many others may wait
-// meanwhile.
+// How long it is until a page is archived again that could not be, in milliseconds, and how many others may
+// wait meanwhile.
 const AGAIN: u64 = 1_000;
 
 const MAX_WAITING: usize = 8;
@@ -32,8 +32,8 @@ pub(crate) fn claim_pages<H: Host>(host: &H, daemon: &Daemon, claims: &mut Claim
     }
 }
 
-/// Claims the pages that were turned, but for those whose receipts are on their way. Where one could not be archived they
-/// wait until clients are served, unless too many do.
+/// Claims the pages that were turned, but for those whose receipts are on their way. Where one could not be
+/// archived they wait until clients are served, unless too many do.
 pub(crate) fn claim_turned<R: Files<File = File> + Wait + Clock>(
     rt: &R,
     daemon: &Daemon,
@@ -58,8 +58,8 @@ pub(crate) fn claim_turned<R: Files<File = File> + Wait + Clock>(
     }
 }
 
-// Tries to claim the next page, and waits where that is not to be claimed yet. A page that could not be archived comes
-// before it.
+// Tries to claim the next page, and waits where that is not to be claimed yet. A page that could not be
+// archived comes before it.
 fn claim_once<H: Host>(host: &H, daemon: &Daemon, claims: &mut Claims) {
     if let Some(turned) = claims.take_unarchived() {
         daemon.stop.pause(host, Duration::from_millis(AGAIN));
@@ -90,8 +90,8 @@ fn keep_claimed<R: Files<File = File> + Wait + Clock>(
     }
 }
 
-// Keeps a page that was claimed. Where it can't be archived, and the daemon is to go on then, it is kept until that is
-// tried again.
+// Keeps a page that was claimed. Where it can't be archived, and the daemon is to go on then, it is kept
+// until that is tried again.
 fn keep_or_wait<R: Files<File = File> + Wait + Clock>(
     rt: &R,
     daemon: &Daemon,
@@ -143,8 +143,8 @@ fn fail<R: Files<File = File> + Wait + Clock>(
     daemon.stop.ask(rt);
 }
 
-// Archives a page that was claimed, and writes the state after it, if these are to be. Where that fails, and the daemon is
-// to go on then, changes are refused only where the log is not as it was.
+// Archives a page that was claimed, and writes the state after it, if these are to be. Where that fails, and
+// the daemon is to go on then, changes are refused only where the log is not as it was.
 fn keep<R: Files<File = File> + Wait + Clock>(
     rt: &R,
     daemon: &Daemon,

@@ -13,8 +13,9 @@ use std::mem;
 use std::rt::Files;
 use std::sync::Wait;
 
-/// What was claimed, the receipts that are to be added to it, the page that is to be claimed next, the one that was
-/// claimed and could not be archived, and the fault with which the daemon is to end, if there are any.
+/// What was claimed, the receipts that are to be added to it, the page that is to be claimed next, the one
+/// that was claimed and could not be archived, and the fault with which the daemon is to end, if there are
+/// any.
 #[derive(Drop)]
 pub(crate) struct Claims {
     ledger: Ledger,

@@ -1,4 +1,5 @@
-//! The thread that writes the log of a state anew where changes could not be written, if the daemon is to go on then.
+//! The thread that writes the log of a state anew where changes could not be written, if the daemon is to go
+//! on then.
 use crate::daemon::Daemon;
 use sipl_process::Host;
 use sipl_state::Changes;
@@ -10,7 +11,8 @@ const PAUSE: u64 = 1_000;
 // What is said once changes can be written.
 const MENDED: &str = "siplocd: state: written again, changes are accepted";
 
-/// Looks each second whether changes could not be written, and writes the log anew then, until the daemon is to stop.
+/// Looks each second whether changes could not be written, and writes the log anew then, until the daemon is
+/// to stop.
 pub(crate) fn mend_changes<H: Host>(host: &H, daemon: &Daemon) {
     let Some(changes) = &daemon.source.changes else {
         return;
@@ -25,8 +27,8 @@ pub(crate) fn mend_changes<H: Host>(host: &H, daemon: &Daemon) {
     }
 }
 
-// Tries once, where that is to be. A failure is told once, and so is its end. Returns whether one is told that has not
-// ended.
+// Tries once, where that is to be. A failure is told once, and so is its end. Returns whether one is told
+// that has not ended.
 fn mend_once<H: Host>(host: &H, daemon: &Daemon, changes: &Changes, is_told: bool) -> bool {
     if !changes.has_failed() {
         return false;

@@ -17,8 +17,8 @@ use std::sync::atomic::{AtomicBool, AtomicU64, Ordering};
 use std::sync::{Condvar, CondvarTimeouts, Mutex, Wait};
 use std::time::{Clock, Duration};
 
-// An estimate of the octets of memory that an event takes with its receipt until it is claimed, and with each target of
-// its answer, or each record of its zone.
+// An estimate of the octets of memory that an event takes with its receipt until it is claimed, and with each
+// target of its answer, or each record of its zone.
 const EVENT_OCTETS: u64 = 280;
 
 const TARGET_OCTETS: u64 = 64;
@@ -28,13 +28,14 @@ const RECORD_OCTETS: u64 = 100;
 // How often the thread that claims looks whether the daemon is to stop, in milliseconds.
 const LOOK: u64 = 100;
 
-// How many pages may wait to be claimed before those who make events wait too, and how long these do at most for each
-// page more, in milliseconds.
+// How many pages may wait to be claimed before those who make events wait too, and how long these do at most
+// for each page more, in milliseconds.
 const MAX_AHEAD: usize = 1;
 
 const PACE: u64 = 50;
 
-/// The pages that were turned, and what their events are claimed with, until the thread that claims takes them.
+/// The pages that were turned, and what their events are claimed with, until the thread that claims takes
+/// them.
 #[derive(Drop)]
 pub(crate) struct Pages {
     alloc: Global,
@@ -89,8 +90,8 @@ impl Pages {
         self.turned.lock(rt).len()
     }
 
-    /// Counts an event, which takes so many octets. Turns the page, if the event is in its last eighth, or its events
-    /// take too many octets, or the changes up to a place make the log of the state too long.
+    /// Counts an event, which takes so many octets. Turns the page, if the event is in its last eighth, or
+    /// its events take too many octets, or the changes up to a place make the log of the state too long.
     pub(crate) fn count_event<R: Wait>(
         &self,
         rt: &R,
@@ -178,8 +179,9 @@ impl Pages {
             .wait_timeout_while(rt, turned, longest, |turned| turned.is_empty());
     }
 
-    /// Waits until at most one page waits to be claimed, for 50 milliseconds at most for each page more: so those who
-    /// make events do not get ahead of the thread that claims them. Where that can't go on it does not wait.
+    /// Waits until at most one page waits to be claimed, for 50 milliseconds at most for each page more: so
+    /// those who make events do not get ahead of the thread that claims them. Where that can't go on it does
+    /// not wait.
     pub(crate) fn keep_pace<R: Wait + Clock>(&self, rt: &R) {
         let turned = self.turned.lock(rt);
         let ahead = turned.len().saturating_sub(MAX_AHEAD) as u64;

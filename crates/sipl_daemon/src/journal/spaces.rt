@@ -10,8 +10,8 @@ pub(crate) const MAX_RECEIPTS: usize = 128;
 // How many journals' space is kept at most.
 const MAX_JOURNALS: usize = 3;
 
-/// The space of receipts and of events that were claimed, in which later ones are kept: so a daemon that runs for months
-/// takes no more memory than what was under way at once.
+/// The space of receipts and of events that were claimed, in which later ones are kept: so a daemon that runs
+/// for months takes no more memory than what was under way at once.
 #[derive(Drop)]
 pub(crate) struct Spaces {
     receipts: Mutex<Vec<Receipts>>,

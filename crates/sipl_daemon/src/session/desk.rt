@@ -51,8 +51,8 @@ impl<'a, R: Wait + Clock> Model for SessionDesk<'a, R> {
 }
 
 impl<'a, R: Wait + Clock> SessionDesk<'a, R> {
-    /// The desk of a session that has had no line, and may only ask or not. `place` is where its last change ends in
-    /// the file of changes.
+    /// The desk of a session that has had no line, and may only ask or not. `place` is where its last change
+    /// ends in the file of changes.
     pub(crate) fn new(
         rt: &'a R,
         daemon: &'a Daemon,
@@ -99,8 +99,8 @@ impl<'a, R: Wait + Clock> SessionDesk<'a, R> {
         self.place.load(Ordering::SeqCst)
     }
 
-    // Checks that a change can be written to the files of the state, if there are any, where the daemon goes on when
-    // it can't be.
+    // Checks that a change can be written to the files of the state, if there are any, where the daemon goes
+    // on when it can't be.
     fn check_kept(&self) -> Result<(), DeskFault>
         ensures { IfErr result (λ fault. fault ≡ NotKept) }
     {

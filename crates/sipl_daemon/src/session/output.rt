@@ -46,7 +46,8 @@ impl<'a, R: Wait + Clock> Output<'a, R> {
         }
     }
 
-    // Waits until the session's changes are in their file. Where they can't be, the session ends without its reply.
+    // Waits until the session's changes are in their file. Where they can't be, the session ends without its
+    // reply.
     fn sync(&self) -> io::Result<()> {
         let Some(changes) = &self.daemon.source.changes else {
             return Ok(());

@@ -18,8 +18,8 @@ use std::sync::Wait;
 use std::sync::atomic::AtomicU64;
 use std::time::Clock;
 
-/// The desk of a session whose lines are those of a state. At each pause the pages are claimed that were turned, so
-/// that they do not wait in memory until clients are served.
+/// The desk of a session whose lines are those of a state. At each pause the pages are claimed that were
+/// turned, so that they do not wait in memory until clients are served.
 #[derive(Drop)]
 pub(crate) struct RestoringDesk<'a, R: Files<File = File> + Wait + Clock> {
     rt: &'a R,
