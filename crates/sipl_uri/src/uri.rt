@@ -42,7 +42,7 @@ impl Uri {
     /// parameters from left to right, and of each an empty name (U7), the name of an earlier one
     /// (U5), then its value: another transport, or none (U4), a `maddr` that is not a host, or none
     /// (U2); `sips` over UDP or SCTP (U6).
-    /// Allocates nothing where the fault is U1, or U7 of an octet or a second `@`.
+    /// `Memory` is never returned in the place of U1, or of U7 for an octet or a second `@`.
     pub fn parse(alloc: Global, bytes: &[u8]) -> Result<Question, UriFault>
         ensures read { IfOk result (λ question. question_of bytes.now ≡ Ok question) }
         ensures refused { IfErr result
