@@ -10,7 +10,7 @@ pub enum Reply {
     Changed(Done),
     /// An endpoint was held or released, or the clock was set: the number of the event.
     Moved(u64),
-    /// An answer, which was handed out or committed.
+    /// An answer, which was that of a current entry, or was committed.
     Answered(Handed),
     /// A worker began a run.
     Started,
