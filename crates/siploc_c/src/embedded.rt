@@ -70,7 +70,7 @@ impl Embedded {
             .put(alloc, &mut self.book, octets, &mut self.replies)
     }
 
-    /// Takes the next octets of the replies, so many as there is room for, and returns how many.
+    /// Takes the next octets of the replies, as many as `room` has space for, and returns how many.
     pub(crate) fn take(&mut self, room: &mut [u8]) -> usize
         ensures { TakesReplies self.old room.old self.new room.new result }
     {

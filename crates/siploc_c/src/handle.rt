@@ -1,4 +1,4 @@
-//! What C has of a session: its address, which owns it. The raw pointers are here and in `lent` alone.
+//! What C has of a session: its address, which owns it. The raw pointers are only here and in `lent`.
 ghost use Rattle.std.specs.Prelude.{◌≡◌, Option, Some};
 ghost use Rattle.siploc_c.specs.Codes.{embedded_code, embedded_or_none_code};
 ghost use Rattle.siploc_c.specs.Embedded.{EmbeddedState};
