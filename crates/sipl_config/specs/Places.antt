@@ -17,7 +17,8 @@ line_words None = []
 abbrev pub at_line : List ℕ → Option ℕ → List ℕ → List ℕ
 at_line path line rest = path ++ (line_words line ++ (codes ": " ++ rest))
 
--- what is said of a text that is not a document, with the line of its fault; of a document no more than the code
+-- what is said of a text that is not a document, with the line of its fault; of a document no more than the
+-- code
 abbrev pub IsTextFault : List ℕ → List ℕ → List ℕ → Type 0
 IsTextFault path text told =
     ((place : ℕ) × (cause : List ℕ)

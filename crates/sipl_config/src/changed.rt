@@ -4,7 +4,8 @@ use std::alloc::{AllocError, Global};
 use std::fmt::Write as _;
 use toml::Value;
 
-/// The settings of the daemon in a TOML document that differ from the defaults: each key with the text of its value.
+/// The settings of the daemon in a TOML document that differ from the defaults: each key with the text of its
+/// value.
 pub fn changed_settings(alloc: Global, text: &str) -> Result<Vec<(String, String)>, AllocError> {
     let mut changed = Vec::new(alloc);
     let Ok(table) = toml::table_from_str(alloc, text) else {

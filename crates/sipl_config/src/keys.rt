@@ -20,14 +20,14 @@ pub fn daemon_keys(alloc: Global) -> Result<String, AllocError>
     keys_in_words(alloc, &DAEMON)
 }
 
-/// The setting of `run`, `world` and `serve` with a key. `None` where it is none of them.
+/// The setting of `run`, `world` and `serve` with a key. `None` where there is no such setting.
 pub fn service_row(key: &str) -> Option<Row>
     ensures { is_some result ≡ is_among service_key_list key.now }
 {
     row_at(&SERVICE, key)
 }
 
-/// The setting of the daemon with a key. `None` where it is none of them.
+/// The setting of the daemon with a key. `None` where there is no such setting.
 pub fn daemon_row(key: &str) -> Option<Row>
     ensures { is_some result ≡ is_among daemon_key_list key.now }
 {

@@ -1,4 +1,5 @@
-//! What both programs share before they begin: their version, the settings of a file, and what is said of a fault in it.
+//! What both programs share before they begin: their version, the settings of a file, and what is said of a
+//! fault in it.
 #![tactic(auto)]
 
 mod changed;

@@ -73,8 +73,8 @@ fn count_line_ends(text: &[u8]) -> usize
     text.iter().filter(|octet| **octet == b'\n').count()
 }
 
-// The number of the line at which the value of a key begins, in a TOML document. It is the line after the longest
-// document before it: a part of a text is a document, but where it ends within a value.
+// The number of the line at which the value of a key begins, in a TOML document. It is the line after the
+// longest document before it: a part of a text is a document, but where it ends within a value.
 fn line_of_key(alloc: Global, text: &str, key: &str) -> Option<u64> {
     let (mut end, mut line, mut begin) = (0usize, 0u64, 1u64);
     for piece in text.split_inclusive('\n') {

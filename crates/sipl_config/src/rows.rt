@@ -1,6 +1,6 @@
-//! The settings of both programs, each as a row: what it does, its key, what its value may be, and its default. The
-//! tables of docs/use/FORMATS.md and the list in examples/siplocd.toml are written from them: the first paragraph above
-//! a row is what the setting does, the second what there is to know of it.
+//! The settings of both programs, each as a row: what it does, its key, what its value may be, and its
+//! default. The tables of docs/use/FORMATS.md and the list in examples/siplocd.toml are written from them:
+//! the first paragraph above a row is what the setting does, the second what there is to know of it.
 ghost use Rattle.std.specs.Prelude.{◌≡◌, IfOk, map, option_map, string_bytes};
 ghost use Rattle.toml.specs.Data.{string};
 ghost use Rattle.toml.specs.View.{view};
@@ -155,8 +155,8 @@ pub const ARCHIVE: Row = Row {
     default: DefaultValue::Nothing,
 };
 
-/// The greatest number of clients at a time. It is at most 32 below the system's limit of descriptors, or 20, three
-/// for each TCP address and four for each Unix socket, and eight with `metrics`, where these are more.
+/// The greatest number of clients at a time. It is at most 32 below the system's limit of descriptors, or 20,
+/// three for each TCP address and four for each Unix socket, and eight with `metrics`, where these are more.
 ///
 /// To raise the limit: `ulimit -n`, or `LimitNOFILE` of systemd.
 pub const CLIENTS: Row = Row {
@@ -167,7 +167,8 @@ pub const CLIENTS: Row = Row {
 
 /// What moves the time of holds.
 ///
-/// With `"host"` no time comes to a call, so nothing is resent; its answer may be up to 100 ms old in its holds.
+/// With `"host"` the time of a call does not move, so nothing is resent; its answer may be up to 100 ms old
+/// in its holds.
 pub const CLOCK: Row = Row {
     key: "clock",
     values: Values::Words("\"host\" or \"lines\""),
@@ -187,8 +188,8 @@ pub const CONTROL: Row = Row {
 
 /// The maximum of kept results; with all places taken an answer is not kept.
 ///
-/// An absent name's answer has evidence of each ancestor, so with many labels it is large: lower it, or set 0, where
-/// others choose the names.
+/// An absent name's answer has evidence of each ancestor, so with many labels it is large: lower it, or set
+/// 0, where others choose the names.
 pub const ENTRIES: Row = Row {
     key: "entries",
     values: Values::Numbers(0, 65_536),
@@ -245,8 +246,8 @@ pub const IDLE: Row = Row {
 
 /// The maximum of events in a page.
 ///
-/// It limits events, not octets: an answer of its own takes 64 octets a target, a load 80 a record unless it shares
-/// those before. A daemon claims and archives nothing before seven eighths of it, or `page_octets`.
+/// It limits events, not octets: an answer of its own takes 64 octets a target, a load 80 a record unless it
+/// shares those before. A daemon claims and archives nothing before seven eighths of it, or `page_octets`.
 pub const JOURNAL: Row = Row {
     key: "journal",
     values: Values::Numbers(1, 1_048_576),
@@ -294,8 +295,8 @@ pub const MODE: Row = Row {
 
 /// What it does where changes can't be written to the files of `state`, or pages to `archive`.
 ///
-/// With `"read"` it goes on to answer, refuses changes and holds (D2), and tries each second to write the log anew; a
-/// page that can't be archived waits, and seven others at most.
+/// With `"read"` it goes on to answer, refuses changes and holds (D2), and tries each second to write the log
+/// anew; a page that can't be archived waits, and seven others at most.
 pub const ON_FAILURE: Row = Row {
     key: "on_failure",
     values: Values::Words("\"end\" or \"read\""),
