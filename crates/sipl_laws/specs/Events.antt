@@ -65,7 +65,8 @@ pub record IsPage (page : PageState) : Type 0 where
   pub few : length page.events < 2 ^ 64
   pub events : AllByRecursion IsEvent page.events
 
--- an edit without what no page has of it: how many records of a zone's text were outside the apex, or repeated
+-- an edit without what no page has of it: how many records of a zone's text were outside the apex, or
+-- repeated
 abbrev pub kept_edit : Edit → Edit
 kept_edit (Load zone) = Load (record zone { outside = 0; repeated = 0 })
 kept_edit (Unload apex) = Unload apex

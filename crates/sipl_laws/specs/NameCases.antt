@@ -8,10 +8,10 @@ use Rattle.sipl_evidence.specs.Answers.{asking_within, first_target}
 use Rattle.sipl_evidence.specs.Enclosers.{FollowsNone, IsNowhere, IsSynthesized}
 use Rattle.sipl_evidence.specs.Looks.{Look, key, result_of}
 
--- The case of a name and a kind, where so many ancestors may be asked for and so many aliases followed: the name has
--- data; it has none, and its first alias is followed; no alias of it is followed, and it exists; neither it nor an
--- ancestor exists; or of the wildcard at its closest encloser, that has data; has none, and its first alias is
--- followed; or has none, and no alias of it is followed.
+-- The case of a name and a kind, where so many ancestors may be asked for and so many aliases followed: the
+-- name has data; it has none, and its first alias is followed; no alias of it is followed, and it exists;
+-- neither it nor an ancestor exists; or of the wildcard at its closest encloser, that has data; has none, and
+-- its first alias is followed; or has none, and no alias of it is followed.
 pub data NameCase (look : Look) (ancestors left : ℕ) (kind : Kind) (name : Labels) : Type 0 where
   has_data : look (key name kind) ≢ [] → NameCase look ancestors left kind name
   is_alias : (target : Labels) (fewer : ℕ) → left ≡ fewer + 1 → look (key name kind) ≡ []

@@ -1,4 +1,4 @@
-//! Laws that join those of several crates; nothing stands on it.
+//! Laws that join those of several crates; no other crate uses it.
 #![tactic(auto)]
 
 pub mod laws;
