@@ -1,4 +1,4 @@
--- What a call under the lock is given, and what it gives.
+-- What a call under the lock takes, and what it returns.
 use Rattle.std.specs.Prelude.{◌≡◌, ℕ}
 use Rattle.sipl_outages.specs.Holds.{no_holds}
 use Rattle.sipl_plans.specs.Findings.{Found}

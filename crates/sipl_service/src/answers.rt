@@ -76,7 +76,7 @@ pub(crate) fn hand(
     }
 }
 
-// Records the answer that is to be told, for these random words. Returns the receipt for it.
+// Records the answer that is returned, for these random words. Returns the receipt for it.
 #[tactic(auto, using(crate::proofs::FirstFault::refused_for_memory))]
 fn record(
     alloc: Global,
@@ -103,8 +103,8 @@ fn record(
     }
 }
 
-// Copies of the question, the random words and the answer that are told, for the journal or a receipt. They
-// share what they have.
+// Copies of the question, the random words and the answer that is returned, for the journal or a receipt.
+// They share what they have.
 #[derive(Drop)]
 struct Copies {
     question: Question,
@@ -113,7 +113,7 @@ struct Copies {
 }
 
 impl Copies {
-    // Copies of what is told, for these random words.
+    // Copies of what is returned, for these random words.
     fn of(alloc: Global, told: &Told, words: &SharedDraws) -> Result<Self, AllocError>
         requires { words.now ≡ told.now.words }
         ensures question { IfOk result (λ copies. copies.question ≡ told.now.question) }
@@ -159,8 +159,8 @@ impl Copies {
     }
 }
 
-// The answer of the current entry of a question for these holds, which the entry keeps where it can be told
-// again. B1 where there is none.
+// The answer of the current entry of a question for these holds, which the entry keeps where it can be
+// returned again. B1 where there is none.
 fn tell_entry(
     alloc: Global,
     book: &mut Book,
@@ -255,7 +255,7 @@ pub(crate) fn commit(
     }
 }
 
-// The answer of a finding for the holds of the book, as it is told with the number of the next event. The
+// The answer of a finding for the holds of the book, with the number of the next event. The
 // book is as it was.
 fn tell_finding(
     alloc: Global,

@@ -16,7 +16,7 @@ pub(crate) struct Asked {
 }
 
 impl Asked {
-    // Copies of what is asked, in a box: so an answer that is told is short, and quick to hand on.
+    // Copies of what is asked, in a box: so an answer is short, and quick to move.
     pub fn of(
         alloc: Global,
         question: &Question,
