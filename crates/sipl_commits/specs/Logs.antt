@@ -36,7 +36,8 @@ pub record IsDamagedLog (octets : Octets) (p : Point) (bodies : List Octets) (ta
   pub is : octets ≡ log_text p bodies ++ tail
   pub damaged : IsDamaged (after p bodies) tail
 
--- what was read of octets after a point: commits of which each follows the one before it, up to where none does
+-- what was read of octets after a point: commits of which each follows the one before it, up to where none
+-- does
 pub record IsChain (octets : Octets) (p : Point) (log : Log) : Type 0 where
   pub is : octets ≡ written_all p (bodies_of log.commits.items) ++ log.tail.now
   pub points_are : map (λ commit. commit.point) log.commits.items

@@ -32,8 +32,8 @@ pub fn cut_writes_are_torn()
         → IsTorn p (take n (written p body)) }
 {}
 
-/// A write of a commit of which octets were lost, at its end or as zeros, is torn, where the body has no tab, unless the
-/// commit is read there, or its line and another text have one digest.
+/// A write of a commit of which octets were lost, at its end or as zeros, is torn, where the body has no tab,
+/// unless the commit is read there, or its line and another text have one digest.
 pub fn unfinished_writes_are_torn()
     ensures { (p : Point) (body left : Octets) → IsPlain body → IsLeftOf (written p body) left
         → HasNoNext p left
@@ -60,7 +60,8 @@ pub fn commits_before_others_are_damaged()
         → IsDamaged p (before ++ written q body ++ rest) }
 {}
 
-/// A commit whose body was replaced by another of the same length is read only where two texts have one digest.
+/// A commit whose body was replaced by another of the same length is read only where two texts have one
+/// digest.
 pub fn other_bodies_have_one_digest()
     ensures { (p : Point) (body other found rest more : Octets) → length other ≡ length body
         → length body < 2 ^ 64 → length found < 2 ^ 64
@@ -69,8 +70,8 @@ pub fn other_bodies_have_one_digest()
         → sha256 (link_text p body) ≡ sha256 (link_text p other) }
 {}
 
-/// After one point, the digest of the last of so many commits stands for all of them, unless two of their texts have one
-/// digest.
+/// After one point, the digest of the last of so many commits stands for all of them, unless two of their
+/// texts have one digest.
 pub fn last_digest_stands_for_all()
     ensures { (p : Point) (bodies others : List Octets) → length p.digest ≡ 32
         → length bodies ≡ length others

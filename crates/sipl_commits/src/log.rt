@@ -51,8 +51,8 @@ pub fn write_head(alloc: Global, out: &mut Vec<u8>, point: &Point) -> Result<(),
     out.extend_from_slice(&head)
 }
 
-/// The octets of a log whose first commit follows this point, with changes in one commit, if there are any; and the
-/// point after that. The only error is an allocation failure.
+/// The octets of a log whose first commit follows this point, with changes in one commit, if there are any;
+/// and the point after that. The only error is an allocation failure.
 pub fn log_of(alloc: Global, point: &Point, changes: &[u8]) -> Result<(Vec<u8>, Point), AllocError>
     ensures text { IfOk result (λ made.
         made.0.items ≡ log_text point.now (one_if_any changes.now)) }
