@@ -23,8 +23,8 @@ const MAX_READS: u32 = 1 << 31;
 // What stands for a line that is refused: the desk of a session that may only ask refuses it too.
 const REFUSED: &[u8] = b"repair\n";
 
-/// What a client sends that may only ask. In place of each line that is refused, and the lines that it takes, the
-/// session has one that its desk refuses: so it keeps no zone, and makes no hold but those of its calls.
+/// What a client sends that may only ask. In place of each line that is refused, and the lines that it takes,
+/// the session has one that its desk refuses: so it keeps no zone, and makes no hold but those of its calls.
 #[derive(Drop)]
 pub struct Asking<'a, R> {
     input: Input<'a, R>,

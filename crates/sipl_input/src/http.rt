@@ -1,12 +1,12 @@
-//! Requests of browsers. A web page can have a browser send its text to an address of this machine, and lines in it
-//! would be carried out.
+//! Requests of browsers. A web page can have a browser send its text to an address of this machine, and lines
+//! in it would be carried out.
 
 ghost use Rattle.std.specs.Prelude.{◌≡◌};
 ghost use Rattle.std.specs.List.{list_any};
 ghost use Rattle.sipl_input.specs.Methods.{begins_request, begins_with};
 
-// The methods of HTTP (RFC 9110, 9.3; RFC 5789, 2), and the first word of HTTP/2 (RFC 9113, 3.4), each with the space
-// after it.
+// The methods of HTTP (RFC 9110, 9.3; RFC 5789, 2), and the first word of HTTP/2 (RFC 9113, 3.4), each with
+// the space after it.
 const METHODS: &[&[u8]] = &[
     b"CONNECT ",
     b"DELETE ",

@@ -16,10 +16,10 @@ use std::time::Clock;
 // How many octets make a line too long, whatever it has before them.
 const TOO_LONG: usize = MAX_LINE_LEN + 1;
 
-/// A client's stream as a reader, which fails once the daemon is to stop, where the stream begins as a request of HTTP
-/// does, and where it ends within a line or the lines of a zone: so a line whose end has not come is not carried out,
-/// and no part of a zone is loaded. Where the lines of a zone have too many octets, one of them is made too long: the
-/// session refuses the zone for it and keeps no lines.
+/// A client's stream as a reader, which fails once the daemon is to stop, where the stream begins as a
+/// request of HTTP does, and where it ends within a line or the lines of a zone: so a line whose end has not
+/// come is not carried out, and no part of a zone is loaded. Where the lines of a zone have too many octets,
+/// one of them is made too long: the session refuses the zone for it and keeps no lines.
 #[derive(Drop)]
 pub struct Input<'a, R> {
     alloc: Global,
