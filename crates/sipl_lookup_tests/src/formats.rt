@@ -1,5 +1,6 @@
-//! What no line shows of names, records and URIs: texts with line ends or blanks in them, copies, and what is not
-//! printed. `tests/sessions/names`, `records`, `masterfiles` and `uris` have the rest, and `tests/campaigns/octets`.
+//! What no line shows of names, records and URIs: texts with line ends or blanks in them, copies, and what is
+//! not printed. `tests/sessions/names`, `records`, `masterfiles` and `uris` have the rest, and
+//! `tests/campaigns/octets`.
 mod names;
 
 use crate::assertions::{expects, expects_equal_at};

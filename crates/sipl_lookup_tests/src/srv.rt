@@ -1,5 +1,5 @@
-//! What no question shows: the order of no server, the last word of a seed, which decides nothing, and copies.
-//! `tests/sessions/servers` has the rest.
+//! What no question shows: the order of no server, the last word of a seed, which decides nothing, and
+//! copies. `tests/sessions/servers` has the rest.
 
 use crate::assertions::{expects, expects_equal_at};
 use sipl_names::Name;
