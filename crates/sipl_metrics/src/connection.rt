@@ -16,8 +16,8 @@ const CHUNK: usize = 1_024;
 // How many reads a head may take, and how many writes a reply.
 const MAX_TURNS: u32 = 1 << 14;
 
-/// Reads what is left of a request that was refused. Without that the system may end the connection before the reply was
-/// read.
+/// Reads what is left of a request that was refused. Without that the system may end the connection before
+/// the reply was read.
 pub fn read_rest<R: Clock>(rt: &R, stream: &Stream, begun: Instant) -> io::Result<()> {
     stream.shutdown(Shutdown::Write)?;
     let mut chunk = [0; CHUNK];

@@ -1,5 +1,5 @@
-//! Metrics of a program, as Prometheus scrapes them: their text, a histogram of times, and the requests of HTTP for
-//! them.
+//! Metrics of a program, as Prometheus scrapes them: their text, a histogram of times, and the requests of
+//! HTTP for them.
 #![tactic(auto)]
 
 mod connection;

@@ -29,8 +29,8 @@ pub enum Asked {
     Bad,
 }
 
-/// What a request asks for, once its head has come: `None` where more of it is to come. A head that is none of HTTP/1,
-/// is too long, or has more than 64 fields, is bad.
+/// What a request asks for, once its head has come: `None` where more of it is to come. A head that is none
+/// of HTTP/1, is too long, or has more than 64 fields, is bad.
 pub fn read_request(octets: &[u8]) -> Option<Asked>
     ensures found { (head : RequestHead) (rest : List ℕ) → ReadsRequest octets.now head rest
         → length head.fields ≤ 64 → IsAskedBy octets.now result }
