@@ -12,8 +12,8 @@ use std::rt::Env;
 // The status of a call with wrong arguments.
 const WRONG_ARGUMENTS: u8 = 2;
 
-/// What the arguments of the process ask for. Where that is no call, the status with which it ends: they ask for a text,
-/// which is printed, or are wrong, and standard error has the reason.
+/// What the arguments of the process ask for. Where that is no call, the status with which it ends: they ask
+/// for a text, which is printed, or are wrong, and standard error has the reason.
 pub fn read_call<R, H>(rt: &R, host: &H, log: &Log) -> Result<Call, ExitCode>
 where
     R: Env + Print + Eprint + AllocGlobal,
@@ -85,7 +85,8 @@ where
     Ok(())
 }
 
-/// The status of what was done. A fault is written on standard error, after the lines of the log that are there.
+/// The status of what was done. A fault is written on standard error, after the lines of the log that are
+/// there.
 pub fn status_of<R, H>(rt: &R, host: &H, log: &Log, outcome: Result<bool, Fault>) -> ExitCode
 where
     R: Eprint + AllocGlobal,

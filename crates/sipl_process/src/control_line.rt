@@ -25,7 +25,8 @@ const CHUNK: usize = 16_384;
 const HEAD: usize = 8;
 
 /// Sends a line to the control address of a daemon, and prints what comes back until the connection ends.
-/// Returns whether the line is accepted. What comes back has to be the reply of a control address, and to end.
+/// Returns whether the line is accepted. What comes back has to be the reply of a control address, and to
+/// end.
 pub fn tell<R: Print + AllocGlobal, H: Host>(
     rt: &R,
     host: &H,
@@ -137,8 +138,8 @@ fn read_some<H: Host>(
     late(reader.read(chunk))
 }
 
-// Lets the next read or write wait until the time for all is over; a peer that is not about to end, no longer than one
-// may be silent.
+// Lets the next read or write wait until the time for all is over; a peer that is not about to end, no longer
+// than one may be silent.
 fn set_patience<R: Clock>(rt: &R, begun: Instant, stream: &Stream, ends: bool) -> io::Result<()> {
     let left = Duration::from_millis(LONGEST).saturating_sub(begun.elapsed(rt)?);
     let patience = if ends {

@@ -1,5 +1,5 @@
-//! The process of a daemon without its service: its faults and standard streams, what is at its paths, its sockets, and
-//! the calls that serve nobody.
+//! The process of a daemon without its service: its faults and standard streams, what is at its paths, its
+//! sockets, and the calls that serve nobody.
 #![tactic(auto)]
 
 mod archive;

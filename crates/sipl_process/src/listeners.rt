@@ -70,8 +70,9 @@ impl Tried {
 }
 
 impl Listeners {
-    /// Checks that a daemon can listen at all addresses of the settings, before it reads its state: the archive may have
-    /// pages of that. None of the addresses is taken afterwards, and no socket is seen at a path.
+    /// Checks that a daemon can listen at all addresses of the settings, before it reads its state: the
+    /// archive may have pages of that. None of the addresses is taken afterwards, and no socket is seen at a
+    /// path.
     pub fn check<H: Host>(host: &H, alloc: Global, settings: &DaemonSettings) -> Result<(), Fault> {
         let mut tried = Tried {
             sockets: Vec::new(alloc),
@@ -82,8 +83,8 @@ impl Listeners {
         outcome
     }
 
-    /// Listens at all addresses of the settings, and says so: on standard output, and in the log, which has edits from
-    /// then on.
+    /// Listens at all addresses of the settings, and says so: on standard output, and in the log, which has
+    /// edits from then on.
     pub fn open<R, H>(
         rt: &R,
         host: &H,
@@ -141,7 +142,8 @@ impl Listeners {
         Ok(())
     }
 
-    // Prints the addresses: after the others those of clients that may only ask, and that of control lines last.
+    // Prints the addresses: after the others those of clients that may only ask, and that of control lines
+    // last.
     fn print<R: Print>(&self, rt: &R) -> io::Result<()> {
         for listener in &self.clients {
             println!(rt; "ready {}", listener.address())?;

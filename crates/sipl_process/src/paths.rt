@@ -1,5 +1,5 @@
-//! What is at the paths of settings and arguments, before it is opened: a pipe would be waited for, a device read
-//! without end, and what is in the way of a page be seen only with the first page.
+//! What is at the paths of settings and arguments, before it is opened: a pipe would be waited for, a device
+//! read without end, and what is in the way of a page be seen only with the first page.
 use crate::fault::Fault;
 use crate::host::Host;
 use sipl_archive::{ReplayFault, is_passed_over};
@@ -17,8 +17,8 @@ const ENDINGS: &[&str] = &["", ".lock", ".log", ".new", ".log.new", ".log.torn"]
 // How many octets a file of settings may have.
 const MAX_SETTINGS: u64 = 1 << 20;
 
-/// Checks that settings can be read from a path: there is a file of no great length, or a pipe that is open and has no
-/// path of its own.
+/// Checks that settings can be read from a path: there is a file of no great length, or a pipe that is open
+/// and has no path of its own.
 pub(crate) fn expect_settings<H: Host>(host: &H, alloc: Global, path: &str) -> Result<(), Fault> {
     match check_settings(host, alloc, path) {
         Ok(()) => Ok(()),
@@ -26,7 +26,8 @@ pub(crate) fn expect_settings<H: Host>(host: &H, alloc: Global, path: &str) -> R
     }
 }
 
-/// Checks that each file of a state is one, or is not there. `found` is where the path leads, if that can be said.
+/// Checks that each file of a state is one, or is not there. `found` is where the path leads, if that can be
+/// said.
 pub fn expect_state<H: Host>(
     host: &H,
     alloc: Global,
@@ -59,8 +60,8 @@ pub(crate) fn expect_pages<H: Host>(host: &H, alloc: Global, folder: &str) -> Re
     }
 }
 
-/// Checks that the next page of an archive, whose lock is taken, finds no other than a file in its way, which is
-/// removed, and where that is asked for that it can be made.
+/// Checks that the next page of an archive, whose lock is taken, finds no other than a file in its way, which
+/// is removed, and where that is asked for that it can be made.
 pub(crate) fn expect_page<H: Host>(
     host: &H,
     alloc: Global,
