@@ -1,8 +1,9 @@
 // What came of a call that may be refused for memory, and that changes nothing then.
 //
-// A call returns whether all is right after it, or `None` where an allocation failed and all is as before: then
-// it is made again. What a call returns is judged by a function that borrows it, and is dropped by a call. Each
-// function owns one value at most, and does not end early while it does: so it is proved in a second or two.
+// A call returns whether all is right after it, or `None` where an allocation failed and all is as before:
+// then it is made again. What a call returns is judged by a function that borrows it, and is dropped by a
+// call. Each function owns one value at most, and does not end early while it does: so it is proved in a
+// second or two.
 
 // What came of a call that may have been made twice.
 #[derive(Clone, Copy)]
