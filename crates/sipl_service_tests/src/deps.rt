@@ -9,8 +9,8 @@ use std::sync::Wait;
 use std::test::*;
 
 // The records that Bob's question depends on, in the order of reading, and of addition within a set; with the
-// number of its set as the zone is loaded, and after an edit. The sets of a zone take the numbers from 1, in the
-// order of its records. A set that grows takes the next number, and the others keep theirs.
+// number of its set as the zone is loaded, and after an edit. The sets of a zone take the numbers from 1, in
+// the order of its records. A set that grows takes the next number, and the others keep theirs.
 const ROWS: &[((u64, u64), &[u8])] = &[
     (
         (1, 1),

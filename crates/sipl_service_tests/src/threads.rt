@@ -25,7 +25,8 @@ fn plays<R: Wait + Abort>(scene: &Scene<R>, mut pass: Pass, calls: &[Call]) -> P
     pass
 }
 
-// The passes of two callers: one loads the zone, adds a host and finds it, beside one that finds both servers.
+// The passes of two callers: one loads the zone, adds a host and finds it, beside one that finds both
+// servers.
 fn two_callers<R: Threads + Wait + Abort + Sync>(scene: &Scene<R>) -> (Pass, Pass) {
     let first = plays(scene, scene.service.pass(), &[Call::Load]);
     let second = scene.service.pass();
