@@ -29,8 +29,8 @@ impl Case<'_> {
     }
 }
 
-// The lengths of what is read and written at once, the read and the write that fail, from 1, how the write does,
-// and how many reads there may be. The streams are made of these where nothing can fail any more.
+// The lengths of what is read and written at once, the read and the write that fail, from 1, how the write
+// does, and how many reads there may be. The streams are made of these where nothing can fail any more.
 #[derive(Clone, Copy)]
 struct Streams {
     read_most: usize,

@@ -1,5 +1,5 @@
-//! Tests of sessions and scripts by calls of the libraries: streams that fail, pauses, and what no line shows.
-//! What the program replies is in `tests/sessions/`, and in `tests/campaigns/streams`.
+//! Tests of sessions and scripts by calls of the libraries: streams that fail, pauses, and what no line
+//! shows. What the program replies is in `tests/sessions/`, and in `tests/campaigns/streams`.
 #![tactic(auto)]
 
 #[cfg(test)]
