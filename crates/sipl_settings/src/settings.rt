@@ -15,8 +15,8 @@ use std::alloc::Global;
 // How many may read the metrics at a time.
 const MAX_SCRAPERS: usize = 8;
 
-/// The settings of the daemon: those of a server of sessions, and its own, each by the name of its key. Their limits and
-/// their defaults are in [`sipl_config::rows`].
+/// The settings of the daemon: those of a server of sessions, and its own, each by the name of its key. Their
+/// limits and their defaults are in [`sipl_config::rows`].
 #[derive(Drop)]
 pub struct DaemonSettings {
     /// The folder of the pages that were claimed, if there is one.
@@ -82,9 +82,9 @@ pub enum OnFailure {
 }
 
 impl DaemonSettings {
-    /// Reads the settings from a TOML document: the rows of [`sipl_config::rows`] say which keys it may have, and with
-    /// which values. An address is a text, or a table of it, `at`, and of a Unix socket's `mode`. A missing key has its
-    /// default.
+    /// Reads the settings from a TOML document: the rows of [`sipl_config::rows`] say which keys it may have,
+    /// and with which values. An address is a text, or a table of it, `at`, and of a Unix socket's `mode`. A
+    /// missing key has its default.
     ///
     /// The fault is G1 where the text is not a TOML document. Otherwise it is that of the first of the
     /// daemon's own keys, in the order of their octets, that does not allow its value (G3); or else that

@@ -20,8 +20,8 @@ pub(super) trait Setting: Drop {
         Self: Sized;
 }
 
-/// The settings of a document that have not been taken out yet, and the fault of the first that was refused: after it
-/// none is read, and what is taken out is of no use.
+/// The settings of a document that have not been taken out yet, and the fault of the first that was refused:
+/// after it none is read, and what is taken out is of no use.
 #[derive(Drop)]
 pub(super) struct Document {
     alloc: Global,
@@ -67,8 +67,8 @@ impl Document {
         }
     }
 
-    /// The settings that `serve` has too, but for `sessions`, of what has not been taken out. The fault is that of the
-    /// first setting that was refused.
+    /// The settings that `serve` has too, but for `sessions`, of what has not been taken out. The fault is
+    /// that of the first setting that was refused.
     pub(super) fn take_service(self) -> Result<Settings, SettingsFault>
         ensures { IfOk result (λ settings. IsWithinLimits settings) }
     {
