@@ -103,7 +103,8 @@ fn print_told<R: Print + Eprint>(rt: &R, error: &clap::Error) -> Result<bool, Fa
     }
 }
 
-// Writes on standard error what is wrong with the arguments, where there is more to say than the usage, and that.
+// Writes on standard error what is wrong with the arguments, where there is more to say than the usage, and
+// that.
 fn report_wrong<R: Print + Eprint>(rt: &R, unread: &Unread) {
     if let Unread::Told(error) = unread {
         let _ = error.print(rt);
