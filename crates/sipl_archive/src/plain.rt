@@ -3,10 +3,8 @@ ghost use Rattle.std.specs.Prelude.{◌≡◌, IfOk};
 ghost use Rattle.sipl_plans.specs.Plan.{plan};
 ghost use Rattle.sipl_records.specs.Sets.{set_of};
 ghost use Rattle.sipl_outages.specs.Holds.BoardEvent.{Hold, Release, Advance};
-ghost use Rattle.sipl_zonestore.specs.Edited.{IsEdited};
 ghost use Rattle.sipl_zonestore.specs.Looks.{looked};
-ghost use Rattle.sipl_book.specs.Machine.{zone_edit};
-ghost use Rattle.sipl_archive.specs.Plain.{EditsStore, MakesEdit, MovesBoard, new_plain};
+ghost use Rattle.sipl_archive.specs.Plain.{MakesEdit, MovesBoard, new_plain};
 
 use sipl_book::{Book, BookFault, Done, Edit, Extent, Handed};
 use sipl_choice::{Abilities, Endpoint};
@@ -16,7 +14,7 @@ use sipl_outages::{Board, Held};
 use sipl_plans::{Answer, plan_of};
 use sipl_srv::Draws;
 use sipl_uri::Question;
-use sipl_zonestore::{Changed, StoreFault, ZoneStore};
+use sipl_zonestore::ZoneStore;
 use std::alloc::{AllocError, Global};
 use std::marker::Model;
 
@@ -48,7 +46,7 @@ impl Plain {
     fn make(&mut self, edit: &Edit) -> Result<u64, BookFault>
         ensures { MakesEdit edit.now self.old self.new result }
     {
-        edit_store(&mut self.store, edit)
+        Ok(edit.apply(&mut self.store)?.sets as u64)
     }
 
     // The number of the next event.
@@ -143,24 +141,6 @@ impl Desk for Plain {
 
     fn write_fault(fault: BookFault, out: &mut Vec<u8>) {
         <Book as Desk>::write_fault(fault, out);
-    }
-}
-
-// Makes an edit at a store. Returns how many sets of records have changed.
-fn edit_store(store: &mut ZoneStore, edit: &Edit) -> Result<u64, BookFault>
-    ensures { EditsStore edit.now store.old store.new result }
-{
-    Ok(change_store(store, edit)?.sets as u64)
-}
-
-fn change_store(store: &mut ZoneStore, edit: &Edit) -> Result<Changed, StoreFault>
-    ensures { IsEdited (zone_edit edit.now) store.old store.new result }
-{
-    match edit {
-        Edit::Load(zone) => store.load(zone),
-        Edit::Unload(apex) => store.unload(apex),
-        Edit::Add(record) => store.add(record),
-        Edit::Remove(record) => store.remove(record),
     }
 }
 

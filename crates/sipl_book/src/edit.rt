@@ -54,8 +54,9 @@ impl Edit {
         }
     }
 
-    // Makes the edit. Returns the keys of the sets that changed, and how many are those of record sets.
-    pub(crate) fn apply(&self, store: &mut ZoneStore) -> Result<Changed, StoreFault>
+    /// Makes the edit at a store. Returns the keys of the sets that changed, and how many are those of record
+    /// sets. The fault is that of the store's call, which leaves the store as it was.
+    pub fn apply(&self, store: &mut ZoneStore) -> Result<Changed, StoreFault>
         ensures { IsEdited (zone_edit self.now) store.old store.new result }
     {
         match self {
