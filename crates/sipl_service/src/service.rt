@@ -13,7 +13,7 @@ use crate::shared::{Shared, new_versions};
 use crossbeam_utils::CachePadded;
 use sipl_book::{Book, BookFault, Done, Edit, Event, Limits, Page};
 use sipl_choice::{Abilities, Endpoint};
-use sipl_outages::Held;
+use sipl_outages::{Held, SharedBoard};
 use sipl_records::Key;
 use std::alloc::{AllocError, Global};
 use std::hint::spin_loop;
@@ -262,6 +262,21 @@ impl Service {
         ensures { result ≤ 2 ^ 52 }
     {
         self.lock(rt).book.board().now()
+    }
+
+    /// How many endpoints are held, at most 4,096.
+    pub fn held_endpoints<R: Wait>(&self, rt: &R) -> usize
+        ensures { result ≤ 4096 }
+    {
+        self.lock(rt).book.board().len()
+    }
+
+    /// The held endpoints and the time, as `Book::share_board` shares them. The lock tells nothing of
+    /// them, so this has no contract.
+    ///
+    /// The only error is an allocation failure (or 2^63 that share the value); then nothing changes.
+    pub fn share_board<R: Wait>(&self, rt: &R) -> Result<SharedBoard, AllocError> {
+        self.lock(rt).book.share_board()
     }
 
     /// Stops the service: the workers end, and calls that can be refused for it are (L6).
