@@ -91,7 +91,7 @@ fn print_found<R: Print, H: Host>(
     println!(rt; "format {format}")?;
     println!(rt; "zones {}", tally.zones().len())?;
     println!(rt; "records {}", tally.records())?;
-    println!(rt; "held {}", tally.holds().ends.len())?;
+    println!(rt; "held {}", daemon.source.service.held_endpoints(host))?;
     println!(rt; "commits {}", found.commits)?;
     println!(rt; "ok state")?;
     Ok(())

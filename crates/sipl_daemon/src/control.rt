@@ -4,8 +4,9 @@ use sipl_archive::hold_text;
 use sipl_input::begins_request;
 use sipl_listen::{Client, Stream};
 use sipl_names::Name;
+use sipl_outages::Board;
 use sipl_process::Host;
-use sipl_state::{Holds, Tally};
+use sipl_state::Tally;
 use std::alloc::{AllocError, Global};
 use std::fmt::Write as _;
 use std::io::{BufRead, BufReader, Read, Write};
@@ -164,14 +165,15 @@ fn write_zone(
 // The held endpoints, and for how many milliseconds each is held yet.
 fn write_holds<H: Host>(host: &H, daemon: &Daemon, reply: &mut String) -> Result<(), AllocError> {
     daemon.move_clock(host);
-    let tally = daemon.source.tally.lock(host);
-    write_tally_holds(daemon.alloc, tally.holds(), reply)
+    let shared = daemon.source.service.share_board(host)?;
+    write_board(daemon.alloc, shared.get(), reply)
 }
 
-fn write_tally_holds(alloc: Global, holds: &Holds, reply: &mut String) -> Result<(), AllocError> {
-    for (endpoint, end) in &holds.ends {
-        let text = hold_text(alloc, endpoint, end.saturating_sub(holds.time))?;
+fn write_board(alloc: Global, board: &Board, reply: &mut String) -> Result<(), AllocError> {
+    let now = board.now();
+    for (endpoint, end) in board.ends() {
+        let text = hold_text(alloc, endpoint, end.saturating_sub(now))?;
         reply.push_str(str::from_utf8(&text).unwrap_or(""))?;
     }
-    writeln!(reply, "ok holds {}", holds.ends.len())
+    writeln!(reply, "ok holds {}", board.len())
 }

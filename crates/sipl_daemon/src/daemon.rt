@@ -167,14 +167,12 @@ impl Daemon {
         };
         let now = time.now(rt);
         let mut mover = self.mover.lock(rt);
-        let mut tally = self.source.tally.lock(rt);
-        if tally.holds().is_empty() || now <= self.source.service.now(rt) {
+        let tally = self.source.tally.lock(rt);
+        let service = &self.source.service;
+        if service.held_endpoints(rt) == 0 || now <= service.now(rt) {
             return;
         }
-        let moved = self.source.service.advance(rt, &mut mover, now);
-        if moved.is_ok() {
-            tally.advance(now);
-        }
+        let moved = service.advance(rt, &mut mover, now);
         drop(tally);
         self.end_move(rt, &mut mover, moved);
     }
@@ -305,7 +303,7 @@ impl Daemon {
     // How many zones there are, how many records they have, and how many endpoints are held.
     fn totals<R: Wait>(&self, rt: &R) -> (u64, u64, u64) {
         let tally = self.source.tally.lock(rt);
-        let held = tally.holds().ends.len() as u64;
+        let held = self.source.service.held_endpoints(rt) as u64;
         (tally.zones().len() as u64, tally.records(), held)
     }
 }

@@ -46,11 +46,8 @@ impl Source {
         ensures { GetsReceipt (λ number. number) (λ number. Hold endpoint.now ms)
             pass.old pass.new result }
     {
-        let mut tally = self.tally.lock(rt);
-        tally.reserve()?;
-        let number = self.append_hold(rt, pass, endpoint, ms, place)?;
-        tally.hold(endpoint, ms);
-        Ok(number)
+        let _tally = self.tally.lock(rt);
+        self.append_hold(rt, pass, endpoint, ms, place)
     }
 
     /// Ends the hold of an endpoint, as `edit` makes an edit.
@@ -64,10 +61,8 @@ impl Source {
         ensures { GetsReceipt (λ number. number) (λ number. Release endpoint.now)
             pass.old pass.new result }
     {
-        let mut tally = self.tally.lock(rt);
-        let number = self.append_release(rt, pass, endpoint, place)?;
-        tally.release(endpoint);
-        Ok(number)
+        let _tally = self.tally.lock(rt);
+        self.append_release(rt, pass, endpoint, place)
     }
 
     /// Sets the time, as `edit` makes an edit.
@@ -82,10 +77,8 @@ impl Source {
             pass.old pass.new result }
         ensures limit { OnOk result (to ≤ 2 ^ 52) }
     {
-        let mut tally = self.tally.lock(rt);
-        let number = self.append_advance(rt, pass, to, place)?;
-        tally.advance(to);
-        Ok(number)
+        let _tally = self.tally.lock(rt);
+        self.append_advance(rt, pass, to, place)
     }
 
     /// Sets the time, and not in the file of changes: the next hold or release there has it.
@@ -93,10 +86,8 @@ impl Source {
         ensures receipt { GetsReceipt (λ number. number) (λ number. Advance to)
             pass.old pass.new result }
     {
-        let mut tally = self.tally.lock(rt);
-        let number = self.service.advance(rt, pass, to)?;
-        tally.advance(to);
-        Ok(number)
+        let _tally = self.tally.lock(rt);
+        self.service.advance(rt, pass, to)
     }
 
     // Makes an edit and appends it to the file of changes, where there is one.

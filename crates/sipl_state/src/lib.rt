@@ -6,7 +6,6 @@ mod changes;
 mod edits;
 mod files;
 mod first_format;
-mod holds;
 mod pending;
 mod restoring;
 mod source;
@@ -17,7 +16,6 @@ mod written;
 
 pub use changes::Changes;
 pub use files::real_path;
-pub use holds::Holds;
 pub use pending::Mark;
 pub use restoring::{FoundFiles, Restored, StateFault, check_state, restore};
 pub use source::{Source, Turned};

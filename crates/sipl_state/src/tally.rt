@@ -1,22 +1,16 @@
-//! The zones and the holds as they are: what an operator asks for.
-ghost use Rattle.std.specs.Prelude.{◌≡◌, ◌<◌, vec_capacity, vec_len, OnOk};
-ghost use Rattle.sipl_outages.specs.Holds.{after_advance, after_release};
-ghost use Rattle.sipl_state.specs.Holding.{after_hold, holds_of};
+//! The zones as they are: what an operator asks for.
 
-use crate::holds::Holds;
 use indexmap::IndexMap;
 use sipl_book::Edit;
-use sipl_choice::Endpoint;
 use sipl_names::Name;
 use std::alloc::{AllocError, Global};
 
-/// The zones, each with how many records it has, in the order of addition, and the holds. The calls that
-/// change them are made under its lock, so it follows them in the order of their events.
+/// The zones, each with how many records it has, in the order of addition. The edits are made under its
+/// lock, so it follows them in the order of their events.
 #[derive(Drop)]
 pub struct Tally {
     zones: IndexMap<Name, u64>,
     records: u64,
-    holds: Holds,
 }
 
 /// What an edit does to a tally, once it is made.
@@ -41,26 +35,17 @@ impl Step {
 }
 
 impl Tally {
-    /// Nothing is loaded or held, at time 0.
+    /// Nothing is loaded.
     pub(crate) fn new(alloc: Global) -> Tally {
         Tally {
             zones: IndexMap::new(alloc),
             records: 0,
-            holds: Holds::new(alloc),
         }
-    }
-
-    /// Reserves the space for one step.
-    pub(crate) fn reserve(&mut self) -> Result<(), AllocError>
-        ensures { OnOk result (vec_len self.new.holds.ends < vec_capacity self.new.holds.ends) }
-    {
-        self.zones.reserve(1)?;
-        self.holds.reserve()
     }
 
     /// What an edit does once it is made, with space for it. The only error is an allocation failure.
     pub(crate) fn step_of(&mut self, alloc: Global, edit: &Edit) -> Result<Step, AllocError> {
-        self.reserve()?;
+        self.zones.reserve(1)?;
         Step::of(alloc, edit)
     }
 
@@ -99,30 +84,6 @@ impl Tally {
         (0, 0)
     }
 
-    /// A hold was made.
-    pub(crate) fn hold(&mut self, endpoint: &Endpoint, ms: u64)
-        requires space { vec_len self.old.holds.ends < vec_capacity self.old.holds.ends }
-        ensures { holds_of self.new.holds
-            ≡ after_hold endpoint.now ms (holds_of self.old.holds) }
-    {
-        self.holds.hold(endpoint, ms);
-    }
-
-    /// A hold was ended.
-    pub(crate) fn release(&mut self, endpoint: &Endpoint)
-        ensures { holds_of self.new.holds
-            ≡ after_release endpoint.now (holds_of self.old.holds) }
-    {
-        self.holds.release(endpoint);
-    }
-
-    /// The time was set.
-    pub fn advance(&mut self, to: u64)
-        ensures { holds_of self.new.holds ≡ after_advance to (holds_of self.old.holds) }
-    {
-        self.holds.advance(to);
-    }
-
     /// The zones, and how many records each has.
     pub fn zones(&self) -> &IndexMap<Name, u64> {
         &self.zones
@@ -131,10 +92,5 @@ impl Tally {
     /// How many records there are in all.
     pub fn records(&self) -> u64 {
         self.records
-    }
-
-    /// The holds.
-    pub fn holds(&self) -> &Holds {
-        &self.holds
     }
 }
