@@ -1,7 +1,9 @@
 //! The types of records and their data (RFC 1035, 5.1).
 ghost use Rattle.std.specs.Prelude.{◌≡◌, ◌≢◌, Ok, Err, IfOk, IfErr};
 ghost use Rattle.std.specs.List.{list_all};
+ghost use Rattle.std.specs.Str.{str_eq_ignore_ascii_case};
 ghost use Rattle.sipl_names.specs.LabelSlices.{octets_of};
+ghost use Rattle.sipl_records.specs.Kinds.{text_of_kind};
 ghost use Rattle.sipl_masterfile.specs.Rdata.{data_of, data_of_kind, address4_data, address6_data, alias_data, service_data, pointer_data, kind_of_type, is_numbered_kind, are_generic, is_type, is_type_octet};
 
 use crate::fault::ZoneCause;
@@ -122,19 +124,26 @@ fn read_pointer(alloc: Global, fields: &[&[u8]], origin: &Name) -> Result<Data, 
 fn kind_of_type(word: &[u8]) -> Option<Kind>
     ensures { result ≡ kind_of_type word.now }
 {
-    if word.eq_ignore_ascii_case(b"A") {
+    if is_mnemonic(word, Kind::Address4) {
         Some(Kind::Address4)
-    } else if word.eq_ignore_ascii_case(b"AAAA") {
+    } else if is_mnemonic(word, Kind::Address6) {
         Some(Kind::Address6)
-    } else if word.eq_ignore_ascii_case(b"CNAME") {
+    } else if is_mnemonic(word, Kind::Alias) {
         Some(Kind::Alias)
-    } else if word.eq_ignore_ascii_case(b"SRV") {
+    } else if is_mnemonic(word, Kind::Service) {
         Some(Kind::Service)
-    } else if word.eq_ignore_ascii_case(b"NAPTR") {
+    } else if is_mnemonic(word, Kind::Pointer) {
         Some(Kind::Pointer)
     } else {
         None
     }
+}
+
+// Whether a type is the mnemonic of a kind, in either case.
+fn is_mnemonic(word: &[u8], kind: Kind) -> bool
+    ensures { result ≡ str_eq_ignore_ascii_case word.now (text_of_kind kind) }
+{
+    word.eq_ignore_ascii_case(kind.name().as_bytes())
 }
 
 // Whether the type is that of a kind by its number (RFC 3597, 5).
