@@ -2,11 +2,13 @@
 ghost use Rattle.std.specs.Prelude.{◌≡◌, ◌++◌, OnOk};
 ghost use Rattle.sipl_names.specs.NamePrint.{is_special, printed_octet, text_of};
 ghost use Rattle.sipl_records.specs.Addresses.{text_of_address};
+ghost use Rattle.sipl_records.specs.Kinds.{text_of_kind};
+ghost use Rattle.sipl_lines.specs.ReplyText.{word_field};
 ghost use Rattle.sipl_archive.specs.Text.{data_text, record_line, string_field};
 
 use crate::text::write_number;
 use sipl_names::Name;
-use sipl_records::{Address, Data, Record};
+use sipl_records::{Address, Data, Kind, Record};
 use std::alloc::{AllocError, Global};
 
 /// Appends a record as an entry of a master file (RFC 1035, 5.1) that reads back to it. One of another
@@ -29,20 +31,29 @@ fn write_data(alloc: Global, out: &mut Vec<u8>, data: &Data) -> Result<(), Alloc
     ensures { OnOk result (out.new.items ≡ out.old.items ++ data_text «data».now) }
 {
     match data {
-        Data::Address4(number) => write_address(out, b" A ", Address::V4(*number)),
-        Data::Address6(number) => write_address(out, b" AAAA ", Address::V6(*number)),
-        Data::Alias(target) => write_name(out, b" CNAME ", target),
+        Data::Address4(number) => {
+            write_kind(out, Kind::Address4)?;
+            write_address(out, Address::V4(*number))
+        }
+        Data::Address6(number) => {
+            write_kind(out, Kind::Address6)?;
+            write_address(out, Address::V6(*number))
+        }
+        Data::Alias(target) => {
+            write_kind(out, Kind::Alias)?;
+            write_name(out, target)
+        }
         Data::Service {
             priority,
             weight,
             port,
             target,
         } => {
-            out.extend_from_slice(b" SRV")?;
+            write_kind(out, Kind::Service)?;
             write_number(alloc, out, u64::from(*priority))?;
             write_number(alloc, out, u64::from(*weight))?;
             write_number(alloc, out, u64::from(*port))?;
-            write_name(out, b" ", target)
+            write_name(out, target)
         }
         Data::Pointer {
             order,
@@ -52,7 +63,7 @@ fn write_data(alloc: Global, out: &mut Vec<u8>, data: &Data) -> Result<(), Alloc
             regexp,
             replacement,
         } => {
-            out.extend_from_slice(b" NAPTR")?;
+            write_kind(out, Kind::Pointer)?;
             write_number(alloc, out, u64::from(*order))?;
             write_number(alloc, out, u64::from(*preference))?;
             write_strings(
@@ -61,23 +72,33 @@ fn write_data(alloc: Global, out: &mut Vec<u8>, data: &Data) -> Result<(), Alloc
                 services.get().as_slice(),
                 regexp.get().as_slice(),
             )?;
-            write_name(out, b" ", replacement.get())
+            write_name(out, replacement.get())
         }
         Data::Bare => out.extend_from_slice(b" NULL"),
     }
 }
 
-fn write_address(out: &mut Vec<u8>, word: &[u8], address: Address) -> Result<(), AllocError>
-    ensures { OnOk result (out.new.items ≡ out.old.items ++ word.now ++ text_of_address address) }
+// Appends a space and the mnemonic of a kind.
+fn write_kind(out: &mut Vec<u8>, kind: Kind) -> Result<(), AllocError>
+    ensures { OnOk result (out.new.items ≡ out.old.items ++ word_field (text_of_kind kind)) }
 {
-    out.extend_from_slice(word)?;
+    out.push(b' ')?;
+    out.extend_from_slice(kind.name().as_bytes())
+}
+
+// Appends a space and an address.
+fn write_address(out: &mut Vec<u8>, address: Address) -> Result<(), AllocError>
+    ensures { OnOk result (out.new.items ≡ out.old.items ++ word_field (text_of_address address)) }
+{
+    out.push(b' ')?;
     address.write(out)
 }
 
-fn write_name(out: &mut Vec<u8>, word: &[u8], name: &Name) -> Result<(), AllocError>
-    ensures { OnOk result (out.new.items ≡ out.old.items ++ word.now ++ text_of name.now) }
+// Appends a space and a name.
+fn write_name(out: &mut Vec<u8>, name: &Name) -> Result<(), AllocError>
+    ensures { OnOk result (out.new.items ≡ out.old.items ++ word_field (text_of name.now)) }
 {
-    out.extend_from_slice(word)?;
+    out.push(b' ')?;
     name.write(out)
 }
 
