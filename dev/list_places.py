@@ -111,6 +111,11 @@ ROWS = {"a record type": ["types", "kinds"], "a family of addresses": ["families
         "a line at a control address": ["control"], "a refusal": ["codes"],
         "a setting of both programs": ["settings", "settings of siplocd"],
         "a setting of the daemon": ["settings of siplocd"]}
+# The words that are spelled in the crates' src, by the row that has each file where one is; and the files where such a
+# word is another one: of a listener, a step, or a control address.
+SPELLED = {"a record type": "kinds", "a line of a session": "session"}
+OTHER_WORDS = {"crates/sipl_process/src/listeners.rt", "crates/sipl_lines/src/step_lines.rt",
+               "crates/sipl_daemon/src/control.rt"}
 # Each kind of list that a client or a tool may have, by how many of its words one after another are one.
 SORTS = {"types": 4, "families": 3, "reasons": 3, "session": 5, "script": 5, "settings": 4, "settings of siplocd": 6}
 
@@ -242,9 +247,23 @@ def incomplete_rows() -> Iterator[str]:
                 yield f"places.txt, {what}: {file} has a list of it too"
 
 
+def spelled() -> Iterator[str]:
+    """The files of the crates that spell a mnemonic or a command, alone or after `ok`, and that its row lacks."""
+    rows = {what: documents.files_in(text) for what, text in documents.rows_of("places")["places"][1:]}
+    crates = [it for it in sorted((TOP / "crates").glob("*/src/**/*.rt")) if "_tests/" not in str(it)
+              and not it.is_relative_to(TOP / "crates/sipl_refused_calls")]
+    for what, name in SPELLED.items():
+        literal = re.compile(rf'^(?! *(?://|key: )).*b?"(?:ok | )?({"|".join(sorted(wanted()[name]))})(?: |\\n)?"', re.M)
+        for file in (str(it.relative_to(TOP)) for it in crates):
+            word = literal.search(text_of(file))
+            if word and file not in rows[what] and file not in OTHER_WORDS:
+                yield f"places.txt, {what}: {file}:{line_of(file, word.start(1))} spells {word[1]} too"
+
+
 def faults() -> Iterator[str]:
     """All that is wrong."""
     yield from incomplete_rows()
+    yield from spelled()
     for place in [*CLIENTS, *TOOLS, *CRATES]:
         yield from compared(place)
     yield from wrong_counts()
