@@ -39,7 +39,7 @@ families_text V6 = codes "v6"
 families_text V4ThenV6 = codes "v4v6"
 families_text V6ThenV4 = codes "v6v4"
 
--- what becomes of held endpoints
+-- the policy on held endpoints
 abbrev pub held_text : Held → Octets
 held_text Out = codes "out"
 held_text Last = codes "last"

@@ -19,7 +19,7 @@ use Rattle.sipl_book.specs.declared.fault.BookFault.{BookFault}
 use Rattle.sipl_book.specs.declared.fault.BookFault.TheVariants.{Store as StoreFault, Board as BoardFault, Memory}
 use Rattle.sipl_lines.specs.Desk.{DeskRules}
 
--- the zones and the holds, the client's abilities, and what becomes of held endpoints
+-- the zones and the holds, the client's abilities, and the policy on held endpoints
 pub record PlainState : Type 0 where
   pub store : Store
   pub board : BoardState
