@@ -37,7 +37,7 @@ abbrev pub asked_after : Step → Reply → Asked → Asked
 asked_after step Started asked = after_start step asked
 asked_after step reply asked = asked
 
--- the question and the random words of a step that hands out an answer: a worker commits the answer
+-- the question and the random words of a step that returns an answer: a worker commits the answer
 -- to the question of its last run
 abbrev pub asks : Asked → Step → Option (Question × List ℕ)
 asks asked (Hand question words) = Some (question, words)
@@ -57,7 +57,7 @@ move_of (Advance to) = Some (Advances to)
 move_of step = None
 
 -- the event of a step with its reply: an edit, a hold, a release or a move of the clock that was
--- accepted, or an answer that was handed out
+-- accepted, or an answer that was returned
 abbrev pub event_of : Asked → Step → Reply → Option Event
 event_of asked step (Changed done) = edit_of step
 event_of asked step (Moved number) = move_of step
@@ -81,7 +81,7 @@ abbrev pub journal_with : Asked → Step → Reply → List Event → List Event
 journal_with asked step (Paged extent) journal = []
 journal_with asked step reply journal = with_event (event_of asked step reply) journal
 
--- an answer that is handed out is that of the plain machine in this state, for the step's question
+-- an answer that is returned is that of the plain machine in this state, for the step's question
 -- and random words, by the policy on held endpoints
 abbrev pub IsRightAnswer : Client → Held → State → Asked → Step → Reply → Type 0
 IsRightAnswer client held state asked step (Answered handed) =
@@ -89,7 +89,7 @@ IsRightAnswer client held state asked step (Answered handed) =
     ≡ Some handed.answer
 IsRightAnswer client held state asked step reply = Unit {0}
 
--- each answer that is handed out is that of the plain machine in the state to which the edits, holds,
+-- each answer that is returned is that of the plain machine in the state to which the edits, holds,
 -- releases and moves of the clock that were accepted before it lead (RFC 3263, 4)
 abbrev pub AnswersAreRight : Client → Held → State → Asked → List Step → List Reply → Type 0
 AnswersAreRight client held state asked (step ∷ steps) (reply ∷ replies) =
