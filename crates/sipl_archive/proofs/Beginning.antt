@@ -6,7 +6,7 @@ use Rattle.std.proofs.lemmas.Bool.{false≢true}
 use Rattle.std.proofs.lemmas.List.{drop-drop}
 use Rattle.std.proofs.lemmas.List.Elements.{All-append, All-cons, All-nil}
 use Rattle.sipl_names.specs.Labels.{Octets}
-use Rattle.sipl_archive.specs.Commands.{Begins, HasNone, after_command, first_line, mark_in}
+use Rattle.sipl_archive.specs.Commands.{Begins, HasNone, after_command, checkpoint_in, first_line}
 use Rattle.sipl_archive.proofs.Cutting.{command_cut}
 
 begins_last : (commands : List Octets) (command text between after : Octets)
@@ -23,14 +23,14 @@ begins_more commands text octets len begins whole =
     rw (sym (drop-drop len octets text))
     (begins_last commands (take len (drop octets text)) text (drop octets text) (drop len (drop octets text)) begins whole (sym (take-append-drop len (drop octets text))))
 
--- the next command is no mark of this number either
-pub has_none_more : (mark : ℕ) (commands : List Octets) (text : Octets) (octets len : ℕ)
-    → HasNone mark commands → after_command (drop octets text) ≡ Some (drop len (drop octets text))
-    → false ≡ option_eq nat_eq (mark_in (first_line (drop octets text))) (Some mark) → HasNone mark (commands ++ take len (drop octets text) ∷ [])
-has_none_more mark commands text octets len none whole differs =
+-- the next command is no checkpoint of this number either
+pub has_none_more : (checkpoint : ℕ) (commands : List Octets) (text : Octets) (octets len : ℕ)
+    → HasNone checkpoint commands → after_command (drop octets text) ≡ Some (drop len (drop octets text))
+    → false ≡ option_eq nat_eq (checkpoint_in (first_line (drop octets text))) (Some checkpoint) → HasNone checkpoint (commands ++ take len (drop octets text) ∷ [])
+has_none_more checkpoint commands text octets len none whole differs =
     let command = take len (drop octets text) in
-    let is_other : Octets → Type 0 = λ (it : Octets). mark_in (first_line it) ≢ Some mark in
+    let is_other : Octets → Type 0 = λ (it : Octets). checkpoint_in (first_line it) ≢ Some checkpoint in
     let line = (command_cut (drop octets text) command (drop len (drop octets text)) whole (sym (take-append-drop len (drop octets text)))).line in
     let other : is_other command =
-    λ e. false≢true (differs ∙ ap (λ (m : Option ℕ). option_eq nat_eq m (Some mark)) (ap mark_in (sym line) ∙ e) ∙ eq-eqb mark mark refl) in
+    λ e. false≢true (differs ∙ ap (λ (m : Option ℕ). option_eq nat_eq m (Some checkpoint)) (ap checkpoint_in (sym line) ∙ e) ∙ eq-eqb checkpoint checkpoint refl) in
     All-append is_other commands (command ∷ []) none (All-cons is_other command [] other (All-nil is_other))

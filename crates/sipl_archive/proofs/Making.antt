@@ -3,7 +3,7 @@ use Rattle.std.proofs.Common.{◌≡◌, ℕ, ◌+◌, List, [], ◌∷◌, ◌+
 use Rattle.std.specs.Option.{option_or}
 use Rattle.std.proofs.lemmas.List.{drop-drop}
 use Rattle.sipl_names.specs.Labels.{Octets}
-use Rattle.sipl_archive.specs.Commands.{after_command, first_line, mark_in}
+use Rattle.sipl_archive.specs.Commands.{after_command, checkpoint_in, first_line}
 use Rattle.sipl_archive.specs.Restoring.{MakesAll, MakesFirst, Remaining, after_made}
 
 makes_last : (commands : List Octets) (last : Octets) (before between after : Remaining)
@@ -12,16 +12,16 @@ makes_last [] last before between after none makes = (after, rw none at makes, r
 makes_last (first ∷ others) last before between after all makes = (all.0, all.1, makes_last others last all.0 between after all.2 makes)
 
 -- one command more, of so many octets, and a reply of so many
-pub makes_more : (commands : List Octets) (text replies line : Octets) (octets len : ℕ) (rest left : Octets) (old mark new : Option ℕ)
-    → MakesAll commands (record { text = text; replies = replies; mark = old }) (record { text = drop octets text; replies = rest; mark = mark })
+pub makes_more : (commands : List Octets) (text replies line : Octets) (octets len : ℕ) (rest left : Octets) (old checkpoint new : Option ℕ)
+    → MakesAll commands (record { text = text; replies = replies; checkpoint = old }) (record { text = drop octets text; replies = rest; checkpoint = checkpoint })
     → after_command (drop octets text) ≡ Some (drop len (drop octets text)) → line ≡ first_line (drop octets text)
-    → after_made line rest ≡ Some left → new ≡ option_or (mark_in line) mark
-    → MakesAll (commands ++ take len (drop octets text) ∷ []) (record { text = text; replies = replies; mark = old }) (record { text = drop (octets + len) text; replies = left; mark = new })
-makes_more commands text replies line octets len rest left old mark new all whole is_line replied is_mark =
+    → after_made line rest ≡ Some left → new ≡ option_or (checkpoint_in line) checkpoint
+    → MakesAll (commands ++ take len (drop octets text) ∷ []) (record { text = text; replies = replies; checkpoint = old }) (record { text = drop (octets + len) text; replies = left; checkpoint = new })
+makes_more commands text replies line octets len rest left old checkpoint new all whole is_line replied is_checkpoint =
     let next : drop len (drop octets text) ≡ drop (octets + len) text = drop-drop len octets text in
-    makes_last commands (take len (drop octets text)) _ (record { text = drop octets text; replies = rest; mark = mark }) _ all (record {
+    makes_last commands (take len (drop octets text)) _ (record { text = drop octets text; replies = rest; checkpoint = checkpoint }) _ all (record {
       text_is = sym (take-append-drop len (drop octets text)) ∙ ap (λ (t : Octets). take len (drop octets text) ++ t) next;
       whole = whole ∙ ap (λ (t : Octets). Some t) next;
       replied = ap (λ (l : Octets). after_made l rest) (sym is_line) ∙ replied;
-      mark = is_mark ∙ ap (λ (l : Octets). option_or (mark_in l) mark) is_line;
+      checkpoint = is_checkpoint ∙ ap (λ (l : Octets). option_or (checkpoint_in l) checkpoint) is_line;
     })

@@ -110,9 +110,9 @@ abbrev pub HasNoEvent : Octets → Type 0
 HasNoEvent text =
     (rest : Octets) → after_command text ≡ Some rest → after_kept_reply (first_line text) rest ≡ None
 
--- the number of a mark, by its line: `# page NUMBER`
-abbrev pub mark_in : Octets → Option ℕ
-mark_in line =
+-- the number of a checkpoint, by its line: `# page NUMBER`
+abbrev pub checkpoint_in : Octets → Option ℕ
+checkpoint_in line =
     if starts_with nat_eq line (codes "# page ") then number_of (drop 7 line) (2 ^ 64 - 1) else None
 
 -- a text begins with whole commands, and then there is the rest
@@ -127,23 +127,23 @@ pub record IsWhole (text : Octets) (len : ℕ) : Type 0 where
   pub begins : Begins commands text (drop len text)
   pub last : after_command (drop len text) ≡ None
 
--- none of these commands is a mark of this number
+-- none of these commands is a checkpoint of this number
 abbrev pub HasNone : ℕ → List Octets → Type 0
-HasNone mark commands = All (λ command. mark_in (first_line command) ≢ Some mark) commands
+HasNone checkpoint commands = All (λ command. checkpoint_in (first_line command) ≢ Some checkpoint) commands
 
--- the first mark of this number in a text is after whole commands, and then there is the rest
-pub record HasMark (mark : ℕ) (text rest : Octets) : Type 0 where
+-- the first checkpoint of this number in a text is after whole commands, and then there is the rest
+pub record HasCheckpoint (checkpoint : ℕ) (text rest : Octets) : Type 0 where
   pub commands : List Octets
-  pub marked : Octets
-  pub begins : Begins commands text marked
-  pub others : HasNone mark commands
-  pub number : mark_in (first_line marked) ≡ Some mark
-  pub after : after_command marked ≡ Some rest
+  pub found : Octets
+  pub begins : Begins commands text found
+  pub others : HasNone checkpoint commands
+  pub number : checkpoint_in (first_line found) ≡ Some checkpoint
+  pub after : after_command found ≡ Some rest
 
--- no whole command of a text is a mark of this number
-pub record LacksMark (mark : ℕ) (text : Octets) : Type 0 where
+-- no whole command of a text is a checkpoint of this number
+pub record LacksCheckpoint (checkpoint : ℕ) (text : Octets) : Type 0 where
   pub commands : List Octets
   pub rest : Octets
   pub begins : Begins commands text rest
-  pub others : HasNone mark commands
+  pub others : HasNone checkpoint commands
   pub last : after_command rest ≡ None

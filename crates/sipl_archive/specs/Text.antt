@@ -71,19 +71,19 @@ release_line endpoint = codes "release " ++ endpoint_text endpoint ++ 10 ∷ []
 abbrev pub clock_line : ℕ → Octets
 clock_line to = codes "clock" ++ number_field to ++ 10 ∷ []
 
--- a mark: where the changes after a state begin
-abbrev pub mark_line : ℕ → Octets
-mark_line mark = codes "# page" ++ number_field mark ++ 10 ∷ []
+-- a checkpoint: where the changes after a state begin
+abbrev pub checkpoint_line : ℕ → Octets
+checkpoint_line checkpoint = codes "# page" ++ number_field checkpoint ++ 10 ∷ []
 
--- the first lines of a state: its mark, and the time, unless that is 0
+-- the first lines of a state: its checkpoint, and the time, unless that is 0
 abbrev pub state_head : ℕ → ℕ → Octets
-state_head mark now = mark_line mark ++ (if nat_lt 0 now then clock_line now else [])
+state_head checkpoint now = checkpoint_line checkpoint ++ (if nat_lt 0 now then clock_line now else [])
 
--- the text of a state after a mark: its first lines, those that load its zones, each with the records within
--- it, and those of its holds
+-- the text of a state after a checkpoint: its first lines, those that load its zones, each with the records
+-- within it, and those of its holds
 abbrev pub state_text : ℕ → State → Octets
-state_text mark state =
-    state_head mark state.holds.now
+state_text checkpoint state =
+    state_head checkpoint state.holds.now
     ++ zones_lines (zones_of (listed state.zones.apexes) state.zones.records)
     ++ hold_lines state.holds.now state.holds.ends
 

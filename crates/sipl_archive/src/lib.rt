@@ -16,5 +16,5 @@ pub use archive::Archive;
 pub use folder::is_passed_over;
 pub use items::{replies_to, split_line, taken_by};
 pub use runs::{ReplayFault, Replayed, replay};
-pub use state::{Made, find_mark, made_of, mark_of, state_text, whole_len};
-pub use text::{clock_text, edit_text, hold_text, mark_text, release_text};
+pub use state::{Made, checkpoint_of, find_checkpoint, made_of, state_text, whole_len};
+pub use text::{checkpoint_text, clock_text, edit_text, hold_text, release_text};

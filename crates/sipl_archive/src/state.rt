@@ -1,6 +1,6 @@
 //! The text of a state, and the changes after it.
 ghost use Rattle.std.specs.Prelude.{◌≡◌, ◌≤◌, ◌++◌, drop, length, None, Some, IfOk, IfSome, MatchOption, OnOk};
-ghost use Rattle.sipl_archive.specs.Commands.{HasMark, IsWhole, LacksMark, mark_in};
+ghost use Rattle.sipl_archive.specs.Commands.{HasCheckpoint, IsWhole, LacksCheckpoint, checkpoint_in};
 ghost use Rattle.sipl_archive.specs.Restoring.{IsMade, after_made};
 ghost use Rattle.sipl_archive.specs.Text.{state_text};
 
@@ -11,36 +11,41 @@ use sipl_book::State;
 use sipl_records::read_number;
 use std::alloc::{AllocError, Global};
 
-/// The text of a state: its mark, the time, unless that is 0, the zones with their records, and the holds
-/// with their remaining milliseconds. The only error is an allocation failure.
-pub fn state_text(alloc: Global, mark: u64, state: &State) -> Result<Vec<u8>, AllocError>
-    ensures { IfOk result (λ text. text.items ≡ state_text mark state.now) }
+/// The text of a state: its checkpoint, the time, unless that is 0, the zones with their records, and the
+/// holds with their remaining milliseconds. The only error is an allocation failure.
+pub fn state_text(alloc: Global, checkpoint: u64, state: &State) -> Result<Vec<u8>, AllocError>
+    ensures { IfOk result (λ text. text.items ≡ state_text checkpoint state.now) }
 {
     let mut text = Vec::new(alloc);
-    write_state(alloc, &mut text, mark, state)?;
+    write_state(alloc, &mut text, checkpoint, state)?;
     Ok(text)
 }
 
 // Appends the text of a state.
-fn write_state(alloc: Global, out: &mut Vec<u8>, mark: u64, state: &State) -> Result<(), AllocError>
-    ensures { OnOk result (out.new.items ≡ out.old.items ++ state_text mark state.now) }
+fn write_state(
+    alloc: Global,
+    out: &mut Vec<u8>,
+    checkpoint: u64,
+    state: &State,
+) -> Result<(), AllocError>
+    ensures { OnOk result (out.new.items ≡ out.old.items ++ state_text checkpoint state.now) }
 {
     let Some(board) = state.board() else {
-        write_head(alloc, out, mark, 0)?;
+        write_head(alloc, out, checkpoint, 0)?;
         return write_zones(alloc, out, state.apexes(), state.records());
     };
-    write_head(alloc, out, mark, board.now())?;
+    write_head(alloc, out, checkpoint, board.now())?;
     write_zones(alloc, out, state.apexes(), state.records())?;
     write_holds(alloc, out, board)
 }
 
 /// The result of the changes of a text: the length in octets of those that were made, their number of lines,
-/// the last mark among them, and whether the next one was refused. No contract has the lines.
+/// the last checkpoint among them, and whether the next one was refused. No contract has the lines.
 #[derive(Clone, Copy)]
 pub struct Made {
     pub octets: usize,
     pub lines: u64,
-    pub mark: Option<u64>,
+    pub checkpoint: Option<u64>,
     pub is_refused: bool,
 }
 
@@ -56,15 +61,15 @@ pub fn whole_len(text: &[u8]) -> usize
     octets
 }
 
-/// The result of the changes of a text, by the replies to them: marks have none, and each change that was
-/// made has one that begins with `ok `.
+/// The result of the changes of a text, by the replies to them: checkpoints have none, and each change that
+/// was made has one that begins with `ok `.
 pub fn made_of(text: &[u8], replies: &[u8]) -> Made
     ensures { IsMade text.now replies.now result }
 {
     let mut made = Made {
         octets: 0,
         lines: 0,
-        mark: None,
+        checkpoint: None,
         is_refused: false,
     };
     let mut rest = replies;
@@ -75,7 +80,7 @@ pub fn made_of(text: &[u8], replies: &[u8]) -> Made
             return made;
         };
         rest = &rest[reply_len..];
-        made.mark = mark_of(line).or(made.mark);
+        made.checkpoint = checkpoint_of(line).or(made.checkpoint);
         made.octets += len;
         made.lines = made.lines.saturating_add(lines);
     }
@@ -83,13 +88,13 @@ pub fn made_of(text: &[u8], replies: &[u8]) -> Made
 }
 
 // How many octets the reply to the command of a line has, which is the first of a text, if it was made: a
-// mark has none.
+// checkpoint has none.
 fn made_reply_of(line: &[u8], replies: &[u8]) -> Option<usize>
     ensures { MatchOption result (after_made line.now replies.now ≡ None)
         (λ len. (len ≤ length replies.now)
         × (after_made line.now replies.now ≡ Some (drop len replies.now))) }
 {
-    if mark_of(line).is_some() {
+    if checkpoint_of(line).is_some() {
         return Some(0);
     }
     if is_change(line) && replies.starts_with(b"ok ") {
@@ -99,29 +104,30 @@ fn made_reply_of(line: &[u8], replies: &[u8]) -> Option<usize>
     }
 }
 
-/// The length in octets of the complete commands of a text up to the first mark of this number, with it, and
-/// their number of lines, which no contract has. `None` where none of the complete commands is that mark.
-pub fn find_mark(text: &[u8], mark: u64) -> Option<(usize, u64)>
+/// The length in octets of the complete commands of a text up to the first checkpoint of this number, with
+/// it, and their number of lines, which no contract has. `None` where none of the complete commands is that
+/// checkpoint.
+pub fn find_checkpoint(text: &[u8], checkpoint: u64) -> Option<(usize, u64)>
     ensures within { IfSome result (λ found. found.0 ≤ length text.now) }
-    ensures marked { MatchOption result (LacksMark mark text.now)
-        (λ found. HasMark mark text.now (drop found.0 text.now)) }
+    ensures found { MatchOption result (LacksCheckpoint checkpoint text.now)
+        (λ found. HasCheckpoint checkpoint text.now (drop found.0 text.now)) }
 {
     let mut octets = 0;
     let mut lines = 0u64;
     while let Some((len, count)) = item_of(&text[octets..]) {
-        let is_mark = mark_of(split_line(&text[octets..]).0) == Some(mark);
+        let is_checkpoint = checkpoint_of(split_line(&text[octets..]).0) == Some(checkpoint);
         octets += len;
         lines = lines.saturating_add(count);
-        if is_mark {
+        if is_checkpoint {
             return Some((octets, lines));
         }
     }
     None
 }
 
-/// The number of a mark, by its line without the end.
-pub fn mark_of(line: &[u8]) -> Option<u64>
-    ensures { result ≡ mark_in line.now }
+/// The number of a checkpoint, by its line without the end.
+pub fn checkpoint_of(line: &[u8]) -> Option<u64>
+    ensures { result ≡ checkpoint_in line.now }
 {
     read_number(line.strip_prefix(b"# page ".as_slice())?, u64::MAX)
 }

@@ -3,7 +3,7 @@ ghost use Rattle.std.specs.Prelude.{◌≡◌, [], ◌∷◌, ◌++◌, length, 
 ghost use Rattle.sipl_lines.specs.ReplyText.{answer_text, counts_line, number_field};
 ghost use Rattle.sipl_lines.specs.ReplyText.{target_line, target_lines};
 ghost use Rattle.sipl_archive.specs.Text.{clock_line, edit_lines, endpoint_text, event_lines};
-ghost use Rattle.sipl_archive.specs.Text.{hold_line, hold_lines, mark_line, state_head, zone_line};
+ghost use Rattle.sipl_archive.specs.Text.{checkpoint_line, hold_line, hold_lines, state_head, zone_line};
 ghost use Rattle.sipl_archive.specs.Text.{release_line, words_field};
 ghost use Rattle.sipl_archive.specs.Text.{zone_lines};
 
@@ -208,34 +208,34 @@ pub(crate) fn write_holds(alloc: Global, out: &mut Vec<u8>, board: &Board) -> Re
     Ok(())
 }
 
-/// The line of a mark.
-pub fn mark_text(alloc: Global, mark: u64) -> Result<Vec<u8>, AllocError>
-    ensures { IfOk result (λ text. text.items ≡ mark_line mark) }
+/// The line of a checkpoint.
+pub fn checkpoint_text(alloc: Global, checkpoint: u64) -> Result<Vec<u8>, AllocError>
+    ensures { IfOk result (λ text. text.items ≡ checkpoint_line checkpoint) }
 {
     let mut out = Vec::new(alloc);
-    write_mark(alloc, &mut out, mark)?;
+    write_checkpoint(alloc, &mut out, checkpoint)?;
     Ok(out)
 }
 
-fn write_mark(alloc: Global, out: &mut Vec<u8>, mark: u64) -> Result<(), AllocError>
-    ensures { OnOk result (out.new.items ≡ out.old.items ++ mark_line mark) }
+fn write_checkpoint(alloc: Global, out: &mut Vec<u8>, checkpoint: u64) -> Result<(), AllocError>
+    ensures { OnOk result (out.new.items ≡ out.old.items ++ checkpoint_line checkpoint) }
 {
     out.extend_from_slice(b"# page")?;
-    write_number(alloc, out, mark)?;
+    write_number(alloc, out, checkpoint)?;
     out.push(b'\n')?;
     Ok(())
 }
 
-/// Appends the first lines of a state: its mark, and the time, unless that is 0.
+/// Appends the first lines of a state: its checkpoint, and the time, unless that is 0.
 pub(crate) fn write_head(
     alloc: Global,
     out: &mut Vec<u8>,
-    mark: u64,
+    checkpoint: u64,
     now: u64,
 ) -> Result<(), AllocError>
-    ensures { OnOk result (out.new.items ≡ out.old.items ++ state_head mark now) }
+    ensures { OnOk result (out.new.items ≡ out.old.items ++ state_head checkpoint now) }
 {
-    write_mark(alloc, out, mark)?;
+    write_checkpoint(alloc, out, checkpoint)?;
     if now > 0 {
         return write_clock(alloc, out, now);
     }

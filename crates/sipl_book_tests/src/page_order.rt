@@ -1,7 +1,7 @@
 // Tests of which page follows which.
 ghost use Rattle.std.specs.Prelude.{◌≤◌, ◌-◌, ◌^◌};
 
-use crate::page_states::{fill_first, fill_second, turn};
+use crate::page_states::{fill_first, fill_second, turn_page};
 use crate::values::{ADDRESS, ENDPOINT, add, client, expects_equal, load};
 use sipl_book::{Book, Limits, Page};
 use sipl_choice::{Families, Transport};
@@ -46,11 +46,11 @@ fn keep(rt: &impl Abort, pages: &mut Vec<Page>, page: Page) {
 // Turns three pages with events, and an edit in the first alone.
 fn turn_three(rt: &impl Abort, alloc: Global, book: &mut Book, pages: &mut Vec<Page>) {
     fill_first(rt, alloc, book);
-    keep(rt, pages, turn(rt, book));
+    keep(rt, pages, turn_page(rt, book));
     fill_second(rt, book);
-    keep(rt, pages, turn(rt, book));
+    keep(rt, pages, turn_page(rt, book));
     fill_third(rt, book);
-    keep(rt, pages, turn(rt, book));
+    keep(rt, pages, turn_page(rt, book));
 }
 
 fn three_pages(rt: &impl Abort, alloc: Global, book: &mut Book) {
@@ -103,7 +103,7 @@ fn push_pages(rt: &impl Abort, alloc: Global, pages: &mut Vec<Page>, form: Form)
     let mut book = book_of(rt, alloc, form);
     load(rt, alloc, &mut book, b"");
     add(rt, alloc, &mut book, form.record);
-    keep(rt, pages, turn(rt, &mut book));
+    keep(rt, pages, turn_page(rt, &mut book));
     keep(rt, pages, book.into_page());
 }
 

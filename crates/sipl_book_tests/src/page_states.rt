@@ -53,7 +53,7 @@ fn is_for_the_client(rt: &impl Abort, book: &Book, page: &Page) {
     expects_equal(rt, &is_so, &true, "the client and the policy");
 }
 
-pub(crate) fn turn(rt: &impl Abort, book: &mut Book) -> Page {
+pub(crate) fn turn_page(rt: &impl Abort, book: &mut Book) -> Page {
     book.turn_page().expect(rt, "the page is refused")
 }
 
@@ -71,7 +71,7 @@ pub(crate) fn fill_second(rt: &impl Abort, book: &mut Book) {
 }
 
 fn first_page(rt: &impl Abort, book: &mut Book) {
-    let page = turn(rt, book);
+    let page = turn_page(rt, book);
     has_states(rt, &page, ((0, 0, 0, 0), (1, 1, 0, 0)), (0, 3, 3));
     has_events(
         rt,
@@ -83,7 +83,7 @@ fn first_page(rt: &impl Abort, book: &mut Book) {
 }
 
 fn second_page(rt: &impl Abort, book: &mut Book) {
-    let page = turn(rt, book);
+    let page = turn_page(rt, book);
     has_states(rt, &page, ((1, 1, 0, 0), (1, 1, 1, 500)), (3, 2, 5));
     has_events(rt, page.events(), &[("hold", 1000), ("clock", 500)]);
     is_for_the_client(rt, book, &page);

@@ -6,7 +6,7 @@ use Rattle.sipl_commits.specs.Commits.{after, line_start, line_text, next_number
 use Rattle.sipl_commits.specs.Cuts.{HasNoTab, IsPlain, ReadsSome}
 use Rattle.sipl_commits.specs.Logs.{HasHead, head_text, log_head, log_text}
 use Rattle.sipl_commits.specs.Seals.{Octets, Begins, digest_text, number_text, seal_of, sealed}
-use Rattle.sipl_commits.specs.States.{mark_start}
+use Rattle.sipl_commits.specs.States.{checkpoint_start}
 use Rattle.sipl_commits.specs.Tails.{HasNoNext, HasOther, IsDamaged, IsOtherAt, IsTorn}
 use Rattle.sipl_commits.specs.declared.point.Point.{Point}
 use Rattle.sipl_commits.proofs.Others.{other_later, other_within}
@@ -169,17 +169,17 @@ cut_log p bodies n plain past =
       },
     )
 
-no_mark : (p : Point) (n : ℕ) → Begins (take n (log_head p)) mark_start → ⊥
+no_checkpoint : (p : Point) (n : ℕ) → Begins (take n (log_head p)) checkpoint_start → ⊥
 unfolding head_text
-no_mark p zero h = let l = ap length h in omega (arith, l)
-no_mark p (suc n) h =
+no_checkpoint p zero h = let l = ap length h in omega (arith, l)
+no_checkpoint p (suc n) h =
     let first : 115 ≡ 35 = ap (λ (t : Octets). get_or t 0 0) h in
     omega (arith, first)
 
 pub cut_head : (p : Point) (n : ℕ) → length p.digest ≡ 32 → n < length (log_head p)
-    → (Begins (take n (log_head p)) mark_start → ⊥) × (HasHead (take n (log_head p)) → ⊥)
+    → (Begins (take n (log_head p)) checkpoint_start → ⊥) × (HasHead (take n (log_head p)) → ⊥)
 cut_head p n digest less = (
-  no_mark p n,
+  no_checkpoint p n,
   λ h.
       let a = ap length h.is in
       let b = length-append (sealed h.text) h.rest in

@@ -4,7 +4,7 @@ use Rattle.std.proofs.lemmas.List.{append_cancel_left}
 use Rattle.sipl_commits.specs.Commits.{after, next_point, written, written_all}
 use Rattle.sipl_commits.specs.Logs.{HasHead, IsDamagedLog, IsLog, LogFails, head_start, head_text, log_head, log_text}
 use Rattle.sipl_commits.specs.Seals.{Octets, Begins}
-use Rattle.sipl_commits.specs.States.{mark_start}
+use Rattle.sipl_commits.specs.States.{checkpoint_start}
 use Rattle.sipl_commits.specs.Tails.{HasNoNext, HasOther}
 use Rattle.sipl_commits.specs.declared.fault.LogFault.{LogFault}
 use Rattle.sipl_commits.specs.declared.fault.LogFault.TheVariants.{Memory, FirstFormat, Head, OtherState, Commit}
@@ -79,9 +79,9 @@ pub head_begins : (p : Point) → Begins (head_text p) head_start
 unfolding head_text
 head_begins p = refl
 
-no_mark : (octets rest : Octets) (p : Point) → octets ≡ log_head p ++ rest → Begins octets mark_start → ⊥
+no_checkpoint : (octets rest : Octets) (p : Point) → octets ≡ log_head p ++ rest → Begins octets checkpoint_start → ⊥
 unfolding head_text
-no_mark octets rest p e h =
+no_checkpoint octets rest p e h =
     let first : 115 ≡ 35 = ap (λ (t : Octets). get_or t 0 0) (rw e at h) in
     omega (arith, first)
 
@@ -97,7 +97,7 @@ not_damaged octets p bodies others tail rest len log damaged =
 
 pub not_refused : (octets : Octets) (p : Point) (bodies : List Octets) (tail : Octets) (fault : LogFault)
     → length octets < 2 ^ 64 → length p.digest ≡ 32 → IsLog octets p bodies tail → LogFails fault octets p → fault ≡ Memory
-not_refused octets p bodies tail FirstFormat len h log fails = absurd (no_mark octets _ p (after_head octets p bodies tail log.is) fails)
+not_refused octets p bodies tail FirstFormat len h log fails = absurd (no_checkpoint octets _ p (after_head octets p bodies tail log.is) fails)
 not_refused octets p bodies tail Head len h log fails = absurd (fails.1 (has_head octets _ p h (after_head octets p bodies tail log.is)))
 not_refused octets p bodies tail OtherState len h log fails = absurd (fails.1 (begins_from octets (log_head p) _ (after_head octets p bodies tail log.is)))
 not_refused octets p bodies tail (Commit place) len h log fails = absurd (not_damaged octets p bodies fails.0 tail fails.1 len log fails.2)

@@ -2,7 +2,7 @@
 use Rattle.std.specs.Prelude.{◌≡◌, ℕ, List, [], ◌∷◌, ◌++◌, length, map, codes}
 use Rattle.sipl_commits.specs.Commits.{after, bodies_of, points, written_all}
 use Rattle.sipl_commits.specs.Seals.{Octets, Begins, HasLine, digest_text, number_text, sealed}
-use Rattle.sipl_commits.specs.States.{mark_start}
+use Rattle.sipl_commits.specs.States.{checkpoint_start}
 use Rattle.sipl_commits.specs.Tails.{HasNoNext, IsDamaged, IsTorn}
 use Rattle.sipl_commits.specs.declared.fault.LogFault.{LogFault}
 use Rattle.sipl_commits.specs.declared.fault.LogFault.TheVariants.{Memory, FirstFormat, Head, OtherState, Commit}
@@ -58,8 +58,8 @@ HasHead octets = HasLine head_start 96 octets
 
 -- why octets do not begin with the head of a log after a point, the first that applies
 abbrev pub HeadFails : LogFault → Octets → Point → Type 0
-HeadFails FirstFormat octets p = Begins octets mark_start
-HeadFails Head octets p = (Begins octets mark_start → ⊥) × (HasHead octets → ⊥)
+HeadFails FirstFormat octets p = Begins octets checkpoint_start
+HeadFails Head octets p = (Begins octets checkpoint_start → ⊥) × (HasHead octets → ⊥)
 HeadFails OtherState octets p = HasHead octets × (Begins octets (log_head p) → ⊥)
 HeadFails (Commit place) octets p = ⊥
 HeadFails Memory octets p = Unit {0}

@@ -24,13 +24,13 @@ pub record IsState (octets : Octets) (state : State) : Type 0 where
   pub digest_is : state.digest ≡ state_digest state.body.now
 
 -- how files of the first format begin, which names none
-abbrev pub mark_start : Octets
-mark_start = codes "# page "
+abbrev pub checkpoint_start : Octets
+checkpoint_start = codes "# page "
 
 -- why octets are no state, the first that applies
 abbrev pub StateFails : StateFault → Octets → Type 0
-StateFails FirstFormat octets = Begins octets mark_start
-StateFails Format octets = (Begins octets mark_start → ⊥) × (Begins octets state_line → ⊥)
+StateFails FirstFormat octets = Begins octets checkpoint_start
+StateFails Format octets = (Begins octets checkpoint_start → ⊥) × (Begins octets state_line → ⊥)
 StateFails Digest octets =
     Begins octets state_line × ((body : Octets) → octets ≢ state_text body)
 StateFails Memory octets = Unit {0}

@@ -7,7 +7,7 @@ use crate::commit::{Commit, next_commit, write_commit};
 use crate::fault::LogFault;
 use crate::point::Point;
 use crate::seal::{has_line, push_digest, push_number, push_seal};
-use crate::state::MARK_START;
+use crate::state::CHECKPOINT_START;
 use crate::tail::has_other;
 use std::alloc::{AllocError, Global};
 
@@ -88,7 +88,7 @@ fn after_head<'a>(alloc: Global, octets: &'a [u8], point: &Point) -> Result<&'a 
     if let Some(rest) = octets.strip_prefix(head.as_slice()) {
         return Ok(rest);
     }
-    if octets.starts_with(MARK_START) {
+    if octets.starts_with(CHECKPOINT_START) {
         return Err(LogFault::FirstFormat);
     }
     if has_line(alloc, octets, HEAD_START, HEAD_LEN)? {

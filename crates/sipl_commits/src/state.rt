@@ -9,7 +9,7 @@ use sha2::{Digest, Sha256};
 use std::alloc::{AllocError, Global};
 
 /// How a file of the first format begins.
-pub(crate) const MARK_START: &[u8] = b"# page ";
+pub(crate) const CHECKPOINT_START: &[u8] = b"# page ";
 
 // The first line of a state.
 const STATE_LINE: &[u8] = b"siplocd state 2\n";
@@ -42,7 +42,7 @@ pub fn read_state(alloc: Global, octets: &[u8]) -> Result<State<'_>, StateFault>
     ensures read { IfOk result (λ state. IsState octets.now state) }
     ensures fault { IfErr result (λ fault. StateFails fault octets.now) }
 {
-    if octets.starts_with(MARK_START) {
+    if octets.starts_with(CHECKPOINT_START) {
         return Err(StateFault::FirstFormat);
     }
     if !octets.starts_with(STATE_LINE) {

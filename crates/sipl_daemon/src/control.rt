@@ -131,7 +131,7 @@ fn obey<H: Host>(
 }
 
 fn turn_page<H: Host>(host: &H, daemon: &Daemon, reply: &mut String) -> Result<(), AllocError> {
-    match daemon.pages.turn(host, &daemon.source) {
+    match daemon.pages.turn_page(host, &daemon.source) {
         Ok(extent) => writeln!(reply, "ok page {} {}", extent.first, extent.count),
         Err(fault) => writeln!(reply, "err {}", fault.code()),
     }

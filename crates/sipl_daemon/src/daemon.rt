@@ -248,7 +248,7 @@ impl Daemon {
             Err(ServiceFault::Book(BookFault::JournalFull)) => {}
             told => return told,
         }
-        let _ = self.pages.turn(rt, &self.source);
+        let _ = self.pages.turn_page(rt, &self.source);
         self.source
             .service
             .lookup(rt, pass, question, draws, &OpenGate)

@@ -10,25 +10,25 @@ use Rattle.sipl_evidence.specs.declared.reach.Leg.{Leg}
 use Rattle.sipl_evidence.specs.declared.reach.Leg.TheVariants.{Answer as leg_answer, Lacking as leg_lacking, Target as leg_target}
 use Rattle.sipl_evidence.specs.declared.reach.Reach.{Reach}
 use Rattle.sipl_evidence.specs.declared.reach.Reach.TheVariants.{Answer as reach_answer, Lacking as reach_lacking}
-use Rattle.sipl_evidence.specs.declared.turn.Turn.{Turn}
-use Rattle.sipl_evidence.specs.declared.turn.Turn.TheVariants.{Answer, Target, LacksSet, LacksAlias, Nothing}
+use Rattle.sipl_evidence.specs.declared.visit.Visit.{Visit}
+use Rattle.sipl_evidence.specs.declared.visit.Visit.TheVariants.{Answer, Target, LacksSet, LacksAlias, Nothing}
 use Rattle.sipl_evidence.specs.Answers.{Next, asking_within, at_alias, at_encloser, at_name, at_source, max_ancestors, unless_exists}
 use Rattle.sipl_evidence.specs.Items.{Item}
 use Rattle.sipl_evidence.specs.Known.{known, advance}
 use Rattle.sipl_evidence.specs.Looks.{Asking, key, next_key}
-use Rattle.sipl_evidence.specs.WalkPlaces.{IsLeg, IsReach, IsTurn, PlaceAsks}
+use Rattle.sipl_evidence.specs.WalkPlaces.{IsLeg, IsReach, IsVisit, PlaceAsks}
 use Rattle.sipl_evidence.specs.Walks.{next_within}
 use Rattle.sipl_evidence.proofs.Walking.{advance-known}
 
 module _ (items : List Item) (one other : Asking (List Data)) (same : advance items one ≡ advance items other) where
   -- what is led to depends on how far a computation gets only
-  pub IsTurn-same : (next : Next) (kind : Kind) (name : Labels) (otherwise : Asking (List Data)) (turn : Turn) → IsTurn items other next kind name otherwise turn → IsTurn items one next kind name otherwise turn
-  IsTurn-same next kind name otherwise (Answer set) is = same ∙ is
-  IsTurn-same None kind name otherwise (Target target) is = is
-  IsTurn-same (Some follow) kind name otherwise (Target target) is = same ∙ is
-  IsTurn-same next kind name otherwise LacksSet is = same ∙ is
-  IsTurn-same next kind name otherwise LacksAlias is = (is.0, same ∙ is.1)
-  IsTurn-same next kind name otherwise Nothing is = same ∙ is
+  pub IsVisit-same : (next : Next) (kind : Kind) (name : Labels) (otherwise : Asking (List Data)) (visit : Visit) → IsVisit items other next kind name otherwise visit → IsVisit items one next kind name otherwise visit
+  IsVisit-same next kind name otherwise (Answer set) is = same ∙ is
+  IsVisit-same None kind name otherwise (Target target) is = is
+  IsVisit-same (Some follow) kind name otherwise (Target target) is = same ∙ is
+  IsVisit-same next kind name otherwise LacksSet is = same ∙ is
+  IsVisit-same next kind name otherwise LacksAlias is = (is.0, same ∙ is.1)
+  IsVisit-same next kind name otherwise Nothing is = same ∙ is
 
   pub IsLeg-same : (left : ℕ) (kind : Kind) (leg : Leg) → IsLeg items other left kind leg → IsLeg items one left kind leg
   IsLeg-same left kind (leg_answer set) is = same ∙ is

@@ -16,8 +16,8 @@ use Rattle.sipl_evidence.specs.declared.reach.Leg.{Leg}
 use Rattle.sipl_evidence.specs.declared.reach.Leg.TheVariants.{Answer as leg_answer, Lacking as leg_lacking, Target as leg_target}
 use Rattle.sipl_evidence.specs.declared.reach.Reach.{Reach}
 use Rattle.sipl_evidence.specs.declared.reach.Reach.TheVariants.{Answer as reach_answer, Lacking as reach_lacking}
-use Rattle.sipl_evidence.specs.declared.turn.Turn.{Turn}
-use Rattle.sipl_evidence.specs.declared.turn.Turn.TheVariants.{Answer, Target, LacksSet, LacksAlias, Nothing}
+use Rattle.sipl_evidence.specs.declared.visit.Visit.{Visit}
+use Rattle.sipl_evidence.specs.declared.visit.Visit.TheVariants.{Answer, Target, LacksSet, LacksAlias, Nothing}
 use Rattle.sipl_evidence.specs.Answers.{Next, at_alias, at_encloser, at_name, at_source, asking_within, max_ancestors}
 use Rattle.sipl_evidence.specs.Items.{Item}
 use Rattle.sipl_evidence.specs.Known.{advance}
@@ -58,15 +58,15 @@ pub record PlaceAsks (place : Place) (kind : Kind) : Type 0 where
   pub key : next_key (place_asking place kind) ≡ stage_key place.stage kind (name_of place.name)
 
 -- what a name's set and alias lead to, where this follows an alias, and that where there is neither
-abbrev pub IsTurn : List Item → Asking (List Data) → Next → Kind → Labels → Asking (List Data) → Turn → Type 0
-IsTurn items asking next kind name otherwise (Answer set) = advance items asking ≡ done set.now
-IsTurn items asking next kind name otherwise (Target target) =
+abbrev pub IsVisit : List Item → Asking (List Data) → Next → Kind → Labels → Asking (List Data) → Visit → Type 0
+IsVisit items asking next kind name otherwise (Answer set) = advance items asking ≡ done set.now
+IsVisit items asking next kind name otherwise (Target target) =
     IsSomeAnd next (λ follow. advance items asking ≡ advance items (follow target.now))
-IsTurn items asking next kind name otherwise LacksSet =
+IsVisit items asking next kind name otherwise LacksSet =
     advance items asking ≡ at_name next kind name otherwise
-IsTurn items asking next kind name otherwise LacksAlias =
+IsVisit items asking next kind name otherwise LacksAlias =
     IsSome next × (advance items asking ≡ at_alias next name otherwise)
-IsTurn items asking next kind name otherwise Nothing = advance items asking ≡ advance items otherwise
+IsVisit items asking next kind name otherwise Nothing = advance items asking ≡ advance items otherwise
 
 -- what the existence of ancestors leads to
 abbrev pub IsClimb : List Item → Asking (List Data) → Next → Kind → Climb → Type 0

@@ -13,7 +13,7 @@ mod lists;
 mod places;
 mod reach;
 mod spot;
-mod turn;
+mod visit;
 mod walk;
 mod walk_place;
 
@@ -21,5 +21,5 @@ pub use dependents::Dependents;
 pub use evidence::{Evidence, Refused};
 pub use fault::EvidenceFault;
 pub use item::{Item, dup_data};
-pub use turn::first_target;
+pub use visit::first_target;
 pub use walk::{MAX_ALIASES, Reached, Walk};

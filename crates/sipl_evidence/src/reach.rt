@@ -5,11 +5,11 @@ ghost use Rattle.sipl_records.specs.declared.kind.Kind.{Kind};
 ghost use Rattle.sipl_evidence.specs.Answers.{Next, at_encloser, at_source, max_ancestors, unless_exists};
 ghost use Rattle.sipl_evidence.specs.Items.{Item};
 ghost use Rattle.sipl_evidence.specs.Looks.{Asking, done};
-ghost use Rattle.sipl_evidence.specs.WalkPlaces.{IsClimb, IsLeg, IsReach, IsTurn, name_of, place_asking};
+ghost use Rattle.sipl_evidence.specs.WalkPlaces.{IsClimb, IsLeg, IsReach, IsVisit, name_of, place_asking};
 ghost use Rattle.sipl_evidence.specs.Walks.{KnowsAbsence, MayCopy, asking_from, next_within};
 
 use crate::evidence::Evidence;
-use crate::turn::{Turn, alias_turn, set_turn};
+use crate::visit::{Visit, visit_alias, visit_set};
 use crate::walk_place::{Held, Place, Stage};
 use sipl_names::Name;
 use sipl_records::{Data, Kind};
@@ -84,12 +84,12 @@ fn leg_from<'a, 'e: 'a>(
     let (name, left) = (place.name, place.left);
     match place.stage {
         Stage::Set => {
-            let turn = set_turn(evidence, name.get(), kind, left);
-            name_leg(alloc, evidence, name, left, kind, turn)
+            let visit = visit_set(evidence, name.get(), kind, left);
+            name_leg(alloc, evidence, name, left, kind, visit)
         }
         Stage::Alias => {
-            let turn = alias_turn(evidence, name.get(), left);
-            name_leg(alloc, evidence, name, left, kind, turn)
+            let visit = visit_alias(evidence, name.get(), left);
+            name_leg(alloc, evidence, name, left, kind, visit)
         }
         Stage::Existence => existence_leg(alloc, evidence, name, left, kind),
         Stage::Ancestor(more) => {
@@ -102,8 +102,8 @@ fn leg_from<'a, 'e: 'a>(
         }
         Stage::WildcardAlias => {
             let name = name.into_name(alloc)?;
-            let turn = alias_turn(evidence, &name, left);
-            Ok(wildcard_leg(name, left, turn))
+            let visit = visit_alias(evidence, &name, left);
+            Ok(wildcard_leg(name, left, visit))
         }
     }
 }
@@ -115,27 +115,27 @@ fn name_leg<'a, 'e: 'a>(
     name: Held<'a>,
     left: u8,
     kind: Kind,
-    turn: Turn<'e>,
+    visit: Visit<'e>,
 ) -> Result<Leg<'a, 'e>, AllocError>
     ensures leg { (asking : Asking (List Data))
         → let next = next_within max_ancestors left kind in let name = name_of name.entry in
-        IsTurn evidence.now asking next kind name
-        (unless_exists max_ancestors name (at_source next kind)) turn.entry
+        IsVisit evidence.now asking next kind name
+        (unless_exists max_ancestors name (at_source next kind)) visit.entry
         → IfOk result (IsLeg evidence.now asking left kind) }
     ensures memory { OnErr result (KnowsAbsence evidence.now) }
 {
-    match turn {
-        Turn::Answer(set) => Ok(Leg::Answer(set)),
-        Turn::Target(target) => Ok(Leg::Target(target)),
-        Turn::LacksSet => {
+    match visit {
+        Visit::Answer(set) => Ok(Leg::Answer(set)),
+        Visit::Target(target) => Ok(Leg::Target(target)),
+        Visit::LacksSet => {
             let stage = Stage::Set;
             Ok(Leg::Lacking(Place { name, left, stage }))
         }
-        Turn::LacksAlias => {
+        Visit::LacksAlias => {
             let stage = Stage::Alias;
             Ok(Leg::Lacking(Place { name, left, stage }))
         }
-        Turn::Nothing => existence_leg(alloc, evidence, name, left, kind),
+        Visit::Nothing => existence_leg(alloc, evidence, name, left, kind),
     }
 }
 
@@ -219,22 +219,22 @@ fn climb_from(
 fn source_leg<'a, 'e>(evidence: &'e Evidence, name: Name, left: u8, kind: Kind) -> Leg<'a, 'e>
     ensures { IsLeg evidence.now (asking_from Stage.WildcardSet left kind name) left kind result }
 {
-    let turn = set_turn(evidence, &name, kind, left);
-    wildcard_leg(name, left, turn)
+    let visit = visit_set(evidence, &name, kind, left);
+    wildcard_leg(name, left, visit)
 }
 
 // What follows the set and the alias of a wildcard: where it has neither, no answer.
-fn wildcard_leg<'a, 'e>(name: Name, left: u8, turn: Turn<'e>) -> Leg<'a, 'e>
+fn wildcard_leg<'a, 'e>(name: Name, left: u8, visit: Visit<'e>) -> Leg<'a, 'e>
     ensures { (items : List Item) (kind : Kind) (asking : Asking (List Data))
-        → IsTurn items asking (next_within max_ancestors left kind) kind name (done []) turn.entry
+        → IsVisit items asking (next_within max_ancestors left kind) kind name (done []) visit.entry
         → IsLeg items asking left kind result }
 {
-    let (name, stage) = match turn {
-        Turn::Answer(set) => return Leg::Answer(set),
-        Turn::Target(target) => return Leg::Target(target),
-        Turn::Nothing => return Leg::Answer(&[]),
-        Turn::LacksSet => (Held::Own(name), Stage::WildcardSet),
-        Turn::LacksAlias => (Held::Own(name), Stage::WildcardAlias),
+    let (name, stage) = match visit {
+        Visit::Answer(set) => return Leg::Answer(set),
+        Visit::Target(target) => return Leg::Target(target),
+        Visit::Nothing => return Leg::Answer(&[]),
+        Visit::LacksSet => (Held::Own(name), Stage::WildcardSet),
+        Visit::LacksAlias => (Held::Own(name), Stage::WildcardAlias),
     };
     Leg::Lacking(Place { name, left, stage })
 }

@@ -12,11 +12,11 @@ use Rattle.sipl_records.specs.Fields.{fields_of, trim_start, after_field}
 use Rattle.sipl_lines.specs.Requests.{nothing, unknown, too_long, is_comment, command_request, fields_request, request_of}
 
 -- a line whose first octet is not # is no comment
-pub no_comment : (line : Octets) (first : Option (Bor ℕ)) (mark : Bor ℕ) → option_copied first ≡ slice_get line 0
-    → false ≡ option_eq (λ x y. nat_eq x.now y.now) first (Some mark) → mark.now ≡ 35 → is_comment line ≡ false
-no_comment [] first mark is other hash = refl
-no_comment (c ∷ line) None mark is other hash = cc
-no_comment (c ∷ line) (Some octet) mark is other hash =
+pub no_comment : (line : Octets) (first : Option (Bor ℕ)) (sign : Bor ℕ) → option_copied first ≡ slice_get line 0
+    → false ≡ option_eq (λ x y. nat_eq x.now y.now) first (Some sign) → sign.now ≡ 35 → is_comment line ≡ false
+no_comment [] first sign is other hash = refl
+no_comment (c ∷ line) None sign is other hash = cc
+no_comment (c ∷ line) (Some octet) sign is other hash =
     subst (λ (d : ℕ). (d == 35) ≡ false) (ap (λ (o : Option ℕ). unwrap_or o 0) is)
     (subst (λ (m : ℕ). nat_eq octet.now m ≡ false) hash (sym other))
 

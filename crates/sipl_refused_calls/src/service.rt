@@ -195,7 +195,7 @@ fn keeps(pages: &mut Vec<Page>, page: Option<Page>) -> bool {
     }
 }
 
-fn turns<R: Wait>(rt: &R, caller: &Caller, pages: &mut Vec<Page>) -> bool {
+fn keeps_page<R: Wait>(rt: &R, caller: &Caller, pages: &mut Vec<Page>) -> bool {
     keeps(pages, caller.service.turn_page(rt).ok())
 }
 
@@ -214,9 +214,9 @@ fn has_events<R: Wait>(
     pages: &mut Vec<Page>,
 ) -> bool {
     loads(rt, alloc, caller)
-        && (turned != Turned::BetweenThem || turns(rt, caller, pages))
+        && (turned != Turned::BetweenThem || keeps_page(rt, caller, pages))
         && advances(rt, caller)
-        && (turned != Turned::AfterThem || turns(rt, caller, pages))
+        && (turned != Turned::AfterThem || keeps_page(rt, caller, pages))
 }
 
 // Closing does not allocate.

@@ -1,4 +1,4 @@
--- The keys of marks: what stays at other keys, and look-ups among marks that are left.
+-- The keys of latest versions: what stays at other keys, and look-ups among latest versions that are left.
 use Rattle.std.proofs.Common.{rules, ◌≡◌, ◌∙◌, ℕ, Bool, true, false, List, [], ◌∷◌, filter, nat_eq, Option, None, Some, refl, ap, sym, subst}
 use Rattle.std.specs.List.{IsDistinct}
 use Rattle.std.specs.Map.{keys_of, lookup}
@@ -9,8 +9,8 @@ use Rattle.sipl_records.specs.declared.record.Key.{Key}
 use Rattle.sipl_records.specs.contracts.record.KeyPartialEq.TheImpl.{eq-value}
 use Rattle.sipl_records.proofs.Public.{equivalence_from_decides, same_key-Decides}
 use Rattle.sipl_zonestore.specs.Store.{Store, number_in}
-use Rattle.sipl_service.specs.Marks.{marked_at}
-use Rattle.sipl_service.specs.declared.marks.Mark.{Mark}
+use Rattle.sipl_service.specs.LatestVersions.{latest_at}
+use Rattle.sipl_service.specs.declared.latest_versions.Latest.{Latest}
 
 -- the derived equality of keys is that of the definitions
 pub derived : (a b : Key) → eq-value.it a b ≡ same_key a b
@@ -44,26 +44,27 @@ agree test p q same (e ∷ es) = by (test e.0) (p e) (q e) refl refl refl (agree
     by false false true here left right rest = rw (left, right, here) rest
     by false false false here left right rest = rw (left, right) rest
 
-filtered : (number : ℕ) (found : Option Mark) → option_filter (λ mark. nat_eq mark.number number) found ≡ marked_at number found
+filtered : (number : ℕ) (found : Option Latest) → option_filter (λ latest. nat_eq latest.number number) found ≡ latest_at number found
 filtered number None = refl
-filtered number (Some mark) = refl
+filtered number (Some latest) = refl
 
--- the marks that have the numbers of their sets
-pub numbered : (store : Store) (key : Key) (es : List (Key × Mark)) → IsDistinct same_key (keys_of es)
-    → lookup (same_key key) (filter (λ e. nat_eq e.1.number (number_in store e.0)) es) ≡ marked_at (number_in store key) (lookup (same_key key) es)
+-- the latest versions that have the numbers of their sets
+pub numbered : (store : Store) (key : Key) (es : List (Key × Latest)) → IsDistinct same_key (keys_of es)
+    → lookup (same_key key) (filter (λ e. nat_eq e.1.number (number_in store e.0)) es) ≡ latest_at (number_in store key) (lookup (same_key key) es)
 numbered store key es distinct =
     agree (same_key key) (λ e. nat_eq e.1.number (number_in store e.0)) (λ e. nat_eq e.1.number (number_in store key))
     (λ e same. ap (λ k. nat_eq e.1.number (number_in store k)) (sym ((same_key-Decides key e.0).0 same))) es
-    ∙ lookup-filter-values (equivalence_from_decides same_key same_key-Decides) (λ mark. nat_eq mark.number (number_in store key)) key es distinct
+    ∙ lookup-filter-values (equivalence_from_decides same_key same_key-Decides) (λ latest. nat_eq latest.number (number_in store key)) key es distinct
     ∙ filtered (number_in store key) (lookup (same_key key) es)
 
--- marks of which that of one key is taken out where its number is no longer the set's, and all others have theirs
-pub everywhere : (now old : Key → Option Mark) (store : Store) (key : Key) → now key ≡ marked_at (number_in store key) (old key)
+-- latest versions of which that of one key is taken out where its number is no longer the set's, and all
+-- others have theirs
+pub everywhere : (now old : Key → Option Latest) (store : Store) (key : Key) → now key ≡ latest_at (number_in store key) (old key)
     → ((other : Key) → same_key key other ≡ false → now other ≡ old other)
-    → ((other : Key) → same_key key other ≡ false → marked_at (number_in store other) (old other) ≡ old other)
-    → (other : Key) → now other ≡ marked_at (number_in store other) (old other)
+    → ((other : Key) → same_key key other ≡ false → latest_at (number_in store other) (old other) ≡ old other)
+    → (other : Key) → now other ≡ latest_at (number_in store other) (old other)
 everywhere now old store key own stay good other = by (same_key key other) refl
   where
-    by : (b : Bool) → same_key key other ≡ b → now other ≡ marked_at (number_in store other) (old other)
-    by true same = subst (λ k. now k ≡ marked_at (number_in store k) (old k)) ((same_key-Decides key other).0 same) own
+    by : (b : Bool) → same_key key other ≡ b → now other ≡ latest_at (number_in store other) (old other)
+    by true same = subst (λ k. now k ≡ latest_at (number_in store k) (old k)) ((same_key-Decides key other).0 same) own
     by false apart = stay other apart ∙ sym (good other apart)

@@ -1,4 +1,4 @@
-pub mod Marked
+pub mod Claimed
 pub mod FirstFault
 pub mod Committing
 pub mod Gaps
@@ -7,7 +7,7 @@ pub mod Numbered
 pub mod Ours
 pub mod Entries
 pub mod Keys
-pub mod Marking
+pub mod Latest
 pub mod Policies
 pub mod Numbers
 pub mod Placed

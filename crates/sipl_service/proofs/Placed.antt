@@ -13,7 +13,7 @@ use Rattle.sipl_book.specs.declared.event.Event.TheVariants.{Advance}
 use Rattle.sipl_service.specs.Claims.{IsUnion, event_at, first_in, has_number}
 use Rattle.sipl_service.specs.Receipts.{with_number}
 use Rattle.sipl_service.specs.declared.receipt.Receipt.{Receipt}
-use Rattle.sipl_service.proofs.Marked.{has_at, within_pages}
+use Rattle.sipl_service.proofs.Claimed.{has_at, within_pages}
 use Rattle.sipl_service.proofs.Numbered.{from_first, has_event, numbered}
 use Rattle.sipl_service.proofs.Numbers.{AreOwn, own_receipts, own-at, own-below, own-past, number-append, none_number}
 

@@ -1,4 +1,4 @@
--- Marks at the places of receipts that wait, hand-over after hand-over.
+-- The places that receipts which wait claim, hand-over after hand-over.
 use Rattle.std.proofs.Common.{◌≡◌, ◌≢◌, ◌<◌, ◌≤◌, ◌+◌, ◌-◌, ◌⊎◌, ℕ, Bool, true, false, List, [], ◌∷◌, ◌++◌, length, take, drop, get_or, nat_lt, slice_index_or, Some, refl, sym, ap, subst, ◌∙◌, inl, inr, arith, append_assoc, append-nil, take_all}
 use Rattle.std.proofs.lemmas.Grind.{flat_map-append}
 use Rattle.std.proofs.lemmas.List.{take-append-drop, take_more}
@@ -11,7 +11,7 @@ use Rattle.sipl_service.specs.Receipts.{all_receipts, due}
 use Rattle.sipl_service.specs.declared.fault.ClaimFault.{ClaimFault}
 use Rattle.sipl_service.specs.declared.fault.ClaimFault.TheVariants.{Gap, NotOurs, Doubled, Unclaimed, Memory}
 use Rattle.sipl_service.specs.declared.receipt.Receipt.{Receipt}
-use Rattle.sipl_service.proofs.Marked.{IsMarked, is_twice, not_ours, ours-at, refutes-union, within_pages}
+use Rattle.sipl_service.proofs.Claimed.{AreClaimed, is_twice, not_ours, ours-at, refutes-union, within_pages}
 
 due-append : (e : ℕ) (xs ys : List Receipt) → due e (xs ++ ys) ≡ due e xs ++ due e ys
 due-append e xs ys = filter-append (λ receipt. nat_lt receipt.number e) xs ys
@@ -27,20 +27,20 @@ parted e i waiting xs inside at =
     ∙ ap (λ ys. due e (all_receipts (take i waiting)) ++ ys) (due-append e xs (all_receipts (drop (i + 1) waiting)))
 
 -- one hand-over more
-pub marked-handed : (pages : List PageState) (e i : ℕ) (waiting : List (List Receipt)) (xs : List Receipt) (marks : List Bool) → i < length waiting → xs ≡ get_or waiting i xs
-    → IsMarked pages (due e (all_receipts (take i waiting)) ++ due e xs) marks → IsMarked pages (due e (all_receipts (take (i + 1) waiting))) marks
-marked-handed pages e i waiting xs marks inside at h =
+pub claimed-handed : (pages : List PageState) (e i : ℕ) (waiting : List (List Receipt)) (xs : List Receipt) (claimed : List Bool) → i < length waiting → xs ≡ get_or waiting i xs
+    → AreClaimed pages (due e (all_receipts (take i waiting)) ++ due e xs) claimed → AreClaimed pages (due e (all_receipts (take (i + 1) waiting))) claimed
+claimed-handed pages e i waiting xs claimed inside at h =
     let whole : due e (all_receipts (take i waiting)) ++ due e xs ≡ due e (all_receipts (take (i + 1) waiting)) =
     sym (ap (λ l. due e (all_receipts l)) (take_more waiting i xs inside ∙ ap (λ y. take i waiting ++ y ∷ []) (sym at))
     ∙ ap (due e) (flat_map-append (λ (ys : List Receipt). ys) (take i waiting) (xs ∷ []) ∙ ap (λ ys. all_receipts (take i waiting) ++ ys) (append-nil xs))
     ∙ due-append e (all_receipts (take i waiting)) xs) in
-    subst (λ ys. IsMarked pages ys marks) whole h
+    subst (λ ys. AreClaimed pages ys claimed) whole h
 
 -- all hand-overs have been gone through
-pub marked-all : (pages : List PageState) (e i : ℕ) (waiting : List (List Receipt)) (marks now : List Bool) → now ≡ marks → length waiting ≤ i
-    → IsMarked pages (due e (all_receipts (take i waiting))) marks → IsMarked pages (due e (all_receipts waiting)) now
-marked-all pages e i waiting marks now is done h =
-    subst (IsMarked pages (due e (all_receipts waiting))) (sym is) (subst (λ l. IsMarked pages (due e (all_receipts l)) marks) (take_all i waiting done) h)
+pub claimed-all : (pages : List PageState) (e i : ℕ) (waiting : List (List Receipt)) (claimed now : List Bool) → now ≡ claimed → length waiting ≤ i
+    → AreClaimed pages (due e (all_receipts (take i waiting))) claimed → AreClaimed pages (due e (all_receipts waiting)) now
+claimed-all pages e i waiting claimed now is done h =
+    subst (AreClaimed pages (due e (all_receipts waiting))) (sym is) (subst (λ l. AreClaimed pages (due e (all_receipts l)) claimed) (take_all i waiting done) h)
 
 -- a receipt of a hand-over is the first of all that is not theirs
 pub first-in : (pages : List PageState) (all before xs rest : List Receipt) (i : ℕ) (r : Receipt) → all ≡ before ++ (xs ++ rest) → i < length xs → r ≡ get_or xs i r
@@ -58,17 +58,17 @@ first-in pages all before xs rest i r is inside at part = record {
 
 module _ (pages : List PageState) (first : ℕ) (events : List Event) (from : first ≡ first_in pages) (joined : events ≡ events_in pages) where
   -- why a receipt is not the first of a free event's
-  pub is_cause_after : (next : ℕ) (receipts before : List Receipt) (marks : List Bool) (r : Receipt) (fault : ClaimFault) → IsMarked pages before marks
+  pub is_cause_after : (next : ℕ) (receipts before : List Receipt) (claimed : List Bool) (r : Receipt) (fault : ClaimFault) → AreClaimed pages before claimed
       → IsFirst pages receipts before r
       → ((fault ≡ Doubled r.number) × (r.number < next))
       ⊎ (((fault ≡ NotOurs r.number) × (next ≤ r.number) × (event_in first events r.number ≢ Some r.event))
-      ⊎ ((fault ≡ Doubled r.number) × (event_in first events r.number ≡ Some r.event) × (slice_index_or marks (r.number - first) false ≡ true)))
+      ⊎ ((fault ≡ Doubled r.number) × (event_in first events r.number ≡ Some r.event) × (slice_index_or claimed (r.number - first) false ≡ true)))
       → IsNoUnionAfter next pages receipts fault
-  is_cause_after next receipts before marks r fault h at why = elim why [
+  is_cause_after next receipts before claimed r fault h at why = elim why [
     | inl late ↦ subst (IsNoUnionAfter next pages receipts) (sym late.0) (inl (record { before = before; receipt = r; at = at; number = refl; claimed = late.1 }))
     | inr here ↦ elim here [
       | inl other ↦ subst (IsNoUnionAfter next pages receipts) (sym other.0) (other.1, not_ours pages first events from joined receipts before r at other.2)
-      | inr twice ↦ subst (IsNoUnionAfter next pages receipts) (sym twice.0) (inr (is_twice pages first events from joined receipts before marks r h at twice.1 twice.2))
+      | inr twice ↦ subst (IsNoUnionAfter next pages receipts) (sym twice.0) (inr (is_twice pages first events from joined receipts before claimed r h at twice.1 twice.2))
     ]
   ]
 

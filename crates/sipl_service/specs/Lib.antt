@@ -1,5 +1,5 @@
 pub mod Faults
-pub mod Marks
+pub mod LatestVersions
 pub mod Receipts
 pub mod Passes
 pub mod Refusals

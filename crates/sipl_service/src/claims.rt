@@ -36,21 +36,21 @@ pub fn claim(alloc: Global, pages: &[Page], passes: &[Pass]) -> Result<(), Claim
     let Ok(events) = join(alloc, pages) else {
         return Err(ClaimFault::Memory);
     };
-    let mut marks = Vec::new(alloc);
-    if marks.resize(events.len(), false).is_err() {
+    let mut claimed = Vec::new(alloc);
+    if claimed.resize(events.len(), false).is_err() {
         return Err(ClaimFault::Memory);
     }
     let first = first_number(pages);
     for pass in passes {
         let receipts = pass.receipts();
         for receipt in receipts {
-            match mark(&mut marks, first, &events, receipt) {
+            match claim_place(&mut claimed, first, &events, receipt) {
                 Ok(()) => {}
                 Err(fault) => return Err(fault),
             }
         }
     }
-    match first_free(marks.as_slice()) {
+    match first_free(claimed.as_slice()) {
         Some(place) => Err(ClaimFault::Unclaimed(first + place as u64)),
         None => Ok(()),
     }
@@ -83,36 +83,36 @@ pub(crate) fn join<'a>(alloc: Global, pages: &'a [Page]) -> Result<Vec<&'a Event
     Ok(joined)
 }
 
-// Marks the place of the receipt's number, where the event of that number is the receipt's and the place
+// Claims the place of the receipt's number, where the event of that number is the receipt's and the place
 // is free.
-pub(crate) fn mark(
-    marks: &mut Vec<bool>,
+pub(crate) fn claim_place(
+    claimed: &mut Vec<bool>,
     first: u64,
     events: &[&Event],
     receipt: &Receipt,
 ) -> Result<(), ClaimFault>
-    requires { vec_len marks.old ≡ length events.now }
-    ensures len { vec_len marks.new ≡ vec_len marks.old }
+    requires { vec_len claimed.old ≡ length events.now }
+    ensures len { vec_len claimed.new ≡ vec_len claimed.old }
     ensures ours { OnOk result (event_in first (map (λ event. event.now) events.now)
         receipt.now.number ≡ Some receipt.now.event) }
     ensures free { OnOk result
-        (slice_index_or marks.old.items (receipt.now.number - first) false ≡ false) }
-    ensures marked { OnOk result
-        (marks.new.items ≡ slice_set marks.old.items (receipt.now.number - first) true) }
+        (slice_index_or claimed.old.items (receipt.now.number - first) false ≡ false) }
+    ensures places { OnOk result
+        (claimed.new.items ≡ slice_set claimed.old.items (receipt.now.number - first) true) }
     ensures cause { IfErr result (λ fault.
         let here = event_in first (map (λ event. event.now) events.now) receipt.now.number in
         ((fault ≡ ClaimFault.NotOurs receipt.now.number) × (here ≢ Some receipt.now.event))
         ⊎ ((fault ≡ ClaimFault.Doubled receipt.now.number) × (here ≡ Some receipt.now.event)
-        × (slice_index_or marks.old.items (receipt.now.number - first) false ≡ true))) }
+        × (slice_index_or claimed.old.items (receipt.now.number - first) false ≡ true))) }
 {
     if !is_ours(first, events, receipt) {
         return Err(ClaimFault::NotOurs(receipt.number));
     }
     let place = (receipt.number - first) as usize;
-    if marks[place] {
+    if claimed[place] {
         return Err(ClaimFault::Doubled(receipt.number));
     }
-    marks[place] = true;
+    claimed[place] = true;
     Ok(())
 }
 
@@ -129,16 +129,16 @@ fn is_ours(first: u64, events: &[&Event], receipt: &Receipt) -> bool
     *events[(receipt.number - first) as usize] == receipt.event
 }
 
-// The least place that is not marked.
-pub(crate) fn first_free(marks: &[bool]) -> Option<usize>
-    ensures free { IfSome result (λ n. (n < length marks.now)
-        × (slice_index_or marks.now n false ≡ false)
-        × ((k : ℕ) → k < n → slice_index_or marks.now k false ≡ true)) }
+// The least place that is not claimed.
+pub(crate) fn first_free(claimed: &[bool]) -> Option<usize>
+    ensures free { IfSome result (λ n. (n < length claimed.now)
+        × (slice_index_or claimed.now n false ≡ false)
+        × ((k : ℕ) → k < n → slice_index_or claimed.now k false ≡ true)) }
     ensures none { IfNone result
-        ((k : ℕ) → k < length marks.now → slice_index_or marks.now k false ≡ true) }
+        ((k : ℕ) → k < length claimed.now → slice_index_or claimed.now k false ≡ true) }
 {
-    for place in 0..marks.len() {
-        if !marks[place] {
+    for place in 0..claimed.len() {
+        if !claimed[place] {
             return Some(place);
         }
     }

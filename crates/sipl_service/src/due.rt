@@ -4,7 +4,7 @@ ghost use Rattle.sipl_service.specs.Claims.{IsUnion, event_in};
 ghost use Rattle.sipl_service.specs.Ledgers.{IsNoUnionAfter};
 ghost use Rattle.sipl_service.specs.Receipts.{all_receipts, due, later};
 
-use crate::claims::{first_free, first_number, join, mark};
+use crate::claims::{claim_place, first_free, first_number, join};
 use crate::fault::ClaimFault;
 use crate::receipt::Receipt;
 use crate::receipts::Receipts;
@@ -28,54 +28,54 @@ pub(crate) fn check(
     let Ok(events) = join(alloc, pages) else {
         return Err(ClaimFault::Memory);
     };
-    let mut marks = Vec::new(alloc);
-    if marks.resize(events.len(), false).is_err() {
+    let mut claimed = Vec::new(alloc);
+    if claimed.resize(events.len(), false).is_err() {
         return Err(ClaimFault::Memory);
     }
     let first = first_number(pages);
     for handed in waiting {
         let count = handed.count_due(end);
         for place in 0..count {
-            match mark_new(&mut marks, next, first, &events, handed.get(place)) {
+            match claim_new_place(&mut claimed, next, first, &events, handed.get(place)) {
                 Ok(()) => {}
                 Err(fault) => return Err(fault),
             }
         }
     }
-    match first_free(marks.as_slice()) {
+    match first_free(claimed.as_slice()) {
         Some(place) => Err(ClaimFault::Unclaimed(first + place as u64)),
         None => Ok(()),
     }
 }
 
-// As `mark`; a receipt with a number below the next is one too many.
-fn mark_new(
-    marks: &mut Vec<bool>,
+// As `claim_place`; a receipt with a number below the next is one too many.
+fn claim_new_place(
+    claimed: &mut Vec<bool>,
     next: u64,
     first: u64,
     events: &[&Event],
     receipt: &Receipt,
 ) -> Result<(), ClaimFault>
-    requires { vec_len marks.old ≡ length events.now }
-    ensures len { vec_len marks.new ≡ vec_len marks.old }
+    requires { vec_len claimed.old ≡ length events.now }
+    ensures len { vec_len claimed.new ≡ vec_len claimed.old }
     ensures ours { OnOk result (event_in first (map (λ event. event.now) events.now)
         receipt.now.number ≡ Some receipt.now.event) }
     ensures free { OnOk result
-        (slice_index_or marks.old.items (receipt.now.number - first) false ≡ false) }
-    ensures marked { OnOk result
-        (marks.new.items ≡ slice_set marks.old.items (receipt.now.number - first) true) }
+        (slice_index_or claimed.old.items (receipt.now.number - first) false ≡ false) }
+    ensures places { OnOk result
+        (claimed.new.items ≡ slice_set claimed.old.items (receipt.now.number - first) true) }
     ensures cause { IfErr result (λ fault.
         let here = event_in first (map (λ event. event.now) events.now) receipt.now.number in
         ((fault ≡ ClaimFault.Doubled receipt.now.number) × (receipt.now.number < next))
         ⊎ (((fault ≡ ClaimFault.NotOurs receipt.now.number) × (next ≤ receipt.now.number)
         × (here ≢ Some receipt.now.event))
         ⊎ ((fault ≡ ClaimFault.Doubled receipt.now.number) × (here ≡ Some receipt.now.event)
-        × (slice_index_or marks.old.items (receipt.now.number - first) false ≡ true)))) }
+        × (slice_index_or claimed.old.items (receipt.now.number - first) false ≡ true)))) }
 {
     if receipt.number < next {
         return Err(ClaimFault::Doubled(receipt.number));
     }
-    mark(marks, first, events, receipt)
+    claim_place(claimed, first, events, receipt)
 }
 
 // Drops the receipts with numbers below the end. The space of hand-overs of which none is left may be kept.

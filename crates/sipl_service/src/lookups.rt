@@ -13,7 +13,7 @@ use crate::answers;
 use crate::asked::Asked;
 use crate::fault::ServiceFault;
 use crate::gate::{Gate, Go, OpenGate, Who};
-use crate::marks::Mark;
+use crate::latest_versions::Latest;
 use crate::pass::{Pass, add_receipt};
 use crate::service::Service;
 use crate::told::Told;
@@ -236,10 +236,10 @@ impl Service {
         if key.kind == Kind::Exists {
             return self.read_existence(rt, key);
         }
-        let Some((mark, versions)) = self.mark(rt, key)? else {
+        let Some((latest, versions)) = self.latest(rt, key)? else {
             return Ok((0, Sequence::from_vec(Vec::new(self.alloc))));
         };
-        match versions.item(self.alloc, mark.place, key, mark.number)? {
+        match versions.item(self.alloc, latest.place, key, latest.number)? {
             Some(item) => Ok((item.number(), item.into_content())),
             None => self.read_locked(rt, key),
         }
@@ -271,17 +271,17 @@ impl Service {
 
     // Where the version of a key's set of records as it is now is, and among which; `None` where the set
     // is empty.
-    fn mark<R: Wait>(
+    fn latest<R: Wait>(
         &self,
         rt: &R,
         key: &Key,
-    ) -> Result<Option<(Mark, Arc<Versions>)>, ServiceFault>
+    ) -> Result<Option<(Latest, Arc<Versions>)>, ServiceFault>
         requires { is_existence key.now ≡ false }
     {
         let mut shared = self.lock(rt);
         shared.check(&self.abilities, self.held)?;
-        match shared.mark(rt, key)? {
-            Some(mark) => Ok(Some((mark, shared.share_versions()?))),
+        match shared.latest(rt, key)? {
+            Some(latest) => Ok(Some((latest, shared.share_versions()?))),
             None => Ok(None),
         }
     }

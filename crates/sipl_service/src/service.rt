@@ -1,6 +1,6 @@
 ghost use Rattle.std.specs.Prelude.{◌≡◌, ◌≤◌, ◌-◌, ◌^◌, ◌⊎◌, [], IfOk, IfErr, OnOk};
 ghost use Rattle.sipl_book.specs.Pages.{IsPage};
-ghost use Rattle.sipl_service.specs.Marks.{key_edited};
+ghost use Rattle.sipl_service.specs.LatestVersions.{key_edited};
 ghost use Rattle.sipl_service.specs.Passes.{GetsReceipt, IsOutcomeOf};
 
 use crate::changes;

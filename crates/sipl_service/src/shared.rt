@@ -6,14 +6,14 @@ ghost use Rattle.sipl_records.specs.declared.record.Key.{Key};
 ghost use Rattle.sipl_zonestore.specs.Store.{number_in};
 ghost use Rattle.sipl_book.specs.Calls.{IsChanged};
 ghost use Rattle.sipl_book.specs.Pages.{IsPage, IsTurned, after_turn, page_of};
-ghost use Rattle.sipl_service.specs.Marks.{book_after_mark, key_edited, mark_of, marked_at};
+ghost use Rattle.sipl_service.specs.LatestVersions.{book_after_latest, key_edited, latest_at, latest_of};
 ghost use Rattle.sipl_service.specs.Refusals.{unless_other, unless_stopped};
 
 use crate::changes;
 use crate::changes::{Edited, NewEdit};
 use crate::checks::check_client;
 use crate::fault::ServiceFault;
-use crate::marks::{Mark, Marks};
+use crate::latest_versions::{Latest, LatestVersions};
 use crate::pass::Pass;
 use crate::versions::Versions;
 use sipl_book::{Book, BookFault, Event, Page};
@@ -25,8 +25,8 @@ use std::marker::Model;
 use std::mem;
 use std::sync::{Arc, Wait};
 
-// A book, and where the versions of its record sets are: each mark is that of its key's set as it is, and
-// no mark is of existence.
+// A book, and where the latest versions of its record sets are: each is that of its key's set as it is, and
+// none is of existence.
 #[derive(Drop)]
 pub(crate) struct Shared {
     pub book: Book,
@@ -35,47 +35,47 @@ pub(crate) struct Shared {
     pub edits: u64,
     // The sets that were read since the last page, which callers copy with no lock held, and where they are.
     versions: Arc<Versions>,
-    marks: Marks,
+    latest_versions: LatestVersions,
 }
 
 // The sets that were read until a page was turned.
 #[derive(Drop)]
 pub(crate) struct Read {
     versions: Arc<Versions>,
-    marks: Marks,
+    latest_versions: LatestVersions,
 }
 
 impl Model for Shared {
-    ghost use Rattle.sipl_service.specs.Marks.{SharedState};
+    ghost use Rattle.sipl_service.specs.LatestVersions.{SharedState};
 
     ghost Value = { SharedState };
 
-    ghost use Rattle.sipl_service.specs.Marks.{shared_code};
+    ghost use Rattle.sipl_service.specs.LatestVersions.{shared_code};
 
     ghost coded = { shared_code };
 
-    ghost use Rattle.sipl_service.specs.Marks.{AreMarksOf, mark_of};
+    ghost use Rattle.sipl_service.specs.LatestVersions.{AreLatestOf, latest_of};
 
     ghost view = { λ shared. record {
       book = shared.book;
-      marks = shared.marks.table.entries;
+      latest_versions = shared.latest_versions.table.entries;
       is_stopped = shared.is_stopped;
     } };
 
-    ghost invariant = { λ shared. AreMarksOf shared.book.store (mark_of shared.marks.table.entries) };
+    ghost invariant = { λ shared. AreLatestOf shared.book.store (latest_of shared.latest_versions.table.entries) };
 }
 
 impl Shared {
     // A book, of which no set was read, with versions of which there is none.
     pub fn new(alloc: Global, book: Book, versions: Arc<Versions>) -> Self
-        ensures { result ≡ record { book = book; marks = []; is_stopped = false } }
+        ensures { result ≡ record { book = book; latest_versions = []; is_stopped = false } }
     {
         Shared {
             book,
             is_stopped: false,
             edits: 0,
             versions,
-            marks: Marks::new(alloc),
+            latest_versions: LatestVersions::new(alloc),
         }
     }
 
@@ -100,35 +100,36 @@ impl Shared {
         check_client(&self.book, abilities, held)
     }
 
-    // The versions that the marks are of, which outlast the turn of a page where they are read. Does not
+    // The versions among which the latest are, which outlast the turn of a page where they are read. Does not
     // allocate: the only error is that 2^63 others share them.
     pub fn share_versions(&self) -> Result<Arc<Versions>, AllocError> {
         Arc::try_clone(&self.versions)
     }
 
-    // The mark of a key's set of records; `None` where it is empty. Where no one has read it since the
-    // last page, its version is pushed.
-    pub fn mark<R: Wait>(&mut self, rt: &R, key: &Key) -> Result<Option<Mark>, AllocError>
+    // The latest version of a key's set of records; `None` where it is empty. Where no one has read it since
+    // the last page, its version is pushed.
+    pub fn latest<R: Wait>(&mut self, rt: &R, key: &Key) -> Result<Option<Latest>, AllocError>
         requires { is_existence key.now ≡ false }
         ensures empty { IfOk result
-            (λ mark. (mark ≡ None) ↔ (number_in self.old.book.store key.now ≡ 0)) }
-        ensures number { IfOk result (λ mark.
-            IfSome mark (λ mark. mark.number ≡ number_in self.old.book.store key.now)) }
-        ensures kept { IfOk result (λ mark.
-            IfSome mark (λ mark. mark_of self.new.marks key.now ≡ Some mark)) }
+            (λ latest. (latest ≡ None) ↔ (number_in self.old.book.store key.now ≡ 0)) }
+        ensures number { IfOk result (λ latest.
+            IfSome latest (λ latest. latest.number ≡ number_in self.old.book.store key.now)) }
+        ensures kept { IfOk result (λ latest.
+            IfSome latest (λ latest. latest_of self.new.latest_versions key.now ≡ Some latest)) }
         ensures others { (other : Key) → same_key key.now other ≡ false
-            → mark_of self.new.marks other ≡ mark_of self.old.marks other }
-        ensures unchanged { OnErr result (self.new.marks ≡ self.old.marks) }
-        ensures book { self.new.book ≡ book_after_mark (number_in self.old.book.store key.now)
-            (mark_of self.old.marks key.now) self.old.book }
+            → latest_of self.new.latest_versions other ≡ latest_of self.old.latest_versions other }
+        ensures unchanged { OnErr result (self.new.latest_versions ≡ self.old.latest_versions) }
+        ensures book { self.new.book ≡ book_after_latest (number_in self.old.book.store key.now)
+            (latest_of self.old.latest_versions key.now) self.old.book }
         ensures stopped { self.new.is_stopped ≡ self.old.is_stopped }
     {
-        self.marks.of_key(rt, &mut self.book, &self.versions, key)
+        self.latest_versions
+            .of_key(rt, &mut self.book, &self.versions, key)
     }
 
-    // Edits the zones, and takes out the mark of each set that has changed. The key is that of the set of
-    // records that the edit may change, where it is an edit of one record. Where no such set has changed,
-    // no mark is looked at: those of existence have none.
+    // Edits the zones, and takes out the latest version of each set that has changed. The key is that of the
+    // set of records that the edit may change, where it is an edit of one record. Where no such set has
+    // changed, no latest version is looked at: those of existence have none.
     pub fn change(
         &mut self,
         alloc: Global,
@@ -147,21 +148,21 @@ impl Shared {
         ensures limit { IfOk result (λ edited. edited.done.number ≤ 2 ^ 52) }
         ensures changed { IfOk result
             (λ edited. IsChanged new.value.edit self.old.book self.new.book (Ok edited.done)) }
-        ensures marks { OnOk result ((key : Key) → mark_of self.new.marks key
-            ≡ marked_at (number_in self.new.book.store key) (mark_of self.old.marks key)) }
+        ensures latest_versions { OnOk result ((key : Key) → latest_of self.new.latest_versions key
+            ≡ latest_at (number_in self.new.book.store key) (latest_of self.old.latest_versions key)) }
         ensures unchanged { OnErr result (self.new ≡ self.old) }
         ensures stopped { self.new.is_stopped ≡ self.old.is_stopped }
     {
         let edited = changes::change(alloc, &mut self.book, pass, new)?;
         self.edits = self.edits.wrapping_add(1);
         if edited.done.changed > 0 {
-            self.marks.take_out_changed(&self.book, key);
+            self.latest_versions.take_out_changed(&self.book, key);
         }
         Ok(edited)
     }
 
     // Turns the page of the book, whose new journal has this space if there is one, and goes on with these
-    // versions, of which there is none. Those before are returned with their marks, to be dropped after the
+    // versions, of which there is none. Those before are returned, to be dropped after the
     // lock.
     pub fn turn_page(
         &mut self,
@@ -171,7 +172,7 @@ impl Shared {
     ) -> Result<(Page, Read), ServiceFault>
         ensures page { IfOk result (λ turned. turned.0 ≡ page_of self.old.book) }
         ensures is_page { IfOk result (λ turned. IsPage turned.0) }
-        ensures marks { OnOk result (self.new.marks ≡ []) }
+        ensures latest_versions { OnOk result (self.new.latest_versions ≡ []) }
         ensures after { OnOk result (self.new.book ≡ after_turn self.old.book) }
         ensures refused { IfErr result (λ fault. (fault ≡ ServiceFault.Book BookFault.PagesSpent)
             ⊎ (fault ≡ ServiceFault.Memory)) }
@@ -181,7 +182,7 @@ impl Shared {
         let page = turn_book_page(&mut self.book, space)?;
         let read = Read {
             versions: mem::replace(&mut self.versions, versions),
-            marks: mem::replace(&mut self.marks, Marks::new(alloc)),
+            latest_versions: mem::replace(&mut self.latest_versions, LatestVersions::new(alloc)),
         };
         Ok((page, read))
     }
@@ -194,11 +195,11 @@ impl Shared {
         let Shared {
             book,
             versions,
-            marks,
+            latest_versions,
             ..
         } = self;
         drop(versions);
-        drop(marks);
+        drop(latest_versions);
         book.into_page()
     }
 }

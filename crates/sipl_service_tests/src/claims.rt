@@ -379,7 +379,7 @@ fn claim(rt: &impl Abort, ledger: &mut Ledger, page: &Page, claimed: Result<(), 
     }
 }
 
-fn turn(rt: &impl Abort, ledger: &mut Ledger, taken: &mut Taken, round: &Round) {
+fn claim_round(rt: &impl Abort, ledger: &mut Ledger, taken: &mut Taken, round: &Round) {
     for place in round.0 {
         add(
             rt,
@@ -396,9 +396,9 @@ fn turn(rt: &impl Abort, ledger: &mut Ledger, taken: &mut Taken, round: &Round) 
     is_equal(rt, &ledger.is_settled(), &round.3);
 }
 
-fn turns(rt: &impl Abort, ledger: &mut Ledger, taken: &mut Taken, rounds: &[Round]) {
+fn claim_rounds(rt: &impl Abort, ledger: &mut Ledger, taken: &mut Taken, rounds: &[Round]) {
     for round in rounds {
-        turn(rt, ledger, taken, round);
+        claim_round(rt, ledger, taken, round);
     }
 }
 
@@ -406,7 +406,7 @@ fn claims_by_page<R: Wait + Abort>(rt: &R, alloc: Global, parts: &[Part], rounds
     let mut taken = nothing(alloc);
     take_all(rt, alloc, &mut taken, parts);
     let mut ledger = Ledger::new(alloc);
-    turns(rt, &mut ledger, &mut taken, rounds);
+    claim_rounds(rt, &mut ledger, &mut taken, rounds);
     drop(ledger);
     drop(taken);
 }

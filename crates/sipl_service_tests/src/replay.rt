@@ -156,7 +156,7 @@ impl Claims {
 
 // Turns the page, with the pages locked, so that they are in their order. Where it is a time to hand
 // over, the ledger takes the receipts of the caller, and claims what it can.
-fn turn<R: Wait + Abort>(
+fn turn_and_claim<R: Wait + Abort>(
     scene: &Scene<R>,
     claims: &Mutex<Claims>,
     pass: &mut Pass,
@@ -182,7 +182,7 @@ fn calls<R: Wait + Abort>(
     let mut chance = Pcg32::new(play.0, caller);
     for number in 0..CALLS {
         if chance.next_word() % 50 == 0 {
-            turn(scene, claims, pass, play.2);
+            turn_and_claim(scene, claims, pass, play.2);
         }
         let kind = chance.next_word();
         let word = chance.next_word();

@@ -104,7 +104,7 @@ fn the_receipts_of_two_threads_are_the_journal(rt: HostRuntime) {
 
 // ---- pages that are turned beside calls
 
-fn turns<R: Wait + Abort>(scene: &Scene<R>) -> Vec<Page> {
+fn turn_pages<R: Wait + Abort>(scene: &Scene<R>) -> Vec<Page> {
     let mut pages = Vec::new(scene.alloc);
     for _ in 0..50 {
         keep(scene.rt, &mut pages, turn_page(scene.rt, scene.service));
@@ -123,7 +123,7 @@ fn finds<R: Wait + Abort>(scene: &Scene<R>, mut pass: Pass) -> Pass {
 
 fn turned_beside<R: Threads + Wait + Abort + Sync>(scene: &Scene<R>) -> (Vec<Page>, Pass) {
     let pass = scene.service.pass();
-    thread::join(scene.rt, || turns(scene), || finds(scene, pass))
+    thread::join(scene.rt, || turn_pages(scene), || finds(scene, pass))
 }
 
 #[test]

@@ -1,6 +1,6 @@
 //! The changes since the last state, in a file: each is there before its reply is sent.
 use crate::files::{expect_same, open_to_append, remove_new, write_new};
-use crate::pending::{Mark, Pending, long_after};
+use crate::pending::{Checkpoint, Pending, long_after};
 use crate::state_files::{Base, StateFiles, point_after};
 use crate::written::Written;
 use sipl_archive::state_text;
@@ -32,14 +32,14 @@ pub struct Changes {
     has_failed: AtomicBool,
 }
 
-/// How many octets a state has, its log, and the changes of that; their last mark, and the points before the
-/// first commit of the log and after the last one.
+/// How many octets a state has, its log, and the changes of that; their last checkpoint, and the points
+/// before the first commit of the log and after the last one.
 #[derive(Clone, Copy)]
 pub(crate) struct Extent {
     pub(crate) state_len: u64,
     pub(crate) log_len: u64,
     pub(crate) len: u64,
-    pub(crate) mark: u64,
+    pub(crate) checkpoint: u64,
     pub(crate) first: Point,
     pub(crate) last: Point,
 }
@@ -60,7 +60,7 @@ impl Changes {
             state_len,
             log_len,
             len,
-            mark,
+            checkpoint,
             first,
             last,
         } = extent;
@@ -69,7 +69,7 @@ impl Changes {
             alloc,
             files,
             lock,
-            pending: Mutex::new(Pending::new(alloc, state_len, len, mark, time)),
+            pending: Mutex::new(Pending::new(alloc, state_len, len, checkpoint, time)),
             written: Mutex::new(Written::new(alloc, file, log_len, base, last, failure)),
             synced: AtomicU64::new(len),
             long_at: AtomicU64::new(long_after(0, state_len)),
@@ -98,12 +98,12 @@ impl Changes {
         place > self.long_at.load(Ordering::SeqCst)
     }
 
-    /// Appends a mark to the changes that are not in the file yet. Returns its number, and the place after
-    /// it.
-    pub(crate) fn push_mark(&self, pending: &mut Pending) -> Result<Mark, AllocError> {
-        let mark = pending.push_mark()?;
+    /// Appends a checkpoint to the changes that are not in the file yet. Returns its number, and the place
+    /// after it.
+    pub(crate) fn push_checkpoint(&self, pending: &mut Pending) -> Result<Checkpoint, AllocError> {
+        let checkpoint = pending.push_checkpoint()?;
         self.long_at.store(pending.long_at(), Ordering::SeqCst);
-        Ok(mark)
+        Ok(checkpoint)
     }
 
     /// Returns once all octets up to a place are in the file, and survive the end of the machine: at once
@@ -124,18 +124,19 @@ impl Changes {
         place <= self.synced.load(Ordering::SeqCst)
     }
 
-    /// Writes the state after a mark, and begins the log anew with the changes after it. First the mark is in
-    /// the old log. Where the state can't be written, before it takes its place, the old log goes on.
+    /// Writes the state after a checkpoint, and begins the log anew with the changes after it. First the
+    /// checkpoint is in the old log. Where the state can't be written, before it takes its place, the old log
+    /// goes on.
     pub fn write_state<R: Files<File = File> + Wait>(
         &self,
         rt: &R,
-        mark: Mark,
+        checkpoint: Checkpoint,
         state: &State,
     ) -> io::Result<()> {
-        self.sync(rt, mark.begin)?;
+        self.sync(rt, checkpoint.begin)?;
         self.expect_own(rt)?;
-        let digest = self.write_new_state(rt, mark, state)?;
-        self.begin_log(rt, mark, &digest)
+        let digest = self.write_new_state(rt, checkpoint, state)?;
+        self.begin_log(rt, checkpoint, &digest)
     }
 
     // Checks that the lock of the state is that which this process has: another folder may have been moved or
@@ -163,10 +164,10 @@ impl Changes {
     /// Writes the last state, after which there are no changes. Where these can't be written to the log it
     /// has them all the same, and this fails.
     pub fn end<R: Files<File = File> + Wait>(&self, rt: &R, state: &State) -> io::Result<()> {
-        let mark = self.push_last_mark(rt)?;
-        let ended = self.write_state(rt, mark, state);
+        let checkpoint = self.push_last_checkpoint(rt)?;
+        let ended = self.write_state(rt, checkpoint, state);
         if ended.is_err() && self.has_failed() {
-            let _ = self.write_alone(rt, mark, state);
+            let _ = self.write_alone(rt, checkpoint, state);
         }
         ended
     }
@@ -176,7 +177,7 @@ impl Changes {
     fn write_alone<R: Files<File = File> + Wait>(
         &self,
         rt: &R,
-        mark: Mark,
+        checkpoint: Checkpoint,
         state: &State,
     ) -> io::Result<()> {
         let written = self.written.lock(rt);
@@ -184,7 +185,7 @@ impl Changes {
             return Ok(());
         }
         self.expect_own(rt)?;
-        let digest = self.write_new_state(rt, mark, state)?;
+        let digest = self.write_new_state(rt, checkpoint, state)?;
         let begun = self.begin_empty(rt, &digest);
         if begun.is_err() {
             remove_new(rt, self.alloc, self.files.state.as_str());
@@ -198,9 +199,9 @@ impl Changes {
         self.files.begin(rt, self.alloc, &log)
     }
 
-    fn push_last_mark<R: Wait>(&self, rt: &R) -> Result<Mark, AllocError> {
+    fn push_last_checkpoint<R: Wait>(&self, rt: &R) -> Result<Checkpoint, AllocError> {
         let mut pending = self.pending.lock(rt);
-        self.push_mark(&mut pending)
+        self.push_checkpoint(&mut pending)
     }
 
     // Appends the changes that are not in the file yet.
@@ -254,10 +255,10 @@ impl Changes {
     fn write_new_state<R: Files<File = File> + Wait>(
         &self,
         rt: &R,
-        mark: Mark,
+        checkpoint: Checkpoint,
         state: &State,
     ) -> io::Result<[u8; 32]> {
-        let body = state_text(self.alloc, mark.number, state)?;
+        let body = state_text(self.alloc, checkpoint.number, state)?;
         let mut text = Vec::new(self.alloc);
         let digest = write_state(self.alloc, &mut text, &body)?;
         write_new(rt, self.alloc, self.files.state.as_str(), &text)?;
@@ -277,11 +278,11 @@ impl Changes {
     fn begin_log<R: Files<File = File> + Wait>(
         &self,
         rt: &R,
-        mark: Mark,
+        checkpoint: Checkpoint,
         digest: &[u8; 32],
     ) -> io::Result<()> {
         let mut written = self.written.lock(rt);
-        let begun = self.begin_written(rt, &mut written, mark, digest);
+        let begun = self.begin_written(rt, &mut written, checkpoint, digest);
         if begun.is_err() {
             remove_new(rt, self.alloc, self.files.state.as_str());
         }
@@ -292,16 +293,16 @@ impl Changes {
         &self,
         rt: &R,
         written: &mut Written,
-        mark: Mark,
+        checkpoint: Checkpoint,
         digest: &[u8; 32],
     ) -> io::Result<()> {
         self.write(rt, written)?;
-        let changes = self.changes_from(rt, written, mark.begin)?;
+        let changes = self.changes_from(rt, written, checkpoint.begin)?;
         let first = point_after(digest);
         let (log, last) = log_of(self.alloc, &first, &changes)?;
         let base = Base {
             first,
-            start: mark.begin,
+            start: checkpoint.begin,
         };
         written.set_next(base);
         self.files.begin(rt, self.alloc, &log)?;

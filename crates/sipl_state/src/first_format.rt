@@ -1,14 +1,14 @@
 //! Files of the first format, which have no digests: a state, and the lines of the changes since then. They
 //! are read once, and written in the second.
 use crate::restoring::StateFault;
-use sipl_archive::{find_mark, mark_of, mark_text, split_line, whole_len};
+use sipl_archive::{checkpoint_of, checkpoint_text, find_checkpoint, split_line, whole_len};
 use std::alloc::Global;
 
 /// What files of the first format have: the lines of a state, and those of the whole changes after it.
 #[derive(Drop)]
 pub(crate) struct FirstFormat {
     pub(crate) body: Vec<u8>,
-    // How many lines the state has, and the log up to its mark.
+    // How many lines the state has, and the log up to its checkpoint.
     state_lines: u64,
     log_lines: u64,
 }
@@ -22,7 +22,7 @@ impl FirstFormat {
     ) -> Result<FirstFormat, StateFault> {
         let mut first = FirstFormat {
             body: if state.is_empty() {
-                mark_text(alloc, 0)?
+                checkpoint_text(alloc, 0)?
             } else {
                 Vec::from_slice(alloc, state)?
             },
@@ -35,12 +35,12 @@ impl FirstFormat {
         Ok(first)
     }
 
-    // Appends the whole changes of a log after the mark of the state.
+    // Appends the whole changes of a log after the checkpoint of the state.
     fn push_changes(&mut self, log: &[u8]) -> Result<(), StateFault> {
-        let Some(mark) = mark_of(split_line(&self.body).0) else {
+        let Some(checkpoint) = checkpoint_of(split_line(&self.body).0) else {
             return Err(StateFault::State(1));
         };
-        let Some((begin, lines)) = find_mark(log, mark) else {
+        let Some((begin, lines)) = find_checkpoint(log, checkpoint) else {
             return Err(StateFault::OtherLog);
         };
         let changes = log.get(begin..).unwrap_or(&[]);

@@ -16,7 +16,7 @@ mod written;
 
 pub use changes::Changes;
 pub use files::real_path;
-pub use pending::Mark;
+pub use pending::Checkpoint;
 pub use restoring::{FoundFiles, Restored, StateFault, check_state, restore};
 pub use source::{Source, Turned};
 pub use tally::Tally;

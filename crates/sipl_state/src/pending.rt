@@ -1,10 +1,10 @@
 //! The changes that are not in their file yet.
 ghost use Rattle.std.specs.Prelude.{◌≡◌, ◌<◌, ◌≤◌, ◌+◌, ◌++◌, ◌↔◌, [], if◌then◌else◌, length, nat_lt};
 ghost use Rattle.std.specs.Prelude.{IfOk, IsTrue, OnErr, OnOk, vec_len, vec_capacity};
-ghost use Rattle.sipl_archive.specs.Text.{clock_line, mark_line};
+ghost use Rattle.sipl_archive.specs.Text.{checkpoint_line, clock_line};
 ghost use Rattle.sipl_state.specs.Places.{long_end, number_after, place_after};
 
-use sipl_archive::{clock_text, mark_text};
+use sipl_archive::{checkpoint_text, clock_text};
 use std::alloc::{AllocError, Global};
 use std::mem;
 
@@ -13,7 +13,7 @@ const MIN_LEN: u64 = 1 << 20;
 
 /// Where the changes after a state begin in their file: its number, and the place after it.
 #[derive(Clone, Copy)]
-pub struct Mark {
+pub struct Checkpoint {
     pub(crate) number: u64,
     pub(crate) begin: u64,
 }
@@ -26,8 +26,8 @@ pub(crate) struct Pending {
     text: Vec<u8>,
     // The place after the last octet.
     end: u64,
-    // The number of the last mark, and the place after it.
-    mark: u64,
+    // The number of the last checkpoint, and the place after it.
+    checkpoint: u64,
     begin: u64,
     // How long the last state was.
     state_len: u64,
@@ -36,15 +36,21 @@ pub(crate) struct Pending {
 }
 
 impl Pending {
-    /// Nothing, after a state and changes of so many octets, of which the last mark is this one, and which
-    /// lead to this time.
-    pub(crate) fn new(alloc: Global, state_len: u64, len: u64, mark: u64, time: u64) -> Pending
+    /// Nothing, after a state and changes of so many octets, of which the last checkpoint is this one, and
+    /// which lead to this time.
+    pub(crate) fn new(
+        alloc: Global,
+        state_len: u64,
+        len: u64,
+        checkpoint: u64,
+        time: u64,
+    ) -> Pending
         ensures text { result.text.items ≡ [] }
         ensures others { result ≡ record {
           alloc = alloc;
           text = result.text;
           end = len;
-          mark = mark;
+          checkpoint = checkpoint;
           begin = 0;
           state_len = state_len;
           time = time;
@@ -54,7 +60,7 @@ impl Pending {
             alloc,
             text: Vec::new(alloc),
             end: len,
-            mark,
+            checkpoint,
             begin: 0,
             state_len,
             time,
@@ -140,29 +146,29 @@ impl Pending {
         long_after(self.begin, self.state_len)
     }
 
-    /// Appends a mark. Returns its number, and the place after it.
-    pub(crate) fn push_mark(&mut self) -> Result<Mark, AllocError>
-        ensures number { IfOk result (λ mark. mark.number ≡ number_after self.old.mark) }
+    /// Appends a checkpoint. Returns its number, and the place after it.
+    pub(crate) fn push_checkpoint(&mut self) -> Result<Checkpoint, AllocError>
+        ensures number { IfOk result (λ checkpoint. checkpoint.number ≡ number_after self.old.checkpoint) }
         ensures text { IfOk result
-            (λ mark. self.new.text.items ≡ self.old.text.items ++ mark_line mark.number) }
+            (λ checkpoint. self.new.text.items ≡ self.old.text.items ++ checkpoint_line checkpoint.number) }
         ensures place { IfOk result
-            (λ mark. mark.begin ≡ place_after self.old.end (mark_line mark.number)) }
-        ensures others { IfOk result (λ mark. self.new ≡ record self.old {
+            (λ checkpoint. checkpoint.begin ≡ place_after self.old.end (checkpoint_line checkpoint.number)) }
+        ensures others { IfOk result (λ checkpoint. self.new ≡ record self.old {
           text = self.new.text;
-          end = mark.begin;
-          begin = mark.begin;
-          mark = mark.number;
+          end = checkpoint.begin;
+          begin = checkpoint.begin;
+          checkpoint = checkpoint.number;
         }) }
         ensures refused { OnErr result (self.new.text.items ≡ self.old.text.items) }
         ensures same { OnErr result (self.new ≡ record self.old { text = self.new.text }) }
     {
-        let mark = self.mark.saturating_add(1);
-        let text = mark_text(self.alloc, mark)?;
+        let checkpoint = self.checkpoint.saturating_add(1);
+        let text = checkpoint_text(self.alloc, checkpoint)?;
         self.reserve(text.len())?;
         self.begin = self.push(&text);
-        self.mark = mark;
-        Ok(Mark {
-            number: mark,
+        self.checkpoint = checkpoint;
+        Ok(Checkpoint {
+            number: checkpoint,
             begin: self.begin,
         })
     }
@@ -178,8 +184,8 @@ impl Pending {
     }
 }
 
-/// The place after which a state is to be written, where the changes after the last mark begin at this place,
-/// and the last state has so many octets.
+/// The place after which a state is to be written, where the changes after the last checkpoint begin at this
+/// place, and the last state has so many octets.
 pub(crate) fn long_after(begin: u64, state_len: u64) -> u64
     ensures { result ≡ long_end begin state_len }
 {

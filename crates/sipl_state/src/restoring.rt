@@ -4,7 +4,7 @@ use crate::changes::{Changes, Extent};
 use crate::files::{open_to_append, read_file, remove_new, sync_folder, take_place, write_new};
 use crate::first_format::FirstFormat;
 use crate::state_files::{FoundLog, StateFiles, point_after};
-use sipl_archive::{Made, made_of, mark_of, replies_to, split_line, whole_len};
+use sipl_archive::{Made, checkpoint_of, made_of, replies_to, split_line, whole_len};
 use sipl_commits::{
     Commit, Log, LogFault, Point, StateFault as FileFault, log_of, read_log, read_state,
     write_state,
@@ -83,10 +83,10 @@ pub struct FoundFiles {
 // What was read of the files of a state, and made.
 #[derive(Drop)]
 enum Read {
-    // The lines of a state of the first format and its log, or of an empty state, and the last mark.
+    // The lines of a state of the first format and its log, or of an empty state, and the last checkpoint.
     First {
         body: Vec<u8>,
-        mark: u64,
+        checkpoint: u64,
     },
     // A log, which may have to take its place yet, and has so many octets before its tail.
     Second {
@@ -97,11 +97,11 @@ enum Read {
     },
 }
 
-// How many octets a state has, its mark, and the point before the first commit of its log.
+// How many octets a state has, its checkpoint, and the point before the first commit of its log.
 #[derive(Clone, Copy)]
 struct FoundState {
     len: u64,
-    mark: u64,
+    checkpoint: u64,
     first: Point,
 }
 
@@ -119,8 +119,8 @@ pub fn restore<R: Files<File = File>, D: Desk>(
     let files = StateFiles::new(alloc, path)?;
     let (read, found) = read_files(rt, alloc, &files, desk)?;
     let (extent, opened) = match read {
-        Read::First { body, mark } => {
-            let extent = begin(rt, alloc, &files, &body, mark)?;
+        Read::First { body, checkpoint } => {
+            let extent = begin(rt, alloc, &files, &body, checkpoint)?;
             (extent, open_to_append(rt, files.log.as_str()))
         }
         Read::Second {
@@ -174,10 +174,10 @@ fn read_files<R: Files<File = File>, D: Desk>(
     };
     match read_state(alloc, &octets) {
         Ok(state) => {
-            let mark = make_state(alloc, state.body, desk)?;
+            let checkpoint = make_state(alloc, state.body, desk)?;
             let base = FoundState {
                 len: octets.len() as u64,
-                mark,
+                checkpoint,
                 first: point_after(&state.digest),
             };
             drop(octets);
@@ -201,8 +201,8 @@ fn read_first<R: Files<File = File>, D: Desk>(
     let log = of_log(read_file(rt, alloc, files.log.as_str()))?;
     let are_there = log.is_some() || !state.is_empty();
     let first = FirstFormat::read(alloc, state, log.as_deref())?;
-    let mark = match make_body(alloc, &first.body, desk)? {
-        Ok(mark) => mark,
+    let checkpoint = match make_body(alloc, &first.body, desk)? {
+        Ok(checkpoint) => checkpoint,
         Err(line) => return Err(first.fault_at(line)),
     };
     let found = FoundFiles {
@@ -212,7 +212,7 @@ fn read_first<R: Files<File = File>, D: Desk>(
         torn: None,
     };
     let body = first.body;
-    Ok((Read::First { body, mark }, found))
+    Ok((Read::First { body, checkpoint }, found))
 }
 
 // Writes the lines of a state into files of the second format.
@@ -221,7 +221,7 @@ fn begin<R: Files<File = File>>(
     alloc: Global,
     files: &StateFiles,
     body: &[u8],
-    mark: u64,
+    checkpoint: u64,
 ) -> Result<Extent, StateFault> {
     let mut text = Vec::new(alloc);
     let digest = write_state(alloc, &mut text, body)?;
@@ -237,36 +237,36 @@ fn begin<R: Files<File = File>>(
         state_len: text.len() as u64,
         log_len: octets.len() as u64,
         len: 0,
-        mark,
+        checkpoint,
         first,
         last,
     })
 }
 
-// Makes the zones and the holds of a state. Returns its mark.
+// Makes the zones and the holds of a state. Returns its checkpoint.
 fn make_state<D: Desk>(alloc: Global, body: &[u8], desk: &mut D) -> Result<u64, StateFault> {
     match make_body(alloc, body, desk)? {
-        Ok(mark) => Ok(mark),
+        Ok(checkpoint) => Ok(checkpoint),
         Err(line) => Err(StateFault::State(line.saturating_add(1))),
     }
 }
 
-// Makes the lines of a state, of which the first is its mark. Returns the last mark, or the number of the
-// line that is refused.
+// Makes the lines of a state, of which the first is its checkpoint. Returns the last checkpoint, or the
+// number of the line that is refused.
 fn make_body<D: Desk>(
     alloc: Global,
     body: &[u8],
     desk: &mut D,
 ) -> Result<Result<u64, u64>, AllocError> {
     let (head, rest) = split_line(body);
-    let Some(mark) = mark_of(head) else {
+    let Some(checkpoint) = checkpoint_of(head) else {
         return Ok(Err(1));
     };
     let made = make_lines(alloc, rest, desk)?;
     if made.is_refused || made.octets < rest.len() {
         return Ok(Err(made.lines.saturating_add(2)));
     }
-    Ok(Ok(made.mark.unwrap_or(mark)))
+    Ok(Ok(made.checkpoint.unwrap_or(checkpoint)))
 }
 
 // Reads the log of a state, and makes its changes.
@@ -344,7 +344,7 @@ fn make_changes<D: Desk>(
         state_len: state.len,
         log_len: whole as u64,
         len: changes.len() as u64,
-        mark: made.mark.unwrap_or(state.mark),
+        checkpoint: made.checkpoint.unwrap_or(state.checkpoint),
         first: state.first,
         last: log.last,
     })

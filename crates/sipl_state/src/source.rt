@@ -4,14 +4,14 @@ ghost use Rattle.sipl_book.specs.Pages.{IsPage};
 ghost use Rattle.sipl_state.specs.Turning.{IsUnturned};
 
 use crate::changes::Changes;
-use crate::pending::Mark;
+use crate::pending::Checkpoint;
 use crate::tally::Tally;
 use sipl_book::{Event, Page};
 use sipl_service::{Service, ServiceFault};
 use std::alloc::Global;
 use std::sync::{Mutex, Wait};
 
-/// A service, its zones and holds as they are, and the file of its changes, if there is one. Locks are taken
+/// A service, its zones as they are, and the file of its changes, if there is one. Locks are taken
 /// in this order: the tally, the changes, the service.
 #[derive(Drop)]
 pub struct Source {
@@ -21,11 +21,11 @@ pub struct Source {
     pub changes: Option<Changes>,
 }
 
-/// A page that was turned, and the mark of the state after it, if that is to be written.
+/// A page that was turned, and the checkpoint of the state after it, if that is to be written.
 #[derive(Drop)]
 pub struct Turned {
     pub page: Page,
-    pub mark: Option<Mark>,
+    pub checkpoint: Option<Checkpoint>,
 }
 
 impl Source {
@@ -55,9 +55,8 @@ impl Source {
         }
     }
 
-    /// Turns the page. Where the file of changes has become long it gets a mark there, and the state after
-    /// the page is to be written.
-    /// The new journal has this space, if there is one.
+    /// Turns the page. Where the file of changes has become long it gets a checkpoint there, and the state
+    /// after the page is to be written. The new journal has this space, if there is one.
     pub fn turn_page<R: Wait>(
         &self,
         rt: &R,
@@ -68,15 +67,18 @@ impl Source {
     {
         let Some(changes) = &self.changes else {
             let page = self.service.turn_page_into(rt, space)?;
-            return Ok(Turned { page, mark: None });
+            return Ok(Turned {
+                page,
+                checkpoint: None,
+            });
         };
         let mut pending = changes.lock(rt);
         let page = self.service.turn_page_into(rt, space)?;
-        let mark = if pending.is_long() && !changes.has_failed() {
-            changes.push_mark(&mut pending).ok()
+        let checkpoint = if pending.is_long() && !changes.has_failed() {
+            changes.push_checkpoint(&mut pending).ok()
         } else {
             None
         };
-        Ok(Turned { page, mark })
+        Ok(Turned { page, checkpoint })
     }
 }

@@ -36,7 +36,7 @@ def reads_its_log(checks: Checks, folder: pathlib.Path) -> None:
                      ("torn", torn))
         checks.equal((log.read_bytes(), (folder / "state.log.torn").read_bytes()), (octets, torn),
                      "what is left, and what is kept")
-    # A mark whose state was not written, since the daemon was killed then: the changes after it follow those before it.
+    # A checkpoint whose state was not written, since the daemon was killed then: the changes after it follow those before it.
     more = [b"clock 5000\nhold tcp 192.0.2.9 5060 1000000\n", b"# page 1\nclock 6000\n",
             b"add e.example.com. A 192.0.2.5\n"]
     log.write_bytes(log_of(whole, [*bodies_of(octets), *more]))

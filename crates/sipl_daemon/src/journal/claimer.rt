@@ -151,11 +151,11 @@ fn keep<R: Files<File = File> + Wait + Clock>(
     turned: &Turned,
 ) -> Result<(), CloseFault> {
     archive_page(rt, daemon.archive.as_ref(), &turned.page)?;
-    let (Some(changes), Some(mark)) = (&daemon.source.changes, turned.mark) else {
+    let (Some(changes), Some(checkpoint)) = (&daemon.source.changes, turned.checkpoint) else {
         return Ok(());
     };
     let begun = Instant::now(rt).ok();
-    match changes.write_state(rt, mark, turned.page.result()) {
+    match changes.write_state(rt, checkpoint, turned.page.result()) {
         Ok(()) => {
             daemon.observed.tell_state(rt, begun);
             Ok(())

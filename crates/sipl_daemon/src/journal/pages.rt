@@ -119,7 +119,7 @@ impl Pages {
     }
 
     /// Turns the page.
-    pub(crate) fn turn<R: Wait>(&self, rt: &R, source: &Source) -> Result<Extent, ServiceFault>
+    pub(crate) fn turn_page<R: Wait>(&self, rt: &R, source: &Source) -> Result<Extent, ServiceFault>
         ensures page { IfOk result IsExtent }
         ensures refused { IfErr result IsUnturned }
     {

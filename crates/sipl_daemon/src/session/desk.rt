@@ -246,7 +246,7 @@ impl<'a, R: Wait + Clock> Desk for SessionDesk<'a, R> {
 
     fn page(&mut self) -> Result<Extent, DeskFault> {
         self.check_rights()?;
-        match self.daemon.pages.turn(self.rt, &self.daemon.source) {
+        match self.daemon.pages.turn_page(self.rt, &self.daemon.source) {
             Ok(extent) => Ok(extent),
             Err(fault) => Err(DeskFault::Service(fault)),
         }

@@ -8,8 +8,8 @@ abbrev pub invariant-loop-len : goal.invariant-loop-len
 invariant-loop-len l =
     record {
       within : l.made.octets ≤ length l.text;
-      makes : (commands : List Octets) × MakesAll commands (record { text = l.text; replies = l.replies; mark = None })
-          (record { text = drop l.made.octets l.text; replies = l.rest; mark = l.made.mark });
+      makes : (commands : List Octets) × MakesAll commands (record { text = l.text; replies = l.replies; checkpoint = None })
+          (record { text = drop l.made.octets l.text; replies = l.rest; checkpoint = l.made.checkpoint });
       none : l.made.is_refused ≡ false;
     }
 

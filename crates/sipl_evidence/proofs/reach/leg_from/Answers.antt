@@ -1,7 +1,7 @@
 use Rattle.std.proofs.Common.{IfOk, sym, subst, []}
 use Rattle.sipl_evidence.specs.Answers.{answering, at_alias, at_source, max_ancestors, unless_exists}
 use Rattle.sipl_evidence.specs.Looks.{done}
-use Rattle.sipl_evidence.specs.WalkPlaces.{IsLeg, IsTurn, name_of}
+use Rattle.sipl_evidence.specs.WalkPlaces.{IsLeg, IsVisit, name_of}
 use Rattle.sipl_evidence.specs.Walks.{asking_from, next_within}
 use Rattle.sipl_evidence.specs.declared.walk_place.Stage.TheVariants.{WildcardSet}
 use Rattle.sipl_evidence.proofs.reach.leg_from.Goals as goal
@@ -14,10 +14,10 @@ returns-in-Set-clause-leg c =
     let name = name_of c.args.place.name in
     let next = next_within max_ancestors left kind in
     let source = at_source next kind in
-    let turn = subst (λ n. IsTurn items (answering max_ancestors next kind n) next kind n (unless_exists max_ancestors n source) c.set_turn-turn.result) c.get.ensures
-    (c.set_turn-turn.ensures (unless_exists max_ancestors c.get.result.now source)) in
+    let visit = subst (λ n. IsVisit items (answering max_ancestors next kind n) next kind n (unless_exists max_ancestors n source) c.visit_set-visit.result) c.get.ensures
+    (c.visit_set-visit.ensures (unless_exists max_ancestors c.get.result.now source)) in
     subst (λ stage. IfOk c.name_leg.result (IsLeg items (asking_from stage left kind name) left kind)) (sym c.in-Set.is)
-    (c.name_leg.ensures.leg (answering max_ancestors next kind name) turn)
+    (c.name_leg.ensures.leg (answering max_ancestors next kind name) visit)
 
 pub returns-in-Alias-clause-leg : goal.returns-in-Alias-clause-leg
 returns-in-Alias-clause-leg c =
@@ -27,10 +27,10 @@ returns-in-Alias-clause-leg c =
     let name = name_of c.args.place.name in
     let next = next_within max_ancestors left kind in
     let source = at_source next kind in
-    let turn = subst (λ n. IsTurn items (at_alias next n (unless_exists max_ancestors n source)) next kind n (unless_exists max_ancestors n source) c.alias_turn-turn.result) c.get-in-Alias.ensures
-    (c.alias_turn-turn.ensures kind (unless_exists max_ancestors c.get-in-Alias.result.now source)) in
+    let visit = subst (λ n. IsVisit items (at_alias next n (unless_exists max_ancestors n source)) next kind n (unless_exists max_ancestors n source) c.visit_alias-visit.result) c.get-in-Alias.ensures
+    (c.visit_alias-visit.ensures kind (unless_exists max_ancestors c.get-in-Alias.result.now source)) in
     subst (λ stage. IfOk c.name_leg-in-Alias.result (IsLeg items (asking_from stage left kind name) left kind)) (sym c.in-Alias.is)
-    (c.name_leg-in-Alias.ensures.leg (at_alias next name (unless_exists max_ancestors name source)) turn)
+    (c.name_leg-in-Alias.ensures.leg (at_alias next name (unless_exists max_ancestors name source)) visit)
 
 pub returns-in_ok-name-in-WildcardSet-clause-leg : goal.returns-in_ok-name-in-WildcardSet-clause-leg
 returns-in_ok-name-in-WildcardSet-clause-leg c =
@@ -47,6 +47,6 @@ returns-in_ok-name-in-WildcardAlias-clause-leg c =
     let left = c.args.place.left in
     let next = next_within max_ancestors left kind in
     let name = c.in_ok-name-in-WildcardAlias.name in
-    let leg = c.wildcard_leg.ensures items kind (at_alias next name (done [])) (c.alias_turn-turn-in-WildcardAlias.ensures kind (done [])) in
+    let leg = c.wildcard_leg.ensures items kind (at_alias next name (done [])) (c.visit_alias-visit-in-WildcardAlias.ensures kind (done [])) in
     subst (λ stage. IsLeg items (asking_from stage left kind (name_of c.args.place.name)) left kind c.wildcard_leg.result) (sym c.in-WildcardAlias.is)
     (subst (λ n. IsLeg items (at_alias next n (done [])) left kind c.wildcard_leg.result) c.in_ok-name-in-WildcardAlias.ensures leg)

@@ -6,4 +6,4 @@ use Rattle.sipl_evidence.proofs.reach.source_leg.Goals as goal
 
 pub returns : goal.returns
 returns c =
-    c.wildcard_leg.ensures c.args.evidence.now c.args.kind (asking_from WildcardSet c.args.left c.args.kind c.args.name) (c.set_turn-turn.ensures (done []))
+    c.wildcard_leg.ensures c.args.evidence.now c.args.kind (asking_from WildcardSet c.args.left c.args.kind c.args.name) (c.visit_set-visit.ensures (done []))

@@ -4,7 +4,7 @@ use Rattle.sipl_book.specs.declared.event.Event.{Event}
 use Rattle.sipl_service.specs.Passes.{receipts_of}
 use Rattle.sipl_service.proofs.Gaps.{no_gap}
 use Rattle.sipl_service.proofs.Joined.{joined-legal}
-use Rattle.sipl_service.proofs.Marked.{refutes, first-at, is_cause, is_unclaimed, is_union, marked-all, marked-in}
+use Rattle.sipl_service.proofs.Claimed.{refutes, first-at, is_cause, is_unclaimed, is_union, claimed-all, claimed-in}
 use Rattle.sipl_service.proofs.claims.claim.Goals as goal
 
 pub returns-in-Some-clause-exact : goal.returns-in-Some-clause-exact
@@ -23,15 +23,15 @@ returns-in-Err-clause-exact c = λ ample. refutes _ _ c.in-Err.fault ample (retu
 
 pub loop-receipt-preserved : goal.loop-receipt-preserved
 loop-receipt-preserved c =
-    marked-in c.args.pages.now c.first_number-first.result _ c.first_number-first.ensures.first
+    claimed-in c.args.pages.now c.first_number-first.result _ c.first_number-first.ensures.first
     (ap (map (λ (event : Bor Event). event.now)) c.deref.ensures.value ∙ c.in-Ok.ensures.events) _ _ _ _ _ c.receipt-item.result
-    c.loop-receipt.invariant c.loop-receipt-test.true c.receipt-item.is c.in-Ok-mark.ensures.ours c.in-Ok-mark.ensures.free c.in-Ok-mark.ensures.marked
+    c.loop-receipt.invariant c.loop-receipt-test.true c.receipt-item.is c.in-Ok-claim_place.ensures.ours c.in-Ok-claim_place.ensures.free c.in-Ok-claim_place.ensures.places
 
 pub returns-in-Some-first_free-clause-cause : goal.returns-in-Some-first_free-clause-cause
 returns-in-Some-first_free-clause-cause c = (
   c.in_default.ensures.none,
   is_unclaimed c.args.pages.now (receipts_of c.args.passes.now) c.as_slice.result.now
-      (marked-all c.args.pages.now c.args.passes.now c.loop-pass.pass-index c.loop-pass.marks.items c.as_slice.result.now c.as_slice.ensures.value (omega (arith, c.loop-pass-test.false)) c.loop-pass.invariant) c.first_number-first.result c.in-Some-first_free.place c.first_number-first.ensures.first
+      (claimed-all c.args.pages.now c.args.passes.now c.loop-pass.pass-index c.loop-pass.claimed.items c.as_slice.result.now c.as_slice.ensures.value (omega (arith, c.loop-pass-test.false)) c.loop-pass.invariant) c.first_number-first.result c.in-Some-first_free.place c.first_number-first.ensures.first
       c.in-Some-first_free.ensures.free.0 c.in-Some-first_free.ensures.free.1 c.in-Some-first_free.ensures.free.2,
 )
 
@@ -42,7 +42,7 @@ pub returns-clause-union : goal.returns-clause-union
 returns-clause-union c = (
   c.in_default.ensures.none,
   is_union c.args.pages.now (receipts_of c.args.passes.now) c.as_slice.result.now
-      (marked-all c.args.pages.now c.args.passes.now c.loop-pass.pass-index c.loop-pass.marks.items c.as_slice.result.now c.as_slice.ensures.value (omega (arith, c.loop-pass-test.false)) c.loop-pass.invariant) c.in-None.ensures.none,
+      (claimed-all c.args.pages.now c.args.passes.now c.loop-pass.pass-index c.loop-pass.claimed.items c.as_slice.result.now c.as_slice.ensures.value (omega (arith, c.loop-pass-test.false)) c.loop-pass.invariant) c.in-None.ensures.none,
 )
 
 pub returns-clause-legal : goal.returns-clause-legal

@@ -1,6 +1,6 @@
 use Rattle.std.proofs.Common.{sym, ap, ◌∙◌}
 use Rattle.sipl_book.specs.Pages.{PageState}
-use Rattle.sipl_service.specs.Marks.{SharedState}
+use Rattle.sipl_service.specs.LatestVersions.{SharedState}
 use Rattle.sipl_service.specs.Services.{ServiceState}
 use Rattle.sipl_service.proofs.Policies.{is_for-same}
 use Rattle.sipl_service.proofs.service.Service.close.Goals as goal
