@@ -201,7 +201,7 @@ fn reserve_item(
         → IsEvidence (items.old.items ++ item ∷ []) (table_of places.new)) }
     ensures err { OnErr result (IsEvidence items.old.items (table_of places.new)) }
 {
-    reserve_one(items)?;
+    reserve_one(items, key.kind)?;
     let len = items.len();
     if len < MAX_SEARCHED {
         return Ok(());
@@ -209,12 +209,13 @@ fn reserve_item(
     index_next(items, places, alloc, key)
 }
 
-// Reserves space for one item more: no more than that where it is the first.
-fn reserve_one(items: &mut Vec<Item>) -> Result<(), AllocError>
+// Reserves space for one item more, which is of this kind. No more than that where it is the first, unless
+// it is a set of NAPTR, which those of SRV and of addresses follow.
+fn reserve_one(items: &mut Vec<Item>, kind: Kind) -> Result<(), AllocError>
     ensures items { items.new.items ≡ items.old.items }
     ensures space { OnOk result (vec_len items.new + 1 ≤ vec_capacity items.new) }
 {
-    if items.is_empty() {
+    if items.is_empty() && kind != Kind::Pointer {
         items.reserve_exact(1)?;
         return Ok(());
     }
