@@ -8,6 +8,7 @@ pub mod SameSets
 pub mod AncestorCounts
 pub mod ChangedNames
 pub mod NameTables
+pub mod CountedNames
 pub mod Counts
 pub mod Contents
 pub mod SetTables

@@ -45,7 +45,7 @@ only-one r (x ∷ records) distinct some = elim (cases_Bool (same_record r x)) [
 ]
 
 -- how many records are within a name, with a record and without it
-count-within_without : (old : List Record) (r : Record) (name : Labels) → has_repeats old ≡ false → list_any (same_record r) old ≡ true → count_within old name ≡ count_within (records_without r old) name + cond (is_within r.owner name) 1 0
+pub count-within_without : (old : List Record) (r : Record) (name : Labels) → has_repeats old ≡ false → list_any (same_record r) old ≡ true → count_within old name ≡ count_within (records_without r old) name + cond (is_within r.owner name) 1 0
 count-within_without old r name distinct some =
     let parts : count_within old name ≡ count_within (filter (same_record r) old) name + count_within (records_without r old) name = count-parts (λ r. is_within r.owner name) (same_record r) old in
     let one : count_within (filter (same_record r) old) name ≡ count_within (r ∷ []) name = ap (λ rs. count_within rs name) (only-one r old distinct some) in

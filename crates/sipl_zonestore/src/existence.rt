@@ -19,23 +19,22 @@ use sipl_names::Name;
 use sipl_records::{Key, Kind, Record, Sequence};
 use std::alloc::{AllocError, Global};
 
-// What an edit of one record changes: the key of its set, if it is in one, and the existence of those
-// of these names that have this count: its owner and the ancestors of that.
+// What an edit of one record changes: the key of its set, if it is in one, and the existence of these
+// names.
 pub(crate) fn changed_by(
     alloc: Global,
     edited: &Record,
-    owners: &[Name],
-    names: &IndexMap<Name, usize>,
-    count: usize,
+    names: &[Name],
 ) -> Result<Changed, AllocError>
-    ensures keys { IfOk result (λ changed. changed.keys ≡ option_to_list (key_of edited.now)
-        ++ map existence_key
-        (filter (λ name. nat_eq (count_at names.now.entries name) count) owners.now)) }
+    ensures keys { IfOk result (λ changed. changed.keys
+        ≡ option_to_list (key_of edited.now) ++ map existence_key names.now) }
     ensures sets { IfOk result (λ changed. changed.sets ≡ length (option_to_list (key_of edited.now))) }
 {
     let mut keys = own_key(alloc, edited)?;
     let sets = keys.len();
-    push_counted(alloc, &mut keys, owners, names, count)?;
+    for name in names {
+        push_existence(alloc, &mut keys, name)?;
+    }
     let keys = Sequence::from_vec(keys);
     Ok(Changed { keys, sets })
 }

@@ -20,7 +20,7 @@ ghost use Rattle.sipl_zonestore.specs.Edits.{records_without};
 ghost use Rattle.sipl_zonestore.specs.IndexedRecords.{IsReplaced, nothing};
 
 use crate::addition::Addition;
-use crate::ancestors::with_ancestors;
+use crate::ancestors::with_count;
 use crate::bare_owners::{insert_owner, remove_owner, replace_among, replace_owners};
 use crate::changed::Changed;
 use crate::comparison::{Comparison, has_conflict, has_value};
@@ -29,7 +29,7 @@ use crate::existence::{changed_by, is_existence, put_names};
 use crate::fault::StoreFault;
 use crate::loaded_owners::loaded_owners;
 use crate::loaded_tables::{LoadedTables, loaded_tables};
-use crate::name_table::{count_in, count_of, count_out};
+use crate::name_table::{count_of, count_out, count_owner};
 use crate::patches::{Patch, patch_of};
 use crate::record_list::RecordList;
 use crate::set_numbers::{added_count, check_numbers, push_to_set, remove_from_set, removed_count};
@@ -333,7 +333,7 @@ impl IndexedRecords {
             &mut self.names,
             1,
             usize::from(addition.bare.is_some()),
-            addition.owners.len(),
+            addition.owners.counted.len(),
         )?;
         push_to_set(self.alloc, &mut self.sets, self.next, new)?;
         let Addition {
@@ -343,7 +343,7 @@ impl IndexedRecords {
             changed,
         } = Box::into_inner(addition);
         insert_owner(&mut self.bare, bare);
-        count_in(&mut self.names, owners);
+        count_owner(&mut self.names, owners);
         self.records.push_reserved(record);
         self.next += count as u64;
         Ok(changed)
@@ -361,11 +361,12 @@ impl IndexedRecords {
     {
         let count = removed_count(&self.sets, old);
         check_numbers(self.next, count)?;
-        let owners = with_ancestors(self.alloc, &old.owner)?;
-        let changed = changed_by(self.alloc, old, &owners, &self.names, 1)?;
+        let owner = old.owner.dup(self.alloc)?;
+        let owners = with_count(self.alloc, &self.names, &owner, 1)?;
+        let changed = changed_by(self.alloc, old, &owners.counted)?;
         remove_from_set(&mut self.sets, self.next, old);
         remove_owner(&mut self.bare, old);
-        count_out(&mut self.names, &owners);
+        count_out(&mut self.names, owner);
         self.records.remove(old);
         self.next += count as u64;
         Ok(changed)

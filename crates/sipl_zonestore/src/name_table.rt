@@ -1,15 +1,15 @@
 //! The names that exist (RFC 4592, 2.2.3): of each, how many records are within it.
-ghost use Rattle.std.specs.Prelude.{◌≡◌, ◌≤◌, ◌<◌, ◌+◌, ◌-◌, ◌^◌, length, if◌then◌else◌, IfOk};
+ghost use Rattle.std.specs.Prelude.{◌≡◌, ◌≤◌, ◌<◌, ◌+◌, ◌-◌, ◌^◌, ◌++◌, true, length, if◌then◌else◌, IfOk, IfSome};
 ghost use Rattle.std.specs.List.{count_by};
 ghost use Rattle.std.specs.Map.{keys_of};
 ghost use Rattle.indexmap.specs.IndexMap.{index_map_len, spare};
 ghost use Rattle.indexmap.specs.IndexSet.{insert_all, insert_key};
-ghost use Rattle.sipl_names.specs.Labels.{Labels, same_name};
-ghost use Rattle.sipl_zonestore.specs.Changes.{existing_names};
-ghost use Rattle.sipl_zonestore.specs.NameTable.{HasNames, count_at};
+ghost use Rattle.sipl_names.specs.Labels.{Labels, is_within, same_name};
+ghost use Rattle.sipl_zonestore.specs.Changes.{existing_names, with_ancestors};
+ghost use Rattle.sipl_zonestore.specs.NameTable.{HasNames, ancestors_from, count_at};
 ghost use Rattle.sipl_zonestore.specs.Store.{records_within};
 
-use crate::ancestors::with_ancestors;
+use crate::ancestors::{Ancestors, with_ancestors};
 use indexmap::IndexMap;
 use sipl_names::Name;
 use sipl_records::Record;
@@ -73,13 +73,66 @@ fn take_count(names: &mut IndexMap<Name, usize>, name: &Name, count: usize)
     names.swap_remove(name);
 }
 
-// Counts each of these names once less. Does not allocate.
-pub(crate) fn count_out(names: &mut IndexMap<Name, usize>, less: &[Name])
-    ensures { (name : Labels) → count_at names.new.entries name
-        ≡ count_at names.old.entries name - count_by (λ other. same_name other name) less.now }
+// Counts an owner and its ancestors once less. Does not allocate.
+pub(crate) fn count_out(names: &mut IndexMap<Name, usize>, owner: Name)
+    ensures { (name : Labels) → count_at names.new.entries name ≡ count_at names.old.entries name
+        - count_by (λ other. same_name other name) (with_ancestors owner) }
 {
-    for name in less {
-        take_count(names, name, 1);
+    let mut rest = owner;
+    loop {
+        take_count(names, &rest, 1);
+        if !rest.pop_label() {
+            return;
+        }
+    }
+}
+
+// Counts a name that exists once more. Does not allocate.
+fn raise_count(names: &mut IndexMap<Name, usize>, name: &Name)
+    requires exists { 0 < count_at names.old.entries name.now }
+    requires fits { count_at names.old.entries name.now + 1 < 2 ^ 64 }
+    ensures { (other : Labels) → count_at names.new.entries other
+        ≡ count_at names.old.entries other + (if same_name name.now other then 1 else 0) }
+{
+    if let Some(own) = names.get_mut(name) {
+        *own += 1;
+    }
+}
+
+// Counts an owner and its ancestors, which all exist, once more. Does not allocate.
+fn raise_counts(names: &mut IndexMap<Name, usize>, owner: Name)
+    requires exist { (name : Labels) → is_within owner name ≡ true
+        → 0 < count_at names.old.entries name }
+    requires fits { (name : Labels) → count_at names.old.entries name
+        + count_by (λ other. same_name other name) (with_ancestors owner) < 2 ^ 64 }
+    ensures { (name : Labels) → count_at names.new.entries name ≡ count_at names.old.entries name
+        + count_by (λ other. same_name other name) (with_ancestors owner) }
+{
+    let mut rest = owner;
+    loop {
+        raise_count(names, &rest);
+        if !rest.pop_label() {
+            return;
+        }
+    }
+}
+
+// Counts an owner and its ancestors once more, of which the first ones don't exist. Does not allocate.
+pub(crate) fn count_owner(names: &mut IndexMap<Name, usize>, owners: Ancestors)
+    requires space { length owners.counted.items ≤ spare names.old }
+    requires exist { (name : Labels) → IfSome owners.rest
+        (λ rest. is_within rest name ≡ true → 0 < count_at names.old.entries name) }
+    requires fits { (name : Labels) → count_at names.old.entries name
+        + count_by (λ other. same_name other name)
+        (owners.counted.items ++ ancestors_from owners.rest) < 2 ^ 64 }
+    ensures { (name : Labels) → count_at names.new.entries name ≡ count_at names.old.entries name
+        + count_by (λ other. same_name other name)
+        (owners.counted.items ++ ancestors_from owners.rest) }
+{
+    let Ancestors { counted, rest } = owners;
+    count_in(names, counted);
+    if let Some(rest) = rest {
+        raise_counts(names, rest);
     }
 }
 

@@ -1,0 +1,16 @@
+use Rattle.std.proofs.Common.{◌≡◌, ◌+◌, ◌<◌, true, length}
+use Rattle.std.specs.List.{count_by}
+use Rattle.sipl_names.specs.Labels.{Labels, is_within, same_name}
+use Rattle.sipl_zonestore.specs.Changes.{with_ancestors}
+use Rattle.sipl_zonestore.specs.NameTable.{count_at}
+use Rattle.sipl_zonestore.proofs.name_table.raise_counts.Given as goal
+
+abbrev pub invariant-loop-rest : goal.invariant-loop-rest
+invariant-loop-rest l =
+    record {
+      counts : (name : Labels) → count_at l.names.entries name + count_by (λ other. same_name other name) (with_ancestors l.rest) ≡ count_at l.initial.names.entries name + count_by (λ other. same_name other name) (with_ancestors l.initial.rest);
+      exist : (name : Labels) → is_within l.rest name ≡ true → 0 < count_at l.names.entries name;
+    }
+
+abbrev pub decreases-loop-rest : goal.decreases-loop-rest
+decreases-loop-rest l = length l.rest
