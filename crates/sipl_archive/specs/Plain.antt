@@ -86,5 +86,6 @@ plain_rules =
       Pages = λ old outcome new. new ≡ old;
       Pauses = λ old new. new ≡ old;
       IsTime = λ plain now. now ≡ plain.board.holds.now;
+      zone_octets = λ plain. None;
       fault_text = code_of;
     }

@@ -124,6 +124,10 @@ impl Desk for Plain {
         self.board.now()
     }
 
+    fn zone_octets(&self) -> Option<u64> {
+        None
+    }
+
     // No page has such a line.
     fn deps(&mut self, _alloc: Global, _question: Question) -> Result<Evidence, BookFault> {
         Err(BookFault::NotCurrent)

@@ -1,5 +1,5 @@
 -- What the desk of a daemon's session does: the calls are those of the service, with the session's pass.
-use Rattle.std.specs.Prelude.{◌≡◌, ◌⊎◌, ℕ, [], Bool, true, false, Result, Ok, Err, IfErr, IfOk, codes}
+use Rattle.std.specs.Prelude.{◌≡◌, ◌⊎◌, ℕ, [], Bool, true, false, Option, Result, Ok, Err, IfErr, IfOk, codes}
 use Rattle.std.specs.Result.{result_map_both}
 use Rattle.sipl_names.specs.Labels.{Octets}
 use Rattle.sipl_outages.specs.Holds.{BoardEvent}
@@ -19,10 +19,12 @@ use Rattle.sipl_lines.specs.ServiceDesk.{CallerState, IsTold, KeepsOthers, hande
 use Rattle.sipl_daemon.specs.declared.fault.DeskFault.{DeskFault}
 use Rattle.sipl_daemon.specs.declared.fault.DeskFault.TheVariants.{AsksOnly, HostTime, NotKept, Service}
 
--- what is seen of a session: its caller, and whether it may only ask
+-- what is seen of a session: its caller, whether it may only ask, and how many octets the lines of a zone
+-- may have, where there is a limit
 pub record SessionState : Type 0 where
   pub caller : CallerState
   pub asks_only : Bool
+  pub zone_octets : Option ℕ
 
 -- the result of a call of the service, as the desk returns it
 abbrev pub of_service : {A : Type 0} → Result A ServiceFault → Result A DeskFault
@@ -36,6 +38,7 @@ IsOfService fault = (cause : ServiceFault) × (fault ≡ Service cause)
 pub record KeepsSession (old new : SessionState) : Type 0 where
   pub others : KeepsOthers old.caller new.caller
   pub asks_only : new.asks_only ≡ old.asks_only
+  pub zone_octets : new.zone_octets ≡ old.zone_octets
 
 -- a session that may only ask is refused, and nothing changes
 abbrev pub IsRefused : {A : Type 0} → SessionState → SessionState → Result A DeskFault → Type 0
@@ -103,6 +106,7 @@ session_rules =
     record {
       Finds = λ question words old outcome new. (told : Result ToldState ServiceFault)
           × IsTold question words old.caller new.caller told × (new.asks_only ≡ old.asks_only)
+          × (new.zone_octets ≡ old.zone_octets)
           × (outcome ≡ result_map_both handed_of Service told);
       Changes = λ edit old outcome new.
           IsRefused old new outcome ⊎ ((old.asks_only ≡ false) ×
@@ -116,6 +120,7 @@ session_rules =
           IsRefused old new outcome ⊎ ((old.asks_only ≡ false) × IfOk outcome IsExtent
           × IfErr outcome IsPageRefused × (new ≡ old));
       Pauses = λ old new. HandsOver old new;
-      IsTime = λ caller now. Unit {0};
+      IsTime = λ session now. Unit {0};
+      zone_octets = λ session. session.zone_octets;
       fault_text = desk_text;
     }

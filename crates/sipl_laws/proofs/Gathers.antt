@@ -77,14 +77,14 @@ abbrev TypeOf : {A : Type 0} → A → Type 0
 TypeOf {A} value = A
 
 abbrev Gathered : Type 0
-Gathered = TypeOf (no_lines (Ok []))
+Gathered = TypeOf (no_lines (Ok []) None)
 
 abbrev Gathering : Type 0
-Gathering = TypeOf (gathering_of [] 0)
+Gathering = TypeOf (gathering_of [] 0 None)
 
 -- so many lines are left, after a text and a last LF
 abbrev after_text : Labels → ℕ → Octets → Gathering
-after_text apex left text = record { left = left; gathered = after_short_line text (no_lines (Ok apex)) }
+after_text apex left text = record { left = left; gathered = after_short_line text (no_lines (Ok apex) None) }
 
 -- one more line of a record is taken
 
@@ -97,19 +97,19 @@ not-long r is = let short = length-record r is in grind (arith, nat_tests)
 less-one : (left : ℕ) → suc left - 1 ≡ left
 less-one left = omega arith
 
-more-text : (apex : Labels) (text more : Octets) → after_short_line more (after_short_line text (no_lines (Ok apex))) ≡ after_short_line (text ++ 10 ∷ more) (no_lines (Ok apex))
+more-text : (apex : Labels) (text more : Octets) → after_short_line more (after_short_line text (no_lines (Ok apex) None)) ≡ after_short_line (text ++ 10 ∷ more) (no_lines (Ok apex) None)
 more-text apex text more = simp append_assoc
 
-first-line : (apex : Labels) (left : ℕ) (r : Record) → IsName apex → IsRecord r → after_line (record_text r) (gathering_of (text_of apex) (suc left)) ≡ after_text apex left (record_text r)
+first-line : (apex : Labels) (left : ℕ) (r : Record) → IsName apex → IsRecord r → after_line (record_text r) (gathering_of (text_of apex) (suc left) None) ≡ after_text apex left (record_text r)
 first-line apex left r is fit =
-    ap (λ read. after_line (record_text r) (record { left = suc left; gathered = no_lines read })) (name_of-text_of apex [] is)
-    ∙ ap (one_less (suc left) (after_long_line (no_lines (Ok apex))) (after_short_line (record_text r) (no_lines (Ok apex)))) (not-long r fit)
+    ap (λ read. after_line (record_text r) (record { left = suc left; gathered = no_lines read None })) (name_of-text_of apex [] is)
+    ∙ ap (one_less (suc left) (after_long_line (no_lines (Ok apex) None)) (after_short_line (record_text r) (no_lines (Ok apex) None))) (not-long r fit)
     ∙ ap (λ n. after_text apex n (record_text r)) (less-one left)
 
 next-line : (apex : Labels) (left : ℕ) (text : Octets) (r : Record) → IsRecord r → after_line (record_text r) (after_text apex (suc left) text) ≡ after_text apex left (text ++ 10 ∷ record_text r)
 next-line apex left text r fit =
-    ap (one_less (suc left) (after_long_line (after_short_line text (no_lines (Ok apex)))) (after_short_line (record_text r) (after_short_line text (no_lines (Ok apex))))) (not-long r fit)
-    ∙ ap (λ n. record { left = n; gathered = after_short_line (record_text r) (after_short_line text (no_lines (Ok apex))) }) (less-one left)
+    ap (one_less (suc left) (after_long_line (after_short_line text (no_lines (Ok apex) None))) (after_short_line (record_text r) (after_short_line text (no_lines (Ok apex) None)))) (not-long r fit)
+    ∙ ap (λ n. record { left = n; gathered = after_short_line (record_text r) (after_short_line text (no_lines (Ok apex) None)) }) (less-one left)
     ∙ ap (λ gathered. record { left = left; gathered = gathered }) (more-text apex text (record_text r))
 
 module _ {D F : Type 0} (rules : DeskRules D F) where
@@ -182,42 +182,43 @@ module _ {D F : Type 0} (rules : DeskRules D F) where
         (serves-others next records (text ++ 10 ∷ record_text r) all.0 all.1 (subst LoadsText (sym (text-so-far text r (records_text (next ∷ records)))) loads))
 
     -- the lines of records are taken after a zone's first line
-    serves-records : (r : Record) (records : List Record) → IsName apex → IsRecord r → AllByRecursion IsRecord records → LoadsText (records_text (r ∷ records)) → Serves (session_protocol rules) (taking (gathering_of (text_of apex) (suc (length records))) before) (record_items (r ∷ records)) told (new_session after)
+    serves-records : (r : Record) (records : List Record) → IsName apex → IsRecord r → AllByRecursion IsRecord records → LoadsText (records_text (r ∷ records)) → Serves (session_protocol rules) (taking (gathering_of (text_of apex) (suc (length records)) None) before) (record_items (r ∷ records)) told (new_session after)
     serves-records r [] is fit all loads =
-        serves-last (gathering_of (text_of apex) 1) (after_text apex 0 (record_text r)) (record_text r) before told after (first-line apex 0 r is fit) refl
+        serves-last (gathering_of (text_of apex) 1 None) (after_text apex 0 (record_text r)) (record_text r) before told after (first-line apex 0 r is fit) refl
         (subst LoadsText (append-nil (record_text r ++ 10 ∷ [])) loads)
     serves-records r (next ∷ records) is fit all loads =
-        serves-next (gathering_of (text_of apex) (suc (suc (length records)))) (after_text apex (suc (length records)) (record_text r)) (length records) (record_text r) (record_items (next ∷ records)) before told after (first-line apex (suc (length records)) r is fit) refl
+        serves-next (gathering_of (text_of apex) (suc (suc (length records))) None) (after_text apex (suc (length records)) (record_text r)) (length records) (record_text r) (record_items (next ∷ records)) before told after (first-line apex (suc (length records)) r is fit) refl
         (serves-others next records (record_text r) all.0 all.1 (subst LoadsText (joined (record_text r) (10 ∷ []) (records_text (next ∷ records))) loads))
 
     -- a zone's first line is obeyed
-    obeys-first : (first : Octets) (count : ℕ) (reply : Octets) (next : SessionState D) → request_of first ≡ zone (text_of apex) count → Gathers rules (gathering_of (text_of apex) count) (new_session before) reply next → Obeys rules (request_of first) (new_session before) reply next
-    obeys-first first count reply next asks gathers =
-        subst (λ request. Obeys rules request (new_session before) reply next) (sym asks) (inl (inl gathers))
+    obeys-first : (first : Octets) (count : ℕ) (reply : Octets) (next : SessionState D) → rules.zone_octets before ≡ None → request_of first ≡ zone (text_of apex) count → Gathers rules (gathering_of (text_of apex) count None) (new_session before) reply next → Obeys rules (request_of first) (new_session before) reply next
+    obeys-first first count reply next unlimited asks gathers =
+        let limited = subst (λ limit. Gathers rules (gathering_of (text_of apex) count limit) (new_session before) reply next) (sym unlimited) gathers in
+        subst (λ request. Obeys rules request (new_session before) reply next) (sym asks) (inl (inl limited))
 
     -- a zone without records is loaded at once
-    gathers-none : IsName apex → LoadsText [] → Gathers rules (gathering_of (text_of apex) 0) (new_session before) told (new_session after)
+    gathers-none : IsName apex → LoadsText [] → Gathers rules (gathering_of (text_of apex) 0 None) (new_session before) told (new_session after)
     gathers-none is loads =
-        let named = subst (λ read. LoadsGathered rules (no_lines read) before told after) (sym (name_of-text_of apex [] is)) loads in
-        gathers-last (gathering_of (text_of apex) 0) (new_session before) told (new_session after) refl (named, refl)
+        let named = subst (λ read. LoadsGathered rules (no_lines read None) before told after) (sym (name_of-text_of apex [] is)) loads in
+        gathers-last (gathering_of (text_of apex) 0 None) (new_session before) told (new_session after) refl (named, refl)
 
-    -- a zone's first line, its records, and the end of the input
-    pub serves-zone : (records : List Record) (first : Octets) → IsName apex → AllByRecursion IsRecord records → request_of first ≡ zone (text_of apex) (length records) → LoadsText (records_text records) → Serves (session_protocol rules) (new_session before) (line first ∷ record_items records) told (new_session after)
-    serves-zone [] first is all asks loads = record {
+    -- a zone's first line, its records, and the end of the input, at a desk that has no limit
+    pub serves-zone : (records : List Record) (first : Octets) → rules.zone_octets before ≡ None → IsName apex → AllByRecursion IsRecord records → request_of first ≡ zone (text_of apex) (length records) → LoadsText (records_text records) → Serves (session_protocol rules) (new_session before) (line first ∷ record_items records) told (new_session after)
+    serves-zone [] first unlimited is all asks loads = record {
       reply = told;
       replies = [];
       between = new_session after;
-      first = (new_session before, ([], refl), (tt, obeys-first first 0 told (new_session after) asks (gathers-none is loads)));
+      first = (new_session before, ([], refl), (tt, obeys-first first 0 told (new_session after) unlimited asks (gathers-none is loads)));
       others = serves-end after;
       joined = sym (append-nil told);
     }
-    serves-zone (r ∷ records) first is all asks loads =
-        let gathering : Gathering = gathering_of (text_of apex) (suc (length records)) in
+    serves-zone (r ∷ records) first unlimited is all asks loads =
+        let gathering : Gathering = gathering_of (text_of apex) (suc (length records)) None in
         record {
           reply = [];
           replies = told;
           between = taking gathering before;
-          first = (new_session before, ([], refl), (tt, obeys-first first (suc (length records)) [] (taking gathering before) asks (gathers-more gathering (length records) (new_session before) refl)));
+          first = (new_session before, ([], refl), (tt, obeys-first first (suc (length records)) [] (taking gathering before) unlimited asks (gathers-more gathering (length records) (new_session before) refl)));
           others = serves-records r records is all.0 all.1 loads;
           joined = refl;
         }

@@ -65,7 +65,7 @@ module _ (reads : Readers) (printing : Printing) (short : (question : Question) 
           desk = refl;
           serves = subst (λ items. Serves (session_protocol plain_rules) (at before) items (told (loading z)) (at (plain_after (loading z) before)))
               (sym (items-zone z is))
-              (serves-zone plain_rules z.apex before (told (loading z)) (plain_after (loading z) before) z.records (zone_line z) is.apex is.records (asks short reads.addresses (loading z) is) (loads-again z is zone accepts));
+              (serves-zone plain_rules z.apex before (told (loading z)) (plain_after (loading z) before) z.records (zone_line z) refl is.apex is.records (asks short reads.addresses (loading z) is) (loads-again z is zone accepts));
         };
         expected = ap (λ (t : Octets). is_expected t (event_reply (loading z)) (told (loading z))) (ap first_line own ∙ line-before (zone_line z) (records_text z.records) (from-line (loading z) is)) ∙ expects (loading z);
       }

@@ -178,8 +178,8 @@ changes_hold change (Ok endpoint) before t u a b done done' well well' =
 loads_gathered : (gathered : Gathered) → HasOne (LoadsGathered plain_rules gathered)
 loads_gathered Lost before t u a b kept kept' well well' = (kept.0 ∙ sym kept'.0, kept.1 ∙ sym kept'.1)
 loads_gathered LongLine before t u a b kept kept' well well' = (kept.0 ∙ sym kept'.0, kept.1 ∙ sym kept'.1)
-loads_gathered (BadApex fault) before t u a b kept kept' well well' = (kept.0 ∙ sym kept'.0, kept.1 ∙ sym kept'.1)
-loads_gathered (Lines lines) before t u a b done done' well well' = loads (zone_of lines.text lines.apex) before t u a b done done' well well'
+loads_gathered (BadApex fault octets_left) before t u a b kept kept' well well' = (kept.0 ∙ sym kept'.0, kept.1 ∙ sym kept'.1)
+loads_gathered (Lines lines octets_left) before t u a b done done' well well' = loads (zone_of lines.text lines.apex) before t u a b done done' well well'
 
 -- ---- what a command does with the call
 
@@ -359,7 +359,7 @@ performs : (request : Request) → HasOneOrLost (Performs plain_rules request)
 performs nothing = one (Keeps []) (keeps [])
 performs unknown = one (Refuses (codes "K1")) (keeps (refusal_line (codes "K1")))
 performs too_long = one (Refuses (codes "K2")) (keeps (refusal_line (codes "K2")))
-performs (zone apex lines) = either_gathers (gathering_of apex lines)
+performs (zone apex lines) = either_gathers (gathering_of apex lines None)
 performs (drop apex) = one (AtDesk (Unloads plain_rules (name_of apex []))) (on_desk (Unloads plain_rules (name_of apex [])) (unloads (name_of apex [])))
 performs (add r) = one (AtDesk (EditsRecord plain_rules AddRecord (record_of r []))) (on_desk (EditsRecord plain_rules AddRecord (record_of r [])) (edits_record AddRecord (record_of r [])))
 performs (del r) = one (AtDesk (EditsRecord plain_rules RemoveRecord (record_of r []))) (on_desk (EditsRecord plain_rules RemoveRecord (record_of r [])) (edits_record RemoveRecord (record_of r [])))

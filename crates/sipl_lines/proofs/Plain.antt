@@ -244,4 +244,4 @@ pages old outcome new done =
     subst (λ o. EndsSo (page_ending (plain_of old)) (plain_of old) o (plain_of new)) (sym done.2) (turns old done.0 new done.1)
 
 pub book_implies_plain : Implies plain_of book_rules plain_rules
-book_implies_plain = record { finds = finds; changes = changes; moves = moves; depends = depends; repairs = repairs; pages = pages; pauses = λ old new same. ap plain_of same; time = λ book now is. is; fault = λ fault. refl }
+book_implies_plain = record { finds = finds; changes = changes; moves = moves; depends = depends; repairs = repairs; pages = pages; pauses = λ old new same. ap plain_of same; time = λ book now is. is; zone_octets = λ book. refl; fault = λ fault. refl }

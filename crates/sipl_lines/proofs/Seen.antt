@@ -1,6 +1,6 @@
 -- A session at a desk whose states are seen as those of another desk: where each rule of the one
 -- implies that of the other, the same text is that of a session at the other.
-use Rattle.std.proofs.Common.{◌≡◌, ℕ, List, [], ◌∷◌, map, take, Bool, true, false, Option, None, Some, Result, Ok, Err, OnOk, OnErr, ◌==◌, ◌++◌, ap, ◌∙◌, inl, inr, codes}
+use Rattle.std.proofs.Common.{◌≡◌, ℕ, List, [], ◌∷◌, map, take, Bool, true, false, Option, None, Some, Result, Ok, Err, OnOk, OnErr, ◌==◌, ◌++◌, ap, subst, ◌∙◌, inl, inr, codes}
 use Rattle.std.specs.Bool.{OnTrue, OnFalse}
 use Rattle.sipl_names.specs.Labels.{Octets, Labels}
 use Rattle.sipl_names.specs.NameText.{name_of}
@@ -72,6 +72,7 @@ pub record Implies {D E F : Type 0} (seen : D → E) (R : DeskRules D F) (R' : D
       → R.Pages before outcome after → R'.Pages (seen before) outcome (seen after)
   pub pauses : (before after : D) → R.Pauses before after → R'.Pauses (seen before) (seen after)
   pub time : (state : D) (now : ℕ) → R.IsTime state now → R'.IsTime (seen state) now
+  pub zone_octets : (state : D) → R.zone_octets state ≡ R'.zone_octets (seen state)
   pub fault : (fault : F) → R.fault_text fault ≡ R'.fault_text fault
 
 -- what is done in a state, with this text, is done in the state that is seen
@@ -179,8 +180,8 @@ module _ {D E F : Type 0} (seen : D → E) (R : DeskRules D F) (R' : DeskRules E
   loads_gathered : (gathered : Gathered) → Carries seen (LoadsGathered R gathered) (LoadsGathered R' gathered)
   loads_gathered Lost before text after kept = (kept.0, ap seen kept.1)
   loads_gathered LongLine before text after kept = (kept.0, ap seen kept.1)
-  loads_gathered (BadApex fault) before text after kept = (kept.0, ap seen kept.1)
-  loads_gathered (Lines lines) before text after done = loads (zone_of lines.text lines.apex) before text after done
+  loads_gathered (BadApex fault octets_left) before text after kept = (kept.0, ap seen kept.1)
+  loads_gathered (Lines lines octets_left) before text after done = loads (zone_of lines.text lines.apex) before text after done
 
   -- ---- what a command does with the call
 
@@ -251,7 +252,9 @@ module _ {D E F : Type 0} (seen : D → E) (R : DeskRules D F) (R' : DeskRules E
   performs nothing before text after kept = (kept.0, ap (session_seen seen) kept.1)
   performs unknown before text after kept = (kept.0, ap (session_seen seen) kept.1)
   performs too_long before text after kept = (kept.0, ap (session_seen seen) kept.1)
-  performs (zone apex lines) before text after (inl done) = inl (gathers (gathering_of apex lines) before text after done)
+  performs (zone apex lines) before text after (inl done) =
+      inl (subst (λ limit. Gathers R' (gathering_of apex lines limit) (session_seen seen before) text (session_seen seen after)) (implies.zone_octets before.desk)
+      (gathers (gathering_of apex lines (R.zone_octets before.desk)) before text after done))
   performs (zone apex lines) before text after (inr done) = inr (gathers (lost lines) before text after done)
   performs (drop apex) before text after done =
       on_desk seen (Unloads R (name_of apex [])) (Unloads R' (name_of apex [])) (unloads (name_of apex [])) before text after done

@@ -1,5 +1,5 @@
 -- What a desk does for a session, and the desk of a book.
-use Rattle.std.specs.Prelude.{◌≡◌, ℕ, List, Result}
+use Rattle.std.specs.Prelude.{◌≡◌, ℕ, List, Option, None, Result}
 use Rattle.std.specs.Result.{result_map_both}
 use Rattle.sipl_names.specs.Labels.{Octets}
 use Rattle.sipl_evidence.specs.Items.{Item}
@@ -17,8 +17,9 @@ use Rattle.sipl_book.specs.declared.outcome.Extent.{Extent}
 use Rattle.sipl_book.specs.declared.outcome.Handed.{Handed}
 
 -- what the calls of a desk may do, from a state to a state, with a value or a fault; what a pause of
--- the session may do, which has no reply; which times, in milliseconds, it may report in a state; and
--- what a refusal says of a fault
+-- the session may do, which has no reply; which times, in milliseconds, it may report in a state; how
+-- many octets the lines of a zone may have, without their ends, where there is a limit; and what a
+-- refusal says of a fault
 pub record DeskRules (D F : Type 0) : Type 1 where
   pub Finds : Question → List ℕ → D → Result Handed F → D → Type 0
   pub Changes : Edit → D → Result Done F → D → Type 0
@@ -28,6 +29,7 @@ pub record DeskRules (D F : Type 0) : Type 1 where
   pub Pages : D → Result Extent F → D → Type 0
   pub Pauses : D → D → Type 0
   pub IsTime : D → ℕ → Type 0
+  pub zone_octets : D → Option ℕ
   pub fault_text : F → Octets
 
 -- what the calls of a book's desk do: those of the book. Of a page it returns the extent only, and a
@@ -44,5 +46,6 @@ book_rules =
           × (outcome ≡ result_map_both extent_of (λ fault. fault) turned);
       Pauses = λ old new. new ≡ old;
       IsTime = λ book now. now ≡ book.board.holds.now;
+      zone_octets = λ book. None;
       fault_text = book_code;
     }

@@ -181,5 +181,6 @@ plain_rules =
       Pages = λ before outcome after. EndsSo (page_ending before) before outcome after;
       Pauses = λ before after. after ≡ before;
       IsTime = λ plain now. now ≡ plain.holds.now;
+      zone_octets = λ plain. None;
       fault_text = book_code;
     }

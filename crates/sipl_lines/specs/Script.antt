@@ -56,8 +56,8 @@ LoadsText (Err fault) before text after =
 abbrev pub Loads : Gathered → WorldState → Octets → WorldState → Type 0
 Loads Lost before text after = Fails before text after
 Loads LongLine before text after = Refuses (codes "K2") before text after
-Loads (BadApex fault) before text after = Refuses (name_code fault) before text after
-Loads (Lines lines) before text after =
+Loads (BadApex fault octets_left) before text after = Refuses (name_code fault) before text after
+Loads (Lines lines octets_left) before text after =
     LoadsText (zone_of lines.text lines.apex) before text after ⊎ Fails before text after
 
 -- what happens in the world; all else is as it was
@@ -90,7 +90,7 @@ MakesStepOf request before text after =
 abbrev pub Obeys : ScriptRequest → Play → Octets → Play → Type 0
 Obeys nothing before text after = Keeps [] before text after
 Obeys (zone apex lines) before text after =
-    Gathers (gathering_of apex lines) before text after ⊎ Gathers (lost lines) before text after
+    Gathers (gathering_of apex lines None) before text after ⊎ Gathers (lost lines) before text after
 Obeys request before text after = MakesStepOf request before text after
 
 -- what a line does: it asks for something, or is one of the lines that a zone takes

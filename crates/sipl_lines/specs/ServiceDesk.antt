@@ -1,6 +1,6 @@
 -- What the calls of a service do for a session: each accepted one is an event of the journal, for which
 -- the caller's pass has a receipt, or a page, which the caller keeps.
-use Rattle.std.specs.Prelude.{◌≡◌, ℕ, List, [], ◌∷◌, ◌++◌, Result, IfOk, OnErr, codes}
+use Rattle.std.specs.Prelude.{◌≡◌, ℕ, List, [], ◌∷◌, ◌++◌, None, Result, IfOk, OnErr, codes}
 use Rattle.std.specs.Result.{result_map_both}
 use Rattle.sipl_names.specs.Labels.{Octets}
 use Rattle.sipl_names.specs.NamePrint.{text_of}
@@ -81,5 +81,6 @@ caller_rules =
       Pages = λ old outcome new. KeepsPage old new outcome;
       Pauses = λ old new. new ≡ old;
       IsTime = λ caller now. Unit {0};
+      zone_octets = λ caller. None;
       fault_text = service_text;
     }

@@ -81,8 +81,8 @@ MayFail _ = ⊥
 abbrev pub LoadsGathered : {D F : Type 0} → DeskRules D F → Gathered → D → Octets → D → Type 0
 LoadsGathered rules Lost before text after = Fails before text after
 LoadsGathered rules LongLine before text after = Refuses (codes "K2") before text after
-LoadsGathered rules (BadApex fault) before text after = Refuses (name_code fault) before text after
-LoadsGathered rules (Lines lines) before text after =
+LoadsGathered rules (BadApex fault octets_left) before text after = Refuses (name_code fault) before text after
+LoadsGathered rules (Lines lines octets_left) before text after =
     Loads rules (zone_of lines.text lines.apex) before text after
 
 -- while lines are left to be taken there is no reply; it comes with the last of them
@@ -107,7 +107,7 @@ Performs rules nothing before text after = Keeps [] before text after
 Performs rules unknown before text after = Refuses (codes "K1") before text after
 Performs rules too_long before text after = Refuses (codes "K2") before text after
 Performs rules (zone apex lines) before text after =
-    Gathers rules (gathering_of apex lines) before text after
+    Gathers rules (gathering_of apex lines (rules.zone_octets before.desk)) before text after
     ⊎ Gathers rules (lost lines) before text after
 Performs rules (drop apex) before text after =
     AtDesk (Unloads rules (name_of apex [])) before text after

@@ -55,6 +55,10 @@ pub trait Desk {
         ensures time { rules.IsTime self.now result }
         ensures limit { result ≤ 2 ^ 52 };
 
+    /// How many octets the lines of a zone may have, without their ends, where there is a limit.
+    fn zone_octets(&self) -> Option<u64>
+        ensures { result ≡ rules.zone_octets self.now };
+
     /// The record sets that a question's targets depend on, in the order of reading.
     fn deps(&mut self, alloc: Global, question: Question) -> Result<Evidence, Self::Fault>
         ensures { rules.Depends question self.old result self.new };
@@ -116,6 +120,10 @@ impl Desk for Book {
 
     fn now(&self) -> u64 {
         self.board().now()
+    }
+
+    fn zone_octets(&self) -> Option<u64> {
+        None
     }
 
     fn deps(&mut self, _alloc: Global, question: Question) -> Result<Evidence, BookFault> {

@@ -1,6 +1,6 @@
 // The lines of a zone's text, which follow its `zone` line and are taken one by one.
 ghost use Rattle.std.specs.Prelude.{◌≡◌, ◌⊎◌, ◌==◌, IsTrue, OnOk, OnErr, true};
-ghost use Rattle.sipl_lines.specs.Gathering.{IsOrLost, gathering_of, after_line, gathered_after, at_end, with_line, keeps_lines};
+ghost use Rattle.sipl_lines.specs.Gathering.{IsOrLost, gathering_of, after_line, exceeds, gathered_after, at_end, octets_after, with_line, keeps_lines};
 
 use crate::command::MAX_LINE_LEN;
 use sipl_names::{InvalidName, Name, NameFault};
@@ -25,11 +25,11 @@ impl Model for ZoneLines {
 // What is gathered of a zone's lines.
 #[derive(Drop)]
 pub(crate) enum Gathered {
-    // The apex, and the lines that were taken.
-    Lines(ZoneLines),
-    // The apex is not a name.
-    BadApex(InvalidName),
-    // A line has more octets than one may have: K2. No lines are kept.
+    // The apex and the lines that were taken, and how many octets more may be, where there is a limit.
+    Lines(ZoneLines, Option<u64>),
+    // The apex is not a name. The octets are counted all the same.
+    BadApex(InvalidName, Option<u64>),
+    // A line has more octets than one may have, or the lines have more than all may: K2. No lines are kept.
     LongLine,
     // An allocation failed. No lines are kept.
     Lost,
@@ -78,9 +78,15 @@ impl Gathered {
         match self {
             Gathered::Lost | Gathered::LongLine => {}
             _ if line.len() > MAX_LINE_LEN => *self = Gathered::LongLine,
-            Gathered::BadApex(_) => {}
-            Gathered::Lines(zone) => {
-                if zone.push(line).is_err() {
+            Gathered::BadApex(_, octets_left) => {
+                if take_octets(octets_left, line) {
+                    *self = Gathered::LongLine;
+                }
+            }
+            Gathered::Lines(zone, octets_left) => {
+                if take_octets(octets_left, line) {
+                    *self = Gathered::LongLine;
+                } else if zone.push(line).is_err() {
                     *self = Gathered::Lost;
                 }
             }
@@ -88,18 +94,36 @@ impl Gathered {
     }
 }
 
+// Takes the octets of a line from those that are left. Returns whether it has more.
+fn take_octets(octets_left: &mut Option<u64>, line: &[u8]) -> bool
+    ensures exceeds { result ≡ exceeds octets_left.old line.now }
+    ensures left { octets_left.new ≡ octets_after line.now octets_left.old }
+{
+    match octets_left {
+        None => false,
+        Some(octets) => {
+            let has_more = *octets < line.len() as u64;
+            *octets = octets.saturating_sub(line.len() as u64);
+            has_more
+        }
+    }
+}
+
 impl Gathering {
-    // The gathering of so many lines for the zone of an apex, which is relative to the root. Where
-    // an allocation fails it is lost.
-    pub(crate) fn new(alloc: Global, apex: &[u8], lines: u64) -> Self
-        ensures { IsOrLost true (gathering_of apex.now lines) result }
+    // The gathering of so many lines for the zone of an apex, which is relative to the root. They may
+    // have so many octets, where there is a limit. Where an allocation fails it is lost.
+    pub(crate) fn new(alloc: Global, apex: &[u8], lines: u64, zone_octets: Option<u64>) -> Self
+        ensures { IsOrLost true (gathering_of apex.now lines zone_octets) result }
     {
         let gathered = match Name::from_text(alloc, apex, &Name::root(alloc)) {
-            Ok(apex) => Gathered::Lines(ZoneLines {
-                apex,
-                text: Vec::new(alloc),
-            }),
-            Err(NameFault::Invalid(invalid)) => Gathered::BadApex(invalid),
+            Ok(apex) => Gathered::Lines(
+                ZoneLines {
+                    apex,
+                    text: Vec::new(alloc),
+                },
+                zone_octets,
+            ),
+            Err(NameFault::Invalid(invalid)) => Gathered::BadApex(invalid, zone_octets),
             Err(NameFault::Memory) => Gathered::Lost,
         };
         Gathering {

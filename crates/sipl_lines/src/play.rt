@@ -87,7 +87,7 @@ impl Play {
         match line {
             ScriptLine::Nothing => {}
             ScriptLine::Zone(apex, lines) => {
-                self.gather(alloc, Gathering::new(alloc, apex, *lines), out);
+                self.gather(alloc, Gathering::new(alloc, apex, *lines, None), out);
             }
             _ => self.make(alloc, line, out),
         }
@@ -126,12 +126,12 @@ fn load_gathered(alloc: Global, world: &mut World, gathered: Gathered, out: &mut
     ensures { AppendsText (Loads gathered) world.old out.old.items world.new out.new.items }
 {
     match gathered {
-        Gathered::Lines(zone) => match read_zone(alloc, zone.text(), zone.apex()) {
+        Gathered::Lines(zone, _) => match read_zone(alloc, zone.text(), zone.apex()) {
             Ok(text) => make_step(world, Step::Change(Edit::Load(text)), out),
             Err(fault) if fault.is_memory() => write_refusal(out, "Memory").unwrap(),
             Err(fault) => write_text_fault(out, b"err zone", fault.line, fault.code()).unwrap(),
         },
-        Gathered::BadApex(fault) => write_refusal(out, fault.code()).unwrap(),
+        Gathered::BadApex(fault, _) => write_refusal(out, fault.code()).unwrap(),
         Gathered::LongLine => write_refusal(out, "K2").unwrap(),
         Gathered::Lost => write_refusal(out, "Memory").unwrap(),
     }

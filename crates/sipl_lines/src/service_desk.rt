@@ -104,6 +104,10 @@ impl<'a, R: Wait> Desk for ServiceDesk<'a, R> {
         self.service.now(self.rt)
     }
 
+    fn zone_octets(&self) -> Option<u64> {
+        None
+    }
+
     fn deps(&mut self, _alloc: Global, question: Question) -> Result<Evidence, ServiceFault> {
         self.service.deps(self.rt, &question)
     }

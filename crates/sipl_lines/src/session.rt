@@ -144,7 +144,8 @@ impl Session {
             Command::Unknown => write_refusal(out, "K1"),
             Command::TooLong => write_refusal(out, "K2"),
             Command::Zone(apex, lines) => {
-                self.gather(alloc, desk, Gathering::new(alloc, apex, *lines), out);
+                let gathering = Gathering::new(alloc, apex, *lines, desk.zone_octets());
+                self.gather(alloc, desk, gathering, out);
                 Ok(())
             }
             Command::Drop(apex) => unload_zone(alloc, desk, apex, out),
@@ -227,8 +228,8 @@ fn load_gathered<D: Desk>(
     ensures allocates { OnErr result (IsTrue (keeps_lines gathered)) }
 {
     match gathered {
-        Gathered::Lines(zone) => load_zone(alloc, desk, zone, out),
-        Gathered::BadApex(fault) => write_refusal(out, fault.code()),
+        Gathered::Lines(zone, _) => load_zone(alloc, desk, zone, out),
+        Gathered::BadApex(fault, _) => write_refusal(out, fault.code()),
         Gathered::LongLine => write_refusal(out, "K2"),
         Gathered::Lost => write_refusal(out, "Memory"),
     }

@@ -30,6 +30,7 @@ impl CountingDesk {
 }
 
 impl Desk for CountingDesk {
+    ghost use Rattle.std.specs.Prelude.{None};
     ghost use Rattle.sipl_book.specs.BookFault.{code_of};
 
     type Fault = BookFault;
@@ -43,6 +44,7 @@ impl Desk for CountingDesk {
       Pages = λ old outcome new. Unit {0};
       Pauses = λ old new. Unit {0};
       IsTime = λ desk now. Unit {0};
+      zone_octets = λ desk. None;
       fault_text = code_of;
     } };
 
@@ -73,6 +75,10 @@ impl Desk for CountingDesk {
 
     fn now(&self) -> u64 {
         0
+    }
+
+    fn zone_octets(&self) -> Option<u64> {
+        None
     }
 
     fn deps(&mut self, _alloc: Global, _question: Question) -> Result<Evidence, BookFault> {

@@ -27,7 +27,7 @@ pub(crate) struct SessionDesk<'a, R: Wait + Clock> {
     pass: Pass,
     // Where the last change of the session ends in the file of changes.
     place: &'a AtomicU64,
-    // Whether the lines are those of a state, which set the time.
+    // Whether the lines are those of a state, which set the time and have no limit.
     is_restoring: bool,
     // Whether the session may only ask.
     asks_only: bool,
@@ -35,7 +35,7 @@ pub(crate) struct SessionDesk<'a, R: Wait + Clock> {
 
 impl<'a, R: Wait + Clock> Model for SessionDesk<'a, R> {
     ghost use Rattle.sipl_daemon.specs.SessionDesk.{SessionState};
-    ghost use Rattle.std.specs.Prelude.{[]};
+    ghost use Rattle.std.specs.Prelude.{[], None, Some, if◌then◌else◌};
 
     ghost Value = { SessionState };
 
@@ -47,6 +47,7 @@ impl<'a, R: Wait + Clock> Model for SessionDesk<'a, R> {
         pages = [];
       };
       asks_only = desk.asks_only;
+      zone_octets = if desk.is_restoring then None else Some desk.daemon.now.zone_octets;
     } };
 }
 
@@ -69,7 +70,7 @@ impl<'a, R: Wait + Clock> SessionDesk<'a, R> {
         }
     }
 
-    /// The same for the lines of a state, which set the time.
+    /// The same for the lines of a state, which set the time and have no limit.
     pub(crate) fn restoring(rt: &'a R, daemon: &'a Daemon, place: &'a AtomicU64) -> Self {
         SessionDesk {
             rt,
@@ -227,6 +228,14 @@ impl<'a, R: Wait + Clock> Desk for SessionDesk<'a, R> {
     fn now(&self) -> u64 {
         self.set_clock();
         self.daemon.source.service.now(self.rt)
+    }
+
+    fn zone_octets(&self) -> Option<u64> {
+        if self.is_restoring {
+            None
+        } else {
+            Some(self.daemon.zone_octets)
+        }
     }
 
     fn deps(&mut self, _alloc: Global, question: Question) -> Result<Evidence, DeskFault> {

@@ -95,6 +95,10 @@ impl<'a, R: Files<File = File> + Wait + Clock> Desk for RestoringDesk<'a, R> {
         self.desk.now()
     }
 
+    fn zone_octets(&self) -> Option<u64> {
+        self.desk.zone_octets()
+    }
+
     fn deps(&mut self, alloc: Global, question: Question) -> Result<Evidence, DeskFault> {
         self.desk.deps(alloc, question)
     }
