@@ -383,7 +383,7 @@ pub const WORKERS: Row = Row {
     default: DefaultValue::Number(1),
 };
 
-/// How many octets the lines of a zone may have, without each LF.
+/// How many octets the lines of a zone may have, without their ends.
 ///
 /// Each client may take as much at a time.
 pub const ZONE_OCTETS: Row = Row {

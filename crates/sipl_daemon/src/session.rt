@@ -44,15 +44,7 @@ fn run_session<R: Wait + Clock>(
     asks_only: bool,
 ) {
     let alloc = daemon.alloc;
-    let input = Input::new(
-        rt,
-        alloc,
-        stream,
-        course,
-        &daemon.stop,
-        &daemon.observed,
-        daemon.zone_octets,
-    );
+    let input = Input::new(rt, alloc, stream, course, &daemon.stop, &daemon.observed);
     let mut writer = Tapped::new(Output::new(rt, daemon, stream, course));
     if asks_only {
         if let Ok(asking) = Asking::new(alloc, input) {

@@ -5,7 +5,6 @@ mod asking;
 mod course;
 mod http;
 mod input;
-mod meter;
 
 pub use asking::Asking;
 pub use course::Course;

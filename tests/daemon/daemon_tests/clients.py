@@ -452,13 +452,15 @@ def a_zone_that_never_ends(checks: Checks, folder: pathlib.Path) -> None:
                       f"{before} and then {daemon.resident()} octets of memory")
         checks.equal(client.ask(line), ["err K2"], "reply")
         checks.equal(client.ask("zone kept.example. 0"), ["ok zone 0 0 0 1"], "emptied")
-        # A limit that is just met, and one octet more, with a line end in the middle of a read and at its end.
-        for octets, reply in (1_000_000, ["ok zone 0 0 0 1"]), (1_000_001, ["err K2"]), (1_000_000,
-                                                                                         ["ok zone 0 0 0 1"]):
+        # A limit that is just met, and one octet more, with a line end in the middle of a read and at its end. The
+        # ends of lines are not counted.
+        for octets, end, reply in (1_000_000, "\n", ["ok zone 0 0 0 1"]), (1_000_001, "\n", ["err K2"]), \
+                (1_000_000, "\r\n", ["ok zone 0 0 0 1"]), (1_000_001, "\r\n", ["err K2"]), \
+                (1_000_000, "\n", ["ok zone 0 0 0 1"]):
             checks.equal(client.ask("zone kept.example. 1\na A 192.0.2.1"), ["ok zone 1 0 0 1"], "again")
             text = [";" * 50_000] * 20
             text[-1] += ";" * (octets - 1_000_000)
-            checks.equal(client.ask("zone kept.example. 20\n" + "\n".join(text)), reply, f"{octets} octets")
+            checks.equal(client.ask("zone kept.example. 20\n" + end.join(text)), reply, f"{octets} octets, {end!r}")
             client.ask("zone kept.example. 0")
         checks.equal(client.ask("zone kept.example. 1\na A 192.0.2.1"), ["ok zone 1 0 0 1"], "at last")
         checks.equal(client.ask("find sip:a.kept.example:1"), ["target 1 udp 192.0.2.1 1", "ok find 1"], "after")
