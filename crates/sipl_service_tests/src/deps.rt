@@ -1,7 +1,9 @@
 // What a question depends on, as the service reads it: each set with its number and its data, before and
 // after an edit.
 use crate::calls::{Call, play_alone};
-use crate::values::{ADDRESS_2, ADDRESS_11, BOB, Scene, new_service, question, record, scene_of};
+use crate::values::{
+    ADDRESS_2, ADDRESS_11, BOB, Scene, is_equal, new_service, question, record, scene_of,
+};
 use sipl_evidence::Item;
 use sipl_records::Data;
 use std::process::Abort;
@@ -89,5 +91,29 @@ fn before_and_after<R: Wait + Abort>(scene: &Scene<R>) {
 fn dependencies_are_the_sets_with_their_numbers(rt: HostRuntime) {
     let service = new_service(&rt, rt.alloc(), 4);
     before_and_after(&scene_of(&rt, rt.alloc(), &service));
+    drop(service);
+}
+
+// ---- holds
+
+// So many endpoints are held on the board that is shared, which is that of the service.
+fn holds<R: Wait + Abort>(scene: &Scene<R>, count: usize) {
+    let shared = scene.service.share_board(scene.rt);
+    let board = shared.expect(scene.rt, "out of memory");
+    is_equal(scene.rt, &board.get().len(), &count);
+    is_equal(scene.rt, &scene.service.held_endpoints(scene.rt), &count);
+    drop(board);
+}
+
+fn shares_the_board<R: Wait + Abort>(scene: &Scene<R>) {
+    holds(scene, 0);
+    play_alone(scene, &[Call::Hold(1)]);
+    holds(scene, 1);
+}
+
+#[test]
+fn the_board_is_shared_as_it_is(rt: HostRuntime) {
+    let service = new_service(&rt, rt.alloc(), 1);
+    shares_the_board(&scene_of(&rt, rt.alloc(), &service));
     drop(service);
 }
