@@ -1,5 +1,5 @@
 -- The names above an owner, of which the first ones have one count.
-use Rattle.std.proofs.Common.{◌≡◌, ◌≢◌, ℕ, ◌+◌, ◌<◌, ◌≤◌, Bool, true, false, ◌||◌, List, [], ◌∷◌, ◌++◌, cond, Option, None, Some, IfSome, nat_eq, refl, ap, sym, ◌∙◌, inl, inr, arith, append-nil}
+use Rattle.std.proofs.Common.{◌≡◌, ◌≢◌, ℕ, ◌<◌, ◌≤◌, true, false, List, [], ◌∷◌, ◌++◌, cond, Option, None, Some, IfSome, nat_eq, refl, ap, sym, ◌∙◌, inl, inr, arith, append-nil}
 use Rattle.std.specs.List.{count_by, filter, list_any, list_all}
 use Rattle.std.specs.Option.{unwrap_or}
 use Rattle.std.proofs.lemmas.Bool.{cases_Bool}
@@ -93,5 +93,5 @@ left-names names old r counted rest has distinct present whole all some =
       more : (rest : Option Labels) → counted ++ ancestors_from rest ≡ with_ancestors r.owner → IfSome rest (λ other. count_at names other ≢ 1) → IfSome rest (λ other. 1 < count_at names other)
       more None whole some = some
       more (Some name) whole some =
-          let one : cond (is_within r.owner name) 1 0 ≡ 1 = rw (rest-above r.owner counted name whole) refl in
+          let one : ◌≡◌ {A = ℕ} (cond (is_within r.owner name) 1 0) 1 = rw (rest-above r.owner counted name whole) refl in
           omega (arith, some, has name, count-within_without old r name distinct present, one)

@@ -1,5 +1,5 @@
 //! The names that exist (RFC 4592, 2.2.3): of each, how many records are within it.
-ghost use Rattle.std.specs.Prelude.{◌≡◌, ◌≤◌, ◌<◌, ◌+◌, ◌-◌, ◌^◌, ◌++◌, true, length, if◌then◌else◌, IfOk, IfSome};
+ghost use Rattle.std.specs.Prelude.{◌≡◌, ◌≤◌, ◌<◌, ◌+◌, ◌-◌, ◌^◌, ◌++◌, true, length, if◌then◌else◌, IfOk, IfSome, OnOk};
 ghost use Rattle.std.specs.List.{count_by};
 ghost use Rattle.std.specs.Map.{keys_of};
 ghost use Rattle.indexmap.specs.IndexMap.{index_map_len, spare};
@@ -9,7 +9,7 @@ ghost use Rattle.sipl_zonestore.specs.Changes.{existing_names, with_ancestors};
 ghost use Rattle.sipl_zonestore.specs.NameTable.{HasNames, ancestors_from, count_at};
 ghost use Rattle.sipl_zonestore.specs.Store.{records_within};
 
-use crate::ancestors::{Ancestors, with_ancestors};
+use crate::ancestors::Ancestors;
 use indexmap::IndexMap;
 use sipl_names::Name;
 use sipl_records::Record;
@@ -151,12 +151,53 @@ pub(crate) fn names_within(
     let mut names = IndexMap::new(alloc);
     for record in records {
         if record.owner.is_within(apex) {
-            let owners = with_ancestors(alloc, &record.owner)?;
-            names.reserve(owners.len())?;
-            count_in(&mut names, owners);
+            insert_owner(alloc, &mut names, &record.owner)?;
         }
     }
     Ok(names)
+}
+
+// Counts an owner and its ancestors once more. The only error is an allocation failure.
+fn insert_owner(
+    alloc: Global,
+    names: &mut IndexMap<Name, usize>,
+    owner: &Name,
+) -> Result<(), AllocError>
+    requires fits { (name : Labels) → count_at names.old.entries name
+        + count_by (λ other. same_name other name) (with_ancestors owner.now) < 2 ^ 64 }
+    ensures counts { OnOk result ((name : Labels) → count_at names.new.entries name
+        ≡ count_at names.old.entries name
+        + count_by (λ other. same_name other name) (with_ancestors owner.now)) }
+    ensures keys { OnOk result (keys_of names.new.entries
+        ≡ insert_all same_name (keys_of names.old.entries) (with_ancestors owner.now)) }
+{
+    let mut rest = owner.dup(alloc)?;
+    loop {
+        insert_name(alloc, names, &rest)?;
+        if !rest.pop_label() {
+            return Ok(());
+        }
+    }
+}
+
+// Counts a name once more. The only error is an allocation failure.
+fn insert_name(
+    alloc: Global,
+    names: &mut IndexMap<Name, usize>,
+    name: &Name,
+) -> Result<(), AllocError>
+    requires fits { count_at names.old.entries name.now + 1 < 2 ^ 64 }
+    ensures counts { OnOk result ((other : Labels) → count_at names.new.entries other
+        ≡ count_at names.old.entries other + (if same_name name.now other then 1 else 0)) }
+    ensures keys { OnOk result (keys_of names.new.entries
+        ≡ insert_key same_name (keys_of names.old.entries) name.now) }
+{
+    if let Some(own) = names.get_mut(name) {
+        *own += 1;
+        return Ok(());
+    }
+    names.insert(name.dup(alloc)?, 1)?;
+    Ok(())
 }
 
 // Adds the counts of other names. Does not allocate.

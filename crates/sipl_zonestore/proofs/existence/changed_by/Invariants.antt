@@ -1,6 +1,4 @@
-use Rattle.std.proofs.Common.{◌≡◌, ◌++◌, length, map, take}
-use Rattle.std.specs.Option.{option_to_list}
-use Rattle.sipl_records.specs.Sets.{key_of}
+use Rattle.std.proofs.Common.{◌≡◌, ◌++◌, map, take}
 use Rattle.sipl_zonestore.specs.Changes.{existence_key}
 use Rattle.sipl_zonestore.proofs.existence.changed_by.Given as goal
 

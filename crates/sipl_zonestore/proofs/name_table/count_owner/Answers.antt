@@ -1,4 +1,4 @@
-use Rattle.std.proofs.Common.{◌≡◌, ◌+◌, ◌<◌, true, Option, Some, IfSome, subst, arith}
+use Rattle.std.proofs.Common.{◌≡◌, ◌<◌, true, Option, Some, IfSome, subst, arith}
 use Rattle.sipl_names.specs.Labels.{Labels, is_within}
 use Rattle.sipl_zonestore.specs.NameTable.{count_at}
 use Rattle.sipl_zonestore.proofs.name_table.count_owner.Goals as goal

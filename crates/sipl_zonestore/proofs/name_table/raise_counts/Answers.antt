@@ -1,4 +1,4 @@
-use Rattle.std.proofs.Common.{◌+◌, arith}
+use Rattle.std.proofs.Common.{arith}
 use Rattle.sipl_names.proofs.Public.{is_within-refl}
 use Rattle.sipl_zonestore.proofs.CountedNames.{own-count}
 use Rattle.sipl_zonestore.proofs.name_table.raise_counts.Goals as goal
