@@ -335,6 +335,7 @@ impl Service {
         ensures client { IfOk result (λ page. page.client ≡ self.client) }
         ensures held { IfOk result (λ page. page.held ≡ self.held) }
         ensures refused { IfErr result (λ refused. refused.1 ≡ self) }
+        ensures cause { IfErr result (λ refused. refused.0 ≡ ServiceFault.OtherBook) }
     {
         let shared = self.shared.into_inner().into_inner();
         if !is_for(&shared.book, &self.abilities, self.held) {

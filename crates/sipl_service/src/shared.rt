@@ -1,13 +1,13 @@
 //! What is under the lock: a book, and where the versions of its record sets are.
-ghost use Rattle.std.specs.Prelude.{◌≡◌, ◌↔◌, ◌⊎◌, ◌≤◌, ◌^◌, [], None, Some, Ok, false, IfOk, IfErr, IfSome, OnOk, OnErr};
+ghost use Rattle.std.specs.Prelude.{◌≡◌, ◌≢◌, ◌↔◌, ◌⊎◌, ◌≤◌, ◌^◌, [], None, Some, Ok, false, IfOk, IfErr, IfSome, OnOk, OnErr};
 ghost use Rattle.std.specs.Option.{option_copied};
 ghost use Rattle.sipl_records.specs.Sets.{is_existence, same_key};
 ghost use Rattle.sipl_records.specs.declared.record.Key.{Key};
 ghost use Rattle.sipl_zonestore.specs.Store.{number_in};
-ghost use Rattle.sipl_book.specs.Calls.{IsChanged};
-ghost use Rattle.sipl_book.specs.Pages.{IsPage, IsTurned, after_turn, page_of};
+ghost use Rattle.sipl_book.specs.Calls.{IsChanged, change_refusal, early_change_refusal};
+ghost use Rattle.sipl_book.specs.Pages.{IsPage, IsTurned, after_turn, page_of, turn_refusal};
 ghost use Rattle.sipl_service.specs.LatestVersions.{book_after_latest, key_edited, latest_at, latest_of};
-ghost use Rattle.sipl_service.specs.Refusals.{unless_other, unless_stopped};
+ghost use Rattle.sipl_service.specs.Refusals.{change_fault, unless_other, unless_stopped};
 
 use crate::changes;
 use crate::changes::{Edited, NewEdit};
@@ -150,6 +150,10 @@ impl Shared {
             (λ edited. IsChanged new.value.edit self.old.book self.new.book (Ok edited.done)) }
         ensures latest_versions { OnOk result ((key : Key) → latest_of self.new.latest_versions key
             ≡ latest_at (number_in self.new.book.store key) (latest_of self.old.latest_versions key)) }
+        ensures refused { IfErr result (λ fault. fault ≢ ServiceFault.Memory → change_fault pass.now
+            self.old.book (change_refusal new.value.edit self.old.book) ≡ Some fault) }
+        ensures memory { IfErr result (λ fault. fault ≡ ServiceFault.Memory → change_fault pass.now
+            self.old.book (early_change_refusal new.value.edit self.old.book) ≡ None) }
         ensures unchanged { OnErr result (self.new ≡ self.old) }
         ensures stopped { self.new.is_stopped ≡ self.old.is_stopped }
     {
@@ -176,6 +180,8 @@ impl Shared {
         ensures after { OnOk result (self.new.book ≡ after_turn self.old.book) }
         ensures refused { IfErr result (λ fault. (fault ≡ ServiceFault.Book BookFault.PagesSpent)
             ⊎ (fault ≡ ServiceFault.Memory)) }
+        ensures spent { IfErr result (λ fault. fault ≡ ServiceFault.Book BookFault.PagesSpent
+            → turn_refusal self.old.book ≡ Some BookFault.PagesSpent) }
         ensures unchanged { OnErr result (self.new ≡ self.old) }
         ensures stopped { self.new.is_stopped ≡ self.old.is_stopped }
     {

@@ -16,7 +16,10 @@ pub(crate) struct Spaces {
 
 impl Spaces {
     // No space, and none is kept.
-    pub fn new(alloc: Global) -> Self {
+    pub fn new(alloc: Global) -> Self
+        ensures kept { result.kept.items ≡ [] }
+        ensures max { result.max ≡ 0 }
+    {
         Spaces {
             alloc,
             kept: Vec::new(alloc),
@@ -25,7 +28,9 @@ impl Spaces {
     }
 
     // Sets the maximum number of those that are kept from now on.
-    pub fn set_max(&mut self, max: usize) {
+    pub fn set_max(&mut self, max: usize)
+        ensures { self.new ≡ record self.old { max = max } }
+    {
         self.max = max;
     }
 
