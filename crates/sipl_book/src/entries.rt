@@ -55,6 +55,9 @@ impl Entries {
         ensures entry { option_copied result ≡ entry_of self.now question.now }
         ensures questions { AllPairs (λ a b. a.found.question ≢ b.found.question) self.now }
     {
+        if self.table.is_empty() {
+            return None;
+        }
         self.table.get(question)
     }
 
