@@ -3,6 +3,8 @@ use Rattle.std.proofs.Common.{◌≡◌, ℕ, zero, suc, ◌+◌, ◌-◌, ◌<�
 use Rattle.std.specs.Bool.{one_answer}
 use Rattle.std.proofs.Math.Dec.{eqb-suc-zero}
 use Rattle.std.proofs.lemmas.Bool.{le-leb}
+use Rattle.std.proofs.lemmas.Nat.{le_or_l, le_or_r}
+use Rattle.std.specs.Int.Bits.{bit_or}
 use Rattle.std.proofs.lemmas.Bool.Decides.{Decides-like}
 use Rattle.std.proofs.lemmas.List.{length-replicate}
 use lib.Pointwise.{pointwise, bytes_decides}
@@ -12,6 +14,13 @@ use Rattle.sipl_book.specs.Words.{AreGiven, before_zeros, with_last_zeros, witho
 pub zero_is_dropped : (words : List ℕ) → without_last_zeros (words ++ 0 ∷ []) ≡ without_last_zeros words
 zero_is_dropped [] = refl
 zero_is_dropped (word ∷ words) = ap (before_zeros word) (zero_is_dropped words)
+
+-- where no bit of a word and of those before it is set, that word leaves no more than those before it
+pub none_before : (words : List ℕ) (word bits : ℕ) → (bits ≡ 0 → without_last_zeros words ≡ []) → bit_or bits word ≡ 0 → without_last_zeros (words ++ word ∷ []) ≡ []
+none_before words word bits known none =
+    let first : bits ≡ 0 = let fewer = le_or_l bits word in omega arith in
+    let last : word ≡ 0 = let fewer = le_or_r bits word in omega arith in
+    ap (λ end. without_last_zeros (words ++ end ∷ [])) last ∙ zero_is_dropped words ∙ known first
 
 before_more : (word last : ℕ) (words : List ℕ) → before_zeros word (words ++ last ∷ []) ≡ word ∷ (words ++ last ∷ [])
 before_more word last [] = refl

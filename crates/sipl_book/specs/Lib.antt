@@ -18,3 +18,4 @@ pub mod StateFields
 pub mod SameState
 pub mod Kept
 pub mod Words
+pub mod GivenWords

@@ -14,6 +14,7 @@ mod entries;
 mod entry;
 mod event;
 mod fault;
+mod few_words;
 mod indexed;
 pub mod laws;
 mod limits;

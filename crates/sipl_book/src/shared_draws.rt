@@ -1,8 +1,9 @@
-ghost use Rattle.std.specs.Prelude.{◌≡◌, ◌≢◌, [], length, nat_eq, IfOk, OnErr};
+ghost use Rattle.std.specs.Prelude.{◌≡◌, ◌≢◌, [], length, nat_eq, true, IfOk, OnErr};
 ghost use Rattle.std.specs.Cmp.{partial_equiv_from_equiv};
 ghost use Rattle.std.specs.Cmp.Lexicographic.{nat_list_eq_equiv, pointwise};
 ghost use Rattle.sipl_book.specs.Words.{without_last_zeros};
 
+use crate::few_words::{FewWords, MAX_FEW_WORDS};
 use sipl_plans::SharedSequence;
 use sipl_srv::Draws;
 use std::alloc::{AllocError, Global};
@@ -11,13 +12,21 @@ use std::marker::Model;
 /// 32 random words of 32 bits, which copies share. Words of 0 at the end are not stored. Contracts see
 /// them as a list, as those of `Draws`.
 pub struct SharedDraws {
-    // The words up to the last that is not 0, if there is one: so words of 0 do not allocate.
-    given: Option<SharedSequence<u32>>,
+    // The words up to the last that is not 0.
+    given: Given,
+}
+
+// Words, of which a few do not allocate.
+#[derive(Drop)]
+enum Given {
+    Few(FewWords),
+    Many(SharedSequence<u32>),
 }
 
 impl Model for SharedDraws {
     ghost use Rattle.std.specs.Prelude.{List, ℕ};
-    ghost use Rattle.sipl_book.specs.Words.{AreGiven, given_words, with_last_zeros};
+    ghost use Rattle.sipl_book.specs.GivenWords.{given_words};
+    ghost use Rattle.sipl_book.specs.Words.{AreGiven, with_last_zeros};
 
     ghost Value = { List ℕ };
 
@@ -35,12 +44,14 @@ impl SharedDraws {
         ensures memory { OnErr result (without_last_zeros draws.now ≢ []) }
     {
         let given = without_last_zeros(draws.words());
-        if given.is_empty() {
-            return Ok(SharedDraws { given: None });
+        if given.len() <= MAX_FEW_WORDS {
+            return Ok(SharedDraws {
+                given: Given::Few(FewWords::from_slice(given)),
+            });
         }
         let words = Vec::from_slice(alloc, given)?;
         Ok(SharedDraws {
-            given: Some(SharedSequence::from_vec(words)?),
+            given: Given::Many(SharedSequence::from_vec(words)?),
         })
     }
 
@@ -50,8 +61,8 @@ impl SharedDraws {
         ensures { IfOk result (λ copy. copy ≡ self.now) }
     {
         let given = match &self.given {
-            Some(given) => Some(given.dup()?),
-            None => None,
+            Given::Few(words) => Given::Few(words.dup()),
+            Given::Many(words) => Given::Many(words.dup()?),
         };
         Ok(SharedDraws { given })
     }
@@ -62,8 +73,8 @@ impl SharedDraws {
         ensures len { length self.now ≡ 32 }
     {
         match &self.given {
-            Some(given) => given.as_slice(),
-            None => &[],
+            Given::Few(words) => words.as_slice(),
+            Given::Many(words) => words.as_slice(),
         }
     }
 
@@ -107,9 +118,24 @@ impl Drop for SharedDraws {
 fn without_last_zeros(words: &[u32]) -> &[u32]
     ensures { result.now ≡ without_last_zeros words.now }
 {
+    if are_zeros(words) {
+        return &[];
+    }
     let mut words = words;
     while let Some((0, before)) = words.split_last() {
         words = before;
     }
     words
+}
+
+// Whether each word is 0, as mostly: the words are not tested one by one.
+#[tactic(auto, using(crate::proofs::Words::none_before, crate::proofs::Words::zero_is_dropped))]
+fn are_zeros(words: &[u32]) -> bool
+    ensures { result ≡ true → without_last_zeros words.now ≡ [] }
+{
+    let mut bits = 0;
+    for word in words {
+        bits |= *word;
+    }
+    bits == 0
 }
