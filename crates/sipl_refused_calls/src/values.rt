@@ -197,7 +197,7 @@ pub(crate) fn finding(alloc: Global, book: &mut Book) -> Result<Box<Finding>, Al
 }
 
 pub(crate) fn draws() -> Option<Draws> {
-    Draws::from_words(&[2, 0]).ok()
+    Draws::from_words(&[2, 0, 1]).ok()
 }
 
 // Whether the answer is the address of the wildcard.
